@@ -8,7 +8,7 @@ use Rattle.target_lexicon.specs.Values.{Architecture, OperatingSystem, Environme
 use Rattle.target_lexicon.specs.{Field.Field, ImpliedFormat.default_binary_format, ImpliedFormat.implied_format, Laws.ReadingIsComputed, Placement.parts_of, NormalStep.normal_step, NormalStep.elf_if_unknown}
 use Rattle.target_lexicon.specs.{FixedPoints.PrintedTextsGrowAtMost, FixedPoints.CanonicalTextsGrowAtMost, FixedPoints.RefusedPartsDoNotGrow}
 use Rattle.target_lexicon.specs.{SpecialTexts.special_text, SpecialTexts.special_values}
-use Rattle.target_lexicon.specs.Families.{IsNintendo3ds, IsEspIdf, HidesNewlib, PrintsTheEspIdfText, ShowsOnlyNone}
+use Rattle.target_lexicon.specs.FamilyFacts.{IsNintendo3ds, IsEspIdf, HidesNewlib, PrintsTheEspIdfText, ShowsOnlyNone}
 use Rattle.target_lexicon.specs.Printing.{architecture_implies_format, shows_vendor, shows_operating_system, shows_environment, shows_implied_format, shows_binary_format, shows_unknowns, shown_names, cons_if, text_of}
 use Rattle.target_lexicon.specs.GreedyReading.{FieldReading, field_reading_by, field_reading, final_reading, reading_after_architecture, reading_of_parts, reading_unless_special, reading}
 use Rattle.lexicon_fields.specs.{declared.architecture.clever.CleverArchitecture.CleverArchitecture, Architecture.architecture_name, Architecture.architecture_of, Laws.TextsAreNames, Laws.NamesGrowAtMost, Vendor.vendor_name, Vendor.vendor_of}

@@ -1,17 +1,17 @@
 -- The shown parts of a triple with a plain vendor parse as its normal step, if no special string is printed.
-use Rattle.std.proofs.Common.{◌≡◌, ◌∙◌, ℕ, Bool, true, false, not, ◌&&◌, ◌||◌, cond, List, [], ◌∷◌, None, Result, Ok, is_some, refl, sym, ap, ◌⊎◌, inl, inr}
+use Rattle.std.proofs.Common.{◌≡◌, ◌≢◌, ◌∙◌, ℕ, Bool, true, false, not, ◌&&◌, ◌||◌, cond, List, [], ◌∷◌, None, Result, Ok, refl, sym, ap, ◌⊎◌, inl, inr}
 use Rattle.lexicon_fields.proofs.LawOfNames.{NamesAreRead}
-use Rattle.target_lexicon.specs.Values.{Architecture, Environment, OperatingSystem, BinaryFormat, VendorValue, Known, Values, values, implies_newlib, is_same_format}
-use Rattle.target_lexicon.specs.{Field.Field, ImpliedFormat.default_binary_format, ImpliedFormat.implied_format, Families.PrintsAsSpecial, Families.HidesNewlib, Refusal.Refusal, SpecialTexts.special_text}
-use Rattle.target_lexicon.specs.NormalStep.{normal_step, is_3ds_or_esp_idf, hides_newlib, prints_the_esp_idf_text, shows_only_none, elf_if_unknown}
+use Rattle.target_lexicon.specs.Values.{Architecture, Environment, OperatingSystem, BinaryFormat, VendorValue, Known, Values, values, implies_newlib, is_same_format, is_clever_without_system}
+use Rattle.target_lexicon.specs.{Field.Field, ImpliedFormat.default_binary_format, ImpliedFormat.implied_format, FamilyFacts.PrintsAsSpecial, FamilyFacts.HidesNewlib, FamilyFacts.PrintsTheEspIdfText, FamilyFacts.ShowsOnlyNone, Refusal.Refusal, SpecialTexts.special_text}
+use Rattle.target_lexicon.specs.NormalStep.{normal_step, elf_if_unknown}
 use Rattle.target_lexicon.specs.Printing.{shows_vendor, omits_unknown_vendor, shows_operating_system, shows_environment, is_none_or_unknown, shows_implied_format, shows_binary_format, shows_unknowns, shown_names, cons_if}
 use Rattle.target_lexicon.specs.GreedyReading.{reading_of_parts, reading_from_vendor, reading_from_operating_system, reading_from_environment}
-use Rattle.lexicon_fields.specs.{declared.architecture.clever.CleverArchitecture.CleverArchitecture, Architecture.architecture_name, Laws.HasVersionInRange, Vendor.vendor_name, Vendor.is_plain, OperatingSystem.operating_system_name, Environment.environment_name, BinaryFormat.binary_format_name}
+use Rattle.lexicon_fields.specs.{ArchitectureQueries.is_clever, declared.architecture.clever.CleverArchitecture.CleverArchitecture, Architecture.architecture_name, Laws.HasVersionInRange, Vendor.vendor_name, Vendor.is_plain, OperatingSystem.operating_system_name, Environment.environment_name, BinaryFormat.binary_format_name}
 use Rattle.lexicon_fields.specs.declared.known_vendor.KnownVendor.TheVariants.{Unknown, Nintendo, Espressif}
-use Rattle.std.proofs.{lemmas.Bool.not-false, lemmas.Bool.not-true, Math.Bool.and-false, lemmas.Bool.false≢true, lemmas.Bool.true≢false, lemmas.Bool.Decides.not_from_Decides}
+use Rattle.std.proofs.{lemmas.Bool.not-false, lemmas.Bool.not-true, Math.Bool.and-false, lemmas.Bool.false≢true, lemmas.Bool.true≢false}
 use Rattle.target_lexicon.proofs.PrintingLemmas.{printed_names}
 use Rattle.target_lexicon.proofs.NamesAcross.{environment_of-format, operating_system_of-format, operating_system_of-environment, vendor_of-operating_system, system_as_vendor}
-use Rattle.target_lexicon.proofs.StepCases.{special-is, step_cases, hides_newlib-decides, prints_the_esp_idf_text-decides, shows_only_none-decides}
+use Rattle.target_lexicon.proofs.StepCases.{step_cases, outside-fixed, only_none-step}
 use Rattle.target_lexicon.specs.Values.architecture
 use Rattle.target_lexicon.specs.Values.operating_system
 use Rattle.target_lexicon.specs.Values.environment
@@ -61,15 +61,13 @@ none-apart t none is = elim is.fields [
 
 -- an environment that isn't shown is unknown, or a hidden `Newlib`
 not_shown : (a : Architecture) (v : VendorValue) (s : OperatingSystem) (e : Environment) (f : BinaryFormat) → special_text (values a v s e f) ≡ None → shows_environment (values a v s e f) ≡ false
-    → (e ≡ environment.Unknown) ⊎ (hides_newlib (values a v s e f) ≡ true)
-unfolding shows_environment
+    → (e ≡ environment.Unknown) ⊎ HidesNewlib (values a v s e f)
+unfolding shows_environment special_text
 not_shown a v s environment.Unknown f none hidden = inl refl
 not_shown a (Known Nintendo) operating_system.Horizon environment.Newlib f none hidden =
-    let apart : is_3ds_or_esp_idf a (Known Nintendo) operating_system.Horizon ≡ false = sym (special-is a _ _ environment.Newlib f) ∙ ap is_some none in
-    inr (rw apart refl)
+    inr (refl, inl (refl, refl, λ is. absurd (let bad = rw is at none in cc)))
 not_shown a (Known Espressif) operating_system.Espidf environment.Newlib f none hidden =
-    let apart : is_3ds_or_esp_idf a (Known Espressif) operating_system.Espidf ≡ false = sym (special-is a _ _ environment.Newlib f) ∙ ap is_some none in
-    inr (rw apart refl)
+    inr (refl, inr (refl, refl, λ is. absurd (let bad = rw is at none in cc)))
 not_shown a _ _ environment.Newlib f none hidden = absurd (true≢false hidden)
 not_shown a v s _ f none hidden = absurd (true≢false (rw and-false at hidden))
 
@@ -104,10 +102,14 @@ unfolding shows_operating_system
 hidden_system (architecture.Clever sub) v operating_system.Unknown e f h = (refl, (sub, refl))
 hidden_system _ v _ e f h = absurd (true≢false h)
 
+clever-alone : (a : Architecture) → is_clever a ≡ true → is_clever_without_system a operating_system.Unknown ≡ true
+clever-alone (architecture.Clever sub) clever = refl
+clever-alone _ clever = absurd (false≢true clever)
+
 -- if the system is shown
-shown_system : (t : Values) → shows_operating_system t ≡ true → shows_only_none t ≡ false
+shown_system : (t : Values) → shows_operating_system t ≡ true → ¬ ShowsOnlyNone t
 unfolding shows_operating_system
-shown_system t h = rw (not-true _ h) refl
+shown_system t h is = false≢true (sym (not-true _ h) ∙ rw is.operating_system (clever-alone t.architecture is.architecture))
 
 -- an unknown system implies no environment
 pub without_system : (v : VendorValue) → implies_newlib v operating_system.Unknown ≡ false
@@ -154,16 +156,16 @@ module _ (names : NamesAreRead) where
     outside-read last outside true is = shown-read a v s e f _ last ∙ ap (λ x. Ok (values a v s e x)) (shown_or_implied (values a v s e f))
     outside-read last outside false is = elim (not_shown a v s e f none is) [
       | inl unknown ↦ unknown-read last unknown
-      | inr newlib ↦ absurd (outside ((hides_newlib-decides (values a v s e f)).0 newlib))
+      | inr newlib ↦ absurd (outside newlib)
     ]
 
-    tail-round : (last : Field) → prints_the_esp_idf_text (values a v s e f) ≡ false → shows_only_none (values a v s e f) ≡ false
+    tail-round : (last : Field) → ¬ PrintsTheEspIdfText (values a v s e f) → ¬ ShowsOnlyNone (values a v s e f)
         → ReadsAfter (values a v s e f) last (normal_step (values a v s e f))
     tail-round last apart only_none = step_cases (ReadsAfter (values a v s e f) last) (values a v s e f)
         (λ is. absurd (none-apart _ none is))
         (newlib-read (values a v s e f) last)
-        (λ is. absurd (not_from_Decides _ (prints_the_esp_idf_text-decides (values a v s e f)) apart is))
-        (λ is. absurd (not_from_Decides _ (shows_only_none-decides (values a v s e f)) only_none is))
+        (λ is. absurd (apart is))
+        (λ is. absurd (only_none is))
         (λ outside. outside-read last outside.newlib _ refl)
 
   -- architecture, vendor and system, parsed back
@@ -184,16 +186,30 @@ module _ (names : NamesAreRead) where
       (λ last. rw (names.operating_system.reads_back s range) reads)
 
   -- if it isn't: Clever without a system
+  clever-fixed : (c : CleverArchitecture) (v : VendorValue) (e : Environment) (f : BinaryFormat) → e ≢ environment.None
+      → normal_step (values (architecture.Clever c) v operating_system.Unknown e f) ≡ values (architecture.Clever c) v operating_system.Unknown e f
+  clever-fixed c v e f other = outside-fixed (values (architecture.Clever c) v operating_system.Unknown e f) (record {
+    special = λ is. elim is.fields [ inl on ↦ let bad = on.architecture in cc | inr on ↦ let bad = on.architecture in cc ];
+    newlib = λ is. elim is.1 [ inl on ↦ let bad = on.1 in cc | inr on ↦ let bad = on.1 in cc ];
+    esp = λ is. let bad = ap (λ x. x.operating_system) is in cc;
+    none = λ is. other is.environment;
+  })
+
+  clever-step : (c : CleverArchitecture) (v : VendorValue) (f : BinaryFormat)
+      → normal_step (values (architecture.Clever c) v operating_system.Unknown environment.None f) ≡ values (architecture.Clever c) v operating_system.None_ environment.Unknown f
+  clever-step c v f = only_none-step (values (architecture.Clever c) v operating_system.Unknown environment.None f)
+      (record { architecture = refl; operating_system = refl; environment = refl })
+
   clever-read : (c : CleverArchitecture) (v : VendorValue) (e : Environment) (f : BinaryFormat) (last : Field) → shows_unknowns (values (architecture.Clever c) v operating_system.Unknown e f) ≡ false
       → reading_from_operating_system (architecture.Clever c) v last (cons_if (shows_environment (values (architecture.Clever c) v operating_system.Unknown e f)) (environment_name e)
       (cons_if (shows_binary_format (values (architecture.Clever c) v operating_system.Unknown e f)) (binary_format_name f) []))
       ≡ Ok (normal_step (values (architecture.Clever c) v operating_system.Unknown e f))
-  unfolding shows_environment shows_binary_format implied_format normal_step special_text
+  unfolding shows_environment shows_binary_format implied_format
   clever-read c v environment.Unknown binary_format.Unknown last hidden = absurd cc
-  clever-read c v environment.Unknown f last hidden = rw (without_system v, operating_system_of-format f, environment_of-format f, names.binary_format.reads_back f tt) refl
-  clever-read c v environment.None binary_format.Unknown last hidden = rw (without_system v, operating_system_of-environment environment.None, environment_of-format binary_format.Unknown) refl
-  clever-read c v environment.None f last hidden = rw (without_system v, operating_system_of-environment environment.None, environment_of-format f, names.binary_format.reads_back f tt) refl
-  clever-read c v e f last hidden = rw (without_system v, operating_system_of-environment e)
+  clever-read c v environment.Unknown f last hidden = rw (clever-fixed c v environment.Unknown f (λ is. cc), operating_system_of-format f, environment_of-format f, names.binary_format.reads_back f tt) refl
+  clever-read c v environment.None binary_format.Unknown last hidden = rw (clever-step c v binary_format.Unknown, without_system v, operating_system_of-environment environment.None, environment_of-format binary_format.Unknown) refl
+  clever-read c v environment.None f last hidden = rw (clever-step c v f, without_system v, operating_system_of-environment environment.None, environment_of-format f, names.binary_format.reads_back f tt) refl
+  clever-read c v e f last hidden = rw (clever-fixed c v e f (λ is. cc), without_system v, operating_system_of-environment e)
       (shown-read (architecture.Clever c) v operating_system.Unknown e f (shows_binary_format (values (architecture.Clever c) v operating_system.Unknown e f)) last
       ∙ ap (λ x. Ok (values (architecture.Clever c) v operating_system.Unknown e x)) (shown_or_implied (values (architecture.Clever c) v operating_system.Unknown e f)))
 
@@ -205,7 +221,7 @@ module _ (names : NamesAreRead) where
       (λ h. absurd (let is = (hidden_vendor (architecture.Clever c) v operating_system.Unknown e f h).1 in cc)) (λ last. clever-read c v e f last hidden)
 
   module _ (a : Architecture) (v : VendorValue) (s : OperatingSystem) (e : Environment) (f : BinaryFormat) (plain : is_plain v ≡ true) (range : HasVersionInRange s)
-      (none : special_text (values a v s e f) ≡ None) (apart : prints_the_esp_idf_text (values a v s e f) ≡ false) where
+      (none : special_text (values a v s e f) ≡ None) (apart : ¬ PrintsTheEspIdfText (values a v s e f)) where
     clever_by : (c : CleverArchitecture) → a ≡ architecture.Clever c → s ≡ operating_system.Unknown → shows_unknowns (values a v s e f) ≡ false
         → reading_of_parts (shown_names false (values a v s e f)) ≡ Ok (normal_step (values a v s e f))
     clever_by c is_a is_s hidden = rw (is_a, is_s) (clever-round c v e f plain (rw (is_a, is_s) at hidden))
@@ -221,7 +237,7 @@ module _ (names : NamesAreRead) where
     unknowns-step : (e ≡ environment.Unknown) × (f ≡ binary_format.Unknown) → normal_step (values a v s e f) ≡ values a v s e f
     unknowns-step (is_e, is_f) = step_cases (λ u. u ≡ values a v s e f) (values a v s e f)
         (λ is. absurd (none-apart _ none is)) (λ is. absurd (let newlib = is.0 in cc))
-        (λ is. absurd (not_from_Decides _ (prints_the_esp_idf_text-decides (values a v s e f)) apart is))
+        (λ is. absurd (apart is))
         (λ is. absurd (let only_none = is.environment in cc)) (λ outside. refl)
 
     unknowns-round : (e ≡ environment.Unknown) × (f ≡ binary_format.Unknown) → reading_of_parts (shown_names true (values a v s e f)) ≡ Ok (normal_step (values a v s e f))

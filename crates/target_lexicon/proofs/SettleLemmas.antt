@@ -1,21 +1,21 @@
 -- A second step changes no triple.
 use Rattle.std.proofs.Common.{◌≡◌, ◌⊎◌, inl, inr, ℕ, List, true, refl, sym, ap, subst}
 use Rattle.target_lexicon.specs.{Values.Architecture, Values.BinaryFormat, Values.VendorValue, Values.Values, Values.values, Laws.ComesBack, NormalStep.normal_step, NormalStep.elf_if_unknown}
-use Rattle.target_lexicon.specs.{Families.IsNintendo3ds, Families.IsEspIdf, Families.HidesNewlib, Families.PrintsTheEspIdfText, Printing.text_of, Reading.ReadsAs, SpecialTexts.special_text, SpecialTexts.esp_idf}
+use Rattle.target_lexicon.specs.{Families.family_by_fields, FamilyFacts.IsNintendo3ds, FamilyFacts.IsEspIdf, FamilyFacts.HidesNewlib, FamilyFacts.PrintsTheEspIdfText, Printing.text_of, Reading.ReadsAs, SpecialTexts.esp_idf}
 use Rattle.target_lexicon.specs.FixedPoints.{IsPlainTriple, RoundIsNormalStep, settled_values, OneStepSettles, SettledTextsAreKeys}
 use Rattle.lexicon_fields.specs.{Vendor.is_plain, Laws.HasVersionInRange}
-use Rattle.target_lexicon.proofs.{FixedPointLemmas.outside-fixed, StepCases.step_cases, UniqueReading.values_unique}
+use Rattle.target_lexicon.proofs.{StepCases.outside-fixed, StepCases.step_cases, UniqueReading.values_unique}
 use Rattle.target_lexicon.specs.Values.operating_system
 use Rattle.target_lexicon.specs.Values.environment
 use Rattle.target_lexicon.specs.Values.binary_format
 
 esp_idf-stays : normal_step esp_idf ≡ esp_idf
-unfolding normal_step special_text
+unfolding normal_step family_by_fields
 esp_idf-stays = refl
 
 special-stays : (t : Values) → IsNintendo3ds t ⊎ IsEspIdf t
     → normal_step (values t.architecture t.vendor t.operating_system environment.Newlib binary_format.Elf) ≡ values t.architecture t.vendor t.operating_system environment.Newlib binary_format.Elf
-unfolding normal_step special_text
+unfolding normal_step family_by_fields
 special-stays t (inl is) = rw (is.architecture, is.vendor, is.operating_system) refl
 special-stays t (inr is) = rw (is.architecture, is.vendor, is.operating_system) refl
 

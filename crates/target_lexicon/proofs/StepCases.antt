@@ -1,13 +1,15 @@
--- The tests in the normal step decide the families. So a fact that holds in the case of each family, and outside
--- them, holds for the step.
-use Rattle.std.proofs.Common.{◌≡◌, ◌≢◌, inl, inr, true, not, ◌&&◌, codes, is_some, refl, ap}
-use Rattle.std.specs.Bool.{Decides}
-use Rattle.std.proofs.{lemmas.Slice.Eq.bytes_eq-Decides, lemmas.Bool.cond_both, lemmas.Bool.false≢true, lemmas.Bool.Decides.not_from_Decides}
-use Rattle.target_lexicon.specs.Values.{Architecture, OperatingSystem, Environment, BinaryFormat, VendorValue, Known, Custom, Values, values, is_newlib, is_clever_without_system, is_same_format}
-use Rattle.target_lexicon.specs.Families.{PrintsAsSpecial, HidesNewlib, PrintsTheEspIdfText, ShowsOnlyNone}
-use Rattle.target_lexicon.specs.SpecialTexts.{special_text}
-use Rattle.target_lexicon.specs.NormalStep.{is_3ds_or_esp_idf, prints_as_special, hides_newlib, prints_the_esp_idf_text, shows_only_none, normal_step, elf_if_unknown}
-use Rattle.lexicon_fields.specs.{ArchitectureQueries.is_clever, declared.known_vendor.KnownVendor.TheVariants.Nintendo, declared.known_vendor.KnownVendor.TheVariants.Espressif}
+-- The facts of the five fields of each family. So a fact that holds in the case of each family, and outside them, holds
+-- for the step.
+use Rattle.std.proofs.Common.{◌≡◌, ◌≢◌, ◌∙◌, ◌⊎◌, ℕ, List, inl, inr, Bool, true, false, cond, codes, Option, Some, None, refl, sym, ap, subst}
+use Rattle.std.specs.Str.{bytes_eq}
+use Rattle.std.proofs.{lemmas.Slice.Eq.bytes_eq-Decides, lemmas.Bool.false≢true}
+use Rattle.target_lexicon.specs.Values.{Architecture, OperatingSystem, Environment, BinaryFormat, VendorValue, Known, Custom, Values, values}
+use Rattle.target_lexicon.specs.Families.{Family, family, family_by_fields, family_of_vendor}
+use Rattle.target_lexicon.specs.declared.family.Family.TheVariants as families
+use Rattle.target_lexicon.specs.FamilyFacts.{PrintsAsSpecial, HidesNewlib, PrintsTheEspIdfText, ShowsOnlyNone, VendorIsNotPlain, FamiliesAreFactsOfFields}
+use Rattle.target_lexicon.specs.NormalStep.{normal_step, step_of, elf_if_unknown}
+use Rattle.lexicon_fields.specs.{ArchitectureQueries.is_clever, declared.architecture.clever.CleverArchitecture.CleverArchitecture, Vendor.is_plain, Vendor.is_admitted, Vendor.known_vendor_of, Architecture.architecture_of, OperatingSystem.operating_system_of, OperatingSystem.fixed_operating_system_of, Environment.environment_of, BinaryFormat.binary_format_of}
+use Rattle.lexicon_fields.specs.declared.known_vendor.KnownVendor.TheVariants.{Nintendo, Espressif}
 use Rattle.target_lexicon.specs.Values.architecture
 use Rattle.target_lexicon.specs.Values.arm
 use Rattle.target_lexicon.specs.Values.riscv32
@@ -15,97 +17,98 @@ use Rattle.target_lexicon.specs.Values.operating_system
 use Rattle.target_lexicon.specs.Values.environment
 use Rattle.target_lexicon.specs.Values.binary_format
 
--- a special string is printed
+-- from the family to the facts
 
-pub special-is : (a : Architecture) (v : VendorValue) (s : OperatingSystem) (e : Environment) (f : BinaryFormat)
-    → is_some (special_text (values a v s e f)) ≡ is_3ds_or_esp_idf a v s
-unfolding special_text
-special-is (architecture.Arm arm.Armv6k) (Known Nintendo) operating_system.Horizon e f = refl
-special-is (architecture.Riscv32 riscv32.Riscv32imc) (Known Espressif) operating_system.Espidf e f = refl
-special-is _ _ _ e f = refl
+abbrev pub FactsOf : Option Family → Values → Type 0
+FactsOf (Some families.PrintsAsSpecial) t = PrintsAsSpecial t
+FactsOf (Some families.HidesNewlib) t = HidesNewlib t
+FactsOf (Some families.PrintsTheEspIdfText) t = PrintsTheEspIdfText t
+FactsOf (Some families.ShowsOnlyNone) t = ShowsOnlyNone t
+FactsOf (Some families.VendorIsNotPlain) t = is_plain t.vendor ≡ false
+FactsOf None t = is_plain t.vendor ≡ true
 
-pub special_fields : (t : Values) → is_some (special_text t) ≡ is_3ds_or_esp_idf t.architecture t.vendor t.operating_system
-special_fields t = special-is t.architecture t.vendor t.operating_system t.environment t.binary_format
+of_vendor : (t : Values) (b : Bool) → is_plain t.vendor ≡ b → FactsOf (cond b None (Some families.VendorIsNotPlain)) t
+of_vendor t true is = is
+of_vendor t false is = is
 
-not_newlib_elf : (e : Environment) (f : BinaryFormat) → ¬ ((e ≡ environment.Newlib) × (f ≡ binary_format.Elf)) → not (is_newlib e && is_same_format f binary_format.Elf) ≡ true
-not_newlib_elf environment.Newlib binary_format.Elf others = absurd (others (refl, refl))
-not_newlib_elf _ _ others = refl
+abbrev on_esp_idf : List ℕ → Values
+on_esp_idf text = values (architecture.Riscv32 riscv32.Riscv32imc) (Custom text) operating_system.Espidf environment.Unknown binary_format.Elf
 
-special-fields : (a : Architecture) (v : VendorValue) (s : OperatingSystem) (e : Environment) (f : BinaryFormat) → prints_as_special (values a v s e f) ≡ true → PrintsAsSpecial (values a v s e f)
-unfolding special_text
-special-fields (architecture.Arm arm.Armv6k) (Known Nintendo) operating_system.Horizon e f h =
-    record { fields = inl (record { architecture = refl; vendor = refl; operating_system = refl }); others = λ is. false≢true (rw (is.0, is.1) at h) }
-special-fields (architecture.Riscv32 riscv32.Riscv32imc) (Known Espressif) operating_system.Espidf e f h =
-    record { fields = inr (record { architecture = refl; vendor = refl; operating_system = refl }); others = λ is. false≢true (rw (is.0, is.1) at h) }
-special-fields _ _ _ e f h = absurd (false≢true h)
+of_esp : (text : List ℕ) (b : Bool) → bytes_eq text (codes "esp") ≡ b → FactsOf (cond b (Some families.PrintsTheEspIdfText) (family_of_vendor (Custom text))) (on_esp_idf text)
+of_esp text true is = ap on_esp_idf ((bytes_eq-Decides text (codes "esp")).0 is)
+of_esp text false is = of_vendor (on_esp_idf text) _ refl
 
-pub prints_as_special-decides : (t : Values) → Decides (prints_as_special t) (PrintsAsSpecial t)
-unfolding special_text
-prints_as_special-decides t = (
-  special-fields t.architecture t.vendor t.operating_system t.environment t.binary_format,
-  λ is. elim is.fields [
-    | inl on ↦ rw (on.architecture, on.vendor, on.operating_system) (not_newlib_elf t.environment t.binary_format is.others)
-    | inr on ↦ rw (on.architecture, on.vendor, on.operating_system) (not_newlib_elf t.environment t.binary_format is.others)
-  ],
-)
+facts-by_fields : (a : Architecture) (v : VendorValue) (s : OperatingSystem) (e : Environment) (f : BinaryFormat) → FactsOf (family_by_fields a v s e f) (values a v s e f)
+unfolding family_by_fields
+facts-by_fields (architecture.Arm arm.Armv6k) (Known Nintendo) operating_system.Horizon environment.Newlib binary_format.Elf = refl
+facts-by_fields (architecture.Arm arm.Armv6k) (Known Nintendo) operating_system.Horizon _ _ =
+    record { fields = inl (record { architecture = refl; vendor = refl; operating_system = refl }); others = λ is. let e = is.0 in let f = is.1 in cc }
+facts-by_fields (architecture.Riscv32 riscv32.Riscv32imc) (Known Espressif) operating_system.Espidf environment.Newlib binary_format.Elf = refl
+facts-by_fields (architecture.Riscv32 riscv32.Riscv32imc) (Known Espressif) operating_system.Espidf _ _ =
+    record { fields = inr (record { architecture = refl; vendor = refl; operating_system = refl }); others = λ is. let e = is.0 in let f = is.1 in cc }
+facts-by_fields _ (Known Nintendo) operating_system.Horizon environment.Newlib _ = (refl, inl (refl, refl, λ is. cc))
+facts-by_fields _ (Known Espressif) operating_system.Espidf environment.Newlib _ = (refl, inr (refl, refl, λ is. cc))
+facts-by_fields (architecture.Riscv32 riscv32.Riscv32imc) (Custom text) operating_system.Espidf environment.Unknown binary_format.Elf = of_esp text _ refl
+facts-by_fields (architecture.Clever sub) v operating_system.Unknown environment.None f = record { architecture = refl; operating_system = refl; environment = refl }
+facts-by_fields a v s e f = of_vendor (values a v s e f) _ refl
 
--- a `Newlib` that isn't shown
+pub facts : (t : Values) → FactsOf (family t) t
+facts t = facts-by_fields t.architecture t.vendor t.operating_system t.environment t.binary_format
 
-newlib-fields : (a : Architecture) (v : VendorValue) (s : OperatingSystem) (e : Environment) (f : BinaryFormat) → hides_newlib (values a v s e f) ≡ true → HidesNewlib (values a v s e f)
-unfolding special_text
-newlib-fields a (Known Nintendo) operating_system.Horizon environment.Newlib f h = (refl, inl (refl, refl, λ is. false≢true (rw is at h)))
-newlib-fields a (Known Espressif) operating_system.Espidf environment.Newlib f h = (refl, inr (refl, refl, λ is. false≢true (rw is at h)))
-newlib-fields a _ _ _ f h = absurd (false≢true h)
+-- from the facts to the family
 
-on_horizon : (a : Architecture) (f : BinaryFormat) → a ≢ architecture.Arm arm.Armv6k → hides_newlib (values a (Known Nintendo) operating_system.Horizon environment.Newlib f) ≡ true
-unfolding special_text
+on_3ds : (e : Environment) (f : BinaryFormat) → ¬ ((e ≡ environment.Newlib) × (f ≡ binary_format.Elf))
+    → family_by_fields (architecture.Arm arm.Armv6k) (Known Nintendo) operating_system.Horizon e f ≡ Some families.PrintsAsSpecial
+unfolding family_by_fields
+on_3ds environment.Newlib binary_format.Elf others = absurd (others (refl, refl))
+on_3ds _ _ others = refl
+
+on_esp : (e : Environment) (f : BinaryFormat) → ¬ ((e ≡ environment.Newlib) × (f ≡ binary_format.Elf))
+    → family_by_fields (architecture.Riscv32 riscv32.Riscv32imc) (Known Espressif) operating_system.Espidf e f ≡ Some families.PrintsAsSpecial
+unfolding family_by_fields
+on_esp environment.Newlib binary_format.Elf others = absurd (others (refl, refl))
+on_esp _ _ others = refl
+
+pub special-family : (t : Values) → PrintsAsSpecial t → family t ≡ Some families.PrintsAsSpecial
+special-family t is = elim is.fields [
+  | inl on ↦ rw (on.architecture, on.vendor, on.operating_system) (on_3ds t.environment t.binary_format is.others)
+  | inr on ↦ rw (on.architecture, on.vendor, on.operating_system) (on_esp t.environment t.binary_format is.others)
+]
+
+on_horizon : (a : Architecture) (f : BinaryFormat) → a ≢ architecture.Arm arm.Armv6k → family_by_fields a (Known Nintendo) operating_system.Horizon environment.Newlib f ≡ Some families.HidesNewlib
+unfolding family_by_fields
 on_horizon (architecture.Arm arm.Armv6k) f other = absurd (other refl)
 on_horizon (architecture.Riscv32 riscv32.Riscv32imc) f other = refl
 on_horizon _ f other = refl
 
-on_espidf : (a : Architecture) (f : BinaryFormat) → a ≢ architecture.Riscv32 riscv32.Riscv32imc → hides_newlib (values a (Known Espressif) operating_system.Espidf environment.Newlib f) ≡ true
-unfolding special_text
+on_espidf : (a : Architecture) (f : BinaryFormat) → a ≢ architecture.Riscv32 riscv32.Riscv32imc → family_by_fields a (Known Espressif) operating_system.Espidf environment.Newlib f ≡ Some families.HidesNewlib
+unfolding family_by_fields
 on_espidf (architecture.Riscv32 riscv32.Riscv32imc) f other = absurd (other refl)
 on_espidf (architecture.Arm arm.Armv6k) f other = refl
 on_espidf _ f other = refl
 
-pub hides_newlib-decides : (t : Values) → Decides (hides_newlib t) (HidesNewlib t)
-hides_newlib-decides t = (
-  newlib-fields t.architecture t.vendor t.operating_system t.environment t.binary_format,
-  λ is. elim is.1 [
-    | inl on ↦ rw (is.0, on.0, on.1) (on_horizon t.architecture t.binary_format on.2)
-    | inr on ↦ rw (is.0, on.0, on.1) (on_espidf t.architecture t.binary_format on.2)
-  ],
-)
+pub newlib-family : (t : Values) → HidesNewlib t → family t ≡ Some families.HidesNewlib
+newlib-family t is = elim is.1 [
+  | inl on ↦ rw (is.0, on.0, on.1) (on_horizon t.architecture t.binary_format on.2)
+  | inr on ↦ rw (is.0, on.0, on.1) (on_espidf t.architecture t.binary_format on.2)
+]
 
--- the custom vendor `esp`
+pub esp-family : (t : Values) → PrintsTheEspIdfText t → family t ≡ Some families.PrintsTheEspIdfText
+unfolding family_by_fields
+esp-family t is = ap family is
 
-esp_fields : (a : Architecture) (v : VendorValue) (s : OperatingSystem) (e : Environment) (f : BinaryFormat)
-    → prints_the_esp_idf_text (values a v s e f) ≡ true → PrintsTheEspIdfText (values a v s e f)
-esp_fields (architecture.Riscv32 riscv32.Riscv32imc) (Custom text) operating_system.Espidf environment.Unknown binary_format.Elf h =
-    ap (λ x. values (architecture.Riscv32 riscv32.Riscv32imc) (Custom x) operating_system.Espidf environment.Unknown binary_format.Elf)
-    ((bytes_eq-Decides text (codes "esp")).0 h)
-esp_fields _ _ _ _ _ h = absurd (false≢true h)
+on_clever : (sub : CleverArchitecture) (v : VendorValue) (f : BinaryFormat) → family_by_fields (architecture.Clever sub) v operating_system.Unknown environment.None f ≡ Some families.ShowsOnlyNone
+unfolding family_by_fields
+on_clever sub (Known Nintendo) f = refl
+on_clever sub (Known Espressif) f = refl
+on_clever sub _ f = refl
 
-pub prints_the_esp_idf_text-decides : (t : Values) → Decides (prints_the_esp_idf_text t) (PrintsTheEspIdfText t)
-prints_the_esp_idf_text-decides t =
-    (esp_fields t.architecture t.vendor t.operating_system t.environment t.binary_format, ap prints_the_esp_idf_text)
+if_clever : (a : Architecture) (v : VendorValue) (f : BinaryFormat) → is_clever a ≡ true → family_by_fields a v operating_system.Unknown environment.None f ≡ Some families.ShowsOnlyNone
+if_clever (architecture.Clever sub) v f clever = on_clever sub v f
+if_clever _ v f clever = absurd (false≢true clever)
 
--- `none` without a system, on Clever
-
-none-fields : (a : Architecture) (v : VendorValue) (s : OperatingSystem) (e : Environment) (f : BinaryFormat) → shows_only_none (values a v s e f) ≡ true → ShowsOnlyNone (values a v s e f)
-none-fields (architecture.Clever sub) v operating_system.Unknown environment.None f h = record { architecture = refl; operating_system = refl; environment = refl }
-none-fields _ v _ _ f h = absurd (false≢true h)
-
-on_clever : (a : Architecture) → is_clever a ≡ true → is_clever_without_system a operating_system.Unknown ≡ true
-on_clever (architecture.Clever sub) clever = refl
-on_clever _ clever = absurd (false≢true clever)
-
-pub shows_only_none-decides : (t : Values) → Decides (shows_only_none t) (ShowsOnlyNone t)
-shows_only_none-decides t = (
-  none-fields t.architecture t.vendor t.operating_system t.environment t.binary_format,
-  λ is. rw (is.operating_system, is.environment, on_clever t.architecture is.architecture) refl,
-)
+pub only_none-family : (t : Values) → ShowsOnlyNone t → family t ≡ Some families.ShowsOnlyNone
+only_none-family t is = rw (is.operating_system, is.environment) (if_clever t.architecture t.vendor t.binary_format is.architecture)
 
 -- in none of the four families in which a triple with a plain vendor changes
 pub record IsOutside (t : Values) : Type 0 where
@@ -113,6 +116,70 @@ pub record IsOutside (t : Values) : Type 0 where
   pub newlib : ¬ HidesNewlib t
   pub esp : ¬ PrintsTheEspIdfText t
   pub none : ¬ ShowsOnlyNone t
+
+-- the family of a triple that is outside
+outside-family : (t : Values) (found : Option Family) → FactsOf found t → IsOutside t → found ≡ cond (is_plain t.vendor) None (Some families.VendorIsNotPlain)
+outside-family t (Some families.PrintsAsSpecial) is outside = absurd (outside.special is)
+outside-family t (Some families.HidesNewlib) is outside = absurd (outside.newlib is)
+outside-family t (Some families.PrintsTheEspIdfText) is outside = absurd (outside.esp is)
+outside-family t (Some families.ShowsOnlyNone) is outside = absurd (outside.none is)
+outside-family t (Some families.VendorIsNotPlain) is outside = rw is refl
+outside-family t None is outside = rw is refl
+
+pub plain-family : (t : Values) → is_plain t.vendor ≡ true → IsOutside t → family t ≡ None
+plain-family t plain outside = outside-family t (family t) (facts t) outside ∙ rw plain refl
+
+special-plain : (t : Values) → PrintsAsSpecial t → is_plain t.vendor ≡ true
+special-plain t is = elim is.fields [ inl on ↦ rw on.vendor refl | inr on ↦ rw on.vendor refl ]
+
+newlib-plain : (t : Values) → HidesNewlib t → is_plain t.vendor ≡ true
+newlib-plain t is = elim is.1 [ inl on ↦ rw on.0 refl | inr on ↦ rw on.0 refl ]
+
+esp-plain : (t : Values) → PrintsTheEspIdfText t → is_plain t.vendor ≡ true
+unfolding is_admitted known_vendor_of architecture_of operating_system_of fixed_operating_system_of environment_of binary_format_of
+esp-plain t is = rw is refl
+
+pub vendor-family : (t : Values) → VendorIsNotPlain t → family t ≡ Some families.VendorIsNotPlain
+vendor-family t is = outside-family t (family t) (facts t) (record {
+  special = λ special. false≢true (sym is.vendor ∙ special-plain t special);
+  newlib = λ newlib. false≢true (sym is.vendor ∙ newlib-plain t newlib);
+  esp = λ esp. false≢true (sym is.vendor ∙ esp-plain t esp);
+  none = is.others;
+}) ∙ rw is.vendor refl
+
+facts_if : (t : Values) (found : Option Family) → family t ≡ found → FactsOf found t
+facts_if t found is = subst (λ (o : Option Family). FactsOf o t) is (facts t)
+
+-- a triple of the last family, or of none, is outside
+none-outside : (t : Values) → family t ≡ None → IsOutside t
+none-outside t found = record {
+  special = λ is. let bad = special-family t is in cc;
+  newlib = λ is. let bad = newlib-family t is in cc;
+  esp = λ is. let bad = esp-family t is in cc;
+  none = λ is. let bad = only_none-family t is in cc;
+}
+
+last-outside : (t : Values) → family t ≡ Some families.VendorIsNotPlain → IsOutside t
+last-outside t found = record {
+  special = λ is. let bad = special-family t is in cc;
+  newlib = λ is. let bad = newlib-family t is in cc;
+  esp = λ is. let bad = esp-family t is in cc;
+  none = λ is. let bad = only_none-family t is in cc;
+}
+
+pub families_are_facts : FamiliesAreFactsOfFields
+families_are_facts t = record {
+  special = (facts_if t _, special-family t);
+  newlib = (facts_if t _, newlib-family t);
+  esp = (facts_if t _, esp-family t);
+  only_none = (facts_if t _, only_none-family t);
+  vendor = (λ found. record { vendor = facts_if t _ found; others = (last-outside t found).none }, vendor-family t);
+}
+
+pub none-plain_outside : (t : Values) → family t ≡ None → (is_plain t.vendor ≡ true) × IsOutside t
+none-plain_outside t found = (facts_if t None found, none-outside t found)
+
+-- the step, by the family
 
 pub step_cases : (P : Values → Type 0) (t : Values)
     → (PrintsAsSpecial t → P (values t.architecture t.vendor t.operating_system environment.Newlib binary_format.Elf))
@@ -122,14 +189,31 @@ pub step_cases : (P : Values → Type 0) (t : Values)
     → (IsOutside t → P t)
     → P (normal_step t)
 unfolding normal_step
-step_cases P t special newlib esp none outside =
-    cond_both _ _ _ P (λ h. special ((prints_as_special-decides t).0 h))
-    (λ two. cond_both _ _ _ P (λ h. newlib ((hides_newlib-decides t).0 h))
-    (λ three. cond_both _ _ _ P (λ h. esp ((prints_the_esp_idf_text-decides t).0 h))
-    (λ four. cond_both _ _ _ P (λ h. none ((shows_only_none-decides t).0 h))
-    (λ five. outside (record {
-      special = not_from_Decides _ (prints_as_special-decides t) two;
-      newlib = not_from_Decides _ (hides_newlib-decides t) three;
-      esp = not_from_Decides _ (prints_the_esp_idf_text-decides t) four;
-      none = not_from_Decides _ (shows_only_none-decides t) five;
-    })))))
+step_cases P t special newlib esp none outside = by_family (family t) refl
+  where
+    by_family : (found : Option Family) → family t ≡ found → P (step_of found t)
+    by_family (Some families.PrintsAsSpecial) is = special (facts_if t _ is)
+    by_family (Some families.HidesNewlib) is = newlib (facts_if t _ is)
+    by_family (Some families.PrintsTheEspIdfText) is = esp (facts_if t _ is)
+    by_family (Some families.ShowsOnlyNone) is = none (facts_if t _ is)
+    by_family (Some families.VendorIsNotPlain) is = outside (last-outside t is)
+    by_family None is = outside (none-outside t is)
+
+-- the step of one family, and outside
+
+pub only_none-step : (t : Values) → ShowsOnlyNone t → normal_step t ≡ values t.architecture t.vendor operating_system.None_ environment.Unknown t.binary_format
+unfolding normal_step
+only_none-step t is = ap (λ (o : Option Family). step_of o t) (only_none-family t is)
+
+pub outside-fixed : (t : Values) → IsOutside t → normal_step t ≡ t
+outside-fixed t outside = step_cases (λ u. u ≡ t) t
+    (λ is. absurd (outside.special is)) (λ is. absurd (outside.newlib is)) (λ is. absurd (outside.esp is))
+    (λ is. absurd (outside.none is)) (λ _. refl)
+
+-- whether the triple is the one of the third family
+pub is_esp : (t : Values) → PrintsTheEspIdfText t ⊎ ¬ PrintsTheEspIdfText t
+is_esp t = by_family (family t) refl
+  where
+    by_family : (found : Option Family) → family t ≡ found → PrintsTheEspIdfText t ⊎ ¬ PrintsTheEspIdfText t
+    by_family (Some families.PrintsTheEspIdfText) found = inl (facts_if t _ found)
+    by_family _ found = inr (λ is. let bad = esp-family t is in cc)

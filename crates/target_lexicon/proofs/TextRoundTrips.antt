@@ -1,11 +1,11 @@
 -- The printed string of a triple with a plain vendor reads as its normal step.
-use Rattle.std.proofs.Common.{◌≡◌, ◌≢◌, ◌∙◌, ℕ, Bool, true, false, cond, is_none, true≢false, inl, inr, List, [], ◌∷◌, Option, Some, None, Ok, Err, codes, refl, sym, ap, subst}
+use Rattle.std.proofs.Common.{◌≡◌, ◌≢◌, ◌∙◌, ℕ, Bool, true, false, cond, is_none, true≢false, ◌⊎◌, inl, inr, List, [], ◌∷◌, Option, Some, None, Ok, Err, codes, refl, sym, ap, subst}
 use Rattle.std.specs.{List.list_all, List.join_with_byte, Str.bytes_eq}
 use Rattle.std.proofs.lemmas.Slice.Eq.{bytes_eq-Decides}
 use Rattle.lexicon_fields.specs.Names.{dash}
 use Rattle.lexicon_fields.proofs.LawOfNames.{NamesAreRead, names_are_read}
 use Rattle.target_lexicon.specs.Values.{Architecture, OperatingSystem, Environment, BinaryFormat, VendorValue, Known, Custom, Values, values}
-use Rattle.target_lexicon.specs.{FixedPoints.RoundIsNormalStep, ImpliedFormat.implied_format, NormalStep.normal_step, NormalStep.prints_the_esp_idf_text, Placement.parts_of}
+use Rattle.target_lexicon.specs.{FixedPoints.RoundIsNormalStep, ImpliedFormat.implied_format, NormalStep.normal_step, Families.family_by_fields, FamilyFacts.PrintsTheEspIdfText, Placement.parts_of}
 use Rattle.target_lexicon.specs.Printing.{shows_vendor, shows_operating_system, shows_environment, shows_binary_format, shows_unknowns, shown_names, text_of, cons_if}
 use Rattle.target_lexicon.specs.{Reading.ReadsAs, GreedyReading.reading_of_parts, GreedyReading.reading_unless_special, GreedyReading.reading, Refusal.refusal_with}
 use Rattle.target_lexicon.specs.SpecialTexts.{special_text, special_values, nintendo_3ds, nintendo_3ds_text, esp_idf, esp_idf_text}
@@ -13,7 +13,7 @@ use Rattle.lexicon_fields.specs.{Names.is_dash_free, Architecture.architecture_n
 use Rattle.lexicon_fields.specs.declared.known_vendor.KnownVendor.TheVariants.{Nintendo, Espressif}
 use Rattle.lexicon_fields.specs.{Vendor.vendor_of, Vendor.known_vendor_of, Vendor.is_admitted, Vendor.is_plain, BinaryFormat.binary_format_name, BinaryFormat.binary_format_of}
 use Rattle.lexicon_fields.specs.OperatingSystem.{operating_system_name, operating_system_of, fixed_operating_system_of}
-use Rattle.target_lexicon.proofs.{ComputedReading.reading_computed, PartLemmas.parts_of-joined, PrintingLemmas.printed_names, RoundTrips.parts-round, StepCases.step_cases, StepCases.prints_the_esp_idf_text-decides}
+use Rattle.target_lexicon.proofs.{ComputedReading.reading_computed, PartLemmas.parts_of-joined, PrintingLemmas.printed_names, RoundTrips.parts-round, StepCases.step_cases, StepCases.is_esp}
 use Rattle.target_lexicon.specs.Values.architecture
 use Rattle.target_lexicon.specs.Values.arm
 use Rattle.target_lexicon.specs.Values.riscv32
@@ -35,7 +35,7 @@ cons_if-free false p ps free others = others
 
 pub special-round : (a : Architecture) (v : VendorValue) (s : OperatingSystem) (e : Environment) (f : BinaryFormat) (text : List ℕ) → special_text (values a v s e f) ≡ Some text
     → reading (text_of (values a v s e f)) ≡ Ok (normal_step (values a v s e f))
-unfolding special_text special_values normal_step reading text_of
+unfolding special_text special_values family_by_fields normal_step reading text_of
 special-round (architecture.Arm arm.Armv6k) (Known Nintendo) operating_system.Horizon environment.Newlib binary_format.Elf text is = refl
 special-round (architecture.Arm arm.Armv6k) (Known Nintendo) operating_system.Horizon _ _ text is = refl
 special-round (architecture.Riscv32 riscv32.Riscv32imc) (Known Espressif) operating_system.Espidf environment.Newlib binary_format.Elf text is = refl
@@ -48,7 +48,7 @@ abbrev custom_esp : Values
 custom_esp = values (architecture.Riscv32 riscv32.Riscv32imc) (Custom (codes "esp")) operating_system.Espidf environment.Unknown binary_format.Elf
 
 custom_esp-round : reading (text_of custom_esp) ≡ Ok (normal_step custom_esp)
-unfolding reading text_of special_text special_values shown_names shows_vendor shows_operating_system shows_environment shows_binary_format implied_format normal_step
+unfolding reading text_of special_text special_values shown_names shows_vendor shows_operating_system shows_environment shows_binary_format implied_format family_by_fields normal_step
 custom_esp-round = refl
 
 -- the special strings, parsed by their parts
@@ -70,7 +70,7 @@ by_tests text ps t false true is_x is_y are reads apart = absurd (apart (sym are
 by_tests text ps t false false is_x is_y are reads apart = ap reading_of_parts are ∙ reads
 
 module _ (names : NamesAreRead) (a : Architecture) (v : VendorValue) (s : OperatingSystem) (e : Environment) (f : BinaryFormat) (plain : is_plain v ≡ true) (range : HasVersionInRange s)
-    (none : special_text (values a v s e f) ≡ None) (apart : prints_the_esp_idf_text (values a v s e f) ≡ false) where
+    (none : special_text (values a v s e f) ≡ None) (apart : ¬ PrintsTheEspIdfText (values a v s e f)) where
   parts-apart : printed_names (values a v s e f) ≢ parts_of esp_idf_text
   parts-apart same =
       let reads : Ok (normal_step (values a v s e f)) ≡ Ok custom_esp = sym (parts-round names a v s e f plain range none apart) ∙ ap reading_of_parts same ∙ esp_idf-parts in
@@ -99,15 +99,15 @@ module _ (names : NamesAreRead) (a : Architecture) (v : VendorValue) (s : Operat
       rw none (by_tests (join_with_byte dash (printed_names t)) (printed_names t) (normal_step t) _ _ refl refl
       (joined-parts (shows_unknowns t)) (parts-round names a v s e f plain range none apart) parts-apart)
 
-round_by : NamesAreRead → (t : Values) (special : Option (List ℕ)) (b : Bool) → is_plain t.vendor ≡ true → HasVersionInRange t.operating_system → special_text t ≡ special
-    → prints_the_esp_idf_text t ≡ b → reading (text_of t) ≡ Ok (normal_step t)
-round_by names t (Some text) b plain range is is_b = special-round t.architecture t.vendor t.operating_system t.environment t.binary_format text is
-round_by names t None true plain range is is_b = rw ((prints_the_esp_idf_text-decides t).0 is_b) custom_esp-round
-round_by names t None false plain range is is_b = shown-round names t.architecture t.vendor t.operating_system t.environment t.binary_format plain range is is_b
+round_by : NamesAreRead → (t : Values) (special : Option (List ℕ)) → is_plain t.vendor ≡ true → HasVersionInRange t.operating_system → special_text t ≡ special
+    → PrintsTheEspIdfText t ⊎ ¬ PrintsTheEspIdfText t → reading (text_of t) ≡ Ok (normal_step t)
+round_by names t (Some text) plain range is _ = special-round t.architecture t.vendor t.operating_system t.environment t.binary_format text is
+round_by names t None plain range is (inl esp) = rw esp custom_esp-round
+round_by names t None plain range is (inr apart) = shown-round names t.architecture t.vendor t.operating_system t.environment t.binary_format plain range is apart
 
 -- the round trip of a plain triple is its normal step
 pub round : RoundIsNormalStep
-round t plain = ((reading_computed (text_of t)).read (normal_step t)).1 (round_by names_are_read t _ _ plain.vendor plain.version refl refl)
+round t plain = ((reading_computed (text_of t)).read (normal_step t)).1 (round_by names_are_read t _ plain.vendor plain.version refl (is_esp t))
 
 pub round_by_step : RoundIsNormalStep → (t u : Values) → is_plain t.vendor ≡ true → HasVersionInRange t.operating_system → u ≡ normal_step t → ReadsAs (text_of t) u
 round_by_step round t u plain range is = subst (λ (x : Values). ReadsAs (text_of t) x) (sym is) (round t (record { vendor = plain; version = range }))

@@ -1,7 +1,10 @@
 -- The five families of triples that don't come back: printed and parsed again, they are another triple or none.
-use Rattle.std.specs.Prelude.{◌≡◌, ◌≢◌, ◌⊎◌, true, false, codes}
-use Rattle.lexicon_fields.specs.{ArchitectureQueries.is_clever, declared.known_vendor.KnownVendor.TheVariants.Nintendo, declared.known_vendor.KnownVendor.TheVariants.Espressif, Vendor.is_plain}
-use Rattle.target_lexicon.specs.Values.{Known, Custom, Values, values}
+use Rattle.std.specs.Prelude.{codes, if◌then◌else◌, Option, Some, None}
+use Rattle.std.specs.Str.{bytes_eq}
+use Rattle.lexicon_fields.specs.{declared.known_vendor.KnownVendor.TheVariants.Nintendo, declared.known_vendor.KnownVendor.TheVariants.Espressif, Vendor.is_plain}
+pub use Rattle.target_lexicon.specs.declared.family.Family.{Family}
+use Rattle.target_lexicon.specs.declared.family.Family.TheVariants.{PrintsAsSpecial, HidesNewlib, PrintsTheEspIdfText, ShowsOnlyNone, VendorIsNotPlain}
+use Rattle.target_lexicon.specs.Values.{Architecture, OperatingSystem, Environment, BinaryFormat, VendorValue, Known, Custom, Values}
 use Rattle.target_lexicon.specs.Values.architecture
 use Rattle.target_lexicon.specs.Values.arm
 use Rattle.target_lexicon.specs.Values.riscv32
@@ -9,41 +12,28 @@ use Rattle.target_lexicon.specs.Values.operating_system
 use Rattle.target_lexicon.specs.Values.environment
 use Rattle.target_lexicon.specs.Values.binary_format
 
--- the first three fields are those that print as `armv6k-nintendo-3ds`
-pub record IsNintendo3ds (t : Values) : Type 0 where
-  pub architecture : t.architecture ≡ architecture.Arm arm.Armv6k
-  pub vendor : t.vendor ≡ Known Nintendo
-  pub operating_system : t.operating_system ≡ operating_system.Horizon
+-- the last family: no string parses as the vendor
+abbrev pub family_of_vendor : VendorValue → Option Family
+family_of_vendor v = if is_plain v then None else Some VendorIsNotPlain
 
--- the first three fields are those that print as `riscv32imc-esp-espidf`
-pub record IsEspIdf (t : Values) : Type 0 where
-  pub architecture : t.architecture ≡ architecture.Riscv32 riscv32.Riscv32imc
-  pub vendor : t.vendor ≡ Known Espressif
-  pub operating_system : t.operating_system ≡ operating_system.Espidf
-
--- a special string is printed, which doesn't show environment and format, and these aren't `Newlib` and `Elf`
-pub record PrintsAsSpecial (t : Values) : Type 0 where
-  pub fields : IsNintendo3ds t ⊎ IsEspIdf t
-  pub others : ¬ ((t.environment ≡ environment.Newlib) × (t.binary_format ≡ binary_format.Elf))
-
--- the environment is a `Newlib` that isn't shown, and the string isn't special
-abbrev pub HidesNewlib : Values → Type 0
-HidesNewlib t = (t.environment ≡ environment.Newlib)
-    × (((t.vendor ≡ Known Nintendo) × (t.operating_system ≡ operating_system.Horizon) × (t.architecture ≢ architecture.Arm arm.Armv6k))
-    ⊎ ((t.vendor ≡ Known Espressif) × (t.operating_system ≡ operating_system.Espidf) × (t.architecture ≢ architecture.Riscv32 riscv32.Riscv32imc)))
-
+-- the list of families: the first line that fits decides
+unfoldable pub family_by_fields : Architecture → VendorValue → OperatingSystem → Environment → BinaryFormat → Option Family
+-- the first three fields print as `armv6k-nintendo-3ds`, which doesn't show environment and format
+family_by_fields (architecture.Arm arm.Armv6k) (Known Nintendo) operating_system.Horizon environment.Newlib binary_format.Elf = None
+family_by_fields (architecture.Arm arm.Armv6k) (Known Nintendo) operating_system.Horizon _ _ = Some PrintsAsSpecial
+-- they print as `riscv32imc-esp-espidf`
+family_by_fields (architecture.Riscv32 riscv32.Riscv32imc) (Known Espressif) operating_system.Espidf environment.Newlib binary_format.Elf = None
+family_by_fields (architecture.Riscv32 riscv32.Riscv32imc) (Known Espressif) operating_system.Espidf _ _ = Some PrintsAsSpecial
+-- on another machine, the environment is a `Newlib` that isn't shown
+family_by_fields _ (Known Nintendo) operating_system.Horizon environment.Newlib _ = Some HidesNewlib
+family_by_fields _ (Known Espressif) operating_system.Espidf environment.Newlib _ = Some HidesNewlib
 -- the vendor is the custom `esp`, and the string is the special one
-abbrev pub PrintsTheEspIdfText : Values → Type 0
-PrintsTheEspIdfText t =
-    t ≡ values (architecture.Riscv32 riscv32.Riscv32imc) (Custom (codes "esp")) operating_system.Espidf environment.Unknown binary_format.Elf
-
+family_by_fields (architecture.Riscv32 riscv32.Riscv32imc) (Custom text) operating_system.Espidf environment.Unknown binary_format.Elf =
+    if bytes_eq text (codes "esp") then Some PrintsTheEspIdfText else family_of_vendor (Custom text)
 -- on Clever without a system the environment `none` is shown, and parses as the system
-pub record ShowsOnlyNone (t : Values) : Type 0 where
-  pub architecture : is_clever t.architecture ≡ true
-  pub operating_system : t.operating_system ≡ operating_system.Unknown
-  pub environment : t.environment ≡ environment.None
+family_by_fields (architecture.Clever sub) v operating_system.Unknown environment.None f = Some ShowsOnlyNone
+family_by_fields _ v _ _ _ = family_of_vendor v
 
--- the triple is in one of the families; in the last one no string parses as the vendor
-abbrev pub IsInSomeFamily : Values → Type 0
-IsInSomeFamily t =
-    PrintsAsSpecial t ⊎ (HidesNewlib t ⊎ (PrintsTheEspIdfText t ⊎ (ShowsOnlyNone t ⊎ (is_plain t.vendor ≡ false))))
+-- the first family that the triple is in, if any
+abbrev pub family : Values → Option Family
+family t = family_by_fields t.architecture t.vendor t.operating_system t.environment t.binary_format

@@ -1,7 +1,7 @@
 -- Laws of round trips, in which a triple is printed and its string parsed again: which triples come back, what the
 -- others become, and how long strings are.
-use Rattle.std.specs.Prelude.{ℕ, ◌+◌, ◌≤◌, List, length, ◌≡◌, ◌↔◌, ◌⊎◌, true}
-use Rattle.target_lexicon.specs.{Reading.IsRefusedAs, Reading.ReadsAs, Refusal.Refusal, Families.IsInSomeFamily, Laws.EveryTextHasOneOutcome, Laws.ComesBack, NormalStep.normal_step, Printing.text_of}
+use Rattle.std.specs.Prelude.{ℕ, ◌+◌, ◌≤◌, List, length, ◌≡◌, ◌↔◌, None, true}
+use Rattle.target_lexicon.specs.{Reading.IsRefusedAs, Reading.ReadsAs, Refusal.Refusal, Families.family, Laws.EveryTextHasOneOutcome, Laws.ComesBack, NormalStep.normal_step, Printing.text_of}
 use Rattle.target_lexicon.specs.{QueryLaws.QueriesKept, Values.Values}
 use Rattle.lexicon_fields.specs.{Laws.HasVersionInRange, Vendor.is_plain}
 
@@ -18,14 +18,10 @@ ReadTriplesArePlain = (text : List ℕ) (t : Values) → ReadsAs text t → IsPl
 abbrev pub RoundIsNormalStep : Type 0
 RoundIsNormalStep = (t : Values) → IsPlainTriple t → ReadsAs (text_of t) (normal_step t)
 
--- a triple comes back exactly outside the families, and one of the two always holds
-pub record IsFixedExactlyOutside (t : Values) : Type 0 where
-  pub exactly : ComesBack t ↔ ¬ IsInSomeFamily t
-  pub either : ComesBack t ⊎ IsInSomeFamily t
-
--- this holds for every triple whose version is in range, also if its vendor is not plain
+-- a triple comes back exactly if it is in no family. This holds for every triple whose version is in range, also if its
+-- vendor is not plain
 abbrev pub FixedExactlyOutsideFamilies : Type 0
-FixedExactlyOutsideFamilies = (t : Values) → HasVersionInRange t.operating_system → IsFixedExactlyOutside t
+FixedExactlyOutsideFamilies = (t : Values) → HasVersionInRange t.operating_system → ComesBack t ↔ (family t ≡ None)
 
 -- the canonical form: the triple after two normal steps. The second changes nothing, by `OneStepSettles`, so a plain
 -- triple comes back after it. One whose vendor isn't plain never comes back

@@ -2,6 +2,7 @@ pub mod CallingConvention
 pub mod DataModel
 pub mod Explanation
 pub mod Families
+pub mod FamilyFacts
 pub mod Field
 pub mod FixedPoints
 pub mod ImpliedFormat

@@ -4,6 +4,7 @@ ghost use Rattle.target_lexicon.specs.GreedyReading.{ResultsAreComputed};
 ghost use Rattle.target_lexicon.specs.Laws.{ComesBack, HasOneLeastPlacement, EveryTextHasOneOutcome, ReadingIsComputed, ReadVendorsArePlain, EqualTextsEqualTriples};
 ghost use Rattle.lexicon_fields.specs.Laws.{HashInjectiveOn, HashInjective, ComparesByValue, CopiesEqualTheirSources, HasVersionInRange};
 ghost use Rattle.target_lexicon.specs.FixedPoints.{ReadTriplesArePlain, FixedExactlyOutsideFamilies, RoundIsNormalStep, OneStepSettles, SettledTextsAreKeys, RoundTripsAreKnown, PrintedTextsGrowAtMost, CanonicalTextsGrowAtMost, RefusedPartsDoNotGrow};
+ghost use Rattle.target_lexicon.specs.FamilyFacts.{FamiliesAreFactsOfFields};
 ghost use Rattle.target_lexicon.specs.Json.{ListReadsAs, list_json_of, json_error_value, list_error_value};
 ghost use Rattle.target_lexicon.specs.Placement.{HasPlacement};
 ghost use Rattle.target_lexicon.specs.Queries.{data_model};
@@ -169,8 +170,13 @@ pub fn defaults_are_equal_by_value()
     triples_are_equal_by_value();
 }
 
+/// Each family is the facts of the five fields that its record states.
+pub fn families_are_facts_of_fields()
+    ensures { FamiliesAreFactsOfFields }
+{}
+
 /// A triple comes back (it is printed and parsed again as itself) exactly if it is in none of five families, also if
-/// its vendor is not plain. Each triple comes back or is in a family.
+/// its vendor is not plain.
 pub fn fixed_exactly_outside_families()
     ensures { FixedExactlyOutsideFamilies }
 {}

@@ -2,8 +2,9 @@
 //!
 //! The calls of [`Triple`] are in files by topic: `triple` (the type, `unknown`, `clone`), `host`, `read`
 //! (`from_str`), `display` (`Display`, `to_text`, and which fields are shown), `special` (the two special strings),
-//! `queries` (byte order, pointer width, calling convention, data model), `settle` (`comes_back`, `normal`,
+//! `queries` (byte order, pointer width, calling convention, data model), `family`, `settle` (`comes_back`, `normal`,
 //! `settle`), `settles_as`, `json`. Most of them call the same of [`TripleRef`], a borrowed triple (`triple_ref`).
+//! `round_trip` prints and parses a triple.
 //!
 //! To parse, `read` gives each part of a string to a `reading`, which looks it up and fills a field. `explanation` has
 //! the types of what was found, `default_format` the implied format, and `refusal` why a string is refused.
@@ -15,6 +16,7 @@ mod default_format;
 mod defaults;
 mod display;
 mod explanation;
+mod family;
 mod host;
 mod json;
 mod json_error;
@@ -26,6 +28,7 @@ mod queries;
 mod read;
 mod reading;
 mod refusal;
+mod round_trip;
 mod settle;
 mod settles_as;
 mod special;
@@ -37,6 +40,7 @@ pub use data_model::{CDataModel, Size};
 pub use default_format::default_binary_format;
 pub use defaults::{DefaultToHost, DefaultToUnknown};
 pub use explanation::{Explanation, Source, Sources, TextPart};
+pub use family::Family;
 pub use json::{list_from_json, list_to_json};
 pub use json_error::JsonError;
 pub use lexicon_fields::{
@@ -52,6 +56,7 @@ pub use parse_error::ParseError;
 pub use read::{expected_after, explain, first_part};
 pub use reading::Reading;
 pub use refusal::{Refusal, refusal_prefix};
+pub use round_trip::round;
 pub use settle::versions_are_in_range;
 pub use triple::Triple;
 pub use triple_ref::TripleRef;

@@ -9,32 +9,22 @@ ghost use Rattle.target_lexicon.specs.FixedPoints.{settled_values};
 ghost use Rattle.lexicon_fields.specs.Laws.{HasVersionInRange};
 ghost use Rattle.target_lexicon.specs.Laws.{ComesBack};
 ghost use Rattle.target_lexicon.specs.NormalStep as spec;
-ghost use Rattle.target_lexicon.specs.Private as private;
 ghost use Rattle.target_lexicon.specs.Printing.{text_of};
 ghost use Rattle.target_lexicon.specs.Reading.{ReadsAs};
 ghost use Rattle.target_lexicon.specs.Values.{values_of};
 ghost use Rattle.target_lexicon.specs.ValuesRef.{values_of_ref};
 
-use crate::laws::{round_is_normal_step, settled_texts_are_keys};
+use crate::family::Family;
+use crate::laws::{fixed_exactly_outside_families, round_is_normal_step, settled_texts_are_keys};
 use crate::triple::Triple;
 use crate::triple_ref::TripleRef;
-use lexicon_fields::{
-    Architecture, BinaryFormat, Environment, KnownVendor, OperatingSystem, Riscv32Architecture,
-    Vendor, VendorRef,
-};
+use lexicon_fields::{BinaryFormat, Environment, KnownVendor, OperatingSystem, Vendor, VendorRef};
 
 impl Triple {
     /// Whether the triple comes back: printed and parsed again, it is itself. No string is made and nothing is
     /// allocated.
     ///
-    /// A triple comes back unless it is in one of five families:
-    /// - The first three fields are those of `armv6k-nintendo-3ds` or `riscv32imc-esp-espidf`, and environment and
-    ///   format aren't `Newlib` and `Elf`.
-    /// - Vendor and system are those of one of these two, and the environment is `Newlib`, but the architecture is
-    ///   another.
-    /// - The string is `riscv32imc-esp-espidf`, but the vendor is the custom `esp`.
-    /// - On Clever with an unknown system, the environment is `None`, which parses as the system.
-    /// - The vendor isn't plain.
+    /// A triple comes back unless it is in one of five families, which [`Family`] lists, and [`Triple::family`] names.
     ///
     /// # Examples
     ///
@@ -53,12 +43,12 @@ impl Triple {
     /// The normal step of the triple: the triple that its printed string parses as. The vendor must be plain, as that
     /// of every parsed triple is. Nothing is copied or allocated.
     ///
-    /// A triple that comes back is unchanged. Otherwise the first of these cases that holds decides, by the families of
-    /// `comes_back`:
-    /// - First: environment and format become `Newlib` and `Elf`.
-    /// - Second: the environment becomes `Unknown`, and an `Unknown` format becomes `Elf`.
-    /// - Third: the vendor becomes `Espressif`, environment and format become `Newlib` and `Elf`.
-    /// - Fourth: the system becomes `None_`, and the environment `Unknown`.
+    /// A triple that comes back is unchanged. Otherwise the first of these cases that holds decides, by the
+    /// [`Family`]:
+    /// - `PrintsAsSpecial`: environment and format become `Newlib` and `Elf`.
+    /// - `HidesNewlib`: the environment becomes `Unknown`, and an `Unknown` format becomes `Elf`.
+    /// - `PrintsTheEspIdfText`: the vendor becomes `Espressif`, environment and format become `Newlib` and `Elf`.
+    /// - `ShowsOnlyNone`: the system becomes `None_`, and the environment `Unknown`.
     pub fn normal(self) -> Triple
         requires { is_plain (vendor_value self.vendor) ≡ true }
         ensures step { values_of result ≡ spec.normal_step (values_of self) }
@@ -118,9 +108,9 @@ impl<'a> TripleRef<'a> {
     pub fn comes_back(&self) -> bool
         ensures { IsTrue result ↔ ComesBack (values_of_ref self.now) }
     {
-        round_is_normal_step();
+        fixed_exactly_outside_families();
         versions_are_in_range(self.operating_system);
-        self.is_in_no_family()
+        self.family().is_none()
     }
 
     /// The triple that the printed string parses as, as [`Triple::normal`] says. The vendor must be plain.
@@ -157,92 +147,27 @@ impl<'a> TripleRef<'a> {
         ensures vendor { (result.vendor ≡ self.entry.vendor)
             ⊎ (result.vendor ≡ Known known_vendor.Espressif) }
     {
-        if self.prints_as_special() {
-            self.environment = Environment::Newlib;
-            self.binary_format = BinaryFormat::Elf;
-        } else if self.hides_newlib() {
-            self.environment = Environment::Unknown;
-            self.binary_format = elf_if_unknown(self.binary_format);
-        } else if self.prints_the_esp_idf_text() {
-            self.vendor = VendorRef::Known(KnownVendor::Espressif);
-            self.environment = Environment::Newlib;
-            self.binary_format = BinaryFormat::Elf;
-        } else if self.shows_only_none() {
-            self.operating_system = OperatingSystem::None_;
-            self.environment = Environment::Unknown;
+        match self.family() {
+            Some(Family::PrintsAsSpecial) => {
+                self.environment = Environment::Newlib;
+                self.binary_format = BinaryFormat::Elf;
+            }
+            Some(Family::HidesNewlib) => {
+                self.environment = Environment::Unknown;
+                self.binary_format = elf_if_unknown(self.binary_format);
+            }
+            Some(Family::PrintsTheEspIdfText) => {
+                self.vendor = VendorRef::Known(KnownVendor::Espressif);
+                self.environment = Environment::Newlib;
+                self.binary_format = BinaryFormat::Elf;
+            }
+            Some(Family::ShowsOnlyNone) => {
+                self.operating_system = OperatingSystem::None_;
+                self.environment = Environment::Unknown;
+            }
+            Some(Family::VendorIsNotPlain) | None => {}
         }
         self
-    }
-
-    /// Whether the triple is in none of the five families.
-    fn is_in_no_family(&self) -> bool
-        ensures { result ≡ private.is_in_no_family (values_of_ref self.now) }
-    {
-        !self.prints_as_special()
-            && !self.hides_newlib()
-            && !self.prints_the_esp_idf_text()
-            && !self.shows_only_none()
-            && self.vendor.is_plain()
-    }
-
-    /// Whether the first three fields are those of a special string.
-    fn is_3ds_or_esp_idf(&self) -> bool
-        ensures { result ≡ spec.is_3ds_or_esp_idf self.now.architecture (ref_value self.now.vendor)
-            self.now.operating_system }
-    {
-        self.special_text().is_some()
-    }
-
-    /// Whether a special string is printed, and environment and format aren't `Newlib` and `Elf`.
-    fn prints_as_special(&self) -> bool
-        ensures { result ≡ spec.prints_as_special (values_of_ref self.now) }
-    {
-        self.is_3ds_or_esp_idf()
-            && !matches!(
-                (self.environment, self.binary_format),
-                (Environment::Newlib, BinaryFormat::Elf)
-            )
-    }
-
-    /// Whether the environment is a `Newlib` that isn't shown, and the string isn't special.
-    fn hides_newlib(&self) -> bool
-        ensures { result ≡ spec.hides_newlib (values_of_ref self.now) }
-    {
-        self.implies_newlib()
-            && matches!(self.environment, Environment::Newlib)
-            && !self.is_3ds_or_esp_idf()
-    }
-
-    /// Whether the vendor is the custom `esp`, and the string is the special one.
-    fn prints_the_esp_idf_text(&self) -> bool
-        ensures { result ≡ spec.prints_the_esp_idf_text (values_of_ref self.now) }
-    {
-        match (
-            self.architecture,
-            self.vendor,
-            self.operating_system,
-            self.environment,
-            self.binary_format,
-        ) {
-            (
-                Architecture::Riscv32(Riscv32Architecture::Riscv32imc),
-                VendorRef::Custom(custom),
-                OperatingSystem::Espidf,
-                Environment::Unknown,
-                BinaryFormat::Elf,
-            ) => custom == "esp",
-            _ => false,
-        }
-    }
-
-    /// Whether the environment `none` is shown without a system, on Clever.
-    fn shows_only_none(&self) -> bool
-        ensures { result ≡ spec.shows_only_none (values_of_ref self.now) }
-    {
-        match self.environment {
-            Environment::None => !self.shows_operating_system(),
-            _ => false,
-        }
     }
 }
 

@@ -1,8 +1,8 @@
 //! Round trips: what a caller concludes from each law about them.
-ghost use Rattle.std.specs.Prelude.{◌≡◌, ◌≢◌, ℕ, List, false};
+ghost use Rattle.std.specs.Prelude.{◌≡◌, ◌≢◌, ℕ, List, false, None};
 ghost use Rattle.lexicon_fields.specs.Laws.{HasVersionInRange};
 ghost use Rattle.lexicon_fields.specs.Vendor.{is_plain};
-ghost use Rattle.target_lexicon.specs.Families.{IsInSomeFamily};
+ghost use Rattle.target_lexicon.specs.Families.{family};
 ghost use Rattle.target_lexicon.specs.FixedPoints.{IsPlainTriple, canonical_text, settled_values};
 ghost use Rattle.target_lexicon.specs.Laws.{ComesBack};
 ghost use Rattle.target_lexicon.specs.NormalStep.{normal_step};
@@ -32,13 +32,14 @@ pub fn families_are_known()
     ensures family { (t : Values) →
         HasVersionInRange t.operating_system →
         ¬ ComesBack t →
-        IsInSomeFamily t }
+        family t ≢ None }
     ensures others { (t : Values) →
         HasVersionInRange t.operating_system →
-        ¬ IsInSomeFamily t →
+        family t ≡ None →
         ComesBack t }
 {
     laws::fixed_exactly_outside_families();
+    laws::families_are_facts_of_fields();
 }
 
 /// What the printed string of a plain triple parses as is its normal step, and nothing else.
@@ -77,7 +78,7 @@ pub fn parsed_strings_settle()
         × ReadsAs (text_of t) (settled_values t)
         × ComesBack (settled_values t)
         × (pointer_width (settled_values t) ≡ pointer_width t)
-        × (IsInSomeFamily t → ComesBack t → ⊥) }
+        × (family t ≢ None → ComesBack t → ⊥) }
 {
     laws::round_trips_are_known();
 }

@@ -10,5 +10,5 @@ returns c = λ text t read.
       subst (ReadsAs (text_of t)) (sym (law.steps t)) (law.round t plain),
       law.keys.comes_back t plain,
       (law.queries (normal_step t)).pointer_width ∙ (law.queries t).pointer_width,
-      λ family back. (law.fixed t plain.version).exactly.0 back family,
+      λ family back. family ((law.fixed t plain.version).0 back),
     )

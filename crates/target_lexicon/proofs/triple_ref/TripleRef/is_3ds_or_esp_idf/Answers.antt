@@ -1,7 +1,7 @@
 use Rattle.std.proofs.Common.{rules, ◌≡◌, ◌∙◌, List, ℕ, Option, Some, None, is_some, option_map, refl, ap}
 use Rattle.std.specs.Borrow.{Bor}
 use Rattle.target_lexicon.specs.ValuesRef.{values_of_ref}
-use Rattle.target_lexicon.proofs.StepCases.{special_fields}
+use Rattle.target_lexicon.proofs.FamilyTests.{special_fields}
 use Rattle.target_lexicon.proofs.triple_ref.TripleRef.is_3ds_or_esp_idf.Goals as goal
 
 is_some-map : (text : Option (Bor (List ℕ))) → is_some text ≡ is_some (option_map (λ (it : Bor (List ℕ)). it.now) text)

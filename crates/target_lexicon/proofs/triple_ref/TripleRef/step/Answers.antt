@@ -2,22 +2,26 @@ use Rattle.std.proofs.Common.{rules}
 use Rattle.target_lexicon.specs.NormalStep.{normal_step}
 use Rattle.target_lexicon.proofs.triple_ref.TripleRef.step.Goals as goal
 
-pub returns-then-hides_newlib-clause-step : goal.returns-then-hides_newlib-clause-step
+pub returns-in-Some-PrintsAsSpecial-clause-step : goal.returns-in-Some-PrintsAsSpecial-clause-step
 unfolding normal_step
-returns-then-hides_newlib-clause-step c = search rules
+returns-in-Some-PrintsAsSpecial-clause-step c = search rules
 
-pub returns-then-prints_as_special-clause-step : goal.returns-then-prints_as_special-clause-step
+pub returns-in-Some-HidesNewlib-clause-step : goal.returns-in-Some-HidesNewlib-clause-step
 unfolding normal_step
-returns-then-prints_as_special-clause-step c = search rules
+returns-in-Some-HidesNewlib-clause-step c = search rules
 
-pub returns-then-prints_the_esp_idf_text-clause-step : goal.returns-then-prints_the_esp_idf_text-clause-step
+pub returns-in-Some-PrintsTheEspIdfText-clause-step : goal.returns-in-Some-PrintsTheEspIdfText-clause-step
 unfolding normal_step
-returns-then-prints_the_esp_idf_text-clause-step c = search rules
+returns-in-Some-PrintsTheEspIdfText-clause-step c = search rules
 
-pub returns-then-shows_only_none-clause-step : goal.returns-then-shows_only_none-clause-step
+pub returns-in-Some-ShowsOnlyNone-clause-step : goal.returns-in-Some-ShowsOnlyNone-clause-step
 unfolding normal_step
-returns-then-shows_only_none-clause-step c = search rules
+returns-in-Some-ShowsOnlyNone-clause-step c = search rules
 
-pub returns-else-shows_only_none-clause-step : goal.returns-else-shows_only_none-clause-step
+pub returns-clause-step : goal.returns-clause-step
 unfolding normal_step
-returns-else-shows_only_none-clause-step c = search rules
+returns-clause-step c = search rules
+
+pub returns-2-clause-step : goal.returns-2-clause-step
+unfolding normal_step
+returns-2-clause-step c = search rules
