@@ -53,7 +53,7 @@ class Dialect:
 class Elsewhere:
     """The dialects in the order of their numbers, the rows of `first` and `later`, and why a name isn't read that is only written."""
     dialects: dict = field(default_factory=dict)
-    parts: dict = field(default_factory=lambda: {"first": [], "later": []})
+    parts: dict = field(default_factory=lambda: {"first": [], "second": [], "hard": [], "later": []})
     only_written: str = ""
 
 
@@ -101,10 +101,17 @@ def names_that_are_read(tables):
     return {name for it in tables.dialects.values() for name, _, way in it.rows if way in ("Both", "Read") and "*" not in name}
 
 
-def later(tables):
-    """The rows of later parts, without a version after them and with one."""
-    rows = [it[:2] for it in tables.parts["later"]]
-    return [it for it in rows if "*" not in it[0]], [(name.removesuffix("*"), names) for name, names in rows if "*" in name]
+# The place of each list of rules, and the forms of a text by how it ends.
+PLACES = {"first": "First", "second": "Second", "hard": "AfterHardFloats", "later": "AfterFirst"}
+FORMS = {"*": "Dropped", "+": "MacOs", "!": "HardFloats", "-": "PairWithin"}
+
+
+def spelling_rules(tables, name, lists, is_wide):
+    """The table of those rules of these lists that look at more than a part, or of the others."""
+    rows = [(PLACES[it], *row[:2]) for it in lists for row in tables.parts[it] if (it == "hard" or "-" in row[0]) == is_wide]
+    form = lambda text: FORMS.get(text[-1:], "Pair" if "-" in text else "Whole")
+    return [f"static {name}: [(Place, &str, Form, &str); {len(rows)}] = [",
+            *(f'    ({place}, "{text[:-1] if text[-1:] in FORMS else text}", {form(text)}, "{names}"),' for place, text, names in rows), "];"]
 
 
 def rules(it, equals):
@@ -113,9 +120,10 @@ def rules(it, equals):
 
 def rust_lists(tables):
     dialects = tables.dialects.values()
-    lists = {"the other spellings of first parts": array("FIRST_SPELLINGS", [it[:2] for it in tables.parts["first"]])}
-    for list_, name, rows in zip(("later parts", "parts before a version"), ("LATER_SPELLINGS", "VERSIONED_SPELLINGS"), later(tables)):
-        lists[f"the other spellings of {list_}"] = array(name, rows)
+    later = ["second", "hard", "later"]
+    lists = {"the rules that look at more than a part": spelling_rules(tables, "WIDE_RULES", later, True),
+             "the rules for the first part": spelling_rules(tables, "FIRST_RULES", ["first"], False),
+             "the rules for later parts": spelling_rules(tables, "LATER_RULES", later, False)}
     reasons = {tables.only_written} | {meaning for it in dialects for _, meaning, way in it.rows if way == "NoTriple"}
     return lists | {
         "the reasons for C": [rf'"{reason}\0",' for reason in sorted(reasons)],
@@ -195,22 +203,9 @@ def file_of(it):
                     *(f'    ("{name}", "{meaning}", {way}),' for name, meaning, way in rows), "];"]
 
 
-def array(name, rows):
-    return [f"static {name}: [(&str, &str); {len(rows)}] = [", *(f'    ("{one}", "{other}"),' for one, other in rows), "];"]
-
-
 def antt_lists(tables):
-    def names(text):
-        return " ∷ ".join([*(f'codes "{it}"' for it in text.split("-")), "[]"])
-
-    def pairs(name, rows, value=lambda it: f'codes "{it}"'):
-        return [f"{name} =", *(f'    (codes "{one}", {value(other)}) ∷' for one, other in rows), "    []"]
-
-    one, other = later(tables)
     dialects = tables.dialects.values()
     return {
-        "first_spellings": pairs("first_spellings", [it[:2] for it in tables.parts["first"]]), "later_spellings": pairs("later_spellings", one, names),
-        "versioned_spellings": pairs("versioned_spellings", other, names),
         "dialect_name": [f'dialect_name dialect.{it.variant} = codes "{it.name}"' for it in dialects],
         "dialects": ["dialects = " + " ∷ ".join([*(f"dialect.{it.variant}" for it in dialects), "[]"])],
         "other_dialect_names": ["other_dialect_names = " + " ∷ ".join([*(f'(codes "{name}", dialect.{it.variant})' for name, it in other_names(tables)), "[]"])],

@@ -1,16 +1,12 @@
 -- What a reading that goes on gives. Its state is the field that is expected, which is the first that is still open, and
 -- the values so far; a field without a name keeps its value. The definitions are those of `GreedyReading`, from that field on.
-use Rattle.std.specs.Prelude.{◌≡◌, ℕ, List, [], ◌∷◌, Option, Some, None, Result, Err, false, map, is_some, IfSome, if◌then◌else◌}
-use Rattle.lexicon_fields.specs.{FixedRow.has_row, Architecture.architecture_of, Vendor.vendor_of, OperatingSystem.operating_system_of, Environment.environment_of, BinaryFormat.binary_format_of}
+use Rattle.std.specs.Prelude.{◌≡◌, ℕ, List, [], ◌∷◌, Option, Some, None, Result, Err, map, is_some, IfSome, if◌then◌else◌}
+use Rattle.lexicon_fields.specs.{Architecture.architecture_of, Vendor.vendor_of, OperatingSystem.operating_system_of, Environment.environment_of, BinaryFormat.binary_format_of}
 use Rattle.target_lexicon.specs.Explanation.{PlacedPart, part_value, SourceValue, FromPart, NotGiven, SourceValues, source_values}
 use Rattle.target_lexicon.specs.{declared.explanation.TextPart.TextPart, Field.Field, Refusal.Refusal, Refusal.refusal_with}
 use Rattle.target_lexicon.specs.GreedyReading.{field_reading, final_reading, reading_from_binary_format}
 use Rattle.target_lexicon.specs.Field as field
 use Rattle.target_lexicon.specs.Values.{Architecture, OperatingSystem, Values, values}
-
--- a name without a row that parses as this system
-abbrev pub IsSystemName : OperatingSystem → List ℕ → Type 0
-IsSystemName system name = (has_row name ≡ false) × (operating_system_of name ≡ Some system)
 
 abbrev pub rest_from_environment : Values → Field → List (List ℕ) → Result Values Refusal
 rest_from_environment t last names =

@@ -3,7 +3,7 @@ ghost use Rattle.std.specs.Prelude.{◌≡◌, ◌∷◌, [], ℕ, List, Some, O
 ghost use Rattle.target_lexicon.specs.Explanation.{SourceValue, FromPart, part_value, same_sources, sources_of, NotGiven, Implied};
 ghost use Rattle.target_lexicon.specs.Reading.{expected_after};
 ghost use Rattle.target_lexicon.specs.Refusal.{refusal_with};
-ghost use Rattle.target_lexicon.specs.Resumed.{HasOpenFormat, IsSystemName, NamedPart, named, resumed, resumed_left, resumed_sources, with_source};
+ghost use Rattle.target_lexicon.specs.Resumed.{HasOpenFormat, NamedPart, named, resumed, resumed_left, resumed_sources, with_source};
 ghost use Rattle.target_lexicon.specs.Field as field;
 ghost use Rattle.target_lexicon.specs.Values.{unknown_values};
 ghost use Rattle.target_lexicon.specs.ValuesRef.{values_of_ref};
@@ -140,42 +140,6 @@ impl<'a> Reading<'a> {
                 }
             },
             None => {}
-        }
-        Err(Refusal {
-            expected: self.expected,
-            part,
-        })
-    }
-
-    /// Takes a system that a part spells, as [`take`](Reading::take) takes the system's name. The name is in no string:
-    /// it has no row, and parses as the system.
-    pub fn take_system(
-        &mut self,
-        system: OperatingSystem,
-        part: TextPart<'a>,
-    ) -> Result<(), Refusal<'a>>
-        ensures taken { IfOk result (λ _. (name : List ℕ) (names : List (List ℕ)) →
-            IsSystemName system name →
-            resumed self.old.expected (values_of_ref self.old.triple) (name ∷ names)
-            ≡ resumed self.new.expected (values_of_ref self.new.triple) names) }
-        ensures refused { IfErr result (λ it. (name : List ℕ) (names : List (List ℕ)) →
-            IsSystemName system name →
-            resumed self.old.expected (values_of_ref self.old.triple) (name ∷ names)
-            ≡ Err (refusal_with it.expected name)) }
-        ensures taken_left { IfOk result (λ _. (it : NamedPart) (others : List NamedPart) →
-            IsSystemName system it.name →
-            resumed_left self.old.expected (it ∷ others)
-            ≡ resumed_left self.new.expected others) }
-        ensures refused_left { IfErr result (λ _. (it : NamedPart) (others : List NamedPart) →
-            IsSystemName system it.name →
-            resumed_left self.old.expected (it ∷ others) ≡ it ∷ others) }
-        ensures same { IfErr result (λ _. self.new ≡ self.old) }
-        ensures part { IfErr result (λ it. part_value it.part ≡ part_value part.entry) }
-    {
-        if matches!(self.expected, Some(Field::Vendor | Field::OperatingSystem)) {
-            self.triple.operating_system = system;
-            self.fill(Field::OperatingSystem, part);
-            return Ok(());
         }
         Err(Refusal {
             expected: self.expected,

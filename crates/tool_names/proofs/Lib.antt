@@ -14,6 +14,7 @@ pub mod DistanceLemmas
 pub mod Filling
 pub mod JoinedNames
 pub mod KeptFormats
+pub mod KnownStay
 pub mod LookUps
 pub mod MacosNames
 pub mod Matches
@@ -28,6 +29,7 @@ pub mod ReadAgain
 pub mod RefusedNames
 pub mod RowChecks
 pub mod RowLemmas
+pub mod RuleLemmas
 pub mod ShapeLemmas
 pub mod SpelledNames
 pub mod SpelledOnce

@@ -5,8 +5,9 @@ use Rattle.lexicon_fields.specs.{declared.architecture.Architecture.Architecture
 use Rattle.target_lexicon.specs.Field as field
 use Rattle.target_lexicon.specs.{Explanation.PlacedPart, Field.Field, GreedyReading.reading_of_parts, Placement.parts_of, Refusal.refusal_with, Values.Values, Values.unknown_values}
 use Rattle.target_lexicon.specs.Resumed.{NamedPart, resumed, resumed_left, left_from, left_from_vendor}
-use Rattle.target_lexicon.proofs.ResumedLemmas.{start-reading}
-use Rattle.tool_names.specs.Spelling.{SpelledName, first_at_end, located, name_texts, names_left, first_spelling, is_hard_float, names_after_first, spelled_names, reading_of_names, refusal_of_first, refusal_of_part, unread_names}
+use Rattle.target_lexicon.proofs.{PartLemmas.parts_of-some, ResumedLemmas.start-reading}
+use Rattle.tool_names.proofs.SpelledOnce.{some-name}
+use Rattle.tool_names.specs.Spelling.{SpelledName, first_at_end, located, name_texts, names_left, spelled_names, reading_of_names, refusal_of_first, refusal_of_part, unread_names}
 
 abbrev pub placed_name : List ℕ → SpelledName → NamedPart
 placed_name text it = record { name = it.name; part = first_at_end text it.from }
@@ -73,10 +74,15 @@ pub names_read : (text : List ℕ) (expected : Option Field) (t u : Values) (lef
 names_read text expected t u left names is before outcome =
     sym (ap (λ r. located text r (unread_names names)) (sym before.outcome ∙ ap (λ k. resumed expected t (name_texts k)) is ∙ outcome))
 
-pub first-names : (text part : List ℕ) (others : List (List ℕ)) → parts_of text ≡ part ∷ others → (name : List ℕ) → name ≡ first_spelling part
-    → spelled_names (parts_of text) ≡ record { name = name; from = parts_of text } ∷ names_after_first (is_hard_float part others) others
-first-names text part others is name same = rw (is, same) refl
+some-names : (text : List ℕ) → (n : SpelledName) × (ns : List SpelledName) × (spelled_names (parts_of text) ≡ n ∷ ns)
+some-names text = by_parts (parts_of text) refl
+  where
+    by_parts : (ps : List (List ℕ)) → parts_of text ≡ ps → (n : SpelledName) × (ns : List SpelledName) × (spelled_names ps ≡ n ∷ ns)
+    by_parts [] none = absurd (parts_of-some text none)
+    by_parts (p ∷ ps) are = some-name p ps
 
-pub names_go_on-start : (text : List ℕ) (expected : Option Field) (t : Values) (n : SpelledName) (ns names : List SpelledName) → names ≡ n ∷ ns
-    → expected ≡ Some field.Architecture → t ≡ unknown_values → NamesGoOn text expected t names names
-names_go_on-start text expected t n ns names is e v = rw is (names_go_on-first text expected t n ns e v)
+pub names_go_on-start : (text : List ℕ) (expected : Option Field) (t : Values) (names : List SpelledName) → names ≡ spelled_names (parts_of text)
+    → expected ≡ Some field.Architecture → t ≡ unknown_values → NamesGoOn text expected t names (spelled_names (parts_of text))
+names_go_on-start text expected t names is e v =
+    let some = some-names text in
+    rw (is, some.2) (names_go_on-first text expected t some.0 some.1 e v)

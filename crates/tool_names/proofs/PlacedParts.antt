@@ -1,5 +1,5 @@
 -- The range of a refused part, and of a changed one, holds the part.
-use Rattle.std.proofs.Common.{◌≡◌, ◌∙◌, ℕ, List, [], ◌∷◌, ◌++◌, length, Bool, Option, Some, None, Result, Ok, Err, refl, sym, ap, subst, append_assoc, arith, inl, inr}
+use Rattle.std.proofs.Common.{◌≡◌, ◌∙◌, ℕ, List, [], ◌∷◌, ◌++◌, length, Option, Some, None, Result, Ok, Err, refl, sym, ap, subst, append_assoc, arith, inl, inr}
 use Rattle.std.specs.Prelude.{is_some}
 use Rattle.std.specs.List.{join_with_byte}
 use Rattle.std.proofs.lemmas.Bool.{cases_Bool}
@@ -9,7 +9,8 @@ use Rattle.target_lexicon.proofs.{PartLemmas.parts_of-are, SourceLemmas.part-in}
 use Rattle.target_lexicon.specs.{Explanation.IsInText, GreedyReading.reading_of_parts, Placement.parts_of, Refusal.Refusal, SpecialTexts.special_values, Values.Values}
 use Rattle.tool_names.specs.Changes.{AreInTheString, ChangedPartsAreInTheString, changes, changes_of, is_only}
 use Rattle.target_lexicon.specs.ValuesRef.{PlacedRefusal}
-use Rattle.tool_names.specs.Spelling.{RefusedPartsAreInTheString, SpelledName, SpelledPart, first_at_end, is_hard_float, later_parts, located, name_texts, names_left, names_of, other_parts, reading_unless_special, refusal_of_first, spelled_by, spelled_names, spelled_parts, spelled_reading, unread_names, with_hard_floats}
+use Rattle.tool_names.specs.Spelling.{RefusedPartsAreInTheString, SpelledName, SpelledPart, Standing, first_at_end, located, name_texts, names_left, names_of, next_standing, reading_unless_special, refusal_of_first, rule_at, spelled_by, spelled_from, spelled_names, spelled_parts, spelled_reading, standing_at, unread_names}
+use Rattle.tool_names.specs.declared.rules.Place.TheVariants as place
 
 -- these parts end the string
 abbrev EndText : List ℕ → List (List ℕ) → Type 0
@@ -37,27 +38,13 @@ after-first text p q qs (before, is) =
     let rest = join_with_byte dash (q ∷ qs) in
     ((before ++ p) ++ (dash ∷ []), is ∙ sym (append_assoc before p (dash ∷ rest)) ∙ sym (append_assoc (before ++ p) (dash ∷ []) rest))
 
-later-end : (text before : List ℕ) (ps : List (List ℕ)) → EndText text ps → AllEnd text (later_parts before ps)
-later-end text before [] end = tt
-later-end text before (p ∷ []) end = (end, tt)
-later-end text before (p ∷ (q ∷ qs)) end = (end, later-end text p (q ∷ qs) (after-first text p q qs end))
-
-other-end : (text : List ℕ) (ps : List (List ℕ)) → EndText text ps → AllEnd text (other_parts ps)
-other-end text [] end = tt
-other-end text (p ∷ []) end = (end, tt)
-other-end text (p ∷ (q ∷ qs)) end = (end, later-end text p (q ∷ qs) (after-first text p q qs end))
-
-hard-end : (text : List ℕ) (hard_float : Bool) (its : List SpelledPart) → AllEnd text its → AllEnd text (with_hard_floats hard_float its)
-hard-end text hard_float [] all = tt
-hard-end text hard_float (it ∷ others) all = (all.0, hard-end text hard_float others all.1)
-
-spelled-end : (text : List ℕ) (ps : List (List ℕ)) → EndText text ps → AllEnd text (spelled_parts ps)
-spelled-end text [] end = tt
-spelled-end text (p ∷ []) end = (end, tt)
-spelled-end text (p ∷ (q ∷ qs)) end = (end, hard-end text (is_hard_float p (q ∷ qs)) (other_parts (q ∷ qs)) (other-end text (q ∷ qs) (after-first text p q qs end)))
+spelled-end : (text : List ℕ) (at : Standing) (ps : List (List ℕ)) → EndText text ps → AllEnd text (spelled_from at ps)
+spelled-end text at [] end = tt
+spelled-end text at (p ∷ []) end = (end, tt)
+spelled-end text at (p ∷ (q ∷ qs)) end = (end, spelled-end text (next_standing at (rule_at at p (q ∷ qs))) (q ∷ qs) (after-first text p q qs end))
 
 parts-end : (text : List ℕ) → AllEnd text (spelled_parts (parts_of text))
-parts-end text = spelled-end text (parts_of text) ([], sym (parts_of-are text).joined)
+parts-end text = spelled-end text (standing_at place.First) (parts_of text) ([], sym (parts_of-are text).joined)
 
 -- so do the parts that spell the names
 

@@ -1,8 +1,9 @@
 -- What is read is plain, its custom vendor spells itself, and it is read again from its printed string.
-use Rattle.std.specs.Prelude.{codes, option_map, ◌&&◌, ◌||◌}
-use Rattle.std.specs.{Option.option_map_or, Str.bytes_eq}
-use Rattle.std.proofs.Common.{◌≡◌, ◌∙◌, ℕ, List, [], ◌∷◌, ◌++◌, Option, Some, None, IfSome, Result, Ok, Err, Bool, true, false, cond, refl, sym, ap, subst}
-use Rattle.lexicon_fields.specs.{Architecture.architecture_of, BinaryFormat.binary_format_of, Environment.environment_of, Laws.HasVersionInRange, Names.Pair, OperatingSystem.fixed_operating_system_of, OperatingSystem.operating_system_of, Vendor.is_plain, Vendor.known_vendor_of, Vendor.vendor_of}
+use Rattle.std.specs.Prelude.{codes, ◌&&◌}
+use Rattle.std.specs.List.{list_all}
+use Rattle.std.proofs.lemmas.Bool.{and_parts, cases_Bool}
+use Rattle.std.proofs.Common.{◌≡◌, ◌∙◌, ℕ, List, [], ◌∷◌, ◌++◌, Option, Some, None, IfSome, Result, Ok, Err, Bool, true, false, cond, refl, sym, ap, subst, inl, inr}
+use Rattle.lexicon_fields.specs.{Architecture.architecture_of, BinaryFormat.binary_format_of, Environment.environment_of, Laws.HasVersionInRange, OperatingSystem.fixed_operating_system_of, OperatingSystem.operating_system_of, Vendor.is_plain, Vendor.known_vendor_of, Vendor.vendor_of}
 use Rattle.lexicon_fields.proofs.ParsedSystems.{version_in_range}
 use Rattle.lexicon_fields.specs.declared.known_vendor.KnownVendor.TheVariants.{Unknown}
 use Rattle.target_lexicon.specs.GreedyReading.{field_reading_by, final_reading, reading_from_binary_format, reading_from_environment, reading_from_operating_system, reading_from_vendor, reading_after_architecture, reading_of_parts}
@@ -12,8 +13,12 @@ use Rattle.target_lexicon.specs.Values.operating_system
 use Rattle.target_lexicon.specs.Values.environment
 use Rattle.target_lexicon.specs.Field as field
 use Rattle.target_lexicon.proofs.{ComputedReading.reading_computed, ReadValues.special-holds, SettleLemmas.second_changes_none, SettleLemmas.settled_values-comes_back, StepCases.step_cases, Vendors.vendor-plain}
-use Rattle.tool_names.specs.Spelling.{ReadingAgainIsTheSame, SpelledName, first_spelling, hard_float_names, is_hard_float, is_hard_float_vendor, is_known_name, is_other_system, is_unstated, is_vendor_after_none, later_names, later_spelling, located, name_texts, name_with_next, names_after_first, reading_unless_special, second_spelling, spelled_by, spelled_names, spelled_reading, unread_names}
-use Rattle.tool_names.proofs.{SpelledNames.CustomStays, SpelledNames.SecondStays, SpelledNames.custom_vendor-text, SpelledNames.known-second, SpelledOnce.FirstStays, SpelledOnce.later-first, SpelledReading.read-stays}
+use Rattle.tool_names.specs.declared.rules.Form.{Form}
+use Rattle.tool_names.specs.declared.rules.Form.TheVariants as form
+use Rattle.tool_names.specs.declared.rules.Place.{Place}
+use Rattle.tool_names.specs.declared.rules.Place.TheVariants as place
+use Rattle.tool_names.specs.Spelling.{ReadingAgainIsTheSame, Rule, SpelledName, Standing, are_pair, first_rule, fits, goes_on, has_form, is_known_at, is_other_system, located, may_stand, name_texts, names_at, names_by, names_of, next_standing, reading_unless_special, rule_alone, rule_at, spelled_by, spelled_from, spelled_names, spelled_reading, rules_for, standing_at, unread_names}
+use Rattle.tool_names.proofs.{SpelledNames.CustomStays, SpelledNames.SecondStays, SpelledNames.custom_vendor-text, SpelledNames.known-second, SpelledOnce.AreKnown, SpelledOnce.IsFirst, SpelledOnce.is_first, SpelledOnce.rule-known, SpelledReading.read-stays}
 
 -- the first name after the architecture spells itself
 
@@ -21,77 +26,93 @@ abbrev BeginStaying : List (List ℕ) → Type 0
 BeginStaying [] = Unit {0}
 BeginStaying (name ∷ names) = SecondStays name
 
+abbrev FirstStays : List (List ℕ) → Type 0
+FirstStays [] = ⊥
+FirstStays (name ∷ names) = SecondStays name
+
 begin-staying : (from : List (List ℕ)) (names : List (List ℕ)) (rest : List SpelledName) → FirstStays names → BeginStaying (name_texts (spelled_by from names ++ rest))
 begin-staying from [] rest first = absurd first
 begin-staying from (name ∷ names) rest first = first
 
-unknown-known : is_known_name (codes "unknown") ≡ true
+unknown-known : is_known_at place.Second (codes "unknown") ≡ true
 unfolding architecture_of known_vendor_of operating_system_of fixed_operating_system_of environment_of binary_format_of
 unknown-known = refl
 
-cygwin-known : is_known_name (codes "cygwin") ≡ true
-unfolding architecture_of known_vendor_of operating_system_of fixed_operating_system_of environment_of binary_format_of
-cygwin-known = refl
+known-stay : (names : List (List ℕ)) → AreKnown place.Second names → FirstStays names
+known-stay [] known = absurd cc
+known-stay (name ∷ names) known = known-second name (and_parts (is_known_at place.Second name) (list_all (is_known_at place.Second) names) known).0
 
--- the first name of a second part that isn't unstated and no other system
-name-first : (part : List ℕ) (others : List (List ℕ)) → (is_hard_float_vendor part ≡ false) × (is_other_system part ≡ false) → FirstStays (option_map_or (λ name. name ∷ []) (name_with_next part others) (later_spelling part))
-name-first part [] is = later-first part is
-name-first part (next ∷ others) is = by_tests (is_vendor_after_none part next others) (bytes_eq part (codes "windows") && bytes_eq next (codes "cygnus"))
-  where
-    by_tests : (x y : Bool)
-        → FirstStays (option_map_or (λ name. name ∷ []) (option_map (λ (names : Pair (List ℕ)). names.0) (cond x (Some (codes "unknown", codes "none")) (cond y (Some (codes "cygwin", codes "unknown")) None))) (later_spelling part))
-    by_tests true y = known-second (codes "unknown") unknown-known
-    by_tests false true = known-second (codes "cygwin") cygwin-known
-    by_tests false false = later-first part is
+-- a second part, after parts that state hard floats or don't
+abbrev second_standing : Bool → Standing
+second_standing hard_float = record { place = place.Second; hard_float = hard_float; name = None }
 
-eabihf-known : is_known_name (codes "eabihf") ≡ true
-unfolding architecture_of known_vendor_of operating_system_of fixed_operating_system_of environment_of binary_format_of
-eabihf-known = refl
+-- what fits the part by itself fits it there
+module _ (hard_float : Bool) (part : List ℕ) (others : List (List ℕ)) where
+  may_stand-hard : (p : Place) → may_stand p (standing_at place.Second) ≡ true → may_stand p (second_standing hard_float) ≡ true
+  may_stand-hard place.First stands = absurd cc
+  may_stand-hard place.Second stands = refl
+  may_stand-hard place.AfterFirst stands = refl
+  may_stand-hard place.AfterHardFloats stands = absurd cc
 
-gnueabihf-known : is_known_name (codes "gnueabihf") ≡ true
-unfolding architecture_of known_vendor_of operating_system_of fixed_operating_system_of environment_of binary_format_of
-gnueabihf-known = refl
+  form-alone : (f : Form) (text : List ℕ) → has_form f text part [] ≡ true → has_form f text part others ≡ true
+  form-alone form.Whole text has = has
+  form-alone form.HardFloats text has = has
+  form-alone form.Dropped text has = has
+  form-alone form.MacOs text has = has
+  form-alone form.Pair text has = absurd (no_pair (parts_of text) has)
+    where
+      no_pair : (texts : List (List ℕ)) → are_pair texts part [] ≡ true → ⊥
+      no_pair [] h = cc
+      no_pair (first ∷ []) h = cc
+      no_pair (first ∷ (second ∷ texts)) h = cc
+  form-alone form.PairWithin text has = absurd (no_pair (parts_of text) has)
+    where
+      no_pair : (texts : List (List ℕ)) → are_pair texts part [] && goes_on [] ≡ true → ⊥
+      no_pair [] h = cc
+      no_pair (first ∷ []) h = cc
+      no_pair (first ∷ (second ∷ texts)) h = cc
 
-musleabihf-known : is_known_name (codes "musleabihf") ≡ true
-unfolding architecture_of known_vendor_of operating_system_of fixed_operating_system_of environment_of binary_format_of
-musleabihf-known = refl
+  unfit-alone : (rule : Rule) → fits (second_standing hard_float) part others rule ≡ false → fits (standing_at place.Second) part [] rule ≡ false
+  unfit-alone rule unfit =
+      elim (cases_Bool (fits (standing_at place.Second) part [] rule)) [
+        | inl fit ↦
+            let parts = and_parts (may_stand rule.place (standing_at place.Second)) (has_form rule.form rule.part part []) fit in
+            let fits_there : fits (second_standing hard_float) part others rule ≡ true = rw (may_stand-hard rule.place parts.0, form-alone rule.form rule.part parts.1) refl in
+            let apart : true ≡ false = sym fits_there ∙ unfit in
+            absurd cc
+        | inr other ↦ other
+      ]
 
-uclibceabihf-known : is_known_name (codes "uclibceabihf") ≡ true
-unfolding architecture_of known_vendor_of operating_system_of fixed_operating_system_of environment_of binary_format_of
-uclibceabihf-known = refl
+  none-alone : (rules : List Rule) → first_rule (fits (second_standing hard_float) part others) rules ≡ None → first_rule (fits (standing_at place.Second) part []) rules ≡ None
+  none-alone [] none = refl
+  none-alone (rule ∷ rules) none = by_test (none-alone rules) (fits (second_standing hard_float) part others rule) refl none
+    where
+      by_test : (first_rule (fits (second_standing hard_float) part others) rules ≡ None → first_rule (fits (standing_at place.Second) part []) rules ≡ None)
+          → (b : Bool) → fits (second_standing hard_float) part others rule ≡ b → cond b (Some rule) (first_rule (fits (second_standing hard_float) part others) rules) ≡ None
+          → first_rule (fits (standing_at place.Second) part []) (rule ∷ rules) ≡ None
+      by_test next true is h = absurd cc
+      by_test next false is h = rw (unfit-alone rule is) (next h)
 
--- the first name of a second part
-second-first : (part : List ℕ) (others : List (List ℕ)) → FirstStays (second_spelling part others)
-second-first part others = by_tests (is_unstated part others) (is_hard_float_vendor part) (is_other_system part) refl refl
-  where
-    names : List (List ℕ)
-    names = option_map_or (λ name. name ∷ []) (name_with_next part others) (later_spelling part)
+  rule-alone : rule_at (second_standing hard_float) part others ≡ None → rule_alone place.Second part ≡ None
+  unfolding rule_at
+  rule-alone none = none-alone (rules_for place.Second part) none
 
-    by_tests : (unstated hard other : Bool) → is_hard_float_vendor part ≡ hard → is_other_system part ≡ other
-        → FirstStays (cond (unstated || hard) (codes "unknown" ∷ []) (cond other (codes "unknown" ∷ part ∷ []) names))
-    by_tests true hard other soft is = known-second (codes "unknown") unknown-known
-    by_tests false true other soft is = known-second (codes "unknown") unknown-known
-    by_tests false false true soft is = known-second (codes "unknown") unknown-known
-    by_tests false false false soft is = name-first part others (soft, is)
+  second-first : FirstStays (names_at (second_standing hard_float) (rule_at (second_standing hard_float) part others) part)
+  second-first = by_rule (rule_at (second_standing hard_float) part others) refl
+    where
+      by_other : rule_at (second_standing hard_float) part others ≡ None → (b : Bool) → is_other_system part ≡ b → FirstStays (cond b (codes "unknown" ∷ part ∷ []) (part ∷ []))
+      by_other none true is = known-second (codes "unknown") unknown-known
+      by_other none false is = (rule-alone none, is)
 
-hard-first : (hard_float : Bool) (names : List (List ℕ)) → FirstStays names → FirstStays (hard_float_names hard_float names)
-hard-first false names first = first
-hard-first true [] first = first
-hard-first true (name ∷ []) first = by_tests (bytes_eq name (codes "eabi")) (bytes_eq name (codes "gnueabi")) (bytes_eq name (codes "musleabi")) (bytes_eq name (codes "uclibceabi"))
-  where
-    by_tests : (x y z w : Bool) → SecondStays (cond x (codes "eabihf") (cond y (codes "gnueabihf") (cond z (codes "musleabihf") (cond w (codes "uclibceabihf") name))))
-    by_tests true y z w = known-second (codes "eabihf") eabihf-known
-    by_tests false true z w = known-second (codes "gnueabihf") gnueabihf-known
-    by_tests false false true w = known-second (codes "musleabihf") musleabihf-known
-    by_tests false false false true = known-second (codes "uclibceabihf") uclibceabihf-known
-    by_tests false false false false = first
-hard-first true (name ∷ (other ∷ others)) first = first
+      by_rule : (o : Option Rule) → rule_at (second_standing hard_float) part others ≡ o → FirstStays (names_at (second_standing hard_float) o part)
+      by_rule (Some rule) found = known-stay (names_by rule part) (rule-known place.Second hard_float None part others rule found)
+      by_rule None found = by_other found (is_other_system part) refl
 
-names_after_first-stay : (hard_float : Bool) (parts : List (List ℕ)) → BeginStaying (name_texts (names_after_first hard_float parts))
-names_after_first-stay hard_float [] = tt
-names_after_first-stay hard_float (part ∷ others) =
-    begin-staying (part ∷ others) (hard_float_names hard_float (second_spelling part others)) (later_names hard_float part others)
-    (hard-first hard_float (second_spelling part others) (second-first part others))
+second-staying : (hard_float : Bool) (parts : List (List ℕ)) → BeginStaying (name_texts (names_of (spelled_from (second_standing hard_float) parts)))
+second-staying hard_float [] = tt
+second-staying hard_float (part ∷ others) =
+    let rule = rule_at (second_standing hard_float) part others in
+    begin-staying (part ∷ others) (names_at (second_standing hard_float) rule part) (names_of (spelled_from (next_standing (second_standing hard_float) rule) others)) (second-first hard_float part others)
 
 -- what is read from parts is plain, and a custom vendor is the second part
 
@@ -160,11 +181,15 @@ vendor-sound a t (p ∷ ps) h first = by_found (vendor_of p) refl h
 
 names-sound : (parts : List (List ℕ)) (t : Values) → reading_of_parts (name_texts (spelled_names parts)) ≡ Ok t → IsSound t
 names-sound [] t h = absurd cc
-names-sound (p ∷ ps) t h = by_found (architecture_of (first_spelling p)) h
+names-sound (p ∷ ps) t h =
+    by_found (architecture_of first.name) (rw (first.names, first.next) at h)
   where
-    by_found : (o : Option Architecture) → reading_after_architecture o (first_spelling p) (name_texts (names_after_first (is_hard_float p ps) ps)) ≡ Ok t → IsSound t
+    first : IsFirst p (rule_at (standing_at place.First) p ps)
+    first = is_first p ps
+
+    by_found : (o : Option Architecture) → reading_after_architecture o first.name (name_texts (names_of (spelled_from (second_standing first.hard_float) ps))) ≡ Ok t → IsSound t
     by_found None h = absurd cc
-    by_found (Some a) h = vendor-sound a t (name_texts (names_after_first (is_hard_float p ps) ps)) h (names_after_first-stay (is_hard_float p ps) ps)
+    by_found (Some a) h = vendor-sound a t (name_texts (names_of (spelled_from (second_standing first.hard_float) ps))) h (second-staying first.hard_float ps)
 
 -- so is what is read from a string
 pub read-sound : (text : List ℕ) (t : Values) → spelled_reading text ≡ Ok t → IsSound t

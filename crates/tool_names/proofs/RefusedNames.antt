@@ -9,6 +9,7 @@ use Rattle.target_lexicon.specs.{Field.Field, Field.Architecture, Field.Vendor, 
 use Rattle.target_lexicon.specs.Values.{Architecture as AnyArchitecture}
 use Rattle.target_lexicon.specs.ValuesRef.{PlacedRefusal}
 use Rattle.tool_names.specs.Spelling.{IsRefusedName, RefusalsAreAtTheRefusedName, SpelledName, located, name_texts, names_left, reading_unless_special, refusal_at, refusal_of_first, spelled_names, spelled_reading, unread_names}
+use Rattle.tool_names.proofs.SpelledOnce.{some-name}
 
 -- the names that a field leaves
 unread-step : {A : Type 0} (f : Field) (find : List ℕ → Option A) (is_read : (p : List ℕ) → parses_as f p ≡ is_some (find p)) (fs : List Field) (names : List SpelledName)
@@ -136,7 +137,10 @@ refused_at_name text found is = by_special (special_values text) is
         → located text (reading_of_parts (name_texts (spelled_names ps))) (unread_names (spelled_names ps)) ≡ Err found
         → AtName text found (spelled_names ps)
     by_parts [] are h = absurd (parts_of-some text are)
-    by_parts (p ∷ ps) are h = names-refused text found _ _ h
+    by_parts (p ∷ ps) are h =
+        let some = some-name p ps in
+        subst (AtName text found) (sym some.2)
+        (names-refused text found some.0 some.1 (subst (λ ns. located text (reading_of_parts (name_texts ns)) (unread_names ns) ≡ Err found) some.2 h))
 
     by_special : (o : Option Values) → reading_unless_special o text ≡ Err found → AtName text found (spelled_names (parts_of text))
     by_special (Some t) h = absurd cc

@@ -1,154 +1,175 @@
--- The names that a part spells spell themselves.
-use Rattle.std.proofs.Common.{◌≡◌, ◌∙◌, ℕ, List, [], ◌∷◌, Option, Some, None, Bool, true, false, cond, refl, sym, ap, subst}
-use Rattle.std.specs.Prelude.{codes, is_some, option_map, unwrap_or}
+-- A rule gives known names, which have no rule.
+use Rattle.std.proofs.Common.{◌≡◌, ◌∙◌, ℕ, List, [], ◌∷◌, ◌++◌, Option, Some, None, Bool, true, false, cond, refl, ap}
+use Rattle.std.specs.Prelude.{◌&&◌, is_some, option_map, option_and_then, unwrap_or}
 use Rattle.std.specs.List.{list_all}
-use Rattle.std.specs.Option.{option_or, option_and_then}
 use Rattle.std.proofs.lemmas.Bool.{and_parts}
-use Rattle.lexicon_fields.specs.{Architecture.architecture_of, BinaryFormat.binary_format_of, Environment.environment_of, Names.Pair, Names.value_named, OperatingSystem.fixed_operating_system_of, OperatingSystem.operating_system_of, OperatingSystem.text_after_prefix, Vendor.known_vendor_of, Version.version_of}
+use Rattle.lexicon_fields.specs.{Architecture.architecture_of, BinaryFormat.binary_format_of, Environment.environment_of, OperatingSystem.fixed_operating_system_of, OperatingSystem.operating_system_of, OperatingSystem.text_after_prefix, Vendor.known_vendor_of, Version.version_of}
 use Rattle.lexicon_fields.specs.declared.deployment_target.DeploymentTarget.{DeploymentTarget}
-use Rattle.lexicon_fields.proofs.LookUpLemmas.{value_named-all}
-use Rattle.tool_names.specs.Spelling.{OnceIsEnough, SpellThemselves, checked_version, first_spelling, first_spellings, has_dropped_version, is_hard_float_vendor, is_known_name, is_other_system, later_spelling, later_spellings, listed_spelling, macos_version, macosx_name, versioned_spelling, versioned_spellings}
-use Rattle.tool_names.proofs.{MacosNames.is_macosx, SpelledNames.SecondStays, SpelledNames.known-second, SpelledNames.known-stays, SpelledNames.system-known}
+use Rattle.tool_names.specs.declared.rules.Form.{Form}
+use Rattle.tool_names.specs.declared.rules.Form.TheVariants as form
+use Rattle.tool_names.specs.declared.rules.Place.{Place}
+use Rattle.tool_names.specs.declared.rules.Place.TheVariants as place
+use Rattle.tool_names.specs.Spelling.{OnceIsEnough, Rule, SpellThemselves, SpelledName, Standing, first_only, first_rule, fits, has_form, is_known_at, macosx_name, may_stand, name_of_next, named_as, names_at, names_by, names_of, next_standing, rule_at, spelled_by, spelled_from, spelled_names, lone_rules, rules_for, wide_rules, states_hard_floats, standing_at, version_after, version_text}
+use Rattle.tool_names.proofs.{KnownStay.known-alone, KnownStay.system-known, MacosNames.is_macosx, RuleLemmas.found-passes}
 
-all-known : (names : List (List ℕ)) → list_all is_known_name names ≡ true → SpellThemselves names
-all-known [] known = tt
-all-known (name ∷ names) known = let parts = and_parts (is_known_name name) (list_all is_known_name names) known in (known-stays name parts.0, all-known names parts.1)
+-- the table has known names only, in each row at least one
 
--- the tables have known names only, in each row at least one
+abbrev are_known : Place → List (List ℕ) → Bool
+are_known at [] = false
+are_known at (name ∷ names) = list_all (is_known_at at) (name ∷ names)
 
-abbrev are_known : List (List ℕ) → Bool
-are_known [] = false
-are_known (name ∷ names) = list_all is_known_name (name ∷ names)
+abbrev is_one : List (List ℕ) → Bool
+is_one (name ∷ []) = true
+is_one _ = false
 
-later-known : list_all (λ row. are_known row.1) later_spellings ≡ true
-unfolding later_spellings architecture_of known_vendor_of operating_system_of fixed_operating_system_of environment_of binary_format_of version_of
-later-known = refl
+-- a rule for the first part gives one name, and none to the second part
+abbrev is_plain : Form → List (List ℕ) → Bool
+is_plain form.MacOs names = false
+is_plain form.Pair names = false
+is_plain form.PairWithin names = false
+is_plain _ names = is_one names
 
-versioned-known : list_all (λ row. are_known row.1) versioned_spellings ≡ true
-unfolding versioned_spellings architecture_of known_vendor_of operating_system_of fixed_operating_system_of environment_of binary_format_of version_of
-versioned-known = refl
+abbrev has_kind : Place → Form → List (List ℕ) → Bool
+has_kind place.First f names = is_plain f names
+has_kind _ f names = true
 
-versioned-all : (rows : List (Pair (List (List ℕ)))) (part : List ℕ) (names : List (List ℕ)) → list_all (λ row. are_known row.1) rows ≡ true
-    → versioned_spelling rows part ≡ Some names → are_known names ≡ true
-versioned-all [] part names known is = absurd cc
-versioned-all (row ∷ rows) part names known is =
-    by_test (has_dropped_version row.0 part) (λ found. versioned-all rows part names parts.1 found) is
+abbrev pub gives_known : Rule → Bool
+gives_known rule = are_known rule.place rule.names && has_kind rule.place rule.form rule.names
+
+pub rules-known : (b : Bool) → list_all gives_known (wide_rules ++ cond b [] lone_rules) ≡ true
+unfolding wide_rules lone_rules architecture_of known_vendor_of operating_system_of fixed_operating_system_of environment_of binary_format_of version_of
+rules-known true = refl
+rules-known false = refl
+
+-- all of these names are known there, and there is one
+abbrev pub AreKnown : Place → List (List ℕ) → Type 0
+AreKnown at names = are_known at names ≡ true
+
+macosx-known : (at : Place) (text : List ℕ) (names : List (List ℕ)) → has_kind at form.MacOs names ≡ true → is_some (version_text text) ≡ true → is_known_at at (macosx_name text) ≡ true
+macosx-known at text names kind some = by_version (version_of text) refl some
   where
-    parts : (are_known row.1 ≡ true) × (list_all (λ (other : Pair (List (List ℕ))). are_known other.1) rows ≡ true)
-    parts = and_parts (are_known row.1) (list_all (λ (other : Pair (List (List ℕ))). are_known other.1) rows) known
+    known : (v : DeploymentTarget) → version_of text ≡ Some v → (p : Place) → has_kind p form.MacOs names ≡ true → is_known_at p (macosx_name text) ≡ true
+    known v is place.First kind = absurd cc
+    known v is place.Second kind = system-known (macosx_name text) (ap is_some (is_macosx text v is))
+    known v is place.AfterFirst kind = system-known (macosx_name text) (ap is_some (is_macosx text v is))
+    known v is place.AfterHardFloats kind = system-known (macosx_name text) (ap is_some (is_macosx text v is))
 
-    by_test : (b : Bool) → (versioned_spelling rows part ≡ Some names → are_known names ≡ true)
-        → cond b (Some row.1) (versioned_spelling rows part) ≡ Some names → are_known names ≡ true
-    by_test true rest found = let same : row.1 ≡ names = cc in subst (λ ns. are_known ns ≡ true) same parts.0
-    by_test false rest found = rest found
+    by_version : (o : Option DeploymentTarget) → version_of text ≡ o → is_some (option_map (λ _. text) o) ≡ true → is_known_at at (macosx_name text) ≡ true
+    by_version None is h = absurd cc
+    by_version (Some v) is h = known v is at kind
 
-macosx-known : (text : List ℕ) (version : DeploymentTarget) → version_of text ≡ Some version → is_known_name (macosx_name text) ≡ true
-macosx-known text version is = system-known (macosx_name text) (ap is_some (is_macosx text version is))
+first-known : (at : Place) (names : List (List ℕ)) → AreKnown at names → AreKnown at (first_only names)
+first-known at [] known = absurd cc
+first-known at (name ∷ names) known = rw (and_parts (is_known_at at name) (list_all (is_known_at at) names) known).0 refl
 
-checked-known : (text found : List ℕ) → checked_version text ≡ Some found → is_known_name (macosx_name found) ≡ true
-checked-known text found is = by_version (version_of text) refl is
+-- so are the names that a rule gives a part that it fits
+given-known : (at : Place) (part : List ℕ) (others : List (List ℕ)) (f : Form) (text : List ℕ) (names : List (List ℕ)) → are_known at names ≡ true → has_kind at f names ≡ true
+    → has_form f text part others ≡ true → AreKnown at (named_as f (unwrap_or (text_after_prefix text part) []) names)
+given-known at part others form.Whole text names known later has = known
+given-known at part others form.HardFloats text names known later has = known
+given-known at part others form.Dropped text names known later has = known
+given-known at part others form.MacOs text names known later has = by_rest (text_after_prefix text part) has
   where
-    by_version : (o : Option DeploymentTarget) → version_of text ≡ o → option_map (λ _. text) o ≡ Some found → is_known_name (macosx_name found) ≡ true
-    by_version None none h = absurd cc
-    by_version (Some version) some h = let same : text ≡ found = cc in subst (λ x. is_known_name (macosx_name x) ≡ true) same (macosx-known text version some)
-
-macos-known : (part found : List ℕ) → macos_version part ≡ Some found → is_known_name (macosx_name found) ≡ true
-macos-known part found is = by_rest (text_after_prefix (codes "macos") part) is
-  where
-    by_rest : (o : Option (List ℕ)) → option_and_then checked_version o ≡ Some found → is_known_name (macosx_name found) ≡ true
+    by_rest : (o : Option (List ℕ)) → is_some (option_and_then version_text o) ≡ true → AreKnown at (macosx_name (unwrap_or o []) ∷ [])
     by_rest None h = absurd cc
-    by_rest (Some text) h = checked-known text found h
+    by_rest (Some rest) h = rw (macosx-known at rest names later h) refl
+given-known at part others form.Pair text names known later has = first-known at names known
+given-known at part others form.PairWithin text names known later has = first-known at names known
 
--- what is listed spells known names
-listed-known : (part : List ℕ) (names : List (List ℕ)) → listed_spelling part ≡ Some names → are_known names ≡ true
-unfolding listed_spelling
-listed-known part names is = by_first (value_named later_spellings part) refl is
+-- known names are the same at each place after the first
+later-known : (at p : Place) (names : List (List ℕ)) → ((name : List ℕ) → is_known_at at name ≡ is_known_at p name) → AreKnown p names → AreKnown at names
+later-known at p [] same known = absurd cc
+later-known at p (name ∷ names) same known = all-same (name ∷ names) known
   where
-    by_macos : (o : Option (List ℕ)) → macos_version part ≡ o
-        → option_or (option_map (λ version. macosx_name version ∷ []) o) (versioned_spelling versioned_spellings part) ≡ Some names → are_known names ≡ true
-    by_macos (Some version) found h =
-        let same : macosx_name version ∷ [] ≡ names = cc in subst (λ ns. are_known ns ≡ true) same (rw (macos-known part version found) refl)
-    by_macos None found h = versioned-all versioned_spellings part names versioned-known h
+    all-same : (ns : List (List ℕ)) → list_all (is_known_at p) ns ≡ true → list_all (is_known_at at) ns ≡ true
+    all-same [] all = refl
+    all-same (n ∷ ns) all = let parts = and_parts (is_known_at p n) (list_all (is_known_at p) ns) all in rw (same n ∙ parts.0) (all-same ns parts.1)
 
-    by_first : (o : Option (List (List ℕ))) → value_named later_spellings part ≡ o
-        → option_or o (option_or (option_map (λ version. macosx_name version ∷ []) (macos_version part)) (versioned_spelling versioned_spellings part)) ≡ Some names
-        → are_known names ≡ true
-    by_first (Some listed) found h =
-        let same : listed ≡ names = cc in
-        subst (λ ns. are_known ns ≡ true) same (value_named-all (λ row. are_known row.1) later_spellings part listed later-known found)
-    by_first None found h = by_macos (macos_version part) refl h
+same-known : (at p : Place) (hard_float : Bool) (name : Option (List ℕ)) (names : List (List ℕ))
+    → (let standing : Standing = record { place = at; hard_float = hard_float; name = name } in may_stand p standing ≡ true) → AreKnown p names → AreKnown at names
+same-known place.First place.First h o names stands known = known
+same-known place.First place.Second h o names stands known = absurd cc
+same-known place.First place.AfterFirst h o names stands known = absurd cc
+same-known place.First place.AfterHardFloats h o names stands known = absurd cc
+same-known place.Second place.First h o names stands known = absurd cc
+same-known place.Second place.Second h o names stands known = known
+same-known place.Second place.AfterFirst h o names stands known = later-known place.Second place.AfterFirst names (λ _. refl) known
+same-known place.Second place.AfterHardFloats h o names stands known = later-known place.Second place.AfterHardFloats names (λ _. refl) known
+same-known place.AfterFirst place.First h o names stands known = absurd cc
+same-known place.AfterFirst place.Second h o names stands known = absurd cc
+same-known place.AfterFirst place.AfterFirst h o names stands known = known
+same-known place.AfterFirst place.AfterHardFloats h o names stands known = later-known place.AfterFirst place.AfterHardFloats names (λ _. refl) known
+same-known place.AfterHardFloats place.First h o names stands known = absurd cc
+same-known place.AfterHardFloats place.Second h o names stands known = absurd cc
+same-known place.AfterHardFloats place.AfterFirst h o names stands known = later-known place.AfterHardFloats place.AfterFirst names (λ _. refl) known
+same-known place.AfterHardFloats place.AfterHardFloats h o names stands known = known
 
-known-once : (names : List (List ℕ)) → are_known names ≡ true → SpellThemselves names
-known-once [] known = absurd cc
-known-once (name ∷ names) known = all-known (name ∷ names) known
+pub rule-known : (at : Place) (hard_float : Bool) (name : Option (List ℕ)) (part : List ℕ) (others : List (List ℕ)) (rule : Rule)
+    → (let standing : Standing = record { place = at; hard_float = hard_float; name = name } in rule_at standing part others ≡ Some rule) → AreKnown at (names_by rule part)
+unfolding rule_at
+rule-known at hard_float None part others rule found =
+    let standing : Standing = record { place = at; hard_float = hard_float; name = None } in
+    let passes = found-passes (fits standing part others) gives_known (rules_for at part) rule (rules-known (is_known_at at part)) found in
+    let known = and_parts (are_known rule.place rule.names) (has_kind rule.place rule.form rule.names) passes.0 in
+    let fit = and_parts (may_stand rule.place standing) (has_form rule.form rule.part part others) passes.1 in
+    same-known at rule.place hard_float None (names_by rule part) fit.0 (given-known rule.place part others rule.form rule.part rule.names known.0 known.1 fit.1)
+rule-known at hard_float (Some name) part others rule found = absurd cc
 
-unlisted-stays : (part : List ℕ) → is_known_name part ≡ false → listed_spelling part ≡ None → later_spelling part ≡ part ∷ []
-unfolding later_spelling
-unlisted-stays part unknown none = rw (unknown, none) refl
+all-themselves : (at : Place) (names : List (List ℕ)) → list_all (is_known_at at) names ≡ true → SpellThemselves at names
+all-themselves at [] known = tt
+all-themselves at (name ∷ names) known =
+    let parts = and_parts (is_known_at at name) (list_all (is_known_at at) names) known in
+    (known-alone at name parts.0, all-themselves at names parts.1)
 
-listed-is : (part : List ℕ) (names : List (List ℕ)) → is_known_name part ≡ false → listed_spelling part ≡ Some names → later_spelling part ≡ names
-unfolding later_spelling
-listed-is part names unknown some = rw (unknown, some) refl
-
-pub later-once : (part : List ℕ) → SpellThemselves (later_spelling part)
-later-once part = by_known (is_known_name part) refl
-  where
-    itself : later_spelling part ≡ part ∷ [] → SpellThemselves (later_spelling part)
-    itself stays = subst SpellThemselves (sym stays) (stays, tt)
-
-    by_listed : is_known_name part ≡ false → (o : Option (List (List ℕ))) → listed_spelling part ≡ o → SpellThemselves (later_spelling part)
-    by_listed unknown None none = itself (unlisted-stays part unknown none)
-    by_listed unknown (Some names) some = subst SpellThemselves (sym (listed-is part names unknown some)) (known-once names (listed-known part names some))
-
-    by_known : (b : Bool) → is_known_name part ≡ b → SpellThemselves (later_spelling part)
-    by_known true known = itself (known-stays part known)
-    by_known false unknown = by_listed unknown (listed_spelling part) refl
-
--- the first of these names spells itself as a second part
-abbrev pub FirstStays : List (List ℕ) → Type 0
-FirstStays [] = ⊥
-FirstStays (name ∷ names) = SecondStays name
-
-first-stays : (names : List (List ℕ)) → are_known names ≡ true → FirstStays names
-first-stays [] known = absurd cc
-first-stays (name ∷ names) known = known-second name (and_parts (is_known_name name) (list_all is_known_name names) known).0
-
-pub later-first : (part : List ℕ) → (is_hard_float_vendor part ≡ false) × (is_other_system part ≡ false) → FirstStays (later_spelling part)
-later-first part stated = by_known (is_known_name part) refl
-  where
-    by_listed : is_known_name part ≡ false → (o : Option (List (List ℕ))) → listed_spelling part ≡ o → FirstStays (later_spelling part)
-    by_listed unknown None none = let stays = unlisted-stays part unknown none in subst FirstStays (sym stays) (stated, stays)
-    by_listed unknown (Some names) some = subst FirstStays (sym (listed-is part names unknown some)) (first-stays names (listed-known part names some))
-
-    by_known : (b : Bool) → is_known_name part ≡ b → FirstStays (later_spelling part)
-    by_known true known = let second = known-second part known in subst FirstStays (sym second.1) second
-    by_known false unknown = by_listed unknown (listed_spelling part) refl
-
--- the first part
-
-first-known : list_all (λ row. is_some (architecture_of row.1)) first_spellings ≡ true
-unfolding first_spellings architecture_of
-first-known = refl
-
-architecture-stays : (name : List ℕ) → is_some (architecture_of name) ≡ true → first_spelling name ≡ name
-architecture-stays name is = rw is refl
-
-other-first : (part : List ℕ) (o : Option (List ℕ)) → is_some (architecture_of part) ≡ false → value_named first_spellings part ≡ o → first_spelling part ≡ unwrap_or o part
-other-first part o unknown is = rw (unknown, is) refl
-
-pub first-once : (part : List ℕ) → first_spelling (first_spelling part) ≡ first_spelling part
-first-once part = by_known (is_some (architecture_of part)) refl
-  where
-    by_listed : is_some (architecture_of part) ≡ false → (o : Option (List ℕ)) → value_named first_spellings part ≡ o → first_spelling (first_spelling part) ≡ first_spelling part
-    by_listed unknown None none = ap first_spelling (other-first part None unknown none)
-    by_listed unknown (Some name) some =
-        let is = other-first part (Some name) unknown some in
-        let known = value_named-all (λ row. is_some (architecture_of row.1)) first_spellings part name first-known some in
-        ap first_spelling is ∙ architecture-stays name known ∙ sym is
-
-    by_known : (b : Bool) → is_some (architecture_of part) ≡ b → first_spelling (first_spelling part) ≡ first_spelling part
-    by_known true is = ap first_spelling (architecture-stays part is)
-    by_known false is = by_listed is (value_named first_spellings part) refl
+known-themselves : (at : Place) (names : List (List ℕ)) → AreKnown at names → SpellThemselves at names
+known-themselves at [] known = absurd cc
+known-themselves at (name ∷ names) known = all-themselves at (name ∷ names) known
 
 pub once_is_enough : OnceIsEnough
-once_is_enough = record { first = first-once; later = later-once }
+once_is_enough at part rule found = known-themselves at (names_by rule part) (rule-known at false None part [] rule found)
+
+-- the first part has one name, and nothing but hard floats is said of the second part
+
+pub record IsFirst (part : List ℕ) (rule : Option Rule) : Type 0 where
+  pub name : List ℕ
+  pub names : names_at (standing_at place.First) rule part ≡ name ∷ []
+  pub hard_float : Bool
+  pub next : (let standing : Standing = record { place = place.Second; hard_float = hard_float; name = None } in next_standing (standing_at place.First) rule ≡ standing)
+
+plain-one : (f : Form) (part version : List ℕ) (names : List (List ℕ)) → is_plain f names ≡ true → (name : List ℕ) × (named_as f version names ≡ name ∷ []) × (name_of_next f names ≡ None)
+plain-one form.Whole part version (name ∷ []) is = (name, refl, refl)
+plain-one form.HardFloats part version (name ∷ []) is = (name, refl, refl)
+plain-one form.Dropped part version (name ∷ []) is = (name, refl, refl)
+plain-one form.MacOs part version names is = absurd cc
+plain-one form.Pair part version names is = absurd cc
+plain-one form.PairWithin part version names is = absurd cc
+plain-one _ part version names is = absurd cc
+
+rule-first : (part : List ℕ) (rule : Rule) → (p : Place) → rule.place ≡ p → may_stand p (standing_at place.First) ≡ true → has_kind p rule.form rule.names ≡ true → IsFirst part (Some rule)
+rule-first part rule place.First is stands kind =
+    let one = plain-one rule.form part (version_after rule part) rule.names kind in
+    record { name = one.0; names = one.1; hard_float = states_hard_floats rule.form; next = rw one.2 refl }
+rule-first part rule place.Second is stands kind = absurd cc
+rule-first part rule place.AfterFirst is stands kind = absurd cc
+rule-first part rule place.AfterHardFloats is stands kind = absurd cc
+
+pub is_first : (part : List ℕ) (others : List (List ℕ)) → IsFirst part (rule_at (standing_at place.First) part others)
+unfolding rule_at
+is_first part others = by_found (first_rule (fits (standing_at place.First) part others) (rules_for place.First part)) refl
+  where
+    by_found : (o : Option Rule) → first_rule (fits (standing_at place.First) part others) (rules_for place.First part) ≡ o → IsFirst part o
+    by_found None found = record { name = part; names = refl; hard_float = false; next = refl }
+    by_found (Some rule) found =
+        let passes = found-passes (fits (standing_at place.First) part others) gives_known (rules_for place.First part) rule (rules-known (is_known_at place.First part)) found in
+        let known = and_parts (are_known rule.place rule.names) (has_kind rule.place rule.form rule.names) passes.0 in
+        let fit = and_parts (may_stand rule.place (standing_at place.First)) (has_form rule.form rule.part part others) passes.1 in
+        rule-first part rule rule.place refl fit.0 known.1
+
+-- so a string has a name
+pub some-name : (p : List ℕ) (ps : List (List ℕ))
+    → (n : SpelledName) × (ns : List SpelledName) × (spelled_names (p ∷ ps) ≡ n ∷ ns)
+some-name p ps =
+    let first = is_first p ps in
+    let n : SpelledName = record { name = first.name; from = p ∷ ps } in
+    let rest = names_of (spelled_from (next_standing (standing_at place.First) (rule_at (standing_at place.First) p ps)) ps) in
+    (n, rest, ap (λ names. spelled_by (p ∷ ps) names ++ rest) first.names)

@@ -8,7 +8,7 @@ use Rattle.target_lexicon.proofs.{ComputedReading.reading_computed, PartLemmas.p
 use Rattle.target_lexicon.specs.{Field.Architecture, GreedyReading.reading, GreedyReading.reading_of_parts, GreedyReading.reading_unless_special as port_reading, Placement.ArePartsOf, Placement.parts_of, Reading.PartsReadAs, Reading.ReadsAs, Refusal.refusal_with, SpecialTexts.esp_idf, SpecialTexts.esp_idf_text, SpecialTexts.nintendo_3ds, SpecialTexts.nintendo_3ds_text, SpecialTexts.special_values}
 use Rattle.target_lexicon.specs.Values.{Values}
 use Rattle.tool_names.specs.Spelling.{KnownNamesAreReadAsBefore, SpelledName, first_at_end, located, reading_of_names, reading_unless_special, refusal_at, spelled_names, spelled_reading, unread_names}
-use Rattle.tool_names.proofs.SpelledNames.{CustomStays, names-stay}
+use Rattle.tool_names.proofs.SpelledNames.{CustomStays, names-plain, parts-plain}
 
 -- a special string has a known vendor
 pub special-known : (text : List ℕ) (t : Values) → special_values text ≡ Some t → is_custom t.vendor ≡ false
@@ -34,7 +34,7 @@ read-stays text t read custom = by_special (special_values text) read
     by_special : (o : Option Values) → port_reading o text ≡ Ok t → reading_unless_special o text ≡ Ok t
     by_special (Some u) h = let same : u ≡ t = cc in ap Ok same
     by_special None h =
-        let same = names-stay (parts_of text) t h custom in
+        let same = names-plain (parts_of text) (parts-plain (parts_of text) t h custom) in
         ap (λ found. located text found (unread_names (spelled_names (parts_of text)))) (ap reading_of_parts same ∙ h)
 
 pub known_read_as_before : KnownNamesAreReadAsBefore

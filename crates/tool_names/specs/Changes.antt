@@ -1,14 +1,17 @@
 -- What is changed in a string that is spelled like a triple: the parts that are other spellings of known names, by themselves or
 -- together with a neighbour, and a second part that states no vendor.
-use Rattle.std.specs.Prelude.{◌≡◌, ◌↔◌, ◌-◌, false, ℕ, Bool, List, [], ◌∷◌, ◌++◌, length, Ok, Option, option_map, if◌then◌else◌}
+use Rattle.std.specs.Prelude.{◌≡◌, ◌↔◌, ◌-◌, false, true, ℕ, Bool, List, [], ◌∷◌, ◌++◌, length, Ok, Option, Some, None, option_map, if◌then◌else◌}
 use Rattle.std.specs.{Borrow.Bor, List.join_with_byte}
 use Rattle.std.specs.Str.{bytes_eq}
 use Rattle.lexicon_fields.specs.{Names.dash, Vendor.is_custom}
 use Rattle.target_lexicon.specs.{Explanation.IsInText, Explanation.PlacedPart, Explanation.part_end, Explanation.part_from, Explanation.part_value, Placement.parts_after, Placement.parts_of, Reading.ReadsAs, Values.Values}
-use Rattle.tool_names.specs.{declared.change.Change.Change, declared.change.ChangedParts.ChangedParts, declared.change.Position.Position, declared.spelling.TripleName.TripleName, declared.spelling.Spelling.Spelling}
-use Rattle.tool_names.specs.declared.change.Position.TheVariants.{First, Second, Later}
+use Rattle.tool_names.specs.{declared.change.Change.Change, declared.change.ChangedParts.ChangedParts, declared.rules.Form.Form, declared.rules.Place.Place, declared.spelling.TripleName.TripleName, declared.spelling.Spelling.Spelling}
+use Rattle.tool_names.specs.declared.spelled.Standing.{Standing as CodeStanding}
+use Rattle.tool_names.specs.declared.spelled.SpelledParts.{SpelledParts}
+use Rattle.tool_names.specs.declared.rules.Form.TheVariants as form
+use Rattle.tool_names.specs.declared.rules.Place.TheVariants as place
 use Rattle.tool_names.specs.declared.spelling.TripleName.TheVariants.{Text, MacOs}
-use Rattle.tool_names.specs.Spelling.{SpelledPart, first_at_end, first_spelling, hard_float_names, is_hard_float, later_parts, macosx_name, other_parts, second_spelling, spelled_parts, spelled_reading, spelling_between, version_after, versioned_spellings, with_hard_floats}
+use Rattle.tool_names.specs.Spelling.{Rule, SpelledPart, Standing, first_at_end, macosx_name, rule_alone, spelled_from, spelled_parts, spelled_reading, version_after}
 
 -- a part of a string, and the names that are read instead
 pub record PartChange : Type 0 where
@@ -34,9 +37,17 @@ changes_of text (it ∷ others) = change_of text it ++ changes_of text others
 unfoldable pub changes : List ℕ → List PartChange
 changes text = changes_of text (spelled_parts (parts_of text))
 
--- the version that a part loses, at the end of the part
+abbrev pub is_dropped : Form → Bool
+is_dropped form.Dropped = true
+is_dropped _ = false
+
+-- the version that a part loses by a rule, at the end of the part
+abbrev pub version_dropped : Option Rule → List ℕ → Option (List ℕ)
+version_dropped None text = None
+version_dropped (Some rule) text = if is_dropped rule.form then Some (version_after rule text) else None
+
 abbrev pub dropped_version : PlacedPart → Option PlacedPart
-dropped_version part = option_map (λ version. part_from (part_end part - length version) version) (version_after versioned_spellings part.text)
+dropped_version part = option_map (λ version. part_from (part_end part - length version) version) (version_dropped (rule_alone place.AfterFirst part.text) part.text)
 
 -- a string that parses without a custom vendor has no changes
 abbrev pub KnownNamesStay : Type 0
@@ -66,27 +77,20 @@ spelling_names it = name_text it.first ∷ parts_after it.others
 abbrev pub spelling_text : Spelling → List ℕ
 spelling_text it = join_with_byte dash (spelling_names it)
 
+-- a rule in the code, and where a part stands
+abbrev pub plain_rule : Place × Bor (List ℕ) × Form × Bor (List ℕ) → Rule
+plain_rule row = record { place = row.0; part = row.1.now; form = row.2; names = parts_of row.3.now }
+
+abbrev pub standing_of : CodeStanding → Standing
+standing_of at = record { place = at.place; hard_float = at.hard_float; name = option_map (λ (name : Bor (List ℕ)). name.now) at.name }
+
+-- what the parts that are left spell
+abbrev pub parts_left : SpelledParts → List SpelledPart
+parts_left it = spelled_from (standing_of it.at) (parts_after it.rest)
+
 abbrev pub change_value : Change → PartChange
 change_value it = record { part = part_value it.part; names = spelling_names it.names }
 
--- the names that a part at this position is, with these after it
-abbrev pub spelling_at : Position → List ℕ → List (List ℕ) → List (List ℕ)
-spelling_at First part others = first_spelling part ∷ []
-spelling_at (Second hard_float) part others = hard_float_names hard_float (second_spelling part others)
-spelling_at (Later hard_float before) part others = hard_float_names hard_float (spelling_between before.now part others)
-
--- the position of the part after this one, which is at this position, with these after it
-abbrev pub next_position : Position → Bor (List ℕ) → List (List ℕ) → Position
-next_position First part others = Second (is_hard_float part.now others)
-next_position (Second hard_float) part others = Later hard_float part
-next_position (Later hard_float before) part others = Later hard_float part
-
--- what the parts spell of which the first is at this position
-abbrev pub parts_at : Position → List (List ℕ) → List SpelledPart
-parts_at First parts = spelled_parts parts
-parts_at (Second hard_float) parts = with_hard_floats hard_float (other_parts parts)
-parts_at (Later hard_float before) parts = with_hard_floats hard_float (later_parts before.now parts)
-
 -- the changes that are left
 abbrev pub changes_left : ChangedParts → List PartChange
-changes_left it = changes_of it.text.now (parts_at it.position (parts_after it.rest))
+changes_left it = changes_of it.text.now (parts_left it.parts)

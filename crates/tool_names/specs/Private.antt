@@ -5,25 +5,54 @@ use Rattle.lexicon_fields.specs.Names.{Pair}
 use Rattle.target_lexicon.specs.Placement.{parts_after, parts_of}
 use Rattle.tool_names.specs.{declared.names_left.Left.Left, declared.pattern.Numbers.Numbers, declared.platform.Platform.Platform, declared.rustc_cfg.Line.Line, RustcCfg.option_line, declared.tables.Way.Way}
 use Rattle.tool_names.specs.declared.pattern.Numbers.TheVariants.{NoNumber, One, Two}
-use Rattle.tool_names.specs.Changes.{name_text}
+use Rattle.tool_names.specs.Changes.{name_text, parts_left, plain_rule, spelling_names}
+use Rattle.tool_names.specs.declared.spelled.SpelledPart.{SpelledPart as CodePart}
+use Rattle.tool_names.specs.declared.spelled.{Fit.Fit, RuleNames.RuleNames}
+use Rattle.tool_names.specs.declared.spelled.RuleNames.TheVariants.{Known, MacOs}
+use Rattle.tool_names.specs.{declared.rules.Form.Form, declared.rules.Place.Place}
+use Rattle.tool_names.specs.declared.rules.Place.TheVariants as place
+use Rattle.tool_names.specs.declared.rules.TheConstants as code
 use Rattle.tool_names.specs.Nearest.{AreAllFar, IsNearest, misspelling, too_many_edits}
 use Rattle.tool_names.specs.declared.nearest.NearestName.{NearestName}
 use Rattle.tool_names.specs.Platforms.{Words}
 use Rattle.tool_names.specs.{Patterns.plain_number, Patterns.rest_of, Patterns.star, Tables.Row, Tables.plain_row}
-use Rattle.tool_names.specs.Spelling.{SpelledName, later_names, spelled_by}
+use Rattle.tool_names.specs.Spelling.{Rule, Standing, first_rule, fits, is_known_at, rules_in, macosx_name, SpelledName, SpelledPart, names_by, names_of, spelled_by}
 
 -- a table in the code as a list of pairs
 abbrev pub table_of : {T : Type 0} → List (Bor (List ℕ) × T) → List (Pair T)
 table_of {T} rows = map (λ (row : Bor (List ℕ) × T). (row.0.now, row.1)) rows
 
--- a table whose second texts have dashes, each as the list of its parts
-abbrev pub parts_table : List (Bor (List ℕ) × Bor (List ℕ)) → List (Pair (List (List ℕ)))
-parts_table rows = map (λ (row : Bor (List ℕ) × Bor (List ℕ)). (row.0.now, parts_of row.1.now)) rows
+-- a table of rules in the code
+abbrev pub plain_rules : List (Place × Bor (List ℕ) × Form × Bor (List ℕ)) → List Rule
+plain_rules rows = map plain_rule rows
+
+-- the names that a rule gives
+abbrev pub rule_names : RuleNames → List (List ℕ)
+rule_names (Known names) = parts_of names.now
+rule_names (MacOs version) = macosx_name version.text.now ∷ []
+
+-- the rule that fits, and the names that it gives
+abbrev pub fit_value : Fit → Rule × List (List ℕ)
+fit_value it = (plain_rule it.rule, rule_names it.names)
+
+abbrev pub fit_of : List ℕ → Option Rule → Option (Rule × List (List ℕ))
+fit_of part rule = option_map (λ (it : Rule). (it, names_by it part)) rule
+
+-- the first rule for a later part alone that fits
+abbrev pub later_rule : Standing → List ℕ → List (List ℕ) → Option Rule
+later_rule at part others = if is_known_at place.AfterFirst part then None else first_rule (fits at part others) (rules_in code.LATER_RULES)
+
+-- these names, if a test holds
+abbrev pub names_if : Bool → List (List ℕ) → Option (List (List ℕ))
+names_if holds names = if holds then Some names else None
+
+abbrev pub spelled_value : CodePart → SpelledPart
+spelled_value it = record { names = spelling_names it.names; from = parts_of it.from.now }
 
 -- the names that are left: what is left of a part, and what the parts after it spell
 abbrev pub left_names : Option Left → List SpelledName
 left_names None = []
-left_names (Some left) = spelled_by (parts_of left.from.now) (name_text left.name ∷ parts_after left.others) ++ later_names left.hard_float left.part.now (parts_after left.rest)
+left_names (Some left) = spelled_by (parts_of left.from.now) (name_text left.name ∷ parts_after left.others) ++ names_of (parts_left left.parts)
 
 -- the numbers of a name, as a list
 abbrev pub numbers_of : Numbers → List ℕ

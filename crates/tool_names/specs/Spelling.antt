@@ -1,111 +1,65 @@
--- Strings that are spelled like triples, as the tools of GNU and LLVM print them: some parts are other spellings of
--- known names, two parts may be other names together, and a second part may state no vendor. Each such part gives way to known
--- names, which are parsed as ever.
+-- Strings that are spelled like triples, as the tools of GNU and LLVM print them. A table of rules says which parts are other
+-- spellings of known names, by themselves or together with the next part. At each part the first rule that fits is applied, and
+-- the names are parsed as ever.
 use Rattle.std.specs.Prelude.{◌≡◌, ℕ, Bool, true, false, ◌||◌, ◌&&◌, ◌-◌, List, [], ◌∷◌, ◌++◌, codes, length, map, Option, Some, None, is_none, is_some, not, option_map, option_and_then, slice_get, unwrap_or, Result, Ok, Err, if◌then◌else◌, ◌==◌}
 use Rattle.std.specs.Char.{is_ascii_digit}
 use Rattle.std.specs.List.{list_all, list_any, join_with_byte}
-use Rattle.std.specs.Option.{option_or, option_map_or}
+use Rattle.std.specs.Option.{option_map_or}
 use Rattle.std.specs.Str.{bytes_eq}
-use Rattle.lexicon_fields.specs.{Architecture.architecture_of, BinaryFormat.binary_format_of, Environment.environment_of, FixedRow.has_row, Names.Pair, Names.dash, Names.value_named, OperatingSystem.operating_system_of, OperatingSystem.text_after_prefix, Vendor.is_custom, Vendor.vendor_of, Version.dot, Version.version_of}
+use Rattle.lexicon_fields.specs.{Architecture.architecture_of, BinaryFormat.binary_format_of, Environment.environment_of, FixedRow.has_row, Names.dash, OperatingSystem.operating_system_of, OperatingSystem.text_after_prefix, Vendor.is_custom, Vendor.vendor_of, Version.dot, Version.version_of}
 use Rattle.lexicon_fields.specs.declared.field.Field.TheVariants as field
 use Rattle.target_lexicon.specs.{Explanation.IsInText, Explanation.PlacedPart, Explanation.part_from, Field.Field, FixedPoints.canonical_text, FixedPoints.settled_values, GreedyReading.reading_of_parts, Placement.parts_of, Printing.text_of, Reading.IsRefusal, Reading.ReadsAs, Refusal.Refusal, SpecialTexts.special_values, Values.Values, ValuesRef.PlacedRefusal}
 use Rattle.tool_names.specs.KnownNames.{known_names}
+use Rattle.tool_names.specs.Tables.{Text}
+use Rattle.tool_names.specs.declared.rules.Place.{Place}
+use Rattle.tool_names.specs.declared.rules.Place.TheVariants as place
+use Rattle.tool_names.specs.declared.rules.Form.{Form}
+use Rattle.tool_names.specs.declared.rules.Form.TheVariants as form
+use Rattle.tool_names.specs.declared.rules.TheConstants as code
 
--- other spellings of architectures, for the first part
-unfoldable pub first_spellings : List (Pair (List ℕ))
--- written by tools/names/write: first_spellings
-first_spellings =
-    (codes "amd64", codes "x86_64") ∷
-    (codes "x64", codes "x86_64") ∷
-    (codes "i486", codes "i386") ∷
-    (codes "i786", codes "i686") ∷
-    (codes "i886", codes "i686") ∷
-    (codes "i986", codes "i686") ∷
-    (codes "armv4l", codes "armv4") ∷
-    (codes "armv4tl", codes "armv4t") ∷
-    (codes "armv5tel", codes "armv5te") ∷
-    (codes "armv5tejl", codes "armv5tej") ∷
-    (codes "armv6l", codes "armv6") ∷
-    (codes "armv7l", codes "armv7") ∷
-    (codes "armv6hl", codes "armv6") ∷
-    (codes "armv7hl", codes "armv7") ∷
-    (codes "armv7hnl", codes "armv7") ∷
-    (codes "armv8l", codes "armv8") ∷
-    (codes "armel", codes "arm") ∷
-    (codes "ppc", codes "powerpc") ∷
-    (codes "ppc32", codes "powerpc") ∷
-    (codes "ppc64", codes "powerpc64") ∷
-    (codes "ppc64le", codes "powerpc64le") ∷
-    (codes "ppc64el", codes "powerpc64le") ∷
-    (codes "rs6000", codes "powerpc") ∷
-    (codes "sun4v", codes "sparc64") ∷
-    (codes "mipseb", codes "mips") ∷
-    (codes "mips64eb", codes "mips64") ∷
-    (codes "mipsr6", codes "mipsisa32r6") ∷
-    (codes "mipsr6el", codes "mipsisa32r6el") ∷
-    (codes "mips64r6", codes "mipsisa64r6") ∷
-    (codes "mips64r6el", codes "mipsisa64r6el") ∷
-    (codes "bpf_be", codes "bpfeb") ∷
-    (codes "bpf_le", codes "bpfel") ∷
-    (codes "systemz", codes "s390x") ∷
-    (codes "thumbv7", codes "thumbv7a") ∷
-    []
+-- a rule: where the part may stand, the part, how it is compared, and the names that stand instead
+pub record Rule : Type 0 where
+  pub place : Place
+  pub part : List ℕ
+  pub form : Form
+  pub names : List (List ℕ)
 
--- end of what is written
+-- the rules, as the code has them: those that look at more than the part; and those that look at the part alone, first those
+-- for the first part
+abbrev pub rules_in : List (Place × Text × Form × Text) → List Rule
+rules_in rows = map (λ (row : Place × Text × Form × Text). record { place = row.0; part = row.1.now; form = row.2; names = parts_of row.3.now }) rows
 
--- other spellings of later parts; each is one name or two
-unfoldable pub later_spellings : List (Pair (List (List ℕ)))
--- written by tools/names/write: later_spellings
-later_spellings =
-    (codes "w64", codes "pc" ∷ []) ∷
-    (codes "mingw32", codes "windows" ∷ codes "gnu" ∷ []) ∷
-    (codes "mingw64", codes "windows" ∷ codes "gnu" ∷ []) ∷
-    (codes "mingw32ucrt", codes "windows" ∷ codes "gnu" ∷ []) ∷
-    (codes "win32", codes "windows" ∷ codes "msvc" ∷ []) ∷
-    (codes "macos", codes "macosx" ∷ []) ∷
-    (codes "netbsdelf", codes "netbsd" ∷ []) ∷
-    (codes "simulator", codes "sim" ∷ []) ∷
-    (codes "muslgnueabi", codes "musleabi" ∷ []) ∷
-    (codes "muslgnueabihf", codes "musleabihf" ∷ []) ∷
-    (codes "uclibcgnueabi", codes "uclibceabi" ∷ []) ∷
-    (codes "uclibcgnueabihf", codes "uclibceabihf" ∷ []) ∷
-    []
+unfoldable pub wide_rules : List Rule
+wide_rules = rules_in code.WIDE_RULES
 
--- end of what is written
+unfoldable pub lone_rules : List Rule
+lone_rules = rules_in (code.FIRST_RULES ++ code.LATER_RULES)
 
--- what comes before a version that is dropped, and the names without it
-unfoldable pub versioned_spellings : List (Pair (List (List ℕ)))
--- written by tools/names/write: versioned_spellings
-versioned_spellings =
-    (codes "aix", codes "aix" ∷ []) ∷
-    (codes "bitrig", codes "bitrig" ∷ []) ∷
-    (codes "dragonfly", codes "dragonfly" ∷ []) ∷
-    (codes "freebsd", codes "freebsd" ∷ []) ∷
-    (codes "netbsd", codes "netbsd" ∷ []) ∷
-    (codes "openbsd", codes "openbsd" ∷ []) ∷
-    (codes "solaris", codes "solaris" ∷ []) ∷
-    (codes "netbsdelf", codes "netbsd" ∷ []) ∷
-    (codes "vxworks", codes "vxworks" ∷ []) ∷
-    (codes "gnu.", codes "gnu" ∷ []) ∷
-    (codes "gnu2.", codes "gnu" ∷ []) ∷
-    (codes "gnu", codes "hurd" ∷ codes "gnu" ∷ []) ∷
-    (codes "gnueabi", codes "gnueabi" ∷ []) ∷
-    (codes "gnueabihf", codes "gnueabihf" ∷ []) ∷
-    (codes "musl", codes "musl" ∷ []) ∷
-    (codes "android", codes "android" ∷ []) ∷
-    (codes "androideabi", codes "androideabi" ∷ []) ∷
-    (codes "msvc", codes "msvc" ∷ []) ∷
-    []
+-- what the parts before a part say of it: where it stands, whether floating-point arguments are in floating-point registers,
+-- and its name, if it is the second of a pair
+pub record Standing : Type 0 where
+  pub place : Place
+  pub hard_float : Bool
+  pub name : Option (List ℕ)
 
--- end of what is written
+-- a part that stands there, of which nothing else is said
+abbrev pub standing_at : Place → Standing
+standing_at at = record { place = at; hard_float = false; name = None }
 
--- a part that parses as a value of some field other than a custom vendor
-abbrev pub is_known_name : List ℕ → Bool
-is_known_name part = has_row part || is_some (operating_system_of part)
+abbrev pub is_first : Place → Bool
+is_first place.First = true
+is_first _ = false
 
--- how the first part is spelled in a triple; an architecture stays
-abbrev pub first_spelling : List ℕ → List ℕ
-first_spelling part = if is_some (architecture_of part) then part else unwrap_or (value_named first_spellings part) part
+abbrev pub is_second : Place → Bool
+is_second place.Second = true
+is_second _ = false
+
+-- whether a rule for this place is one for such a part
+abbrev pub may_stand : Place → Standing → Bool
+may_stand place.First at = is_first at.place
+may_stand place.Second at = is_second at.place
+may_stand place.AfterFirst at = not (is_first at.place)
+may_stand place.AfterHardFloats at = not (is_first at.place) && at.hard_float
 
 -- digits and dots, at least one
 abbrev pub is_digit_or_dot : ℕ → Bool
@@ -115,76 +69,83 @@ abbrev pub is_dropped_version : List ℕ → Bool
 is_dropped_version [] = false
 is_dropped_version (c ∷ cs) = list_all is_digit_or_dot (c ∷ cs)
 
--- whether a part is this prefix and such a version
-abbrev pub has_dropped_version : List ℕ → List ℕ → Bool
-has_dropped_version prefix part = option_map_or is_dropped_version (text_after_prefix prefix part) false
+-- a text, if it is a version of a system like Darwin
+abbrev pub version_text : List ℕ → Option (List ℕ)
+version_text text = option_map (λ _. text) (version_of text)
 
--- the names of the first row that the part begins with, if a version follows
-abbrev pub versioned_spelling : List (Pair (List (List ℕ))) → List ℕ → Option (List (List ℕ))
-versioned_spelling [] part = None
-versioned_spelling (row ∷ rows) part = if has_dropped_version row.0 part then Some row.1 else versioned_spelling rows part
+abbrev pub has_version : Form → Bool
+has_version form.Dropped = true
+has_version form.MacOs = true
+has_version _ = false
 
--- the version after a prefix, if it is one that is dropped
-abbrev pub version_if_dropped : Option (List ℕ) → Option (List ℕ)
-version_if_dropped None = None
-version_if_dropped (Some version) = if is_dropped_version version then Some version else None
+abbrev pub is_pair : Form → Bool
+is_pair form.Pair = true
+is_pair form.PairWithin = true
+is_pair _ = false
 
--- the version that is dropped from a part: what follows the prefix of the first row that it begins with
-abbrev pub version_after : List (Pair (List (List ℕ))) → List ℕ → Option (List ℕ)
-version_after [] part = None
-version_after (row ∷ rows) part = option_or (version_if_dropped (text_after_prefix row.0 part)) (version_after rows part)
+-- whether a pair is this part and the first of these
+abbrev pub are_pair : List (List ℕ) → List ℕ → List (List ℕ) → Bool
+are_pair (first ∷ (second ∷ _)) part (next ∷ others) = bytes_eq part first && bytes_eq next second
+are_pair _ part others = false
 
--- the string, if it is a version of a system like Darwin
-abbrev pub checked_version : List ℕ → Option (List ℕ)
-checked_version text = option_map (λ _. text) (version_of text)
+-- whether a pair goes on with a part that is no binary format
+abbrev pub goes_on : List (List ℕ) → Bool
+goes_on (next ∷ (after ∷ others)) = is_none (binary_format_of after)
+goes_on _ = false
 
--- `macos` with a version, which is kept
-abbrev pub macos_version : List ℕ → Option (List ℕ)
-macos_version part = option_and_then checked_version (text_after_prefix (codes "macos") part)
+-- whether a part, with these after it, has this form of a text
+abbrev pub has_form : Form → List ℕ → List ℕ → List (List ℕ) → Bool
+has_form form.Whole text part others = bytes_eq part text
+has_form form.HardFloats text part others = bytes_eq part text
+has_form form.Dropped text part others = option_map_or is_dropped_version (text_after_prefix text part) false
+has_form form.MacOs text part others = is_some (option_and_then version_text (text_after_prefix text part))
+has_form form.Pair text part others = are_pair (parts_of text) part others
+has_form form.PairWithin text part others = are_pair (parts_of text) part others && goes_on others
+
+abbrev pub fits : Standing → List ℕ → List (List ℕ) → Rule → Bool
+fits at part others rule = may_stand rule.place at && has_form rule.form rule.part part others
+
+abbrev pub first_rule : (Rule → Bool) → List Rule → Option Rule
+first_rule test [] = None
+first_rule test (rule ∷ others) = if test rule then Some rule else first_rule test others
+
+-- whether a part is a known name where it stands: an architecture, or after the first part a value of some field
+abbrev pub is_known_at : Place → List ℕ → Bool
+is_known_at place.First part = is_some (architecture_of part)
+is_known_at _ part = has_row part || is_some (operating_system_of part)
+
+-- the rules for a part: a known name stays, but for what is said beside it
+abbrev pub rules_for : Place → List ℕ → List Rule
+rules_for at part = wide_rules ++ (if is_known_at at part then [] else lone_rules)
+
+-- the first rule that fits a part, unless the part before has named it
+unfoldable pub rule_at : Standing → List ℕ → List (List ℕ) → Option Rule
+rule_at at part others = if is_some at.name then None else first_rule (fits at part others) (rules_for at.place part)
+
+-- the rule for a part by itself
+abbrev pub rule_alone : Place → List ℕ → Option Rule
+rule_alone at part = rule_at (standing_at at) part []
+
+-- what follows the text of a rule in a part
+abbrev pub version_after : Rule → List ℕ → List ℕ
+version_after rule part = unwrap_or (text_after_prefix rule.part part) []
 
 abbrev pub macosx_name : List ℕ → List ℕ
 macosx_name version = codes "macosx" ++ version
 
--- the names that a later part spells, if it is listed
-unfoldable pub listed_spelling : List ℕ → Option (List (List ℕ))
-listed_spelling part = option_or (value_named later_spellings part) (option_or (option_map (λ version. macosx_name version ∷ []) (macos_version part)) (versioned_spelling versioned_spellings part))
+abbrev pub first_only : List (List ℕ) → List (List ℕ)
+first_only [] = []
+first_only (name ∷ names) = name ∷ []
 
--- the names that a later part is; a known name stays
-unfoldable pub later_spelling : List ℕ → List (List ℕ)
-later_spelling part = if is_known_name part then part ∷ [] else unwrap_or (listed_spelling part) (part ∷ [])
+-- the names that a part is by a rule
+abbrev pub named_as : Form → List ℕ → List (List ℕ) → List (List ℕ)
+named_as form.MacOs version names = macosx_name version ∷ []
+named_as form.Pair version names = first_only names
+named_as form.PairWithin version names = first_only names
+named_as _ version names = names
 
--- whether two parts, with these after them, are the system `none` and a vendor that isn't stated, which LLVM puts after it. Before
--- a binary format `unknown` is an environment
-abbrev pub is_vendor_after_none : List ℕ → List ℕ → List (List ℕ) → Bool
-is_vendor_after_none part next [] = false
-is_vendor_after_none part next (after ∷ others) = bytes_eq part (codes "none") && bytes_eq next (codes "unknown") && is_none (binary_format_of after)
-
--- the two names that two parts spell together, with these after them. LLVM writes Cygwin as an environment of Windows
-abbrev pub pair_spelling : List ℕ → List ℕ → List (List ℕ) → Option (Pair (List ℕ))
-pair_spelling part next others =
-    if is_vendor_after_none part next others then Some (codes "unknown", codes "none")
-    else if bytes_eq part (codes "windows") && bytes_eq next (codes "cygnus") then Some (codes "cygwin", codes "unknown")
-    else None
-
--- the name that a part spells together with the part after it
-abbrev pub name_with_next : List ℕ → List (List ℕ) → Option (List ℕ)
-name_with_next part [] = None
-name_with_next part (next ∷ others) = option_map (λ (names : Pair (List ℕ)). names.0) (pair_spelling part next others)
-
--- the name that a part spells together with the part before it
-abbrev pub name_with_previous : List ℕ → List ℕ → List (List ℕ) → Option (List ℕ)
-name_with_previous before part others = option_map (λ (names : Pair (List ℕ)). names.1) (pair_spelling before part others)
-
--- the names that a part is after the second, between these
-abbrev pub spelling_between : List ℕ → List ℕ → List (List ℕ) → List (List ℕ)
-spelling_between before part others =
-    option_map_or (λ name. name ∷ []) (option_or (name_with_previous before part others) (name_with_next part others)) (later_spelling part)
-
--- whether a second part is left out: it is empty, or `none` before the system `linux`
-abbrev pub is_unstated : List ℕ → List (List ℕ) → Bool
-is_unstated [] others = true
-is_unstated part [] = false
-is_unstated part (next ∷ others) = bytes_eq part (codes "none") && bytes_eq next (codes "linux")
+abbrev pub names_by : Rule → List ℕ → List (List ℕ)
+names_by rule part = named_as rule.form (version_after rule part) rule.names
 
 -- names of systems that aren't known names: other spellings, and systems of rustc that have no triple
 abbrev pub other_systems : List (List ℕ)
@@ -203,72 +164,54 @@ may_be_versioned part name = option_map_or may_be_version (text_after_prefix nam
 abbrev pub is_like_system : List ℕ → Bool
 is_like_system part = list_any (may_be_versioned part) (known_names field.OperatingSystem) || list_any (may_be_versioned part) other_systems
 
--- whether a second part parses as a custom vendor but is a system that isn't known
+-- whether a part would be a custom vendor but is a system that isn't known
 unfoldable pub is_other_system : List ℕ → Bool
-is_other_system part = option_map_or is_custom (vendor_of part) false && is_none (listed_spelling part) && is_like_system part
+is_other_system part = option_map_or is_custom (vendor_of part) false && is_like_system part
 
--- a second part with which Gentoo says that floating-point arguments are in floating-point registers
-abbrev pub is_hard_float_vendor : List ℕ → Bool
-is_hard_float_vendor part = bytes_eq part (codes "hardfloat")
+-- the names of a part without a rule: a system that isn't known is no vendor, and any other part is its own name
+abbrev pub plain_names : Place → List ℕ → List (List ℕ)
+plain_names at part = if is_second at && is_other_system part then codes "unknown" ∷ part ∷ [] else part ∷ []
 
-abbrev pub states_no_vendor : List ℕ → List (List ℕ) → Bool
-states_no_vendor part others = is_unstated part others || is_hard_float_vendor part
+-- the names that a part is
+abbrev pub names_at : Standing → Option Rule → List ℕ → List (List ℕ)
+names_at at (Some rule) part = names_by rule part
+names_at at None part = option_map_or (λ name. name ∷ []) at.name (plain_names at.place part)
 
--- the names that a second part is, with these after it
-abbrev pub second_spelling : List ℕ → List (List ℕ) → List (List ℕ)
-second_spelling part others =
-    if states_no_vendor part others then codes "unknown" ∷ []
-    else if is_other_system part then codes "unknown" ∷ part ∷ []
-    else option_map_or (λ name. name ∷ []) (name_with_next part others) (later_spelling part)
+-- what is said of the part after one
+abbrev pub next_place : Place → Place
+next_place place.First = place.Second
+next_place _ = place.AfterFirst
+
+abbrev pub second_name : List (List ℕ) → Option (List ℕ)
+second_name (first ∷ (second ∷ names)) = Some second
+second_name _ = None
+
+abbrev pub name_of_next : Form → List (List ℕ) → Option (List ℕ)
+name_of_next f names = if is_pair f then second_name names else None
+
+abbrev pub states_hard_floats : Form → Bool
+states_hard_floats form.HardFloats = true
+states_hard_floats _ = false
+
+abbrev pub next_standing : Standing → Option Rule → Standing
+next_standing at None = record { place = next_place at.place; hard_float = at.hard_float; name = None }
+next_standing at (Some rule) = record { place = next_place at.place; hard_float = at.hard_float || states_hard_floats rule.form; name = name_of_next rule.form rule.names }
 
 -- the names that a part of a string spells, and the parts of the string from that one on
 pub record SpelledPart : Type 0 where
   pub names : List (List ℕ)
   pub from : List (List ℕ)
 
--- what these parts spell after this one, none of which is the first or second part of the string
-abbrev pub later_parts : List ℕ → List (List ℕ) → List SpelledPart
-later_parts before [] = []
-later_parts before (part ∷ others) = record { names = spelling_between before part others; from = part ∷ others } ∷ later_parts part others
-
--- what the parts after the first spell
-abbrev pub other_parts : List (List ℕ) → List SpelledPart
-other_parts [] = []
-other_parts (part ∷ others) = record { names = second_spelling part others; from = part ∷ others } ∷ later_parts part others
-
--- first parts with which rpm says that floating-point arguments are in floating-point registers
-abbrev pub is_hard_float_first : List ℕ → Bool
-is_hard_float_first first = bytes_eq first (codes "armv6hl") || bytes_eq first (codes "armv7hl") || bytes_eq first (codes "armv7hnl")
-
--- whether the first two parts of a string say so: this one, and the first of these
-abbrev pub is_hard_float : List ℕ → List (List ℕ) → Bool
-is_hard_float first [] = is_hard_float_first first
-is_hard_float first (second ∷ others) = is_hard_float_first first || is_hard_float_vendor second
-
--- the environment with floating-point registers, of one without; any other name stays
-abbrev pub hard_float_name : List ℕ → List ℕ
-hard_float_name name =
-    if bytes_eq name (codes "eabi") then codes "eabihf"
-    else if bytes_eq name (codes "gnueabi") then codes "gnueabihf"
-    else if bytes_eq name (codes "musleabi") then codes "musleabihf"
-    else if bytes_eq name (codes "uclibceabi") then codes "uclibceabihf"
-    else name
-
--- the names of a part of a string whose first parts say so, or don't
-abbrev pub hard_float_names : Bool → List (List ℕ) → List (List ℕ)
-hard_float_names true (name ∷ []) = hard_float_name name ∷ []
-hard_float_names _ names = names
-
-abbrev pub with_hard_float : Bool → SpelledPart → SpelledPart
-with_hard_float hard_float it = record { names = hard_float_names hard_float it.names; from = it.from }
-
-abbrev pub with_hard_floats : Bool → List SpelledPart → List SpelledPart
-with_hard_floats hard_float parts = map (with_hard_float hard_float) parts
+-- what these parts spell, of which the first stands so
+abbrev pub spelled_from : Standing → List (List ℕ) → List SpelledPart
+spelled_from at [] = []
+spelled_from at (part ∷ others) =
+    let rule = rule_at at part others in
+    record { names = names_at at rule part; from = part ∷ others } ∷ spelled_from (next_standing at rule) others
 
 -- what the parts of a string spell
 abbrev pub spelled_parts : List (List ℕ) → List SpelledPart
-spelled_parts [] = []
-spelled_parts (part ∷ others) = record { names = first_spelling part ∷ []; from = part ∷ others } ∷ with_hard_floats (is_hard_float part others) (other_parts others)
+spelled_parts parts = spelled_from (standing_at place.First) parts
 
 -- a name to be read, and the parts of the string from the one on that spells it
 pub record SpelledName : Type 0 where
@@ -282,12 +225,6 @@ spelled_by from names = map (λ name. record { name = name; from = from }) names
 abbrev pub names_of : List SpelledPart → List SpelledName
 names_of [] = []
 names_of (it ∷ others) = spelled_by it.from it.names ++ names_of others
-
-abbrev pub later_names : Bool → List ℕ → List (List ℕ) → List SpelledName
-later_names hard_float before parts = names_of (with_hard_floats hard_float (later_parts before parts))
-
-abbrev pub names_after_first : Bool → List (List ℕ) → List SpelledName
-names_after_first hard_float parts = names_of (with_hard_floats hard_float (other_parts parts))
 
 abbrev pub spelled_names : List (List ℕ) → List SpelledName
 spelled_names parts = names_of (spelled_parts parts)
@@ -360,21 +297,22 @@ RefusalsAreAtTheRefusedName = (text : List ℕ) (found : PlacedRefusal) → spel
 abbrev pub RefusedPartsAreInTheString : Type 0
 RefusedPartsAreInTheString = (text : List ℕ) (it : PlacedRefusal) → spelled_reading text ≡ Err it → IsInText text it.part
 
--- no part that is listed is a known name; those with a version aren't with the version `1`
-pub record ListedPartsAreUnknown : Type 0 where
-  pub first : list_all (λ row. is_none (architecture_of row.0)) first_spellings ≡ true
-  pub later : list_all (λ row. not (is_known_name row.0)) later_spellings ≡ true
-  pub versioned : list_all (λ row. not (is_known_name (row.0 ++ codes "1"))) versioned_spellings ≡ true
+-- what the text of a rule for a part alone is, with the version `1` if it has one, is no known name
+abbrev pub is_unknown : Rule → Bool
+is_unknown rule = not (is_known_at rule.place (rule.part ++ (if has_version rule.form then codes "1" else [])))
 
--- each of these names spells itself
-abbrev pub SpellThemselves : List (List ℕ) → Type 0
-SpellThemselves [] = Unit {0}
-SpellThemselves (name ∷ names) = (later_spelling name ≡ name ∷ []) × SpellThemselves names
+-- so each such rule is of use
+abbrev pub ListedPartsAreUnknown : Type 0
+ListedPartsAreUnknown = list_all is_unknown lone_rules ≡ true
 
--- the names that a first or a later part spells spell themselves, so that to rewrite them again changes nothing more
-pub record OnceIsEnough : Type 0 where
-  pub first : (part : List ℕ) → first_spelling (first_spelling part) ≡ first_spelling part
-  pub later : (part : List ℕ) → SpellThemselves (later_spelling part)
+-- each of these names spells itself where a part stands so
+abbrev pub SpellThemselves : Place → List (List ℕ) → Type 0
+SpellThemselves at [] = Unit {0}
+SpellThemselves at (name ∷ names) = (rule_alone at name ≡ None) × SpellThemselves at names
+
+-- the names that a rule gives a part by itself have no rule there, so that to rewrite them again changes nothing more
+abbrev pub OnceIsEnough : Type 0
+OnceIsEnough = (at : Place) (part : List ℕ) (rule : Rule) → rule_alone at part ≡ Some rule → SpellThemselves at (names_by rule part)
 
 -- a triple that was read is read again from its printed string, as its canonical form; and that is read as it is
 pub record IsReadAgain (t : Values) : Type 0 where

@@ -1,13 +1,14 @@
 //! What is changed in a string that is spelled like a triple.
 ghost use Rattle.std.specs.Prelude.{◌≡◌, ◌^◌, ◌<◌, option_map};
 ghost use Rattle.target_lexicon.specs.Explanation.{part_end, part_value};
-ghost use Rattle.target_lexicon.specs.Placement.{parts_after};
-ghost use Rattle.tool_names.specs.Spelling.{version_after, versioned_spellings};
+ghost use Rattle.tool_names.specs.Spelling.{rule_alone};
+ghost use Rattle.tool_names.specs.declared.rules.Place.TheVariants as place;
 ghost use Rattle.tool_names.specs.Changes as spec;
 
-use crate::hard_float::is_hard_float;
-use crate::spelling::{Spelling, dropped_version, first_at_end, first_spelling};
-use target_lexicon::{TextPart, first_part};
+use crate::rules::{Form, Place};
+use crate::spelled::{SpelledParts, fit_alone};
+use crate::spelling::{Spelling, first_at_end};
+use target_lexicon::TextPart;
 
 /// A part of a string that is another spelling of known names, by itself or together with the part before or after it, or a
 /// second part that states no vendor.
@@ -45,7 +46,8 @@ impl<'a> Change<'a> {
     /// ```
     pub fn dropped_version(&self) -> Option<TextPart<'a>>
         ensures text { option_map (λ version. version.text.now) result
-            ≡ version_after versioned_spellings self.now.part.text.now }
+            ≡ spec.version_dropped (rule_alone place.AfterFirst self.now.part.text.now)
+            self.now.part.text.now }
         ensures part { part_end (part_value self.now.part) < 2 ^ 64
             → option_map part_value result ≡ spec.dropped_version (part_value self.now.part) }
     {
@@ -59,43 +61,20 @@ impl<'a> Change<'a> {
     }
 }
 
-/// Where a part is in a string.
-#[derive(Clone, Copy, Debug)]
-enum Position<'a> {
-    First,
-    /// Whether the first two parts state hard floats.
-    Second(bool),
-    /// The same, and the part before.
-    Later(bool, &'a str),
-}
-
-impl<'a> Position<'a> {
-    /// The names that a part at this position spells, with this after its dash.
-    fn spelling(self, part: &'a str, rest: Option<&str>) -> Spelling<'a>
-        ensures { spec.spelling_names result
-            ≡ spec.spelling_at self.entry part.entry.now (parts_after rest.entry) }
-    {
-        match self {
-            Position::First => Spelling::of(first_spelling(part)),
-            Position::Second(hard_float) => {
-                Spelling::of_second(part, rest).with_hard_float(hard_float)
-            }
-            Position::Later(hard_float, before) => {
-                Spelling::between(before, part, rest).with_hard_float(hard_float)
-            }
-        }
-    }
-
-    /// The position of the part after this one, which is at this position, with this after its dash.
-    fn next(self, part: &'a str, rest: Option<&str>) -> Position<'a>
-        ensures { result ≡ spec.next_position self.entry part.entry (parts_after rest.entry) }
-    {
-        match self {
-            Position::First => Position::Second(is_hard_float(part, rest)),
-            Position::Second(hard_float) | Position::Later(hard_float, _) => {
-                Position::Later(hard_float, part)
-            }
-        }
+/// The version that a part loses by itself.
+fn dropped_version(part: &str) -> Option<&str>
+    ensures { option_map (λ version. version.now) result
+        ≡ spec.version_dropped (rule_alone place.AfterFirst part.entry.now) part.entry.now }
+{
+    match fit_alone(Place::AfterFirst, part) {
+        Some(fit) => match fit.rule.2 {
+            Form::Dropped => match part.strip_prefix(fit.rule.1) {
+                Some(version) => Some(version),
+                None => Some(""),
+            },
+            _ => None,
+        },
+        None => None,
     }
 }
 
@@ -111,9 +90,7 @@ impl<'a> Position<'a> {
 #[derive(Debug, Drop)]
 pub struct ChangedParts<'a> {
     text: &'a str,
-    /// The string from the next part on, if one is left.
-    rest: Option<&'a str>,
-    position: Position<'a>,
+    parts: SpelledParts<'a>,
 }
 
 /// What [`read`](crate::read) changes in a string: the parts that are other spellings of known names, and these names.
@@ -139,8 +116,7 @@ pub fn changes(text: &str) -> ChangedParts<'_>
 {
     ChangedParts {
         text,
-        rest: Some(text),
-        position: Position::First,
+        parts: SpelledParts::of(text),
     }
 }
 
@@ -154,15 +130,12 @@ impl<'a> Iterator for ChangedParts<'a> {
     ghost remaining = { item_count spec.changes_left };
 
     fn next(&mut self) -> Option<Change<'a>> {
-        while let Some(end) = self.rest {
-            let (part, rest) = first_part(end);
-            let names = self.position.spelling(part, rest);
-            self.rest = rest;
-            self.position = self.position.next(part, rest);
-            if !names.is_only(part) {
+        while let Some(it) = self.parts.next_part() {
+            let part = first_at_end(self.text, it.from);
+            if !it.names.is_only(part.text) {
                 return Some(Change {
-                    part: first_at_end(self.text, end),
-                    names,
+                    part,
+                    names: it.names,
                 });
             }
         }

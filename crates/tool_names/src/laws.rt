@@ -57,12 +57,12 @@ pub fn unchanged_strings_are_read_as_they_parse()
     ensures { UnchangedStringsAreReadAsTheyParse }
 {}
 
-/// No part that is listed as another spelling is a known name; those with a version aren't with the version `1`.
+/// What a rule for a part alone rewrites is no known name; one with a version isn't with the version `1`.
 pub fn listed_parts_are_unknown()
     ensures { ListedPartsAreUnknown }
 {}
 
-/// What a first or a later part spells by itself spells itself. So to rewrite it again changes nothing more.
+/// The names that a rule gives a part by itself have no rule there. So to rewrite them again changes nothing more.
 pub fn once_is_enough()
     ensures { OnceIsEnough }
 {}

@@ -1,58 +1,38 @@
 //! The names of a string that are left while it is read.
 ghost use Rattle.std.specs.Prelude.{◌≡◌, ◌++◌, Some};
-ghost use Rattle.target_lexicon.specs.Placement.{parts_of};
-ghost use Rattle.target_lexicon.specs.Placement.{parts_after};
+ghost use Rattle.target_lexicon.specs.Placement.{parts_after, parts_of};
+ghost use Rattle.tool_names.specs.Changes.{parts_left};
 ghost use Rattle.tool_names.specs.Private.{left_names};
-ghost use Rattle.tool_names.specs.Spelling.{later_names, names_after_first, spelled_by};
+ghost use Rattle.tool_names.specs.Spelling.{names_of, spelled_by};
 
-use crate::spelling::{Spelling, TripleName};
+use crate::spelled::SpelledParts;
+use crate::spelling::TripleName;
 use target_lexicon::first_part;
 
-/// The first name that is left, the others of its part, and what follows the part.
+/// The first name that is left, the others of its part, and the parts after it.
 #[derive(Clone, Copy)]
 pub(crate) struct Left<'a> {
     /// The string from the part on.
     pub from: &'a str,
-    pub part: &'a str,
-    /// Whether the first two parts of the string state hard floats.
-    pub hard_float: bool,
     pub name: TripleName<'a>,
     pub others: Option<&'a str>,
-    pub rest: Option<&'a str>,
+    pub parts: SpelledParts<'a>,
 }
 
 impl<'a> Left<'a> {
-    /// The names from a part on that is neither the first nor the second, after this one.
-    fn of_later(hard_float: bool, before: &str, text: &'a str) -> Left<'a>
-        ensures { left_names (Some result)
-            ≡ later_names hard_float before.now (parts_of text.entry.now) }
+    /// The names of these parts.
+    pub(crate) fn of(parts: SpelledParts<'a>) -> Option<Left<'a>>
+        ensures { left_names result ≡ names_of (parts_left parts.entry) }
     {
-        let (part, rest) = first_part(text);
-        let spelling = Spelling::between(before, part, rest).with_hard_float(hard_float);
-        Left {
-            from: text,
-            part,
-            hard_float,
-            name: spelling.first,
-            others: spelling.others,
-            rest,
-        }
-    }
-
-    /// The names from the second part on.
-    pub(crate) fn of_second(hard_float: bool, text: &'a str) -> Left<'a>
-        ensures { left_names (Some result)
-            ≡ names_after_first hard_float (parts_of text.entry.now) }
-    {
-        let (part, rest) = first_part(text);
-        let spelling = Spelling::of_second(part, rest).with_hard_float(hard_float);
-        Left {
-            from: text,
-            part,
-            hard_float,
-            name: spelling.first,
-            others: spelling.others,
-            rest,
+        let mut parts = parts;
+        match parts.next_part() {
+            Some(it) => Some(Left {
+                from: it.from,
+                name: it.names.first,
+                others: it.names.others,
+                parts,
+            }),
+            None => None,
         }
     }
 
@@ -60,24 +40,19 @@ impl<'a> Left<'a> {
     pub(crate) fn next(&self) -> Option<Left<'a>>
         ensures { left_names result
             ≡ spelled_by (parts_of self.now.from.now) (parts_after self.now.others)
-            ++ later_names self.now.hard_float self.now.part.now (parts_after self.now.rest) }
+            ++ names_of (parts_left self.now.parts) }
     {
         match self.others {
             Some(names) => {
                 let (name, others) = first_part(names);
                 Some(Left {
                     from: self.from,
-                    part: self.part,
-                    hard_float: self.hard_float,
                     name: TripleName::Text(name),
                     others,
-                    rest: self.rest,
+                    parts: self.parts,
                 })
             }
-            None => match self.rest {
-                Some(text) => Some(Left::of_later(self.hard_float, self.part, text)),
-                None => None,
-            },
+            None => Left::of(self.parts),
         }
     }
 }

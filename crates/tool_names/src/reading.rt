@@ -6,10 +6,10 @@ ghost use Rattle.target_lexicon.specs.SpecialTexts.{special_values};
 ghost use Rattle.target_lexicon.specs.ValuesRef.{placed_outcome};
 ghost use Rattle.tool_names.specs.Spelling.{first_at_end, reading_of_names, refusal_of_part, spelled_names, spelled_reading};
 
-use crate::hard_float::is_hard_float;
 use crate::names_left::Left;
-use crate::spelling::{first_at_end, first_spelling};
-use target_lexicon::{Reading, Refusal, TripleRef, first_part};
+use crate::spelled::SpelledParts;
+use crate::spelling::first_at_end;
+use target_lexicon::{Reading, Refusal, TripleRef};
 
 /// The triple that a string means which is spelled like a triple, as the tools of GNU and LLVM print them. Nothing is
 /// allocated.
@@ -62,13 +62,7 @@ fn read_names(text: &str) -> Result<TripleRef<'_>, Refusal<'_>>
         ≡ reading_of_names text.entry.now (spelled_names (parts_of text.entry.now)) }
 {
     let mut reading = Reading::start();
-    let (first, rest) = first_part(text);
-    let part = first_at_end(text, text);
-    reading.take(first_spelling(first), part)?;
-    let mut left = match rest {
-        Some(after) => Some(Left::of_second(is_hard_float(first, rest), after)),
-        None => None,
-    };
+    let mut left = Left::of(SpelledParts::of(text));
     while let Some(name) = left {
         let part = first_at_end(text, name.from);
         name.name.give(&mut reading, part)?;

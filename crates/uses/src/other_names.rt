@@ -22,7 +22,8 @@ ghost use Rattle.tool_names.specs.Laws.{GoesBothWays, IsNamed, IsOnlyWritten, Is
 ghost use Rattle.tool_names.specs.Patterns.{filled, fits, with_star, without_star};
 ghost use Rattle.tool_names.specs.Shape.{shape};
 ghost use Rattle.target_lexicon.specs.ValuesRef.{PlacedRefusal};
-ghost use Rattle.tool_names.specs.Spelling.{first_spelling, first_spellings, is_known_name, later_spelling, later_spellings, name_texts, spelled_names, spelled_reading, versioned_spellings};
+ghost use Rattle.tool_names.specs.Spelling.{Rule, is_unknown, lone_rules, name_texts, names_by, rule_alone, spelled_names, spelled_reading};
+ghost use Rattle.tool_names.specs.declared.rules.Place.{Place};
 ghost use Rattle.tool_names.specs.StatedVersion.{shape_to_version, versioned_name};
 ghost use Rattle.tool_names.specs.Suggestion.{HasPlace, suggestion_text};
 ghost use Rattle.tool_names.specs.Tables.{Row};
@@ -80,12 +81,9 @@ pub fn changes_are_found()
     tool_names::laws::unchanged_strings_are_read_as_they_parse();
 }
 
-/// Of each listed spelling: it is no known name.
+/// Of each rule for a part alone: what it rewrites is no known name.
 pub fn listed_spellings_are_no_names()
-    ensures first { AllPass (λ row. is_none (architecture_of row.0)) first_spellings }
-    ensures later { AllPass (λ row. not (is_known_name row.0)) later_spellings }
-    ensures versioned { AllPass (λ row. not (is_known_name (row.0 ++ codes "1")))
-        versioned_spellings }
+    ensures { AllPass is_unknown lone_rules }
 {
     tool_names::laws::listed_parts_are_unknown();
 }
@@ -98,13 +96,12 @@ pub fn placed_suggestion(expected: Field, part: &str) -> Option<Suggestion<'_>>
     tool_names::suggestion(expected, part)
 }
 
-/// A third rewriting of a first part, and a second one of the first name of a later part, change nothing.
+/// The first name that a rule gives a part by itself isn't rewritten again.
 pub fn spellings_stay()
-    ensures first { (part : List ℕ) →
-        first_spelling (first_spelling (first_spelling part)) ≡ first_spelling part }
-    ensures later { (part name : List ℕ) (names : List (List ℕ)) →
-        later_spelling part ≡ name ∷ names →
-        later_spelling name ≡ name ∷ [] }
+    ensures { (at : Place) (part name : List ℕ) (names : List (List ℕ)) (rule : Rule) →
+        rule_alone at part ≡ Some rule →
+        names_by rule part ≡ name ∷ names →
+        rule_alone at name ≡ None }
 {
     tool_names::laws::once_is_enough();
 }

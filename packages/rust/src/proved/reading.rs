@@ -105,24 +105,6 @@ impl<'a> Reading<'a> {
         })
     }
 
-    /// Takes a system that a part spells, as [`take`](Reading::take) takes the system's name. The name is in no string:
-    /// it has no row, and parses as the system.
-    pub fn take_system(
-        &mut self,
-        system: OperatingSystem,
-        part: TextPart<'a>,
-    ) -> Result<(), Refusal<'a>> {
-        if matches!(self.expected, Some(Field::Vendor | Field::OperatingSystem)) {
-            self.triple.operating_system = system;
-            self.fill(Field::OperatingSystem, part);
-            return Ok(());
-        }
-        Err(Refusal {
-            expected: self.expected,
-            part,
-        })
-    }
-
     /// The triple of the names so far, and its sources. Without a binary format it has the implied one.
     #[must_use]
     #[inline(always)]

@@ -1,4 +1,4 @@
-use Rattle.tool_names.proofs.SpelledNames.{listed_unknown}
+use Rattle.tool_names.proofs.KnownStay.{listed_unknown}
 use Rattle.tool_names.proofs.laws.listed_parts_are_unknown.Goals as goal
 
 pub returns : goal.returns

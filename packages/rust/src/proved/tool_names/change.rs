@@ -1,11 +1,10 @@
 // Erased from crates/tool_names/src/change.rt by tools/erase. Don't edit it here.
 //! What is changed in a string that is spelled like a triple.
 
-use crate::proved::tool_names::hard_float::is_hard_float;
-use crate::proved::tool_names::spelling::{
-    dropped_version, first_at_end, first_spelling, Spelling,
-};
-use crate::proved::{first_part, TextPart};
+use crate::proved::tool_names::rules::{Form, Place};
+use crate::proved::tool_names::spelled::{fit_alone, SpelledParts};
+use crate::proved::tool_names::spelling::{first_at_end, Spelling};
+use crate::proved::TextPart;
 
 /// A part of a string that is another spelling of known names, by itself or together with the part before or after it, or a
 /// second part that states no vendor.
@@ -53,38 +52,17 @@ impl<'a> Change<'a> {
     }
 }
 
-/// Where a part is in a string.
-#[derive(Clone, Copy, Debug)]
-enum Position<'a> {
-    First,
-    /// Whether the first two parts state hard floats.
-    Second(bool),
-    /// The same, and the part before.
-    Later(bool, &'a str),
-}
-
-impl<'a> Position<'a> {
-    /// The names that a part at this position spells, with this after its dash.
-    fn spelling(self, part: &'a str, rest: Option<&str>) -> Spelling<'a> {
-        match self {
-            Position::First => Spelling::of(first_spelling(part)),
-            Position::Second(hard_float) => {
-                Spelling::of_second(part, rest).with_hard_float(hard_float)
-            }
-            Position::Later(hard_float, before) => {
-                Spelling::between(before, part, rest).with_hard_float(hard_float)
-            }
-        }
-    }
-
-    /// The position of the part after this one, which is at this position, with this after its dash.
-    fn next(self, part: &'a str, rest: Option<&str>) -> Position<'a> {
-        match self {
-            Position::First => Position::Second(is_hard_float(part, rest)),
-            Position::Second(hard_float) | Position::Later(hard_float, _) => {
-                Position::Later(hard_float, part)
-            }
-        }
+/// The version that a part loses by itself.
+fn dropped_version(part: &str) -> Option<&str> {
+    match fit_alone(Place::AfterFirst, part) {
+        Some(fit) => match fit.rule.2 {
+            Form::Dropped => match part.strip_prefix(fit.rule.1) {
+                Some(version) => Some(version),
+                None => Some(""),
+            },
+            _ => None,
+        },
+        None => None,
     }
 }
 
@@ -100,9 +78,7 @@ impl<'a> Position<'a> {
 #[derive(Debug, Clone)]
 pub struct ChangedParts<'a> {
     text: &'a str,
-    /// The string from the next part on, if one is left.
-    rest: Option<&'a str>,
-    position: Position<'a>,
+    parts: SpelledParts<'a>,
 }
 
 /// What [`read`](crate::proved::tool_names::read) changes in a string: the parts that are other spellings of known names, and these names.
@@ -127,8 +103,7 @@ pub struct ChangedParts<'a> {
 pub fn changes(text: &str) -> ChangedParts<'_> {
     ChangedParts {
         text,
-        rest: Some(text),
-        position: Position::First,
+        parts: SpelledParts::of(text),
     }
 }
 
@@ -136,15 +111,12 @@ impl<'a> Iterator for ChangedParts<'a> {
     type Item = Change<'a>;
 
     fn next(&mut self) -> Option<Change<'a>> {
-        while let Some(end) = self.rest {
-            let (part, rest) = first_part(end);
-            let names = self.position.spelling(part, rest);
-            self.rest = rest;
-            self.position = self.position.next(part, rest);
-            if !names.is_only(part) {
+        while let Some(it) = self.parts.next_part() {
+            let part = first_at_end(self.text, it.from);
+            if !it.names.is_only(part.text) {
                 return Some(Change {
-                    part: first_at_end(self.text, end),
-                    names,
+                    part,
+                    names: it.names,
                 });
             }
         }

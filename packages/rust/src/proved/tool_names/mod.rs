@@ -15,8 +15,6 @@ pub(crate) mod driver;
 pub(crate) mod formats;
 #[cfg(feature = "tool_names")]
 pub(crate) mod gnu;
-#[cfg_attr(not(feature = "tool_names"), allow(dead_code, unused_imports))]
-pub(crate) mod hard_float;
 pub(crate) mod known_names;
 pub(crate) mod macos;
 pub(crate) mod misspelling;
@@ -27,7 +25,6 @@ pub(crate) mod names;
 #[cfg(feature = "tool_names")]
 pub(crate) mod names_left;
 pub(crate) mod nearest;
-pub(crate) mod pairs;
 #[cfg(feature = "tool_names")]
 pub(crate) mod pattern;
 #[cfg(feature = "tool_names")]
@@ -35,9 +32,13 @@ pub(crate) mod platform;
 #[cfg(feature = "tool_names")]
 pub(crate) mod reading;
 #[cfg(feature = "tool_names")]
+pub(crate) mod rules;
+#[cfg(feature = "tool_names")]
 pub(crate) mod rustc_cfg;
 #[cfg(feature = "tool_names")]
 pub(crate) mod shape;
+#[cfg(feature = "tool_names")]
+pub(crate) mod spelled;
 #[cfg_attr(not(feature = "tool_names"), allow(dead_code, unused_imports))]
 pub(crate) mod spelling;
 #[cfg(feature = "tool_names")]

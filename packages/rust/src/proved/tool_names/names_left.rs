@@ -2,47 +2,31 @@
 //! The names of a string that are left while it is read.
 
 use crate::proved::first_part;
-use crate::proved::tool_names::spelling::{Spelling, TripleName};
+use crate::proved::tool_names::spelled::SpelledParts;
+use crate::proved::tool_names::spelling::TripleName;
 
-/// The first name that is left, the others of its part, and what follows the part.
+/// The first name that is left, the others of its part, and the parts after it.
 #[derive(Clone, Copy)]
 pub(crate) struct Left<'a> {
     /// The string from the part on.
     pub from: &'a str,
-    pub part: &'a str,
-    /// Whether the first two parts of the string state hard floats.
-    pub hard_float: bool,
     pub name: TripleName<'a>,
     pub others: Option<&'a str>,
-    pub rest: Option<&'a str>,
+    pub parts: SpelledParts<'a>,
 }
 
 impl<'a> Left<'a> {
-    /// The names from a part on that is neither the first nor the second, after this one.
-    fn of_later(hard_float: bool, before: &str, text: &'a str) -> Left<'a> {
-        let (part, rest) = first_part(text);
-        let spelling = Spelling::between(before, part, rest).with_hard_float(hard_float);
-        Left {
-            from: text,
-            part,
-            hard_float,
-            name: spelling.first,
-            others: spelling.others,
-            rest,
-        }
-    }
-
-    /// The names from the second part on.
-    pub(crate) fn of_second(hard_float: bool, text: &'a str) -> Left<'a> {
-        let (part, rest) = first_part(text);
-        let spelling = Spelling::of_second(part, rest).with_hard_float(hard_float);
-        Left {
-            from: text,
-            part,
-            hard_float,
-            name: spelling.first,
-            others: spelling.others,
-            rest,
+    /// The names of these parts.
+    pub(crate) fn of(parts: SpelledParts<'a>) -> Option<Left<'a>> {
+        let mut parts = parts;
+        match parts.next_part() {
+            Some(it) => Some(Left {
+                from: it.from,
+                name: it.names.first,
+                others: it.names.others,
+                parts,
+            }),
+            None => None,
         }
     }
 
@@ -53,17 +37,12 @@ impl<'a> Left<'a> {
                 let (name, others) = first_part(names);
                 Some(Left {
                     from: self.from,
-                    part: self.part,
-                    hard_float: self.hard_float,
                     name: TripleName::Text(name),
                     others,
-                    rest: self.rest,
+                    parts: self.parts,
                 })
             }
-            None => match self.rest {
-                Some(text) => Some(Left::of_later(self.hard_float, self.part, text)),
-                None => None,
-            },
+            None => Left::of(self.parts),
         }
     }
 }

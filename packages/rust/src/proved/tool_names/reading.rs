@@ -1,10 +1,10 @@
 // Erased from crates/tool_names/src/reading.rt by tools/erase. Don't edit it here.
 //! Reading a string that is spelled like a triple.
 
-use crate::proved::tool_names::hard_float::is_hard_float;
 use crate::proved::tool_names::names_left::Left;
-use crate::proved::tool_names::spelling::{first_at_end, first_spelling};
-use crate::proved::{first_part, Reading, Refusal, TripleRef};
+use crate::proved::tool_names::spelled::SpelledParts;
+use crate::proved::tool_names::spelling::first_at_end;
+use crate::proved::{Reading, Refusal, TripleRef};
 
 /// The triple that a string means which is spelled like a triple, as the tools of GNU and LLVM print them. Nothing is
 /// allocated.
@@ -52,13 +52,7 @@ pub fn read(text: &str) -> Result<TripleRef<'_>, Refusal<'_>> {
 /// What a string means by the names that its parts spell.
 fn read_names(text: &str) -> Result<TripleRef<'_>, Refusal<'_>> {
     let mut reading = Reading::start();
-    let (first, rest) = first_part(text);
-    let part = first_at_end(text, text);
-    reading.take(first_spelling(first), part)?;
-    let mut left = match rest {
-        Some(after) => Some(Left::of_second(is_hard_float(first, rest), after)),
-        None => None,
-    };
+    let mut left = Left::of(SpelledParts::of(text));
     while let Some(name) = left {
         let part = first_at_end(text, name.from);
         name.name.give(&mut reading, part)?;

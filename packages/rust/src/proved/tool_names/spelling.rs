@@ -1,14 +1,9 @@
 // Erased from crates/tool_names/src/spelling.rt by tools/erase. Don't edit it here.
 //! Other spellings of the parts of a triple.
 
-use crate::proved::tool_names::hard_float::{hard_float_name, is_hard_float_vendor};
 use crate::proved::tool_names::known_names::names;
-use crate::proved::tool_names::macos::{macos_version, MacOsVersion};
-use crate::proved::tool_names::pairs::{name_in_pair, name_with_next};
-use crate::proved::{
-    first_part, fixed_row, Architecture, Field, OperatingSystem, Reading, Refusal, TextPart,
-    VendorRef,
-};
+use crate::proved::tool_names::macos::{take_macos, MacOsVersion};
+use crate::proved::{first_part, Field, Reading, Refusal, TextPart, VendorRef};
 use core::fmt;
 
 /// The first part of the end of a string, and where it begins in the string.
@@ -21,12 +16,6 @@ pub(crate) fn first_at_end<'a>(text: &str, end: &'a str) -> TextPart<'a> {
     }
 }
 
-/// Whether a part is a name of some field, other than a custom vendor.
-#[inline]
-fn is_known_name(part: &str) -> bool {
-    fixed_row(part).is_some() || OperatingSystem::from_str(part).is_ok()
-}
-
 /// The value of the first row with this name.
 #[inline]
 pub(crate) fn look_up<T: Copy>(rows: &[(&'static str, T)], text: &str) -> Option<T> {
@@ -36,24 +25,6 @@ pub(crate) fn look_up<T: Copy>(rows: &[(&'static str, T)], text: &str) -> Option
         }
     }
     None
-}
-
-/// The name of the architecture in the table of first parts.
-#[inline]
-pub(crate) fn listed_architecture(part: &str) -> Option<&'static str> {
-    look_up(&FIRST_SPELLINGS, part)
-}
-
-/// The name of the architecture that the first part spells.
-#[inline]
-pub(crate) fn first_spelling(part: &str) -> &str {
-    if Architecture::from_str(part).is_ok() {
-        return part;
-    }
-    match listed_architecture(part) {
-        Some(name) => name,
-        None => part,
-    }
 }
 
 /// A name that is read.
@@ -94,9 +65,7 @@ impl<'a> TripleName<'a> {
     ) -> Result<(), Refusal<'a>> {
         match *self {
             TripleName::Text(name) => reading.take(name, part),
-            TripleName::MacOs(it) => {
-                reading.take_system(OperatingSystem::MacOSX(Some(it.version)), part)
-            }
+            TripleName::MacOs(it) => take_macos(reading, it, part),
         }
     }
 
@@ -150,9 +119,9 @@ impl<'a> Spelling<'a> {
         }
     }
 
-    /// The spelling of the names of a row.
+    /// The spelling of the names of a rule.
     #[inline]
-    fn of_row(names: &'static str) -> Spelling<'a> {
+    pub(crate) fn of_rule(names: &'static str) -> Spelling<'a> {
         let (first, others) = first_part(names);
         Spelling {
             first: TripleName::Text(first),
@@ -160,45 +129,12 @@ impl<'a> Spelling<'a> {
         }
     }
 
-    /// The names that a second part spells, with this after its dash.
+    /// The spelling of a second part that is no vendor.
     #[inline]
-    pub(crate) fn of_second(part: &'a str, rest: Option<&str>) -> Spelling<'a> {
-        if states_no_vendor(part, rest) {
-            Spelling::of("unknown")
-        } else if is_other_system(part) {
-            Spelling {
-                first: TripleName::Text("unknown"),
-                others: Some(part),
-            }
-        } else {
-            Spelling::named_or_later(name_with_next(part, rest), part)
-        }
-    }
-
-    /// The names that a part spells that is neither the first nor the second, after this one and with this after its dash.
-    #[inline]
-    pub(crate) fn between(before: &str, part: &'a str, rest: Option<&str>) -> Spelling<'a> {
-        Spelling::named_or_later(name_in_pair(before, part, rest), part)
-    }
-
-    /// The spelling in a string whose first two parts state hard floats, or don't.
-    #[inline]
-    pub(crate) fn with_hard_float(self, hard_float: bool) -> Spelling<'a> {
-        if !hard_float || self.others.is_some() {
-            return self;
-        }
-        match self.first {
-            TripleName::Text(name) => Spelling::of(hard_float_name(name)),
-            TripleName::MacOs(_) => self,
-        }
-    }
-
-    /// The spelling of this name, if there is one, and otherwise of the part.
-    #[inline]
-    fn named_or_later(name: Option<&'static str>, part: &'a str) -> Spelling<'a> {
-        match name {
-            Some(name) => Spelling::of(name),
-            None => Spelling::of_later(part),
+    pub(crate) fn of_unknown(part: &'a str) -> Spelling<'a> {
+        Spelling {
+            first: TripleName::Text("unknown"),
+            others: Some(part),
         }
     }
 
@@ -210,63 +146,15 @@ impl<'a> Spelling<'a> {
             None => self.first.is(part),
         }
     }
-
-    /// The names that a part spells by itself that isn't the first. A known name stays.
-    #[inline]
-    fn of_later(part: &'a str) -> Spelling<'a> {
-        if is_known_name(part) {
-            return Spelling::of(part);
-        }
-        match Spelling::of_listed(part) {
-            Some(spelling) => spelling,
-            None => Spelling::of(part),
-        }
-    }
-
-    /// The names that a later part spells, if it is listed.
-    #[inline]
-    fn of_listed(part: &'a str) -> Option<Spelling<'a>> {
-        if let Some(names) = later_spelling(part) {
-            return Some(Spelling::of_row(names));
-        }
-        if let Some(version) = macos_version(part) {
-            return Some(Spelling {
-                first: TripleName::MacOs(version),
-                others: None,
-            });
-        }
-        match versioned_spelling_of(part) {
-            Some(names) => Some(Spelling::of_row(names)),
-            None => None,
-        }
-    }
-}
-
-/// Whether a second part is left out, or says something else.
-#[inline]
-fn states_no_vendor(part: &str, rest: Option<&str>) -> bool {
-    is_unstated(part, rest) || is_hard_float_vendor(part)
-}
-
-/// Whether a second part is left out: it is empty, or `none` before the system `linux`.
-#[inline]
-fn is_unstated(part: &str, rest: Option<&str>) -> bool {
-    if part.is_empty() {
-        return true;
-    }
-    match rest {
-        Some(rest) => part == "none" && first_part(rest).0 == "linux",
-        None => false,
-    }
 }
 
 /// Names of systems that aren't known names: other spellings, and systems of rustc that have no triple.
 const OTHER_SYSTEMS: [&str; 5] = ["macos", "netbsdelf", "nuttx", "rtems", "wasip"];
 
-/// Whether a second part parses as a custom vendor but is a system that isn't known.
+/// Whether a part parses as a custom vendor but is a system that isn't known.
 #[inline]
-fn is_other_system(part: &str) -> bool {
-    is_custom_vendor(part) && Spelling::of_listed(part).is_none() && is_like_system(part)
+pub(crate) fn is_other_system(part: &str) -> bool {
+    is_custom_vendor(part) && is_like_system(part)
 }
 
 #[inline]
@@ -307,64 +195,9 @@ fn may_be_version(text: &[u8]) -> bool {
     }
 }
 
-/// The names of the part in the table of later parts.
-#[inline]
-pub(crate) fn later_spelling(part: &str) -> Option<&'static str> {
-    look_up(&LATER_SPELLINGS, part)
-}
-
-/// The names of the part in the table of what comes before a version.
-#[inline]
-pub(crate) fn versioned_spelling_of(part: &str) -> Option<&'static str> {
-    versioned_spelling(&VERSIONED_SPELLINGS, part)
-}
-
-/// The names of the first row that the part begins with, if a version follows.
-#[inline]
-fn versioned_spelling(rows: &[(&'static str, &'static str)], part: &str) -> Option<&'static str> {
-    for row in rows {
-        if has_dropped_version(row.0, part) {
-            return Some(row.1);
-        }
-    }
-    None
-}
-
-/// The version that is dropped from a part.
-#[inline]
-pub(crate) fn dropped_version(part: &str) -> Option<&str> {
-    version_after(&VERSIONED_SPELLINGS, part)
-}
-
-/// The version that follows the text of the first row that the part begins with.
-#[inline]
-fn version_after<'a>(rows: &[(&'static str, &'static str)], part: &'a str) -> Option<&'a str> {
-    for row in rows {
-        if let Some(version) = version_after_prefix(row.0, part) {
-            return Some(version);
-        }
-    }
-    None
-}
-
-/// The version that follows this prefix of a part, if it is one that is dropped.
-#[inline]
-fn version_after_prefix<'a>(prefix: &str, part: &'a str) -> Option<&'a str> {
-    match part.strip_prefix(prefix) {
-        Some(version) => {
-            if is_dropped_version(version.as_bytes()) {
-                Some(version)
-            } else {
-                None
-            }
-        }
-        None => None,
-    }
-}
-
 /// Whether a part is this prefix and a version that is dropped.
 #[inline]
-fn has_dropped_version(prefix: &str, part: &str) -> bool {
+pub(crate) fn has_dropped_version(prefix: &str, part: &str) -> bool {
     match part.strip_prefix(prefix) {
         Some(version) => is_dropped_version(version.as_bytes()),
         None => false,
@@ -386,79 +219,3 @@ fn are_digits_or_dots(bytes: &[u8]) -> bool {
 pub(crate) fn is_digit_or_dot(byte: u8) -> bool {
     byte.is_ascii_digit() || byte == b'.'
 }
-
-#[rustfmt::skip]
-static FIRST_SPELLINGS: [(&str, &str); 34] = [
-    ("amd64", "x86_64"),
-    ("x64", "x86_64"),
-    ("i486", "i386"),
-    ("i786", "i686"),
-    ("i886", "i686"),
-    ("i986", "i686"),
-    ("armv4l", "armv4"),
-    ("armv4tl", "armv4t"),
-    ("armv5tel", "armv5te"),
-    ("armv5tejl", "armv5tej"),
-    ("armv6l", "armv6"),
-    ("armv7l", "armv7"),
-    ("armv6hl", "armv6"),
-    ("armv7hl", "armv7"),
-    ("armv7hnl", "armv7"),
-    ("armv8l", "armv8"),
-    ("armel", "arm"),
-    ("ppc", "powerpc"),
-    ("ppc32", "powerpc"),
-    ("ppc64", "powerpc64"),
-    ("ppc64le", "powerpc64le"),
-    ("ppc64el", "powerpc64le"),
-    ("rs6000", "powerpc"),
-    ("sun4v", "sparc64"),
-    ("mipseb", "mips"),
-    ("mips64eb", "mips64"),
-    ("mipsr6", "mipsisa32r6"),
-    ("mipsr6el", "mipsisa32r6el"),
-    ("mips64r6", "mipsisa64r6"),
-    ("mips64r6el", "mipsisa64r6el"),
-    ("bpf_be", "bpfeb"),
-    ("bpf_le", "bpfel"),
-    ("systemz", "s390x"),
-    ("thumbv7", "thumbv7a"),
-];
-
-#[rustfmt::skip]
-static LATER_SPELLINGS: [(&str, &str); 12] = [
-    ("w64", "pc"),
-    ("mingw32", "windows-gnu"),
-    ("mingw64", "windows-gnu"),
-    ("mingw32ucrt", "windows-gnu"),
-    ("win32", "windows-msvc"),
-    ("macos", "macosx"),
-    ("netbsdelf", "netbsd"),
-    ("simulator", "sim"),
-    ("muslgnueabi", "musleabi"),
-    ("muslgnueabihf", "musleabihf"),
-    ("uclibcgnueabi", "uclibceabi"),
-    ("uclibcgnueabihf", "uclibceabihf"),
-];
-
-#[rustfmt::skip]
-static VERSIONED_SPELLINGS: [(&str, &str); 18] = [
-    ("aix", "aix"),
-    ("bitrig", "bitrig"),
-    ("dragonfly", "dragonfly"),
-    ("freebsd", "freebsd"),
-    ("netbsd", "netbsd"),
-    ("openbsd", "openbsd"),
-    ("solaris", "solaris"),
-    ("netbsdelf", "netbsd"),
-    ("vxworks", "vxworks"),
-    ("gnu.", "gnu"),
-    ("gnu2.", "gnu"),
-    ("gnu", "hurd-gnu"),
-    ("gnueabi", "gnueabi"),
-    ("gnueabihf", "gnueabihf"),
-    ("musl", "musl"),
-    ("android", "android"),
-    ("androideabi", "androideabi"),
-    ("msvc", "msvc"),
-];
