@@ -1,0 +1,111 @@
+// Erased from crates/target_lexicon/src/family.rt by tools/erase. Don't edit it here.
+//! The families of triples that don't come back.
+
+use crate::proved::triple::Triple;
+use crate::proved::triple_ref::TripleRef;
+use crate::proved::{
+    Architecture, BinaryFormat, Environment, OperatingSystem, Riscv32Architecture, VendorRef,
+};
+
+/// A family of triples that don't come back: printed and parsed again, they are another triple or none.
+#[derive(Clone, Copy, Debug, PartialEq, Eq)]
+pub enum Family {
+    /// The first three fields are those of `armv6k-nintendo-3ds` or `riscv32imc-esp-espidf`, which is printed, and
+    /// environment and format aren't `Newlib` and `Elf`.
+    PrintsAsSpecial,
+    /// Vendor and system are those of one of these two, and the environment is `Newlib`, which isn't shown, but the
+    /// architecture is another.
+    HidesNewlib,
+    /// The string is `riscv32imc-esp-espidf`, but the vendor is the custom `esp`.
+    PrintsTheEspIdfText,
+    /// On Clever with an unknown system, the environment is `None`, which parses as the system.
+    ShowsOnlyNone,
+    /// The vendor isn't plain: no string parses as it.
+    VendorIsNotPlain,
+}
+
+impl Triple {
+    /// The first family that the triple is in. `None` if it comes back. Nothing is allocated.
+    ///
+    /// # Examples
+    ///
+    /// ```
+    /// use target_lexicon::{Family, triple};
+    ///
+    /// assert_eq!(triple!("x86_64-unknown-linux-gnu").family(), None);
+    /// assert_eq!(triple!("armv7-nintendo-horizon-newlib").family(), Some(Family::HidesNewlib));
+    /// ```
+    #[must_use]
+    pub fn family(&self) -> Option<Family> {
+        self.as_triple_ref().family()
+    }
+}
+
+impl TripleRef<'_> {
+    /// The first family that the triple is in, as [`Triple::family`] says.
+    #[must_use]
+    pub fn family(&self) -> Option<Family> {
+        if self.prints_as_special() {
+            Some(Family::PrintsAsSpecial)
+        } else if self.hides_newlib() {
+            Some(Family::HidesNewlib)
+        } else if self.prints_the_esp_idf_text() {
+            Some(Family::PrintsTheEspIdfText)
+        } else if self.shows_only_none() {
+            Some(Family::ShowsOnlyNone)
+        } else if self.vendor.is_plain() {
+            None
+        } else {
+            Some(Family::VendorIsNotPlain)
+        }
+    }
+
+    /// Whether the first three fields are those of a special string.
+    fn is_3ds_or_esp_idf(&self) -> bool {
+        self.special_text().is_some()
+    }
+
+    /// Whether a special string is printed, and environment and format aren't `Newlib` and `Elf`.
+    fn prints_as_special(&self) -> bool {
+        self.is_3ds_or_esp_idf()
+            && !matches!(
+                (self.environment, self.binary_format),
+                (Environment::Newlib, BinaryFormat::Elf)
+            )
+    }
+
+    /// Whether the environment is a `Newlib` that isn't shown, and the string isn't special.
+    fn hides_newlib(&self) -> bool {
+        self.implies_newlib()
+            && matches!(self.environment, Environment::Newlib)
+            && !self.is_3ds_or_esp_idf()
+    }
+
+    /// Whether the vendor is the custom `esp`, and the string is the special one.
+    fn prints_the_esp_idf_text(&self) -> bool {
+        match (
+            self.architecture,
+            self.vendor,
+            self.operating_system,
+            self.environment,
+            self.binary_format,
+        ) {
+            (
+                Architecture::Riscv32(Riscv32Architecture::Riscv32imc),
+                VendorRef::Custom(custom),
+                OperatingSystem::Espidf,
+                Environment::Unknown,
+                BinaryFormat::Elf,
+            ) => custom == "esp",
+            _ => false,
+        }
+    }
+
+    /// Whether the environment `none` is shown without a system, on Clever.
+    fn shows_only_none(&self) -> bool {
+        match self.environment {
+            Environment::None => !self.shows_operating_system(),
+            _ => false,
+        }
+    }
+}
