@@ -11,12 +11,12 @@ PACKAGES = {
     "packages/c": {"lexicon_c": ""},
 }
 # The modules that are compiled only with a feature of their name, and what of each is always compiled: suggestions need it.
-FEATURES = {"tool_names": {"distance", "hard_float", "known_names", "macos", "misspelling", "nearest", "pairs", "spelling", "suggested", "suggestions"}}
+FEATURES = {"tool_names": {"distance", "known_names", "macos", "misspelling", "nearest", "rules", "spelled", "spelling", "suggested", "suggestions"}}
 # The modules of which only the names of other tools use all, by the module that they are in; and the public names of those.
-PARTLY = {"": {"decimal", "reading"}, "tool_names": {"hard_float", "spelling"}}
+PARTLY = {"": {"decimal", "reading"}, "tool_names": {"rules", "spelled", "spelling"}}
 ONLY_FOR_TOOL_NAMES = {"MAX_DECIMAL_LENGTH", "decimal_text", "Spelling"}
 # Public names that no package uses.
-NOT_EXPORTED = {"FixedRow", "ROW_COUNT", "expected_after", "row_order"}
+NOT_EXPORTED = {"FixedRow", "ROW_COUNT", "expected_after", "round", "row_order"}
 # The module of the layer that proved files name: what older versions of Rust lack.
 LAYER = {"compat"}
 # Where one package finds the crates of another.
@@ -24,9 +24,10 @@ OUTSIDE = "target_lexicon::proved::"
 
 # Modules that are left out: laws, the counter of steps, JSON, the host, and the error that has an allocation's failure.
 MODULES = {"laws", "steps", "json", "json_error", "list_error", "macros", "host", "parse_error"}
-# Types and functions that are left out. The proved host is fixed; the layer has the others in Rust's form.
+# Types, functions and impls that are left out. The proved host is fixed; the layer has the others in Rust's form.
 ITEMS = {
     "host", "VendorError", "Triple::normal", "Triple::settle", "TripleRef::normal", "TripleRef::settle",
+    "FromStr for Dialect", "FromStr for LinuxLibc",
 }
 
 # The enums to which upstream, or a later version, may add variants. The packages of the same repository match on each.
@@ -47,8 +48,8 @@ INLINE = {
     "put", "Refusal::write_to",
 }
 INLINE_MODULES = {
-    "aarch64", "arm", "clever", "distance", "hard_float", "macos", "mips", "misspelling", "nearest", "pairs", "queries", "riscv", "settle",
-    "settles_as", "spelling", "suggested", "suggestions", "x86_32", "z80",
+    "aarch64", "arm", "clever", "distance", "macos", "mips", "misspelling", "nearest", "queries", "riscv", "rules", "settle",
+    "settles_as", "spelled", "spelling", "suggested", "suggestions", "x86_32", "z80",
 }
 
 # Calls that constants can use: what `const fn` can have in Rust 1.65.
@@ -84,6 +85,9 @@ REPLACEMENTS = [
     ("", ", &mut Steps::new()", ""),
     # `FromStr` has it.
     ("lexicon_c/src/numbers.rt", "use target_lexicon::{", "use std::str::FromStr as _;\nuse target_lexicon::{"),
+    # A name has the width that is asked for. Triples and their fields have none, as upstream's.
+    ("tool_names/src/", "f.write_str(self.name())", "f.pad(self.name())"),
+    ("tool_names/src/name.rt", "f.write_str(self.as_str())", "f.pad(self.as_str())"),
     # With the feature, printing follows upstream's rule.
     ("target_lexicon/src/display.rt", ") && self.binary_format != self.default_binary_format()",
      ') && !cfg!(feature = "upstream_printing") && self.binary_format != self.default_binary_format()'),

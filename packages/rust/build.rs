@@ -65,14 +65,19 @@ fn main() {
     if has_core_error() {
         println!("cargo:rustc-cfg=core_error");
     }
-    let target = env::var("TARGET_LEXICON_HOST")
-        .or_else(|_| env::var("TARGET"))
-        .expect("cargo sets TARGET");
+    let target = env::var("TARGET").expect("cargo sets TARGET");
+    // Only a target that is refused needs another one for `HOST`. A build script's own crates have a target that parses, and
+    // the variable is for the program.
+    let instead = env::var("TARGET_LEXICON_HOST").unwrap_or_default();
     let host = TripleRef::from_str(&target).unwrap_or_else(|error| {
-        panic!(
-            "the target {target} doesn't parse: {error}. To build for it, set TARGET_LEXICON_HOST to a target that parses, \
-             whose triple HOST shall be"
-        )
+        if instead.is_empty() {
+            panic!(
+                "the target {target} doesn't parse: {error}. To build for it, set TARGET_LEXICON_HOST to a target that \
+                 parses, whose triple HOST shall be"
+            );
+        }
+        TripleRef::from_str(&instead)
+            .unwrap_or_else(|error| panic!("TARGET_LEXICON_HOST, {instead}, doesn't parse: {error}"))
     });
     let out = env::var_os("OUT_DIR").expect("cargo sets OUT_DIR");
     fs::write(Path::new(&out).join("host.rs"), literal(host)).expect("a file in OUT_DIR");

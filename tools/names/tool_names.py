@@ -150,18 +150,18 @@ def lists_of_languages(dialects, others):
     names = ", ".join(f'"{it.name}"' for it in dialects)
     words = [it.name for it in dialects]
     read, written = [it for it in dialects if it.is_read], [it for it in dialects if it.is_written]
-    in_order = sorted(dialects, key=lambda it: (it.is_written, not it.is_read))
     return {
         "the dialects for C": [f"LEXICON_DIALECT_{it.constant} = {number}, /* {it.about.rstrip('.').replace('`', '')} */" for number, it in enumerate(dialects, 1)],
         "the last dialect": [f"enum {{ LAST_DIALECT = {len(dialects)} }};"],
         "the dialects for C++": [f"{it.variant} = LEXICON_DIALECT_{it.constant}," for it in dialects],
         "the dialects' names for C++": [f'constexpr const char* names[] = {{"", {names}}};'],
-        "the dialects for the command": [f"pub const DIALECTS: [Dialect; {len(dialects)}] = [",
-                                         *(f"    Dialect::{it.variant}," for it in in_order), "];",
-                                         f"pub const READ: usize = {len(read)};", f"pub const ONLY_READ: usize = {len(dialects) - len(written)};"],
+        "the dialects for Rust": ["pub const ALL: &'static [Dialect] = &[", *(f"    Dialect::{it.variant}," for it in dialects), "];"],
+        "the dialects that are only read": ["fn is_only_read(dialect: Dialect) -> bool {",
+                                            f"    matches!(dialect, {' | '.join(f'Dialect::{it.variant}' for it in dialects if not it.is_written)})", "}"],
         "the other names of dialects for the command": [f"const OTHER_NAMES: [(&str, Dialect); {len(others)}] = [",
                                                         *(f'    ("{name}", Dialect::{it.variant}),' for name, it in others), "];"],
         "the dialects for the manual": [f"the tool whose names are read or written: {', '.join(words[:-1])} or {words[-1]}.",
+                                        f"{' and '.join(f'{name} is {it.name}' for name, it in others)}.",
                                         f"Names of {' and '.join(it.name for it in dialects if not it.is_written)} are only read."],
         "the dialects for Python": [line for it in dialects for line in (f"#: {it.about}", f'{it.constant} = "{it.name}"')],
         "the dialects' names for Python": [f"DialectName = {literal([*words, *(name for name, _ in others)])}",

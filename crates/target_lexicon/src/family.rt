@@ -49,6 +49,15 @@ impl Triple {
 
 impl TripleRef<'_> {
     /// The first family that the triple is in, as [`Triple::family`] says.
+    ///
+    /// # Examples
+    ///
+    /// ```
+    /// use target_lexicon::{Family, TripleRef};
+    ///
+    /// let triple = TripleRef::from_str("armv7-nintendo-horizon-newlib").unwrap();
+    /// assert_eq!(triple.family(), Some(Family::HidesNewlib));
+    /// ```
     pub fn family(&self) -> Option<Family>
         ensures { result ≡ spec.family (values_of_ref self.now) }
     {

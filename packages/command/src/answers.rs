@@ -1,5 +1,5 @@
 //! What is answered for a target that was parsed.
-use crate::arguments::{DIALECTS, FIELDS, ONLY_READ};
+use crate::arguments::{written, FIELDS};
 use crate::input::{Place, Target};
 use crate::json::{Json, Object};
 use crate::refusal::Parsed;
@@ -285,9 +285,8 @@ fn implied_format(triple: &TripleRef<'_>) -> String {
 /// The names that other tools have for a triple.
 pub fn elsewhere(triple: &TripleRef<'_>) -> Object {
     let name = |dialect: Dialect| dialect.write(triple).map(|name| name.to_string());
-    DIALECTS[ONLY_READ..]
-        .iter()
-        .map(|dialect| (dialect.name(), name(*dialect).into()))
+    written()
+        .map(|dialect| (dialect.name(), name(dialect).into()))
         .collect()
 }
 

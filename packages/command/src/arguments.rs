@@ -1,7 +1,7 @@
 //! The calls of `target-lexicon`, their options and their help.
-use clap::builder::{PossibleValue, PossibleValuesParser};
+use clap::builder::PossibleValuesParser;
 use clap::{value_parser, Arg, ArgAction, Command, ValueHint};
-use std::num::ParseIntError;
+use std::num::NonZeroUsize;
 use std::path::PathBuf;
 use target_lexicon::tool_names::Dialect;
 use target_lexicon::Field;
@@ -15,35 +15,19 @@ pub const FIELDS: [(&str, Field); 5] = [
     ("binary_format", Field::BinaryFormat),
 ];
 
-/// The tools whose names are known, in the order of answers: those whose names are only read, those whose names are also
-/// written, and those whose names are only written.
-// written by tools/names/write: the dialects for the command
-pub const DIALECTS: [Dialect; 15] = [
-    Dialect::Uname,
-    Dialect::Debian,
-    Dialect::Go,
-    Dialect::Oci,
-    Dialect::Node,
-    Dialect::Gnu,
-    Dialect::Python,
-    Dialect::Rust,
-    Dialect::Rpm,
-    Dialect::Apk,
-    Dialect::Pacman,
-    Dialect::Dotnet,
-    Dialect::Conda,
-    Dialect::Zig,
-    Dialect::Nix,
-];
-pub const READ: usize = 15;
-pub const ONLY_READ: usize = 1;
+// written by tools/names/write: the dialects that are only read
+fn is_only_read(dialect: Dialect) -> bool {
+    matches!(dialect, Dialect::Uname)
+}
 // end of what is written
 
+/// The dialects whose names are written.
+pub fn written() -> impl Iterator<Item = Dialect> {
+    Dialect::ALL.iter().copied().filter(|it| !is_only_read(*it))
+}
+
 // written by tools/names/write: the other names of dialects for the command
-const OTHER_NAMES: [(&str, Dialect); 2] = [
-    ("docker", Dialect::Oci),
-    ("npm", Dialect::Node),
-];
+const OTHER_NAMES: [(&str, Dialect); 2] = [("docker", Dialect::Oci), ("npm", Dialect::Node)];
 // end of what is written
 
 /// The value of `--from` for all dialects.
@@ -62,25 +46,32 @@ fn libc() -> Arg {
 pub type Version = (u16, u8);
 
 /// The version in an argument such as `2.17`, or `21` for 21.0.
-fn version(text: &str) -> Result<Version, ParseIntError> {
+fn version(text: &str) -> Result<Version, String> {
     let (major, minor) = text.split_once('.').unwrap_or((text, "0"));
-    Ok((major.parse()?, minor.parse()?))
+    match (major.parse(), minor.parse()) {
+        (Ok(major), Ok(minor)) if !text.contains('+') => Ok((major, minor)),
+        _ => Err("a version has one or two numbers, such as 2.17 or 21: the first up to 65535, the second up to 255".into()),
+    }
 }
 
-/// The names of dialects, with their other names.
-fn words(dialects: &[Dialect]) -> impl Iterator<Item = PossibleValue> + '_ {
-    dialects.iter().map(|dialect| {
-        let others = OTHER_NAMES.iter().filter(|(_, of)| of == dialect);
-        PossibleValue::new(dialect.name()).aliases(others.map(|(name, _)| *name))
+/// The names of dialects, each followed by its other ones.
+fn words(dialects: impl Iterator<Item = Dialect>) -> impl Iterator<Item = &'static str> {
+    dialects.flat_map(|dialect| {
+        let others = OTHER_NAMES.iter().filter(move |(_, of)| *of == dialect);
+        std::iter::once(dialect.name()).chain(others.map(|(name, _)| *name))
     })
 }
 
 /// An option for one of the dialects.
-fn dialect(name: &'static str, dialects: &[Dialect], help: &'static str) -> Arg {
+fn dialect(
+    name: &'static str,
+    words: impl Iterator<Item = &'static str>,
+    help: &'static str,
+) -> Arg {
     Arg::new(name)
         .long(name)
         .value_name("DIALECT")
-        .value_parser(PossibleValuesParser::new(words(dialects)))
+        .value_parser(PossibleValuesParser::new(words))
         .help(help)
 }
 
@@ -117,8 +108,8 @@ fn of_targets(name: &'static str, about: &'static str, example: &'static str) ->
         Arg::new("max-errors")
             .long("max-errors")
             .value_name("N")
-            .value_parser(value_parser!(usize))
-            .help("End after N targets were refused"),
+            .value_parser(value_parser!(NonZeroUsize))
+            .help("End after N targets were refused, at least one"),
         flag("strict", "Refuse custom vendors, which may be any lower-case word").hide(name == "read"),
         flag("json", "Write one JSON array on one line").conflicts_with("json-lines"),
         flag("json-lines", "Write one JSON object per line"),
@@ -132,6 +123,7 @@ fn of_targets(name: &'static str, about: &'static str, example: &'static str) ->
 }
 
 pub fn command() -> Command {
+    let all = || words(Dialect::ALL.iter().copied());
     Command::new("target-lexicon")
         .version(env!("CARGO_PKG_VERSION"))
         .about("Answers questions about target triples such as x86_64-unknown-linux-gnu")
@@ -187,12 +179,9 @@ pub fn command() -> Command {
             .arg(
                 dialect(
                     "from",
-                    &DIALECTS[..READ],
+                    all().chain([ANY]),
                     "The tool whose names are read; `any` writes a line for each that has the name",
-                )
-                .value_parser(PossibleValuesParser::new(
-                    words(&DIALECTS[..READ]).chain([PossibleValue::new(ANY)]),
-                )),
+                ),
             )
             .arg(libc())
             .arg(
@@ -205,7 +194,7 @@ pub fn command() -> Command {
                 "Examples:\n  $ target-lexicon write --to debian aarch64-unknown-linux-gnu\n  \
                  $ target-lexicon write --to python --with-version 2.17 aarch64-unknown-linux-gnu",
             )
-            .arg(dialect("to", &DIALECTS[ONLY_READ..], "The tool whose names are written").required(true))
+            .arg(dialect("to", words(written()), "The tool whose names are written").required(true))
             .arg(libc())
             .arg(
                 Arg::new("with-version")
@@ -220,8 +209,8 @@ pub fn command() -> Command {
                 "Example:\n  $ target-lexicon translate --from oci --to debian --libc glibc linux/arm64",
             )
             .mut_arg("target", |names| names.value_name("NAME"))
-            .arg(dialect("from", &DIALECTS[..READ], "The tool whose names are read").required(true))
-            .arg(dialect("to", &DIALECTS[ONLY_READ..], "The tool whose names are written").required(true))
+            .arg(dialect("from", all(), "The tool whose names are read").required(true))
+            .arg(dialect("to", words(written()), "The tool whose names are written").required(true))
             .arg(libc()),
             of_targets(
                 "cfg",

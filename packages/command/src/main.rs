@@ -24,6 +24,7 @@ use refusal::{visible, Help, Refusal};
 use std::collections::HashMap;
 use std::env;
 use std::io::{self, Write};
+use std::num::NonZeroUsize;
 use std::path::Path;
 use std::process;
 use target_lexicon::tool_names::{complete, Dialect, LinuxLibc, Name, RustcCfg};
@@ -96,7 +97,7 @@ struct Run {
     outputs: Outputs,
     progress: Progress,
     /// How many targets are refused at most, before the run ends.
-    max_errors: Option<usize>,
+    max_errors: Option<NonZeroUsize>,
     /// What is said of lines that were refused before: lists repeat their mistakes.
     helps: HashMap<String, Help>,
 }
@@ -166,7 +167,7 @@ impl Answers for Run {
                         .refuse(|out, has_color| refusal.write(out, target, has_color, &help))?;
                 }
                 match self.max_errors {
-                    Some(count) if self.progress.refused >= count => Err(Fault::Refused),
+                    Some(count) if self.progress.refused >= count.get() => Err(Fault::Refused),
                     _ => Ok(()),
                 }
             }
@@ -334,7 +335,7 @@ impl Run {
         if let Err(fault) = each_target(arguments, &mut self) {
             // What was answered is whole; if it can't be written either, the first fault is the one to show.
             let _ = self.outputs.end(self.call != Call::Matrix);
-            let _ = self.summarize();
+            let _ = self.summarize(matches!(fault, Fault::Refused));
             return Err(fault);
         }
         let is_refused = self.progress.refused > 0;
@@ -351,26 +352,29 @@ impl Run {
         }
         // A matrix that isn't whole is none, so that nobody takes it for one.
         self.outputs.end(self.call != Call::Matrix || !is_refused)?;
-        self.summarize()?;
+        self.summarize(false)?;
         Ok(i32::from(is_refused))
     }
 
-    /// Of many targets, how many were refused, as the last line of the messages.
-    fn summarize(&mut self) -> Result<(), Fault> {
+    /// Of many targets, how many were refused, as the last line of the messages; and whether there may be more, since the run
+    /// ended with the last of `--max-errors`.
+    fn summarize(&mut self, is_cut: bool) -> Result<(), Fault> {
         let Progress {
             targets, refused, ..
         } = self.progress;
         self.progress.end()?;
-        if refused == 0
-            || targets < 2
-            || self.is_quiet
-            || self.has_json && self.call != Call::Matrix
-        {
+        let in_json = self.has_json && self.call != Call::Matrix;
+        if self.is_quiet || refused == 0 || !is_cut && (targets < 2 || in_json) {
             return Ok(());
         }
         let (refused, targets) = (with_commas(refused), with_commas(targets));
+        let cut = if is_cut {
+            "; ended there, as --max-errors says"
+        } else {
+            ""
+        };
         self.outputs
-            .refuse(|out, _| writeln!(out, "{refused} of {targets} targets refused"))?;
+            .refuse(|out, _| writeln!(out, "{refused} of {targets} targets refused{cut}"))?;
         self.outputs.flush()
     }
 }
@@ -406,8 +410,16 @@ fn completion_script(arguments: &ArgMatches) -> String {
         "target-lexicon",
         &mut script,
     );
-    // For bash the names of arguments are among the words that it offers.
-    String::from_utf8_lossy(&script).replace(" [TARGET]...", "")
+    let script = String::from_utf8_lossy(&script);
+    match shell {
+        // Before clap_complete 4.1 the script only works as a file that zsh loads itself, and fails if it is sourced.
+        Shell::Zsh => script.replace(
+            "\n_target-lexicon \"$@\"",
+            "\nif [ \"$funcstack[1]\" = \"_target-lexicon\" ]; then\n    _target-lexicon \"$@\"\nelse\n    compdef _target-lexicon target-lexicon\nfi",
+        ),
+        // For bash the names of arguments are among the words that it offers.
+        _ => script.replace(" [TARGET]...", ""),
+    }
 }
 
 fn dialect(arguments: &ArgMatches, option: &str) -> Option<Dialect> {

@@ -1,5 +1,5 @@
 //! Why a target is refused.
-use crate::arguments::{Version, DIALECTS, FIELDS};
+use crate::arguments::{Version, FIELDS};
 use crate::input::{Place, Target};
 use crate::json::{Json, Object};
 use crate::From;
@@ -72,8 +72,8 @@ pub fn read(text: &str, from: From) -> Result<TripleRef<'_>, Refusal<'_>> {
 
 /// What a name means in each dialect that has it, and as a string that is spelled like a triple.
 pub fn meanings(text: &str) -> Result<Vec<(&'static str, TripleRef<'_>)>, Refusal<'_>> {
-    let of_dialect = |dialect: Dialect| Some((dialect.name(), dialect.read(text).ok()?));
-    let mut meanings: Vec<_> = DIALECTS.into_iter().filter_map(of_dialect).collect();
+    let of_dialect = |dialect: &Dialect| Some((dialect.name(), dialect.read(text).ok()?));
+    let mut meanings: Vec<_> = Dialect::ALL.iter().filter_map(of_dialect).collect();
     if let Ok(triple) = tool_names::read(text) {
         meanings.insert(0, ("triple", triple));
     }
@@ -97,10 +97,10 @@ pub fn translate(
 }
 /// How a name is read that isn't spelled like a triple, if it is one of another tool. `command` comes before the option.
 pub fn dialects_note(command: &str, name: &str) -> Option<String> {
-    let options: Vec<_> = DIALECTS
-        .into_iter()
+    let options: Vec<_> = Dialect::ALL
+        .iter()
         // GNU's names are spelled like triples.
-        .filter(|dialect| *dialect != Dialect::Gnu)
+        .filter(|dialect| **dialect != Dialect::Gnu)
         .filter(|dialect| !matches!(dialect.read(name), Err(NameError::Unknown)))
         .map(|dialect| format!("`{command}--from {dialect}`"))
         .collect();

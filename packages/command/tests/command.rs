@@ -533,7 +533,10 @@ fn names_of_other_tools_are_read_and_written() {
     };
     let (name, _, _) = of_version("2.17", &["--libc", "glibc"], "aarch64-linux");
     assert_eq!(name, "manylinux_2_17_aarch64\n");
-    assert_eq!(of_version("11", &[], "arm64-apple-darwin").0, "macosx_11_0_arm64\n");
+    assert_eq!(
+        of_version("11", &[], "arm64-apple-darwin").0,
+        "macosx_11_0_arm64\n"
+    );
     assert_eq!(of_version("2.17", &[], "aarch64-linux").2, 1);
     assert_eq!(of_version("2.17.1", &[], "aarch64-linux-gnu").2, 2);
     assert_eq!(of_version("2.256", &[], "aarch64-linux-gnu").2, 2);
@@ -765,6 +768,62 @@ fn the_manual_and_the_completions_have_all_of_the_help() {
 }
 
 #[test]
+fn the_manual_has_the_name_of_the_command() {
+    let (page, _, _) = answers(&["manual"]);
+    assert!(page.starts_with(".TH TARGET\\-LEXICON 1 "), "{page}");
+}
+
+/// A shell that isn't there is left out; `packages/command/test` asks for both.
+#[test]
+fn shells_take_the_completions() {
+    let zsh = "autoload -U compinit && compinit -u -D && source <($0 completions zsh) && echo $_comps[target-lexicon]";
+    let fish = "$argv[1] completions fish | source; complete -C 'target-lexicon mat'";
+    for (shell, script, expected) in [
+        ("zsh", zsh, "_target-lexicon\n"),
+        ("fish", fish, "matrix\t"),
+    ] {
+        let program = env!("CARGO_BIN_EXE_target-lexicon");
+        let ran = Command::new(shell).args(["-c", script, program]).output();
+        let Ok(ran) = ran else {
+            assert!(std::env::var_os("WITH_SHELLS").is_none(), "no {shell}");
+            continue;
+        };
+        let (out, errors, _) = texts(&ran);
+        assert_eq!(errors, "", "{shell}");
+        assert!(out.starts_with(expected), "{shell}: {out}");
+    }
+}
+
+#[test]
+fn mistakes_in_options_are_explained() {
+    let write = |version| {
+        answers(&[
+            "write",
+            "--to",
+            "python",
+            "--with-version",
+            version,
+            "aarch64-unknown-linux-gnu",
+        ])
+    };
+    for version in ["2.17.1", "2.", "", "x", "65536", "2.256", "+2.17"] {
+        let (_, errors, status) = write(version);
+        assert!(
+            errors.contains("a version has one or two numbers, such as 2.17 or 21"),
+            "{errors}"
+        );
+        assert_eq!(status, 2);
+    }
+    // The other names of dialects are listed with them.
+    let (help, _, _) = answers(&["write", "--help"]);
+    assert!(help.contains("oci, docker, node, npm"), "{help}");
+    let (manual, _, _) = answers(&["manual"]);
+    assert!(manual.contains("docker is oci and npm is node"), "{manual}");
+    let write = ["write", "--to", "docker", "aarch64-unknown-linux"];
+    assert_eq!(answers(&write).0, "linux/arm64\n");
+}
+
+#[test]
 fn mistakes_are_counted_and_limited() {
     let lines = "z80\nx86_64-unknown-linux-gnuu\nfoo\nx86_64-unknown-linux-gnuu\n";
     let (_, errors, status) = answers_on(&["check"], lines);
@@ -774,14 +833,20 @@ fn mistakes_are_counted_and_limited() {
     );
     assert!(errors.ends_with("\n3 of 4 targets refused\n"), "{errors}");
     let (_, errors, status) = answers_on(&["check", "--max-errors", "1"], lines);
-    assert!(errors.ends_with("\n1 of 2 targets refused\n"), "{errors}");
+    let cut = |refused, targets| {
+        format!("{refused} of {targets} targets refused; ended there, as --max-errors says\n")
+    };
+    assert!(errors.ends_with(&cut(1, 2)), "{errors}");
     assert_eq!((errors.contains("foo"), status), (false, 1));
     let (out, errors, status) = answers_on(&["check", "--json", "--max-errors", "2"], lines);
     let refused: serde_json::Value = serde_json::from_str(&out).unwrap();
     assert_eq!(
-        (refused.as_array().unwrap().len(), errors.as_str(), status),
-        (2, "", 1)
+        (refused.as_array().unwrap().len(), errors, status),
+        (2, cut(2, 3), 1)
     );
+    let (_, errors, status) = answers_on(&["check", "--max-errors", "0"], lines);
+    assert!(errors.contains("'--max-errors <N>'"), "{errors}");
+    assert_eq!(status, 2);
     // One target isn't counted.
     assert!(!answers(&["check", "foo"]).1.contains("refused"));
 }

@@ -53,4 +53,6 @@ mod impls {
     impl Error for crate::tool_names::WriteError {}
     #[cfg(feature = "tool_names")]
     impl Error for crate::tool_names::TranslateError {}
+    #[cfg(feature = "tool_names")]
+    impl Error for crate::tool_names::UnknownWord {}
 }

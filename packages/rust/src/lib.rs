@@ -55,6 +55,8 @@ extern crate std;
 mod canonical;
 mod compat;
 mod conversions;
+#[cfg(feature = "tool_names")]
+mod dialects;
 mod display;
 mod errors;
 mod host;
@@ -80,16 +82,20 @@ pub use parse_triple_error::ParseTripleError;
 pub use proved::{
     default_binary_format, Aarch64Architecture, Architecture, ArmArchitecture, BinaryFormat,
     CDataModel, CallingConvention, CleverArchitecture, CustomVendor, DefaultToHost,
-    DefaultToUnknown, DeploymentTarget, Endianness, Environment, Explanation, Field, KnownVendor,
-    Mips32Architecture, Mips64Architecture, OperatingSystem, PointerWidth, Refusal,
+    DefaultToUnknown, DeploymentTarget, Endianness, Environment, Explanation, Family, Field,
+    KnownVendor, Mips32Architecture, Mips64Architecture, OperatingSystem, PointerWidth, Refusal,
     Riscv32Architecture, Riscv64Architecture, Size, Source, Sources, TextPart, Triple, TripleRef,
     Vendor, VendorRef, X86_32Architecture, Z80Architecture,
 };
 
 pub use proved::tool_names::Suggestion;
 
+/// Names of targets in other tools, and the object format that toolchains write.
 #[cfg(feature = "tool_names")]
-pub use proved::tool_names;
+pub mod tool_names {
+    pub use crate::dialects::UnknownWord;
+    pub use crate::proved::tool_names::*;
+}
 
 /// The samples of the page are tested; the first one uses this feature.
 #[cfg(all(doctest, feature = "tool_names"))]

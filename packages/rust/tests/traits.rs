@@ -183,3 +183,59 @@ fn a_refusal_of_another_string_is_about_its_part() {
     assert_eq!((error.text(), error.range()), ("linxu", 0..5));
     assert_eq!(error.suggestion().unwrap(), "linux");
 }
+
+#[cfg(feature = "tool_names")]
+mod of_tool_names {
+    use target_lexicon::tool_names::{CLibrary, Dialect, FloatAbi, LinuxLibc, UnknownWord};
+    use target_lexicon::TripleRef;
+
+    #[test]
+    fn names_have_the_width_that_is_asked_for() {
+        let triple = TripleRef::from_str("x86_64-unknown-linux-gnu").unwrap();
+        let name = Dialect::Debian.write(&triple).unwrap();
+        assert_eq!(
+            format!(
+                "{:>6}|{:<6}|{:^7}|{name:>7}|{:6}|",
+                Dialect::Go,
+                LinuxLibc::Musl,
+                CLibrary::Glibc,
+                FloatAbi::Hard
+            ),
+            "    go|musl  | glibc |  amd64|hard  |"
+        );
+    }
+
+    #[test]
+    fn a_word_that_is_no_dialect_is_named() {
+        fn of(word: &str) -> Result<Dialect, Box<dyn std::error::Error>> {
+            Ok(word.parse()?)
+        }
+        assert_eq!(of("docker").unwrap(), Dialect::Oci);
+        let error = *of("golang").unwrap_err().downcast::<UnknownWord>().unwrap();
+        assert_eq!((error.word(), error.suggestion()), ("golang", Some("go")));
+        let none = of("\u{202e}x").unwrap_err().to_string();
+        assert!(none.starts_with("Unknown dialect: \\u{202e}x; it is one of debian go oci "));
+        for dialect in Dialect::ALL {
+            assert_eq!(dialect.name().parse(), Ok(*dialect));
+            assert_eq!(
+                dialect
+                    .name()
+                    .to_uppercase()
+                    .parse::<Dialect>()
+                    .unwrap_err()
+                    .suggestion(),
+                Some(dialect.name())
+            );
+        }
+    }
+
+    #[test]
+    fn a_word_that_is_no_c_library_is_named() {
+        assert_eq!("musl".parse(), Ok(LinuxLibc::Musl));
+        let error = "gnu".parse::<LinuxLibc>().unwrap_err();
+        assert_eq!(
+            error.to_string(),
+            "Unknown C library of Linux: gnu; it is glibc or musl"
+        );
+    }
+}

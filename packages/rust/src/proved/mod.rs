@@ -58,7 +58,6 @@ pub use pointer_width::PointerWidth;
 pub use read::{explain, first_part};
 pub use reading::Reading;
 pub use refusal::{refusal_prefix, Refusal};
-pub use round_trip::round;
 pub use table::fixed_row;
 pub use triple::Triple;
 pub use triple_ref::TripleRef;

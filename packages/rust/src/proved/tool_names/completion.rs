@@ -5,7 +5,6 @@ use crate::proved::tool_names::shape::arm_of_version;
 use crate::proved::tool_names::spelling::look_up;
 use crate::proved::{Architecture, ArmArchitecture, Environment, OperatingSystem, TripleRef};
 use core::fmt;
-use core::str::FromStr;
 
 /// A C library of Linux, which gives a triple its environment: [`complete`].
 ///
@@ -82,17 +81,9 @@ impl LinuxLibc {
 static C_LIBRARIES: [(&str, LinuxLibc); 2] =
     [("glibc", LinuxLibc::Glibc), ("musl", LinuxLibc::Musl)];
 
-impl FromStr for LinuxLibc {
-    type Err = ();
-
-    fn from_str(name: &str) -> Result<LinuxLibc, ()> {
-        LinuxLibc::from_str(name)
-    }
-}
-
 impl fmt::Display for LinuxLibc {
     fn fmt(&self, f: &mut fmt::Formatter<'_>) -> fmt::Result {
-        f.write_str(self.name())
+        f.pad(self.name())
     }
 }
 

@@ -3,7 +3,6 @@
 
 use crate::proved::tool_names::spelling::look_up;
 use core::fmt;
-use core::str::FromStr;
 
 /// A tool, or a group of tools, that names targets in its own way.
 ///
@@ -106,16 +105,8 @@ static DIALECTS: [(&str, Dialect); 17] = [
     ("npm", Dialect::Node),
 ];
 
-impl FromStr for Dialect {
-    type Err = ();
-
-    fn from_str(name: &str) -> Result<Dialect, ()> {
-        Dialect::from_str(name)
-    }
-}
-
 impl fmt::Display for Dialect {
     fn fmt(&self, f: &mut fmt::Formatter<'_>) -> fmt::Result {
-        f.write_str(self.name())
+        f.pad(self.name())
     }
 }

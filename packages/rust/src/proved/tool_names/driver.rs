@@ -127,7 +127,7 @@ impl CLibrary {
 
 impl fmt::Display for CLibrary {
     fn fmt(&self, f: &mut fmt::Formatter<'_>) -> fmt::Result {
-        f.write_str(self.name())
+        f.pad(self.name())
     }
 }
 
@@ -251,7 +251,7 @@ impl FloatAbi {
 
 impl fmt::Display for FloatAbi {
     fn fmt(&self, f: &mut fmt::Formatter<'_>) -> fmt::Result {
-        f.write_str(self.name())
+        f.pad(self.name())
     }
 }
 

@@ -31,13 +31,13 @@ pub(crate) mod pattern;
 pub(crate) mod platform;
 #[cfg(feature = "tool_names")]
 pub(crate) mod reading;
-#[cfg(feature = "tool_names")]
+#[cfg_attr(not(feature = "tool_names"), allow(dead_code, unused_imports))]
 pub(crate) mod rules;
 #[cfg(feature = "tool_names")]
 pub(crate) mod rustc_cfg;
 #[cfg(feature = "tool_names")]
 pub(crate) mod shape;
-#[cfg(feature = "tool_names")]
+#[cfg_attr(not(feature = "tool_names"), allow(dead_code, unused_imports))]
 pub(crate) mod spelled;
 #[cfg_attr(not(feature = "tool_names"), allow(dead_code, unused_imports))]
 pub(crate) mod spelling;

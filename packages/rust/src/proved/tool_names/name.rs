@@ -84,7 +84,7 @@ fn put(out: &mut [u8], at: usize, text: &[u8]) -> usize {
 
 impl fmt::Display for Name {
     fn fmt(&self, f: &mut fmt::Formatter<'_>) -> fmt::Result {
-        f.write_str(self.as_str())
+        f.pad(self.as_str())
     }
 }
 

@@ -35,6 +35,7 @@ pub(crate) struct Fit<'a> {
 }
 
 impl<'a> RuleNames<'a> {
+    #[inline]
     fn spelling(self) -> Spelling<'a> {
         match self {
             RuleNames::Known(names) => Spelling::of_rule(names),
@@ -48,6 +49,7 @@ impl<'a> RuleNames<'a> {
 
 impl Standing {
     /// A part of which nothing else is said.
+    #[inline]
     pub(crate) fn at(place: Place) -> Standing {
         Standing {
             place,
@@ -57,6 +59,7 @@ impl Standing {
     }
 
     /// Whether a rule for this place is one for the part.
+    #[inline]
     fn may_be_at(&self, place: Place) -> bool {
         match place {
             Place::First => is_first(self.place),
@@ -67,6 +70,7 @@ impl Standing {
     }
 
     /// The first rule that fits a part, with this after its dash, unless the part before has named it.
+    #[inline]
     pub(crate) fn fit<'a>(&self, part: &'a str, rest: Option<&str>) -> Option<Fit<'a>> {
         if self.name.is_some() {
             None
@@ -85,6 +89,7 @@ impl Standing {
     }
 
     /// The first of the rules for a later part alone that fits.
+    #[inline]
     fn later_fit<'a>(&self, part: &'a str, rest: Option<&str>) -> Option<Fit<'a>> {
         if is_known_name(part) {
             None
@@ -94,6 +99,7 @@ impl Standing {
     }
 
     /// The first of these rules that fits.
+    #[inline]
     fn fit_of<'a>(&self, rules: &[Rule], part: &'a str, rest: Option<&str>) -> Option<Fit<'a>> {
         for rule in rules {
             if self.may_be_at(rule.0) {
@@ -106,6 +112,7 @@ impl Standing {
     }
 
     /// The names of a part without a rule.
+    #[inline]
     fn plain_names<'a>(&self, part: &'a str) -> Spelling<'a> {
         match self.name {
             Some(name) => Spelling::of(name),
@@ -120,6 +127,7 @@ impl Standing {
     }
 
     /// What is said of the next part, if no rule fits.
+    #[inline]
     fn next(&self) -> Standing {
         Standing {
             place: match self.place {
@@ -132,6 +140,7 @@ impl Standing {
     }
 
     /// What is said of the next part by a rule.
+    #[inline]
     fn next_by(&self, rule: Rule) -> Standing {
         let next = self.next();
         Standing {
@@ -142,34 +151,41 @@ impl Standing {
     }
 }
 
+#[inline]
 fn is_architecture(part: &str) -> bool {
     Architecture::from_str(part).is_ok()
 }
 
 /// Whether a part is a name of some field, other than a custom vendor.
+#[inline]
 fn is_known_name(part: &str) -> bool {
     fixed_row(part).is_some() || OperatingSystem::from_str(part).is_ok()
 }
 
+#[inline]
 fn is_first(place: Place) -> bool {
     matches!(place, Place::First)
 }
 
+#[inline]
 fn is_second(place: Place) -> bool {
     matches!(place, Place::Second)
 }
 
 /// The first rule that fits a part by itself.
+#[inline]
 pub(crate) fn fit_alone(place: Place, part: &str) -> Option<Fit<'_>> {
     Standing::at(place).fit(part, None)
 }
 
 /// Whether a rule of this form says that floating-point arguments are in floating-point registers.
+#[inline]
 pub(crate) fn states_hard_floats(form: Form) -> bool {
     matches!(form, Form::HardFloats)
 }
 
 /// The name that a rule gives the next part.
+#[inline]
 fn name_of_next(rule: Rule) -> Option<&'static str> {
     match rule.2 {
         Form::Pair | Form::PairWithin => second_name(rule.3),
@@ -178,6 +194,7 @@ fn name_of_next(rule: Rule) -> Option<&'static str> {
 }
 
 /// The second of some names.
+#[inline]
 fn second_name(names: &str) -> Option<&str> {
     match first_part(names).1 {
         Some(others) => Some(first_part(others).0),
@@ -186,6 +203,7 @@ fn second_name(names: &str) -> Option<&str> {
 }
 
 /// The names that a rule gives a part, with this after its dash, if it has the form of the rule.
+#[inline]
 fn names_by<'a>(rule: Rule, part: &'a str, rest: Option<&str>) -> Option<RuleNames<'a>> {
     match rule.2 {
         Form::Whole | Form::HardFloats => {
@@ -224,6 +242,7 @@ fn names_by<'a>(rule: Rule, part: &'a str, rest: Option<&str>) -> Option<RuleNam
 }
 
 /// Whether a text is a part and the first after its dash.
+#[inline]
 fn are_pair(text: &str, part: &str, rest: Option<&str>) -> bool {
     let (first, second) = first_part(text);
     match (second, rest) {
@@ -233,6 +252,7 @@ fn are_pair(text: &str, part: &str, rest: Option<&str>) -> bool {
 }
 
 /// Whether a pair goes on with a part that is no binary format, with this after the first dash.
+#[inline]
 fn goes_on(rest: Option<&str>) -> bool {
     match rest {
         Some(rest) => match first_part(rest).1 {
@@ -260,6 +280,7 @@ pub(crate) struct SpelledParts<'a> {
 
 impl<'a> SpelledParts<'a> {
     /// All parts of a string.
+    #[inline]
     pub(crate) fn of(text: &'a str) -> SpelledParts<'a> {
         SpelledParts {
             rest: Some(text),
@@ -268,6 +289,7 @@ impl<'a> SpelledParts<'a> {
     }
 
     /// The next part.
+    #[inline]
     pub(crate) fn next_part(&mut self) -> Option<SpelledPart<'a>> {
         let text = self.rest?;
         let (part, rest) = first_part(text);
