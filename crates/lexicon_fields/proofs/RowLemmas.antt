@@ -7,8 +7,9 @@ use Rattle.std.proofs.lemmas.Slice.Eq.{bytes_eq-Decides}
 use Rattle.lexicon_fields.specs.{Names.named_values, Architecture.architecture_of, declared.known_vendor.KnownVendor.KnownVendor, Vendor.known_vendor_name, Vendor.known_vendors, Vendor.known_vendor_of, declared.operating_system.OperatingSystem.OperatingSystem, Environment.environment_of, BinaryFormat.binary_format_of}
 use Rattle.lexicon_fields.specs.OperatingSystem.{operating_system_name, operating_system_of, darwin_prefixes, darwin_like_system, fixed_operating_systems, fixed_operating_system_of}
 use Rattle.lexicon_fields.specs.FixedRow.{has_row, row_count, row_texts, row_text}
+use Rattle.lexicon_fields.specs.Private.{first_system}
 use Rattle.lexicon_fields.proofs.{LookUpLemmas.value_named-passes, LookUpLemmas.option_or-none, LookUpLemmas.none_is, RowTexts.is_row_text, RowTexts.rows_below, RowTexts.rows_above, RowTexts.row_text-passes, RowTexts.length-row_texts, RowTexts.row_text-default}
-use Rattle.lexicon_fields.proofs.NamesReadBack.{architecture_of-row, environment_of-row, binary_format_of-row}
+use Rattle.lexicon_fields.proofs.{NamesReadBack.architecture_of-row, NamesReadBack.environment_of-row, NamesReadBack.binary_format_of-row, OperatingSystemsReadBack.first_system-is}
 
 pub known_vendor_of-row : (text : List ℕ) (v : KnownVendor) → known_vendor_of text ≡ Some v → is_row_text text ≡ true
 unfolding known_vendor_of is_row_text row_texts
@@ -116,20 +117,9 @@ row-parses_by_name s exists = elim (cases_Bool (is_row_text s)) [
 ]
 
 -- and a string without a row only as a system like Darwin
-pub without_row_is_darwin_like : (s : List ℕ) (like : Option OperatingSystem) → like ≡ darwin_like_system darwin_prefixes s → has_row s ≡ false → like ≡ operating_system_of s
+pub without_row_is_darwin_like : (s : List ℕ) → has_row s ≡ false → darwin_like_system darwin_prefixes s ≡ operating_system_of s
 unfolding operating_system_of
-without_row_is_darwin_like s like is none = rw (no_name_without_row s none).2 is
+without_row_is_darwin_like s none = rw (no_name_without_row s none).2 refl
 
--- no fixed name begins with the prefix of a system like Darwin, so the order of the two look-ups doesn't matter
-
-option_or-either_order : {V : Type 0} (fixed like : Option V) → ((v : V) → fixed ≡ Some v → like ≡ None) → option_or fixed like ≡ option_or like fixed
-option_or-either_order None None slice_cmp-differ = refl
-option_or-either_order None (Some v) slice_cmp-differ = refl
-option_or-either_order (Some v) None slice_cmp-differ = refl
-option_or-either_order (Some v) (Some w) slice_cmp-differ = absurd (let bad = slice_cmp-differ v refl in cc)
-
-pub like_darwin-parses : (s : List ℕ) (v : OperatingSystem) → Some v ≡ darwin_like_system darwin_prefixes s → operating_system_of s ≡ Some v
-unfolding operating_system_of
-like_darwin-parses s v like =
-    option_or-either_order (fixed_operating_system_of s) (darwin_like_system darwin_prefixes s) (λ w found. none_is _ (row_text-unlike_darwin s (fixed_operating_system_of-row s w found)))
-    ∙ ap (λ found. option_or found (fixed_operating_system_of s)) (sym like)
+pub system_without_row : (s : List ℕ) → has_row s ≡ false → operating_system_of s ≡ first_system darwin_prefixes s
+system_without_row s none = sym (first_system-is darwin_prefixes s ∙ without_row_is_darwin_like s none)

@@ -55,7 +55,7 @@ formless_read text formless = unknown_text-refused text (known_form text (known_
 pub without_row_read : (text : List ℕ) → has_row text ≡ false
     → vendor_of text ≡ (if is_none (operating_system_of text) && has_vendor_form text then Some (Custom text) else None)
 unfolding vendor_of
-without_row_read text none = rw ((no_name_without_row text none).1, admitted_is text, none, without_row_is_darwin_like text _ refl none) refl
+without_row_read text none = rw ((no_name_without_row text none).1, admitted_is text, none, without_row_is_darwin_like text none) refl
 
 -- every plain vendor parses back from its name
 

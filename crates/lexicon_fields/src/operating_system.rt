@@ -1,8 +1,6 @@
 //! The operating systems.
-// The hints of inlining save 2 % of mode `print`'s instructions.
-ghost use Rattle.std.specs.Prelude.{◌≡◌, ◌++◌, false, Some, None, IfOk, IsNone, IsOkAnd};
+ghost use Rattle.std.specs.Prelude.{◌≡◌, ◌++◌, Some, None, IfOk, IsNone, IsOkAnd};
 ghost use Rattle.std.specs.Cow.{cow_str_bytes, IsBorrowedStr};
-ghost use Rattle.lexicon_fields.specs.FixedRow.{has_row};
 ghost use Rattle.lexicon_fields.specs.Names.{MatchesLookup};
 ghost use Rattle.lexicon_fields.specs.Private as private;
 ghost use Rattle.lexicon_fields.specs.OperatingSystem as spec;
@@ -129,33 +127,14 @@ impl OperatingSystem {
     pub fn from_str(s: &str) -> Result<Self, ()>
         ensures { MatchesLookup (spec.operating_system_of s.now) result }
     {
-        match OperatingSystem::parse_darwin_like(s) {
-            Some(system) => Ok(system),
-            None => match fixed_row(s, &mut Steps::new()) {
-                Some(row) => row.operating_system.ok_or(()),
-                None => Err(()),
-            },
-        }
-    }
-
-    /// The system like Darwin that the string parses as, if any: one with an optional version. Most other strings are
-    /// refused by their first letter.
-    pub(crate) fn parse_darwin_like(s: &str) -> Option<Self>
-        ensures like { result ≡ spec.darwin_like_system spec.darwin_prefixes s.now }
-        ensures without_row { has_row s.now ≡ false → result ≡ spec.operating_system_of s.now }
-    {
-        match s.as_bytes().first() {
-            // written by tools/names/write: the first letters of systems like Darwin
-            Some(b'd' | b'i' | b'm' | b't' | b'v' | b'w' | b'x') =>
-                OperatingSystem::parse_by_prefix(s),
-            // end of what is written
-            _ => None,
+        match fixed_row(s, &mut Steps::new()) {
+            Some(row) => row.operating_system.ok_or(()),
+            None => OperatingSystem::parse_darwin_like(s).ok_or(()),
         }
     }
 
     /// The system like Darwin with whose prefix the string begins. The rest of the string must be empty or a version.
-    #[inline(never)]
-    fn parse_by_prefix(s: &str) -> Option<Self>
+    pub(crate) fn parse_darwin_like(s: &str) -> Option<Self>
         ensures { result ≡ private.first_system spec.darwin_prefixes s.now }
     {
         // written by tools/names/write: the prefixes of systems like Darwin
@@ -311,7 +290,6 @@ impl OperatingSystem {
 
 /// The version after this prefix: `Some(None)` if nothing follows, `None` if the string doesn't begin with the prefix,
 /// or if what follows is no version.
-#[inline(always)]
 fn version_after(prefix: &str, text: &str) -> Option<Option<DeploymentTarget>>
     ensures { result ≡ private.version_after prefix.now text.now }
 {

@@ -60,7 +60,7 @@ pub fn fixed_row(text: &str, steps: &mut Steps) -> Option<FixedRow>
     ensures few { steps.new.count ≤ steps.old.count + 8 }
 {
     match row_number(text, steps) {
-        Some(i) => Some(with_values(row_at(i))),
+        Some(i) => Some(with_values(rows()[i])),
         None => None,
     }
 }
@@ -96,7 +96,7 @@ pub fn row_order(i: usize, text: &str, steps: &mut Steps) -> Ordering
     steps.tick();
     // before the row, so that the compilers compute it once for a whole search
     let key = prefix_key(text);
-    order(key_at(i), row_at(i).0, key, text)
+    order(keys()[i], rows()[i].0, key, text)
 }
 
 /// The order by bytes of two strings with these prefix keys.
@@ -204,23 +204,6 @@ fn with_values(row: Row) -> FixedRow
             binary_format: Some(BinaryFormat::Unknown),
         },
     }
-}
-
-/// Row `i`, counted from 0.
-fn row_at(i: usize) -> Row
-    requires { i < spec.row_count }
-    ensures text { result.0.now ≡ spec.row_text i }
-    ensures meaning { private.values_meant result.1 ≡ private.name_values (spec.row_text i) }
-{
-    rows()[i]
-}
-
-/// The prefix key of the string of row `i`, counted from 0.
-fn key_at(i: usize) -> u64
-    requires { i < spec.row_count }
-    ensures { result ≡ private.prefix_key_of 8 (spec.row_text i) }
-{
-    keys()[i]
 }
 
 /// The prefix keys of the rows' strings. Only `row_order` reads them: two numbers are compared in a third of the time of

@@ -1,6 +1,5 @@
 // Erased from crates/lexicon_fields/src/operating_system.rt by tools/erase. Don't edit it here.
 //! The operating systems.
-// The hints of inlining save 2 % of mode `print`'s instructions.
 
 use crate::proved::deployment_target::{version_text, DeploymentTarget, MAX_VERSION_LENGTH};
 use crate::proved::table::fixed_row;
@@ -111,29 +110,14 @@ impl OperatingSystem {
     /// A string is a fixed name, or the prefix of a system like Darwin with nothing or a version after it: one to three
     /// pieces between dots, each an optional plus and digits, the first at most 65535, the others at most 255.
     pub(crate) fn from_str(s: &str) -> Result<Self, ()> {
-        match OperatingSystem::parse_darwin_like(s) {
-            Some(system) => Ok(system),
-            None => match fixed_row(s) {
-                Some(row) => row.operating_system.ok_or(()),
-                None => Err(()),
-            },
-        }
-    }
-
-    /// The system like Darwin that the string parses as, if any: one with an optional version. Most other strings are
-    /// refused by their first letter.
-    pub(crate) fn parse_darwin_like(s: &str) -> Option<Self> {
-        match s.as_bytes().first() {
-            Some(b'd' | b'i' | b'm' | b't' | b'v' | b'w' | b'x') => {
-                OperatingSystem::parse_by_prefix(s)
-            }
-            _ => None,
+        match fixed_row(s) {
+            Some(row) => row.operating_system.ok_or(()),
+            None => OperatingSystem::parse_darwin_like(s).ok_or(()),
         }
     }
 
     /// The system like Darwin with whose prefix the string begins. The rest of the string must be empty or a version.
-    #[inline(never)]
-    fn parse_by_prefix(s: &str) -> Option<Self> {
+    pub(crate) fn parse_darwin_like(s: &str) -> Option<Self> {
         if let Some(version) = version_after("darwin", s) {
             return Some(OperatingSystem::Darwin(version));
         }
@@ -263,7 +247,6 @@ impl OperatingSystem {
 
 /// The version after this prefix: `Some(None)` if nothing follows, `None` if the string doesn't begin with the prefix,
 /// or if what follows is no version.
-#[inline(always)]
 fn version_after(prefix: &str, text: &str) -> Option<Option<DeploymentTarget>> {
     optional_version_of(text.strip_prefix(prefix)?)
 }

@@ -50,7 +50,7 @@ type Row = (&'static str, Meaning);
 #[inline(always)]
 pub fn fixed_row(text: &str) -> Option<FixedRow> {
     match row_number(text) {
-        Some(i) => Some(with_values(row_at(i))),
+        Some(i) => Some(with_values(rows()[i])),
         None => None,
     }
 }
@@ -77,7 +77,7 @@ fn row_number(text: &str) -> Option<usize> {
 pub fn row_order(i: usize, text: &str) -> Ordering {
     // before the row, so that the compilers compute it once for a whole search
     let key = prefix_key(text);
-    order(key_at(i), row_at(i).0, key, text)
+    order(keys()[i], rows()[i].0, key, text)
 }
 
 /// The order by bytes of two strings with these prefix keys.
@@ -173,16 +173,6 @@ fn with_values(row: Row) -> FixedRow {
             binary_format: Some(BinaryFormat::Unknown),
         },
     }
-}
-
-/// Row `i`, counted from 0.
-fn row_at(i: usize) -> Row {
-    rows()[i]
-}
-
-/// The prefix key of the string of row `i`, counted from 0.
-fn key_at(i: usize) -> u64 {
-    keys()[i]
 }
 
 /// The prefix keys of the rows' strings. Only `row_order` reads them: two numbers are compared in a third of the time of

@@ -1,5 +1,5 @@
-use Rattle.std.proofs.Common.{sym, ap, subst, List, ℕ, ◌≡◌, ◌<◌, ◌∙◌, true, option_map}
-use Rattle.lexicon_fields.proofs.{RowLemmas.row-exists, RowLemmas.row-parses_by_name, VendorsReadBack.row_read}
+use Rattle.std.proofs.Common.{arith, sym, ap, subst, List, ℕ, ◌≡◌, ◌<◌, ◌∙◌, true, option_map}
+use Rattle.lexicon_fields.proofs.{RowReads.rows-length, RowReads.column-is, RowReads.text-is, RowLemmas.row-exists, RowLemmas.row-parses_by_name, VendorsReadBack.row_read}
 use Rattle.lexicon_fields.specs.{declared.table.FixedRow.FixedRow, FixedRow.IsRowOf, FixedRow.has_row, FixedRow.row_count, FixedRow.row_text, Private.FieldValues, Private.name_values, Private.row_values, Vendor.Known, Vendor.known_vendor_of, OperatingSystem.fixed_operating_system_of}
 use Rattle.lexicon_fields.proofs.table.fixed_row.Goals as goal
 
@@ -22,7 +22,13 @@ is_row i text row below same text_is values =
       no_other_operating_system = operating_system ∙ sym (row-parses_by_name _ exists);
     }
 
+pub bounds-rows-i : goal.bounds-rows-i
+bounds-rows-i c = omega (arith, c.in-Some.ensures.row.0, rows-length _ _ c.rows.ensures.texts)
+
 pub returns-in-Some-clause-row : goal.returns-in-Some-clause-row
 returns-in-Some-clause-row c =
-    let row = c.row_at.ensures in
-    is_row _ _ _ c.in-Some.ensures.row.0 c.in-Some.ensures.row.1 (c.with_values.ensures.text ∙ row.text) (c.with_values.ensures.values ∙ row.meaning)
+    let table = c.rows.ensures in
+    let row = c.in-Some.ensures.row in
+    is_row _ _ _ row.0 row.1
+    (c.with_values.ensures.text ∙ text-is _ _ _ _ row.0 table.texts)
+    (c.with_values.ensures.values ∙ column-is _ name_values _ _ _ row.0 (rows-length _ _ table.texts) table.meanings)

@@ -1,5 +1,8 @@
-use Rattle.lexicon_fields.proofs.RowLemmas.{like_darwin-parses}
+use Rattle.std.proofs.Common.{rules}
+use Rattle.lexicon_fields.proofs.RowLemmas.{system_without_row}
 use Rattle.lexicon_fields.proofs.operating_system.OperatingSystem.from_str.Goals as goal
 
-pub returns-in-Some : goal.returns-in-Some
-returns-in-Some c = like_darwin-parses c.args.s.now c.in-Some.system c.in-Some.ensures.like
+pub returns-in-None : goal.returns-in-None
+returns-in-None c =
+    let system = system_without_row c.args.s.now (search rules) in
+    search (rules, system, c.parse_darwin_like.ensures)
