@@ -1,0 +1,212 @@
+//! Which definition is compared with which call of the crate. Answers are compared as Rust's `{:?}` shows them, so that no table joins
+//! the two sides; where it shows otherwise than the definition, the words are replaced here.
+use crate::inputs;
+use crate::report::Report;
+use crate::spec as s;
+use crate::values::{con, eq, function, library, text as v, V};
+use target_lexicon::tool_names::{self as tools, Dialect, LinuxLibc};
+use target_lexicon::{
+    Aarch64Architecture, Architecture, ArmArchitecture, BinaryFormat, CleverArchitecture, Environment, Mips32Architecture, Mips64Architecture,
+    OperatingSystem, Riscv32Architecture, Riscv64Architecture, Triple, TripleRef, VendorRef, X86_32Architecture, Z80Architecture,
+};
+
+/// `answers!(report, input, (arguments): definition = call; ..)`
+macro_rules! answers {
+    ($report:ident, $input:expr, $arguments:tt: $($definition:ident = $call:expr;)*) => {
+        $($report.same(stringify!($definition), apply!($definition $arguments), &$call, $input);)*
+    };
+}
+macro_rules! apply {
+    ($definition:ident ($($argument:expr),*)) => { s::$definition($($argument),*) };
+}
+
+/// What a word is in each field, and in each type of an architecture.
+pub fn word(r: &mut Report, word: &str) {
+    let x = v(word);
+    answers! { r, &word, (x):
+        architecture_of = word.parse::<Architecture>().ok();
+        vendor_of = VendorRef::from_str(word).ok();
+        operating_system_of = word.parse::<OperatingSystem>().ok();
+        environment_of = word.parse::<Environment>().ok();
+        binary_format_of = word.parse::<BinaryFormat>().ok();
+        dialect_of = word.parse::<Dialect>().ok();
+        c_library_of = word.parse::<LinuxLibc>().ok();
+    }
+    macro_rules! parts_of_architectures {
+        ($($definition:ident = $type:ident;)*) => {
+            $(answers! { r, &word, (function(s::$definition), x): sub_architecture_of = word.parse::<$type>().ok(); })*
+        };
+    }
+    parts_of_architectures! {
+        as_arm = ArmArchitecture; as_aarch64 = Aarch64Architecture; as_x86_32 = X86_32Architecture; as_mips32 = Mips32Architecture;
+        as_mips64 = Mips64Architecture; as_riscv32 = Riscv32Architecture; as_riscv64 = Riscv64Architecture; as_clever = CleverArchitecture;
+        as_z80 = Z80Architecture;
+    }
+}
+
+/// What each value of a field answers.
+pub fn values(r: &mut Report) {
+    let fields = inputs::fields();
+    for (x, architecture) in fields.architectures {
+        answers! { r, &architecture, (x):
+            architecture_name = architecture.to_string();
+            architecture_endianness = architecture.endianness().ok();
+            architecture_width = architecture.pointer_width().ok();
+            is_clever = architecture.is_clever();
+        }
+        if let (V::C(s::Architecture__Arm, of), Architecture::Arm(arm)) = (x, architecture) {
+            answers! { r, &arm, (of[0]): arm_name = arm.to_string(); is_thumb = arm.is_thumb(); arm_endianness = arm.endianness(); }
+        }
+        if let (V::C(s::Architecture__Aarch64, of), Architecture::Aarch64(arm)) = (x, architecture) {
+            answers! { r, &arm, (of[0]): aarch64_name = arm.to_string(); aarch64_endianness = arm.endianness(); }
+        }
+        if let Ok(width) = architecture.pointer_width() {
+            answers! { r, &width, (s::architecture_width(x).at(0)): width_bits = width.bits(); width_bytes = width.bytes(); }
+        }
+    }
+    for (x, system) in fields.systems {
+        answers! { r, &system, (x): operating_system_name = system.to_string(); is_like_darwin = system.is_like_darwin(); }
+    }
+    for (x, dialect) in inputs::dialects() {
+        answers! { r, &dialect, (x): dialect_name = dialect.name(); }
+    }
+}
+
+/// How a string parses, or is refused.
+pub fn string(r: &mut Report, string: &str) {
+    let reading = s::reading(v(string));
+    match TripleRef::from_str(string) {
+        Ok(triple) => r.same("reading", reading, &Ok::<_, ()>(triple), &string),
+        Err(refusal) => {
+            r.same("reading", reading, &format_args!("Err({{ expected: {:?}, part: {:?} }})", refusal.expected, refusal.part.text), &string);
+            if let V::C(s::Result__Err, it) = reading {
+                answers! { r, &string, (it[0]): refusal_line = refusal.to_string(); }
+            }
+        }
+    }
+}
+
+/// The same for the types that own their strings, whose errors are upstream's; and where each value comes from.
+pub fn owned(r: &mut Report, string: &str) {
+    let reading = s::reading(v(string));
+    match string.parse::<Triple>() {
+        Ok(triple) => r.same("reading", reading, &format_args!("{:?}", Ok::<_, ()>(triple.as_triple_ref())), &string),
+        Err(error) => {
+            r.same("reading", reading, &format_args!("Err({{ expected: {:?}, part: {:?} }})", error.expected(), error.part()), &string);
+            if let V::C(s::Result__Err, it) = reading {
+                answers! { r, &string, (it[0]): refusal_line = error.to_string(); }
+            }
+        }
+    }
+}
+
+/// What a string reads as that is spelled like a triple, and what is changed in it.
+pub fn spelling(r: &mut Report, string: &str) {
+    answers! { r, &string, (v(string)): spelled_reading = tools::read(string); }
+    let (specified, answered) = (s::changes(v(string)).list(), tools::changes(string).collect::<Vec<_>>());
+    r.holds("the number of changes", specified.len() == answered.len(), &string);
+    for (x, change) in specified.iter().zip(answered) {
+        let (part, names) = (s::get_part(*x), s::join_with_byte(s::dash(), s::get_names(*x)));
+        r.same("changes", part, &change.part, &string);
+        r.same("changes", names, &change.names.to_string(), &string);
+        answers! { r, &string, (part): dropped_version = change.dropped_version(); }
+    }
+}
+
+/// What a triple prints as, becomes and answers.
+pub fn triple(r: &mut Report, t: V, triple: TripleRef<'static>) {
+    answers! { r, &triple, (t):
+        text_of = triple.to_string();
+        family = triple.family();
+        default_binary_format = triple.default_binary_format();
+        endianness = triple.endianness().ok();
+        pointer_width = triple.pointer_width().ok();
+        calling_convention = triple.default_calling_convention().ok();
+        data_model = triple.data_model().ok();
+    }
+    let plain = s::is_plain(s::get_vendor(t)).yes();
+    r.holds("is_plain", plain == triple.vendor.is_plain(), &triple);
+    let settled = s::settled_values(t);
+    match triple.settle() {
+        Ok(it) if it == triple && eq(settled, t) => r.holds("settled_values", plain, &triple),
+        Ok(it) => r.same("settled_values", settled, &it, &triple),
+        Err(_) => r.holds("settled_values", !plain, &triple),
+    }
+}
+
+/// The rest of what it answers.
+pub fn more_of_triple(r: &mut Report, t: V, triple: TripleRef<'static>) {
+    answers! { r, &triple, (t):
+        upstream_text_of = triple.to_upstream_text();
+        object_format = tools::object_format(&triple);
+    }
+    let step = s::normal_step(t);
+    r.holds("one step settles", eq(step, s::settled_values(t)), &triple);
+    r.holds("a triple comes back exactly if it is in no family", eq(s::family(t), V::C(s::Option__None, &[])) == triple.comes_back(), &triple);
+    if s::is_plain(s::get_vendor(t)).yes() {
+        r.holds("the round trip is the normal step", eq(s::reading(s::text_of(t)), con(s::Result__Ok, &[step])), &triple);
+    }
+    for (c, library) in [(s::LinuxLibc__Glibc, LinuxLibc::Glibc), (s::LinuxLibc__Musl, LinuxLibc::Musl)] {
+        answers! { r, &triple, (V::C(c, &[]), t): completed = tools::complete(&triple, library); }
+    }
+}
+
+/// The name of a triple in each dialect.
+pub fn written(r: &mut Report, t: V, triple: TripleRef<'static>, dialects: &[(V, Dialect)], libraries: &[(V, Option<LinuxLibc>)]) {
+    for (d, dialect) in dialects {
+        let of = (dialect, triple);
+        answers! { r, &of, (*d, t): shape = dialect.shape(&triple); triple_name = dialect.write(&triple).as_ref().map(|it| it.as_str()); }
+        for (major, minor) in [(11, 0), (65535, 255), (0, 7)] {
+            let name = dialect.write_versioned(&triple, major, minor);
+            answers! { r, &of, (*d, t, V::N(major.into()), V::N(minor.into())): versioned_name = name.as_ref().map(|it| it.as_str()); }
+        }
+        for (c, library) in libraries {
+            answers! { r, &of, (*d, *c, t): written = dialect.write_with(&triple, *library).as_ref().map(|it| it.as_str()); }
+        }
+    }
+}
+
+/// What a name means in each dialect, and what it is called in each other one.
+pub fn name(r: &mut Report, name: &str, dialects: &[(V, Dialect)], libraries: &[(V, Option<LinuxLibc>)]) {
+    // The reasons have other names.
+    let reasons = |shown: String| shown.replace("Err(Unknown)", "Err(IsUnknown)").replace("WithoutTriple", "HasNoTriple").replace("Write(", "IsUnwritten(");
+    for (d, dialect) in dialects {
+        let read = dialect.read(name);
+        r.same("name_meaning", s::name_meaning(*d, v(name)), &format_args!("{}", reasons(format!("{read:?}"))), &(dialect, name));
+        for (to, other) in dialects.iter().filter(|_| read.is_ok()) {
+            for (c, library) in libraries {
+                let translated = dialect.translate(name, *library, *other).map(|it| it.to_string());
+                let of = (dialect, name, library, other);
+                r.same("translation", s::translation(*d, v(name), *c, *to), &format_args!("{}", reasons(format!("{translated:?}"))), &of);
+            }
+        }
+    }
+}
+
+/// The relations of the specification: what `reading` gives is in them, and its neighbours aren't.
+pub fn relations(r: &mut Report, string: &str) {
+    let (x, reading) = (v(string), s::reading(v(string)));
+    let V::C(tag, it) = reading else { panic!("a result") };
+    if tag == s::Result__Ok {
+        r.holds("ReadsAs", s::ReadsAs(x, it[0]).yes(), &string);
+        for field in ["architecture", "vendor", "operating_system", "environment", "binary_format"] {
+            let other = crate::values::with(it[0], &[(field, s::nintendo_3ds().field(field))]);
+            r.holds("ReadsAs of a neighbour", s::ReadsAs(x, other).yes() == eq(other, it[0]), &string);
+        }
+        let refusal = s::refusal_with(con(s::Option__Some, &[V::C(s::Field__Architecture, &[])]), library::seq(&[]));
+        r.holds("IsRefusedAs of what is read", !s::IsRefusedAs(x, refusal).yes(), &string);
+        if let V::C(s::Option__None, _) = s::special_values(x) {
+            let sources = s::taken_sources(V::C(s::SourceValue__Implied, &[]), s::placed_from(V::N(0), s::parts_of(x)));
+            r.holds("AreSourcesOf", s::AreSourcesOf(x, sources).yes(), &string);
+            let answered = format!("{:?}", TripleRef::explain(string).sources).replace("Part(", "FromPart(");
+            r.same("taken_sources", sources, &format_args!("{answered}"), &string);
+        }
+    } else {
+        r.holds("IsRefusedAs", s::IsRefusedAs(x, it[0]).yes(), &string);
+        for other in crate::values::fields().list() {
+            let other = crate::values::with(it[0], &[("expected", con(s::Option__Some, &[*other]))]);
+            r.holds("IsRefusedAs of a neighbour", s::IsRefusedAs(x, other).yes() == eq(other, it[0]), &string);
+        }
+        r.holds("ReadsAs of what is refused", !s::ReadsAs(x, s::unknown_values()).yes(), &string);
+    }
+}

@@ -1,0 +1,275 @@
+//! What is tried. Nothing else of this check is chosen by hand.
+use crate::report::without_names_of_structs;
+use crate::spec as s;
+use crate::values::{apply, con, keep, shown, text as v, V};
+use std::fmt::Debug;
+use target_lexicon::tool_names::{Dialect, LinuxLibc};
+use target_lexicon::{Architecture, BinaryFormat, Environment, OperatingSystem, TripleRef, VendorRef};
+
+/// Which of the cases: those of a number divided by `of` that leave `shard`, of each `step`-th case. A step is a prime: it doesn't go
+/// evenly into the number of values of a field, so that each value is visited with each other one.
+#[derive(Clone, Copy)]
+pub struct Chosen {
+    pub shard: usize,
+    pub of: usize,
+    pub step: usize,
+}
+
+impl Chosen {
+    pub fn of(self, count: usize) -> impl Iterator<Item = usize> {
+        (self.shard * self.step..count).step_by(self.of * self.step)
+    }
+}
+
+// ---- values
+
+/// The values of a field that the definitions list, each with the crate's value that parses from its name.
+fn paired<T: Debug>(values: &[V], name: fn(V) -> V, parse: impl Fn(&str) -> Option<T>) -> Vec<(V, T)> {
+    let pair = |it: &V| {
+        let name = name(*it).string();
+        let value = parse(&name).unwrap_or_else(|| panic!("the crate doesn't parse {name}"));
+        assert_eq!(shown(*it), without_names_of_structs(&format!("{value:?}")), "the value of {name}");
+        (*it, value)
+    };
+    values.iter().map(pair).collect()
+}
+
+pub fn dialects() -> Vec<(V, Dialect)> {
+    paired(s::dialects().list(), s::dialect_name, |name| name.parse().ok())
+}
+
+/// No C library, and each one.
+pub fn c_libraries() -> Vec<(V, Option<LinuxLibc>)> {
+    let some = |tag| keep(|| con(s::Option__Some, &[V::C(tag, &[])]));
+    vec![(V::C(s::Option__None, &[]), None), (some(s::LinuxLibc__Glibc), Some(LinuxLibc::Glibc)), (some(s::LinuxLibc__Musl), Some(LinuxLibc::Musl))]
+}
+
+/// All values of each field. A system like Darwin is without a version, with one, and with one at the limits. Custom vendors are
+/// plain ones, those of special strings, and such that no string parses as.
+pub struct Fields {
+    pub architectures: Vec<(V, Architecture)>,
+    pub vendors: Vec<(V, VendorRef<'static>)>,
+    pub systems: Vec<(V, OperatingSystem)>,
+    pub environments: Vec<(V, Environment)>,
+    pub formats: Vec<(V, BinaryFormat)>,
+}
+
+const CUSTOM_VENDORS: [&str; 6] = ["esp", "rtems", "foo", "No-1", "", "linux"];
+const VERSIONS: [&str; 3] = ["", "13.4.255", "65535.0.1"];
+
+pub fn fields() -> Fields {
+    let mut systems = s::fixed_operating_systems().list().to_vec();
+    for prefix in s::darwin_prefixes().list() {
+        systems.extend(VERSIONS.map(|version| keep(|| apply(prefix.at(1), s::optional_version_of(v(version)).at(0)))));
+    }
+    let known = s::known_vendors().list().iter().map(|it| {
+        let name = s::known_vendor_name(*it).string();
+        let Ok(VendorRef::Known(vendor)) = VendorRef::from_str(&name) else { panic!("the crate doesn't know the vendor {name}") };
+        (keep(|| con(s::VendorValue__Known, &[*it])), VendorRef::Known(vendor))
+    });
+    let custom = CUSTOM_VENDORS.map(|it| (keep(|| con(s::VendorValue__Custom, &[v(it)])), VendorRef::Custom(it)));
+    Fields {
+        architectures: paired(s::architecture_values().list(), s::architecture_name, |name| name.parse().ok()),
+        vendors: known.chain(custom).collect(),
+        systems: paired(&systems, s::operating_system_name, |name| name.parse().ok()),
+        environments: paired(s::environment_values().list(), s::environment_name, |name| name.parse().ok()),
+        formats: paired(s::binary_format_values().list(), s::binary_format_name, |name| name.parse().ok()),
+    }
+}
+
+/// All triples of these values.
+pub fn triples(chosen: Chosen, mut each: impl FnMut(V, TripleRef<'static>)) {
+    let all = fields();
+    let counts = [all.architectures.len(), all.vendors.len(), all.systems.len(), all.environments.len(), all.formats.len()];
+    for i in chosen.of(counts.iter().product()) {
+        let mut rest = i;
+        let mut digit = |count: usize| {
+            let digit = rest % count;
+            rest /= count;
+            digit
+        };
+        let (b, e, o, w, a) = (digit(counts[4]), digit(counts[3]), digit(counts[2]), digit(counts[1]), digit(counts[0]));
+        let (a, w, o, e, b) = (&all.architectures[a], &all.vendors[w], &all.systems[o], &all.environments[e], &all.formats[b]);
+        each(
+            s::values(a.0, w.0, o.0, e.0, b.0),
+            TripleRef { architecture: a.1, vendor: w.1, operating_system: o.1, environment: e.1, binary_format: b.1 },
+        );
+    }
+}
+
+// ---- strings
+
+/// Words that are a name of no field, or one of a system like Darwin with a version: at each limit, and next to it.
+const MORE_WORDS: &str = "3ds esp foo Foo 3com \u{e9} apple1 iosfoo ios. darwin+ darwin23.6 ios+017 ios65535 ios65536 ios1.255 ios1.256 ios1.2.255
+    ios1.2.256 ios1.2.3.4 macosx65535.255.255 tvos1 visionos0.0.0 watchos10.14.6 xros2.0 tvos99999999999999999999.00007";
+/// More of those that are spelled otherwise: with versions, and systems that aren't known.
+const MORE_SPELLINGS: &str = "macos14 macos11.7.10 macos65536 macos. freebsd13.1 freebsd13. freebsd. freebsd gnueabi2.17 gnueabi. hardfloat";
+
+fn split(words: &str) -> impl Iterator<Item = String> + '_ {
+    words.split_whitespace().map(String::from)
+}
+
+fn strings(list: V) -> impl Iterator<Item = String> {
+    list.list().iter().map(|it| it.string())
+}
+
+/// The words that parsing knows, and some that it doesn't.
+pub fn words() -> Vec<String> {
+    let prefixes = s::darwin_prefixes().list().iter().map(|it| it.at(0).string());
+    unique(strings(s::row_texts()).chain(prefixes).chain(split(MORE_WORDS)).chain([String::new()]))
+}
+
+/// The words that a list of rules mentions.
+fn words_of_rules(rules: V) -> Vec<String> {
+    rules.list().iter().flat_map(|rule| strings(s::parts_of(s::get_part(*rule))).chain(strings(s::get_names(*rule)))).collect()
+}
+
+/// These, and those that other spellings are made of.
+pub fn spelled_words() -> Vec<String> {
+    let rules = words_of_rules(s::wide_rules()).into_iter().chain(words_of_rules(s::lone_rules()));
+    unique(words().into_iter().chain(rules).chain(strings(s::other_systems())).chain(split(MORE_SPELLINGS)))
+}
+
+fn unique(words: impl Iterator<Item = String>) -> Vec<String> {
+    words.collect::<std::collections::BTreeSet<_>>().into_iter().collect()
+}
+
+/// The words for strings of four and five parts: for parsing, those that mean something in more than one field or together with
+/// others, and one of each other kind; for other spellings, the words of the rules that look at more than a part, and a few more.
+/// The empty word is tried too.
+const WORDS_TOGETHER: &str = "unknown none linux pc esp espidf nintendo horizon eabi gnu elf wasm ios1.2 foo";
+const MORE_SPELLINGS_TOGETHER: &str = "elf pc gnueabi2 macos14 nuttx";
+const FIRSTS: &str = "arm armv6k riscv32imc clever x86_64";
+const FIRSTS_SPELLED: &str = "arm armv7hl armv7l clever riscv32imc";
+
+/// Strings that are tried: each of one to three words, each of four and five of those words that mean something together, and random
+/// ones, of which the parts are words, some edited.
+pub struct Strings {
+    words: Vec<String>,
+    firsts: Vec<String>,
+    together: Vec<String>,
+    architectures: Vec<String>,
+    random: usize,
+}
+
+impl Strings {
+    pub fn parsed() -> Strings {
+        Strings::of(words(), FIRSTS, split(WORDS_TOGETHER), 3_000_000)
+    }
+
+    pub fn spelled() -> Strings {
+        let together = words_of_rules(s::wide_rules()).into_iter().chain(split(MORE_SPELLINGS_TOGETHER));
+        Strings::of(spelled_words(), FIRSTS_SPELLED, together, 1_000_000)
+    }
+
+    fn of(words: Vec<String>, firsts: &str, together: impl Iterator<Item = String>, random: usize) -> Strings {
+        let together = unique(together.chain([String::new()]));
+        let architectures = s::architecture_values().list().iter().map(|it| s::architecture_name(*it).string()).collect();
+        Strings { words, firsts: split(firsts).collect(), together, architectures, random }
+    }
+
+    pub fn each(&self, chosen: Chosen, mut each: impl FnMut(&str)) {
+        let (words, together) = (&self.words, &self.together);
+        for count in 1..=3 {
+            product(&vec![words; count], chosen, &mut each);
+        }
+        for count in 3..=4 {
+            let mut choices = vec![&self.firsts];
+            choices.extend(vec![together; count]);
+            product(&choices, chosen, &mut each);
+        }
+        for i in chosen.of(self.random) {
+            let mut random = Random::new(i);
+            let mut string = self.architectures[random.below(self.architectures.len())].clone();
+            for _ in 0..1 + random.below(6) {
+                string += "-";
+                string += &words[random.below(words.len())];
+            }
+            random.edit(&mut string);
+            each(&string);
+        }
+    }
+}
+
+/// Each string of a word of each list, with dashes between them.
+fn product(choices: &[&Vec<String>], chosen: Chosen, each: &mut impl FnMut(&str)) {
+    let mut string = String::new();
+    for i in chosen.of(choices.iter().map(|it| it.len()).product()) {
+        string.clear();
+        let mut rest = i;
+        for (place, words) in choices.iter().enumerate() {
+            if place > 0 {
+                string.push('-');
+            }
+            string.push_str(&words[rest % words.len()]);
+            rest /= words.len();
+        }
+        each(&string);
+    }
+}
+
+/// Numbers that are the same in each run.
+pub struct Random(u64);
+
+impl Random {
+    pub fn new(i: usize) -> Random {
+        let mut random = Random(i as u64 ^ 0x9e37_79b9_7f4a_7c15);
+        random.below(2);
+        random
+    }
+
+    pub fn below(&mut self, n: usize) -> usize {
+        self.0 = self.0.wrapping_mul(6_364_136_223_846_793_005).wrapping_add(1_442_695_040_888_963_407);
+        (self.0 >> 33) as usize % n
+    }
+
+    /// Up to three characters are removed or inserted.
+    pub fn edit(&mut self, string: &mut String) {
+        for _ in 0..self.below(4) {
+            let at = self.below(string.len() + 1);
+            if !string.is_char_boundary(at) {
+                continue;
+            }
+            if at < string.len() && self.below(2) == 0 {
+                string.remove(at);
+            } else {
+                string.insert(at, b"0125679.+-_azA*/ "[self.below(17)] as char);
+            }
+        }
+    }
+}
+
+/// Each word, and how it looks after so many edits.
+pub fn edited_words(edits: usize) -> Vec<String> {
+    let words = spelled_words();
+    let edited = (0..words.len() * edits).map(|i| {
+        let mut word = words[i % words.len()].clone();
+        Random::new(i).edit(&mut word);
+        word
+    });
+    let others = "docker npm glibc Glibc musl".split(' ').map(String::from);
+    let dialects = s::dialects().list().iter().map(|it| s::dialect_name(*it).string());
+    unique(words.iter().cloned().chain(edited).chain(others).chain(dialects))
+}
+
+/// Names of other tools: those of the rows of each dialect, with numbers at the limits, in other cases and with more or less in them;
+/// words; and how these look after edits.
+pub fn names() -> Vec<String> {
+    let mut names = spelled_words();
+    for dialect in s::dialects().list() {
+        for row in s::rows_of(*dialect).list() {
+            let pattern = s::get_pattern(*row).string();
+            for number in ["11", "0", "255", "256", "65535", "65536", "007", ""] {
+                let name = pattern.replace('*', number);
+                names.extend([pattern.replacen('*', number, 1).replace('*', "3"), name.to_uppercase(), name.replace('-', "_")]);
+                names.extend([name.clone() + "/v7", name.replace('-', ""), name.replace('.', ""), name]);
+            }
+        }
+    }
+    for i in 0..names.len() {
+        let mut name = names[i].clone();
+        Random::new(i).edit(&mut name);
+        names.push(name);
+    }
+    unique(names.into_iter())
+}

@@ -1,0 +1,634 @@
+"""Translates the definitions of crates/*/specs into Rust, so that they can be run.
+
+The definitions are a small functional language. Types aren't used: each value is a `V` of values.rs. A definition becomes a function
+of its arguments, and a proposition a test, whose variables range over the domain of their type (DOMAINS). Definitions of the kit's
+library are those of library.antt; what has no clauses there is a function of values.rs. The tables that definitions cite from the
+code are read from the proved source. What isn't understood is an error that names it.
+
+A definition whose type is a proposition is translated only if a Rust file of this folder, or another translated one, names it.
+"""
+import functools
+import pathlib
+import re
+
+HERE = pathlib.Path(__file__).resolve().parent
+ROOT = HERE.parents[1]
+CRATES = ["lexicon_fields", "target_lexicon", "tool_names"]
+LIBRARY = ("library",)
+
+# ---- two exceptions, to be fast: where the second argument is computed only if it is needed, and what is kept in a table
+LAZY, KEPT = {"option_or"}, {"edit_distance"}
+
+# What a variable of a proposition ranges over. The fields of a placement increase, so no other list of fields matters.
+DOMAINS = {"ℕ": "numbers()", "Field": "fields()", "List Field": "field_lists()", "List ( List ℕ )": "library::seq(&[parts_of(text_)])"}
+
+LEVELS = [["→", "↔"], ["⊎"], ["×"], ["≡", "≢", "<", "≤"], ["||"], ["&&"], ["=="], ["∷", "++"], ["+", "-"], ["*"], ["^"]]
+TO_THE_LEFT = ("==", "+", "-", "*", "≡", "≢", "<", "≤")
+TESTS = {"→": "!{}.yes() || {}.yes()", "↔": "{}.yes() == {}.yes()", "⊎": "{}.yes() || {}.yes()", "×": "{}.yes() && {}.yes()",
+         "||": "{}.yes() || {}.yes()", "&&": "{}.yes() && {}.yes()", "≡": "eq({}, {})", "≢": "!eq({}, {})",
+         "<": "{}.number() < {}.number()", "≤": "{}.number() <= {}.number()"}
+OPERATORS = {"∷": "cons", "++": "append", "+": "add", "-": "sub", "*": "mul", "^": "pow", "==": "nat_eq"}
+TOKEN = re.compile(r'"(?:\\.|[^"\\])*"|0x[0-9A-Fa-f_]+|\d+|[^\W\d]\w*|\[\]|\+\+|==|&&|\|\||\S')
+# Words of Rust, and names of values.rs that generated functions use.
+TAKEN = set("""abstract as async await box break const continue crate do dyn else enum extern final fn for if impl in let loop macro match
+    mod move mut override priv pub ref return self static struct super then trait try type unsafe use virtual where while with yield
+    text con function apply or truth remember stuck constant once eq reached library""".split())
+
+
+class Untranslated(Exception):
+    """What isn't understood."""
+
+
+def chunks(text):
+    """The parts of a file: each begins at the margin. Comments are left out."""
+    found = []
+    for line in text.split("\n"):
+        line = re.sub(r"(^|\s)--(\s.*)?$", "", line).rstrip()
+        if line and line[0] in " }" and found:
+            found[-1] += "\n" + line
+        elif line:
+            found.append(line)
+    return found
+
+
+# ---- reading
+
+class Parser:
+    """Expressions are tuples: var, num, str, nil, get, app, op, tuple, lam, if, let, record, all, any. Patterns are expressions too."""
+
+    def __init__(self, text):
+        self.tokens, self.at = [(it[0], it.start(), it.end()) for it in TOKEN.finditer(text)] + [("", -1, -1)], 0
+
+    def peek(self):
+        return self.tokens[self.at][0]
+
+    def next(self, wanted=None):
+        token = self.peek()
+        if wanted and token != wanted:
+            raise Untranslated(f"{wanted!r} is expected, and not {token!r}")
+        self.at += 1
+        return token
+
+    def after(self, word):
+        self.next(word)
+        return self.expression()
+
+    def group(self, opening, closing):
+        """Goes on after a group in brackets. Returns its tokens."""
+        begin, depth = self.at, 0
+        while True:
+            token = self.next()
+            depth += (token == opening) - (token == closing)
+            if not depth:
+                return [it[0] for it in self.tokens[begin + 1:self.at - 1]]
+            if not token:
+                raise Untranslated(f"no {closing!r}")
+
+    def expression(self, level=0):
+        token = self.peek()
+        if token == "λ":
+            return self.function()
+        if token == "if":
+            return ("if", self.after("if"), self.after("then"), self.after("else"))
+        if token == "let":
+            self.next()
+            return ("let", self.next(), self.after("="), self.after("in"))
+        if token == "(" and re.match(r"\( ([\w ]+) : ", " ".join(it[0] for it in self.tokens[self.at:self.at + 12])):
+            return self.quantified()
+        if token == "¬":
+            self.next()
+            return ("op", "→", self.application(), ("var", "⊥"))
+        if level == len(LEVELS):
+            return self.application()
+        left = self.expression(level + 1)
+        while self.peek() in LEVELS[level]:
+            operator = self.next()
+            left = ("op", operator, left, self.expression(level + (operator in TO_THE_LEFT)))
+        return left
+
+    def function(self):
+        self.next("λ")
+        names = []
+        while self.peek() != ".":
+            names.append(self.group("(", ")")[0] if self.peek() == "(" else self.next())
+        return functools.reduce(lambda body, name: ("lam", name, body), reversed(names), self.after("."))
+
+    def quantified(self):
+        """`(x y : T) → ..`, which may be followed by another group, or `(x : T) × ..`"""
+        group = self.group("(", ")")
+        names, type = group[:group.index(":")], " ".join(group[group.index(":") + 1:])
+        kind = "any" if self.peek() == "×" else "all"
+        body = self.expression() if self.peek() == "(" else self.after(self.peek())
+        return functools.reduce(lambda body, name: (kind, name, type, body), reversed(names), body)
+
+    def application(self):
+        head, arguments = self.atom(), []
+        while re.match(r'[\w"(\[{⊤⊥]', self.peek()) and self.peek() not in ("then", "else", "in"):
+            if self.peek() == "{":  # an implicit argument
+                self.group("{", "}")
+            else:
+                arguments.append(self.atom())
+        return ("app", head, arguments) if arguments else head
+
+    def atom(self):
+        token = self.next()
+        if token == "(":
+            items = [self.expression()]
+            while self.peek() == ",":
+                items.append(self.after(","))
+            self.next(")")
+            found = ("tuple", items) if len(items) > 1 else items[0]
+        elif token == "record":
+            found = ("record", None if self.peek() == "{" else self.atom(), self.fields())
+        elif token == "[]":
+            found = ("nil",)
+        elif re.match(r'["\w⊤⊥]', token):
+            found = ("str", token) if token[0] == '"' else ("num", int(token, 0)) if token[0].isdigit() else ("var", token)
+        else:
+            raise Untranslated(f"unexpected {token!r}")
+        while self.peek() == "." and self.tokens[self.at][1] == self.tokens[self.at - 1][2] == self.tokens[self.at + 1][1] - 1:
+            self.next()
+            found = ("get", found, self.next())
+        return found
+
+    def fields(self):
+        found = {}
+        self.next("{")
+        while self.peek() != "}":
+            name = self.next()
+            found[name] = self.after("=")
+            if self.peek() == ";":
+                self.next()
+        self.next("}")
+        return found
+
+
+class Definition:
+    def __init__(self, module, name, type, local_to=None):
+        self.module, self.name, self.type, self.chunks = module, name, type, []
+        self.locals = local_to.locals if local_to else {}
+        self.is_proposition = type.rstrip().endswith("Type 0")
+
+    @property
+    def title(self):
+        return "/".join(self.module.path[1:2] + (f"{self.module.path[-1]}.{self.name}",))
+
+    @functools.cached_property
+    def clauses(self):
+        """The patterns and the body of each clause."""
+        found = []
+        for chunk in self.chunks:
+            parser = Parser(chunk)
+            head = parser.application()
+            found.append((head[2] if head[0] == "app" else [], parser.after("=")))
+            if parser.peek():
+                raise Untranslated(f"{parser.peek()!r} is left")
+        if len({len(patterns) for patterns, _ in found}) > 1:
+            raise Untranslated("its clauses have different numbers of arguments")
+        return found
+
+
+FORMS = {
+    "use": r"(?:pub |unfoldable )*use ([^\s{]+?)(\.\{(.*)\})?(?: as (\S+))?$",
+    "data": r"(?:pub )?data (\S+).* where\n(.*)",
+    "record": r"(?:pub )?record (\w+) ?(.*) ?: Type 0 where\n(.*)",
+    "type": r"(?:abbrev |unfoldable |opaque |pub )*(\w+)(?: \{ℓ\})? : (.*)",
+}
+
+
+class Module:
+    """A file: its definitions, its constructors, the names that it takes from elsewhere, and the fields of its records."""
+
+    def __init__(self, path, file):
+        self.path, self.definitions, self.constructors, self.uses, self.records = path, {}, {}, {}, []
+        for chunk in chunks(file.read_text(encoding="utf-8")):
+            found = next(((kind, it) for kind, form in FORMS.items() if (it := re.match(form, chunk, re.S))), None)
+            name = re.match(r"[\w-]+", chunk)
+            if found:
+                getattr(self, f"read_{found[0]}")(found[1])
+            elif name and name[0] in self.definitions:
+                self.read_clause(self.definitions[name[0]], chunk)
+            elif not chunk.startswith("pub mod "):
+                raise Untranslated(f"{file}: this isn't understood: {chunk.splitlines()[0]}")
+
+    def read_use(self, it):
+        for item in it[3].split(",") if it[2] else [""]:
+            words = item.split()
+            full = it[1].split(".") + (words[0].split(".") if words else [])
+            self.uses[words[2] if len(words) == 3 else it[4] or full[-1]] = full
+
+    def read_data(self, it):
+        self.constructors |= {name: f"{it[1]}__{name}" for name in re.findall(r"^  (\w+) :", it[2], re.M)}
+
+    def read_record(self, it):
+        """A record of data, or of propositions, which is the test that each of its fields is true."""
+        fields = re.findall(r"^  pub (\w+) : (.*?)(?=^  pub |\Z)", it[3] + "\n", re.M | re.S)
+        if not it[2] and not any(re.search("[≡≢→↔≤]", type) for _, type in fields):
+            return self.records.append([name for name, _ in fields])
+        test = "⊤"
+        for name, type in reversed(fields):
+            is_variable = " ".join(TOKEN.findall(type)) in DOMAINS
+            test = f"({name} : {type}) × {test}" if is_variable else f"({type}) × ({test})"
+        names = " ".join(re.findall(r"\(([\w ]+) :", it[2]))
+        self.definitions[it[1]] = Definition(self, it[1], "Type 0")
+        self.definitions[it[1]].chunks.append(f"{it[1]} {names} = {test}")
+
+    def read_type(self, it):
+        self.definitions[it[1]] = Definition(self, it[1], it[2])
+
+    def read_clause(self, definition, chunk):
+        chunk, _, local = chunk.partition("\n  where\n")
+        definition.chunks.append(chunk)
+        for part in chunks(re.sub(r"^    ", "", local, flags=re.M)):
+            if it := re.match(r"(\w+) : (.*)", part, re.S):
+                name = f"{definition.name}_{it[1]}"
+                definition.locals[it[1]] = self.definitions[name] = Definition(self, name, it[2], definition)
+            else:
+                self.read_clause(definition.locals[re.match(r"\w+", part)[0]], part)
+
+
+class Names:
+    """What a name is: a definition, a constructor, a constant of the code, a function of values.rs, or a module or namespace."""
+
+    def __init__(self, root=ROOT):
+        self.root = root
+
+    @functools.cache
+    def module(self, path):
+        if path == LIBRARY:
+            return Module(path, HERE / "library.antt")
+        file = self.root.joinpath("crates", *path[1:]).with_suffix(".antt")
+        return Module(path, file) if path[0] == "Rattle" and path[1] in CRATES and file.exists() else None
+
+    def lookup(self, path):
+        path = tuple(path)
+        for word, kind in (("TheVariants", "constructor"), ("TheConstants", "constant")):
+            if word in path:
+                at = path.index(word)
+                if not path[at + 1:]:
+                    return "namespace", path
+                return kind, f"{path[at - 1]}__{path[-1]}" if kind == "constructor" else path
+        if path[0] != "Rattle" or path[1] not in CRATES:
+            return self.exported(self.module(LIBRARY), path[-1])
+        if self.module(path):
+            return "namespace", path
+        if len(path) > 3 and "declared" not in path and self.module(path[:-1]):
+            return self.exported(self.module(path[:-1]), path[-1])
+        return "unknown", ".".join(path)
+
+    def exported(self, module, name):
+        if name in module.definitions:
+            found = module.definitions[name]
+            return ("definition" if found.chunks else "built in"), found
+        if name in module.constructors:
+            return "constructor", module.constructors[name]
+        if name in module.uses:
+            return self.lookup(module.uses[name])
+        return ("unknown", name) if module.path == LIBRARY else self.exported(self.module(LIBRARY), name)
+
+    def resolve(self, definition, expression):
+        """What a var is, or a name after a namespace."""
+        if expression[0] == "get":
+            kind, path = self.resolve(definition, expression[1]) if expression[1][0] in ("var", "get") else ("", "")
+            return self.lookup(path + (expression[2],)) if kind == "namespace" else ("", "")
+        if expression[1] in definition.locals:
+            return "definition", definition.locals[expression[1]]
+        return self.exported(definition.module, expression[1])
+
+
+# ---- writing
+
+def parts(expression):
+    return expression.values() if isinstance(expression, dict) else expression if isinstance(expression, (tuple, list)) else ()
+
+
+def variables(expression):
+    if isinstance(expression, tuple) and expression[:1] == ("var",):
+        return {expression[1]}
+    return set().union(*map(variables, parts(expression)))
+
+
+def arity_in(type):
+    """How many arguments a type has: arrows outside of brackets, but for that after an implicit argument."""
+    depth = count = 0
+    for token in TOKEN.findall(re.sub(r"\{[^}]*\} →", "", type)):
+        depth += (token in "({") - (token in ")}")
+        count += token == "→" and not depth
+    return count
+
+
+NO, YES, TRIVIALLY = range(3)  # whether an expression is closed: without variables, so that it is computed once
+
+
+class Rust:
+    """The Rust source. An expression becomes its code, and whether it is closed."""
+
+    def __init__(self, root=ROOT):
+        self.root, self.names = root, Names(root)
+        self.constructors, self.arity, self.shapes, self.fields, self.wholes = {}, {}, {}, {"now"}, {}
+        self.functions, self.of, self.constants, self.fresh, self.cited, self.failed = [], {}, 3, 0, {}, []
+        self.todo, self.definition = [], None
+
+    def translate(self, cited):
+        """All definitions, and the propositions with these names and what they need."""
+        modules = [self.names.module(("Rattle", crate, "specs") + file.relative_to(folder).with_suffix("").parts)
+                   for crate in CRATES for folder in [self.root / "crates" / crate / "specs"] for file in sorted(folder.rglob("*.antt"))]
+        self.own = [it for module in modules for it in module.definitions.values()]
+        for module in [*modules, self.names.module(LIBRARY)]:
+            for fields in [*module.records, ["now"]]:
+                self.shape(fields)
+            for definition in module.definitions.values():
+                if definition.chunks and not definition.is_proposition:
+                    self.count_arguments(definition, definition.clauses)
+        wanted = [it for it in self.own if not it.is_proposition]
+        wanted += [it for it in self.own if it.is_proposition and it.name in cited]
+        for definition in wanted:
+            self.name_of(definition)
+        for definition in self.todo:  # it grows
+            self.function(definition)
+        return self
+
+    def count_arguments(self, definition, expression):
+        """A constructor has as many arguments as it gets somewhere."""
+        if isinstance(expression, tuple) and expression[0] == "app" and expression[1][0] in ("var", "get"):
+            kind, what = self.names.resolve(definition, expression[1])
+            if kind == "constructor":
+                self.arity[what] = max(self.arity.get(what, 0), len(expression[2]))
+        for part in parts(expression):
+            self.count_arguments(definition, part)
+
+    def constructor(self, key):
+        return self.constructors.setdefault(key, key)
+
+    def shape(self, fields):
+        """A record is known by the set of its fields; the order is that of the first."""
+        return self.shapes.setdefault(frozenset(fields), list(fields))
+
+    def name_of(self, definition):
+        """The name of the function, which will be written. Where two have a name, the later one has its module's before it."""
+        key = definition.module.path, definition.name
+        if key not in self.of:
+            is_free = definition.name not in {*self.of.values(), *TAKEN}
+            self.of[key] = definition.name if is_free else f"{definition.module.path[-1]}_{definition.name}"
+            self.todo.append(definition)
+        return self.of[key]
+
+    def function(self, definition):
+        self.definition, name, parameters = definition, self.name_of(definition), []
+        try:
+            if not definition.chunks:
+                raise Untranslated("it has no clause")
+            first = definition.clauses[0]
+            parameters = [f"a{i}" for i in range(len(first[0]))]
+            if len(definition.clauses) == 1 and all(self.is_variable(it) and it[1] != "_" for it in first[0]):
+                parameters = [self.local(it[1]) for it in first[0]]
+                code = self.once(*self.expression(first[1], {it[1]: of for it, of in zip(first[0], parameters)}))
+            else:
+                arms = "".join(self.arm(parameters, patterns, body) for patterns, body in definition.clauses)
+                code = f'match ({", ".join(parameters)},) {{\n{arms}        _ => stuck("{name}"),\n    }}'
+        except Untranslated as problem:
+            self.failed.append((definition, str(problem)))
+            code = f'stuck("{name}")'
+        if definition.name in KEPT:
+            code = f"remember(&[{', '.join(parameters)}], || {code})"
+        place = self.todo.index(definition)
+        self.functions.append(f"pub fn {name}({', '.join(it + ': V' for it in parameters)}) -> V {{\n    reached({place});\n    {code}\n}}\n")
+
+    def local(self, name):
+        return name + "_" if name in TAKEN else name
+
+    def is_variable(self, pattern):
+        return pattern[0] == "var" and pattern[1] not in ("zero", "suc") and self.names.resolve(self.definition, pattern)[0] != "constructor"
+
+    def arm(self, parameters, patterns, body):
+        binds, guards, scope, self.wholes = [], [], {}, {}
+        code = ", ".join(self.pattern(it, binds, guards, scope, of) for it, of in zip(patterns, parameters))
+        result = self.once(*self.expression(body, scope))
+        self.wholes = {}
+        guard = f" if {' && '.join(guards)}" if guards else ""
+        return f"        ({code},){guard} => " + (f"{{ {''.join(binds)}{result} }}\n" if binds else f"{result},\n")
+
+    def pattern(self, it, binds, guards, scope, whole=None):
+        """A pattern; `whole` is the argument that it is of, or None inside another pattern."""
+        def inner(part):
+            return self.pattern(part, binds, guards, scope)
+
+        if it == ("var", "_"):
+            return "_"
+        if self.is_variable(it):
+            scope[it[1]] = name = self.local(it[1])
+            if not whole:
+                binds.append(f"let {name} = *{name}; ")
+            return name
+        if it[0] == "num" or it == ("var", "zero"):
+            return f"N({it[1] if it[0] == 'num' else 0})"
+        if it[0] == "app" and it[1] == ("var", "suc") and whole and self.is_variable(it[2][0]):
+            name = scope[it[2][0][1]] = self.local(it[2][0][1])
+            guards.append(f"{name} > 0")
+            binds.append(f"let {name} = N({name} - 1); ")
+            return f"N({name})"
+        if it[0] == "op" and it[1] == "∷":
+            if whole:
+                self.wholes[str(it)] = whole  # where the body has this again, it is the argument
+            items = []
+            while it[0] == "op" and it[1] == "∷":
+                items.append(inner(it[2]))
+                it = it[3]
+            if it == ("var", "_"):
+                items.append("..")
+            elif self.is_variable(it):
+                scope[it[1]] = tail = self.local(it[1])
+                binds.append(f"let {tail} = L({tail}); ")
+                items.append(f"{tail} @ ..")
+            elif it[0] != "nil":
+                raise Untranslated(f"the pattern {it}")
+            return f"L([{', '.join(items)}])"
+        if it[0] in ("nil", "tuple"):
+            return "L([])" if it[0] == "nil" else f"C(TUPLE, [{', '.join(map(inner, it[1]))}])"
+        head, arguments = (it[1], it[2]) if it[0] == "app" else (it, [])
+        kind, what = self.names.resolve(self.definition, head) if head[0] in ("var", "get") else ("", "")
+        if kind != "constructor":
+            raise Untranslated(f"the pattern {it}")
+        return f"C({self.constructor(what)}, {'[' + ', '.join(map(inner, arguments)) + ']' if arguments else '_'})"
+
+    def once(self, code, closed):
+        if closed != YES:
+            return code
+        self.constants += 1
+        return f"once({self.constants - 1}, || {code})"
+
+    def all(self, items, scope):
+        """The code of each, and whether all are closed. Where one isn't, the others are computed once."""
+        done = [self.expression(it, scope) for it in items]
+        closed = int(all(it for _, it in done))
+        return [code if closed else self.once(code, it) for code, it in done], closed
+
+    def expression(self, it, scope):
+        return getattr(self, f"{it[0]}_code")(it, scope)
+
+    def num_code(self, it, scope):
+        return f"N({it[1]})", TRIVIALLY
+
+    def nil_code(self, it, scope):
+        return "L(&[])", TRIVIALLY
+
+    def str_code(self, it, scope):
+        return f"text({it[1]})", YES
+
+    def var_code(self, it, scope):
+        return (scope[it[1]], NO) if it[1] in scope else self.applied(it, [], scope)
+
+    def get_code(self, it, scope):
+        return self.applied(it, [], scope)
+
+    def app_code(self, it, scope):
+        if it[1] == ("var", "codes") and it[2][0][0] == "str":
+            return self.str_code(it[2][0], scope)
+        return self.applied(it[1], it[2], scope)
+
+    def let_code(self, it, scope):
+        name = self.local(it[1])
+        return f"{{ let {name} = {self.expression(it[2], scope)[0]}; {self.expression(it[3], scope | {it[1]: name})[0]} }}", NO
+
+    def lam_code(self, it, scope):
+        body = self.once(*self.expression(it[2], scope | {it[1]: self.local(it[1])}))
+        return f"function(move |{self.local(it[1])}| {body})", NO if (variables(it[2]) - {it[1]}) & set(scope) else YES
+
+    def if_code(self, it, scope):
+        (test, yes, no), closed = self.all(it[1:], scope)
+        return f"if {test}.yes() {{ {yes} }} else {{ {no} }}", closed
+
+    def tuple_code(self, it, scope):
+        items, closed = self.all(it[1], scope)
+        return f"con(TUPLE, &[{', '.join(items)}])", closed
+
+    def record_code(self, it, scope):
+        codes, closed = self.all([*it[2].values()] + ([it[1]] if it[1] else []), scope)
+        if it[1]:
+            changes = ", ".join(f'("{field}", {code})' for field, code in zip(it[2], codes))
+            return f"with({codes[-1]}, &[{changes}])", closed
+        order, of = self.shape(it[2]), dict(zip(it[2], codes))
+        return f"con(R_{'_'.join(order)}, &[{', '.join(of[field] for field in order)}])", closed
+
+    def op_code(self, it, scope):
+        if str(it) in self.wholes:
+            return self.wholes[str(it)], NO
+        (a, b), closed = self.all(it[2:], scope)
+        return f"truth({TESTS[it[1]].format(a, b)})" if it[1] in TESTS else f"library::{OPERATORS[it[1]]}({a}, {b})", closed
+
+    def any_code(self, it, scope):
+        if it[2] not in DOMAINS:
+            raise Untranslated(f"no domain of {it[2]}")
+        test, _ = self.expression(("lam", it[1], it[3]), scope)
+        return f"{it[0]}({DOMAINS[it[2]]}, {test})", NO
+
+    all_code = any_code
+
+    def applied(self, head, arguments, scope):
+        kind, what = "", ""
+        if head[0] == "get" or head[0] == "var" and head[1] not in scope:
+            kind, what = self.names.resolve(self.definition, head)
+        if head[0] == "get" and not kind:  # a field
+            (of,), closed = self.all([head[1]], scope)
+            if not head[2].isdigit():
+                self.fields.add(head[2])
+            return self.given(f"{of}.at({head[2]})" if head[2].isdigit() else f"get_{head[2]}({of})", closed, arguments, scope)
+        if head[1] in ("⊤", "⊥", "Unit"):
+            return f"truth({'false' if head[1] == '⊥' else 'true'})", TRIVIALLY
+        if kind == "definition" and what.clauses:
+            count, call = len(what.clauses[0][0]), self.name_of(what) + "({})"
+        elif kind == "constructor":
+            count = self.arity.get(what, 0)
+            call = f"con({self.constructor(what)}, &[{{}}])" if count else f"C({self.constructor(what)}, &[])"
+        elif kind == "built in":
+            count, call = arity_in(what.type), f"library::{what.name}({{}})"
+        elif kind == "constant":
+            self.cited[what] = f"constant_{len(self.cited)}" if what not in self.cited else self.cited[what]
+            return f"{self.cited[what]}()", YES
+        elif head == ("var", "cond"):
+            return self.expression(("if", *arguments), scope)
+        elif not kind:
+            return self.given(*self.expression(head, scope), arguments, scope)
+        else:
+            raise Untranslated(f"nothing has the name {what if isinstance(what, str) else what.name}")
+        if count == 0:
+            return self.given(call.format(""), TRIVIALLY, arguments, scope)
+        codes, closed = self.all(arguments[:count], scope)
+        if getattr(what, "name", "") in LAZY and len(codes) == count:
+            return f"or({codes[0]}, || {codes[1]})", closed
+        if len(codes) < count:  # a function of what is missing
+            self.fresh += 1
+            given, more = [f"g{self.fresh}_{i}" for i in range(len(codes))], [f"x{i}" for i in range(count - len(codes))]
+            lets = "".join(f"let {name} = {code}; " for name, code in zip(given, codes))
+            functions = "".join(f"function(move |{name}| " for name in more)
+            return f"{{ {lets}{functions}{call.format(', '.join(given + more))}{')' * len(more)} }}", closed
+        return self.given(call.format(", ".join(codes)), closed, arguments[count:], scope)
+
+    def given(self, code, closed, arguments, scope):
+        """A function that is a value, applied to arguments."""
+        codes, rest = self.all(arguments, scope)
+        if arguments and not rest:
+            code = self.once(code, closed)
+        for argument in codes:
+            code = f"apply({code}, {argument})"
+        return code, (int(bool(closed and rest)) if arguments else closed)
+
+    # ---- the whole source
+
+    def source(self):
+        constants = [f"fn {name}() -> V {{ {self.constant(path)} }}\n" for path, name in self.cited.items()]
+        shapes = list(self.shapes.values())
+        tags = [(it, it.split("__", 1)[1], []) for it in self.constructors]
+        tags += [("R_" + "_".join(it), "", it) for it in shapes] + [("TUPLE", "", [])]
+        out = ["// Written by checks/specification from the definitions of crates/*/specs.\nuse crate::values::*;\n", *self.functions, *constants]
+        out += [f"pub const {name}: u32 = {i};\n" for i, (name, _, _) in enumerate(tags)]
+        rows = ", ".join(f"({name!r}, &{fields})".replace("'", '"') for _, name, fields in tags)
+        out.append(f"pub static TAGS: &[(&str, &[&str])] = &[{rows}];\n")
+        for field in sorted(self.fields):
+            arms = "".join(f"C(R_{'_'.join(it)}, f) => f[{it.index(field)}], " for it in shapes if field in it)
+            out.append(f'pub fn get_{field}(v: V) -> V {{ match v {{ {arms}_ => stuck("{field}") }} }}\n')
+        titles = ", ".join(f'"{it.title}"' for it in self.todo)
+        out.append(f"pub static TITLES: [&str; {len(self.todo)}] = [{titles}];\n")
+        out.append(f"pub static mut REACHED: [bool; {len(self.todo)}] = [false; {len(self.todo)}];\n")
+        out.append(f"pub static mut ONCE: [Option<V>; {self.constants}] = [None; {self.constants}];\n")
+        return "".join(out)
+
+    def constant(self, path):
+        """A constant of the code, by its type, from the proved source."""
+        crate, folders, name = path[1], path[path.index("declared") + 1:-2], path[-1]
+        file = self.root.joinpath("crates", crate, "src", *folders).with_suffix(".rt")
+        found = re.search(rf"(?:static|const) {name}: (.*?) =\s*(.*?);$", file.read_text(encoding="utf-8"), re.S | re.M)
+        if not found:
+            raise Untranslated(f"{file.relative_to(self.root)} has no constant {name}")
+        tokens = re.findall(r'"(?:\\.|[^"\\])*"|\w+|[^\s\w]', found[2])
+        return self.literal(re.sub(r"\s", "", found[1]), tokens)
+
+    def literal(self, type, tokens):
+        if it := re.fullmatch(r"\[(.*);\d+\]|&\[(.*)\]", type):
+            if tokens[0] == "&":
+                tokens.pop(0)
+            items, item_type = [], it[1] or it[2]
+            tokens.pop(0)
+            while tokens[0] != "]":
+                items.append(self.literal(item_type, tokens))
+                if tokens[0] == ",":
+                    tokens.pop(0)
+            tokens.pop(0)
+            return f"library::seq(&[{', '.join(items)}])"
+        if type[0] == "(":
+            items = []
+            for item_type in type[1:-1].split(","):
+                tokens.pop(0)  # the bracket, or a comma
+                items.append(self.literal(item_type, tokens))
+            while tokens.pop(0) != ")":
+                pass
+            return f"con(TUPLE, &[{', '.join(items)}])"
+        token = tokens.pop(0)
+        if type in ("&str", "&'staticstr"):
+            return f"con(R_now, &[text({token})])"
+        if not token[0].isalpha():
+            raise Untranslated(f"{token} isn't a {type}")
+        while tokens and tokens[0] == ":":
+            tokens[:2] = []
+            token = tokens.pop(0)
+        return f"C({self.constructor(f'{type}__{token}')}, &[])"

@@ -1,0 +1,313 @@
+//! What the generated definitions stand on: values, memory that is given back after each case, numbers and lists.
+//!
+//! There is one thread. A value may be copied freely: it lives until `forget`, or for ever if it was made inside `once` or `keep`.
+#![allow(static_mut_refs)]
+use crate::spec::{Bool__false, Bool__true, Option__None, ONCE, REACHED, TAGS};
+use std::{alloc::Layout, collections::HashMap};
+
+/// A number, a constructor or record with its arguments, a list, or a function.
+#[derive(Clone, Copy)]
+pub enum V {
+    N(u64),
+    C(u32, &'static [V]),
+    L(&'static [V]),
+    F(&'static dyn Fn(V) -> V),
+}
+pub use V::{C, F, L, N};
+
+// ---- memory
+
+const ROOM: usize = 256 << 20;
+static mut BASE: *mut u8 = std::ptr::null_mut();
+static mut USED: usize = 0;
+static mut FOR_EVER: usize = 0;
+static mut TABLE: Option<HashMap<String, V>> = None;
+
+/// Gives the memory of a case back.
+pub fn forget() {
+    unsafe {
+        USED = 0;
+        TABLE = None;
+    }
+}
+
+fn room(bytes: usize) -> *mut u8 {
+    unsafe {
+        let bytes = (bytes + 15) & !15;
+        if FOR_EVER > 0 {
+            return std::alloc::alloc(Layout::from_size_align(bytes.max(16), 16).unwrap());
+        }
+        if BASE.is_null() {
+            BASE = std::alloc::alloc(Layout::from_size_align(ROOM, 16).unwrap());
+        }
+        assert!(USED + bytes <= ROOM, "a case takes more than {ROOM} bytes");
+        USED += bytes;
+        BASE.add(USED - bytes)
+    }
+}
+
+fn filled(count: usize, value: impl Fn(usize) -> V) -> &'static [V] {
+    unsafe {
+        let at = room(count * std::mem::size_of::<V>()) as *mut V;
+        for i in 0..count {
+            at.add(i).write(value(i));
+        }
+        std::slice::from_raw_parts(at, count)
+    }
+}
+
+/// A value that stays.
+pub fn keep(f: impl FnOnce() -> V) -> V {
+    unsafe {
+        FOR_EVER += 1;
+        let v = f();
+        FOR_EVER -= 1;
+        v
+    }
+}
+
+/// An expression without variables is computed once.
+pub fn once(i: usize, f: impl FnOnce() -> V) -> V {
+    unsafe {
+        if let Some(v) = ONCE[i] {
+            return v;
+        }
+        ONCE[i] = Some(keep(f));
+        ONCE[i].unwrap()
+    }
+}
+
+/// What was computed in this case is kept by its arguments.
+pub fn remember(arguments: &[V], f: impl FnOnce() -> V) -> V {
+    let key = arguments.iter().map(|a| shown(*a) + ",").collect::<String>();
+    if let Some(v) = unsafe { TABLE.get_or_insert_with(HashMap::new).get(&key) } {
+        return *v;
+    }
+    let v = f();
+    unsafe { TABLE.get_or_insert_with(HashMap::new).insert(key, v) };
+    v
+}
+
+/// A definition was reached.
+pub fn reached(i: usize) {
+    unsafe { REACHED[i] = true }
+}
+
+// ---- making and taking apart
+
+pub fn stuck(name: &str) -> V {
+    panic!("no clause of {name} fits")
+}
+
+pub fn function<T: Fn(V) -> V + Copy + 'static>(f: T) -> V {
+    unsafe {
+        let at = room(std::mem::size_of::<T>()) as *mut T;
+        at.write(f);
+        F(&*at)
+    }
+}
+
+pub fn apply(f: V, x: V) -> V {
+    if let F(f) = f { f(x) } else { stuck("a function") }
+}
+
+pub fn con(tag: u32, arguments: &[V]) -> V {
+    C(tag, filled(arguments.len(), |i| arguments[i]))
+}
+
+/// A record with some fields changed.
+pub fn with(v: V, changes: &[(&str, V)]) -> V {
+    let C(tag, old) = v else { return stuck("a record") };
+    let names = TAGS[tag as usize].1;
+    C(tag, filled(old.len(), |i| changes.iter().find(|it| it.0 == names[i]).map_or(old[i], |it| it.1)))
+}
+
+pub fn text(s: &str) -> V {
+    L(filled(s.len(), |i| N(s.as_bytes()[i].into())))
+}
+
+pub fn truth(b: bool) -> V {
+    C(if b { Bool__true } else { Bool__false }, &[])
+}
+
+pub fn or(a: V, b: impl FnOnce() -> V) -> V {
+    if let C(Option__None, _) = a { b() } else { a }
+}
+
+impl V {
+    pub fn yes(self) -> bool {
+        matches!(self, C(Bool__true, _))
+    }
+    pub fn at(self, i: usize) -> V {
+        if let C(_, items) = self { items[i] } else { stuck("a tuple") }
+    }
+    pub fn field(self, name: &str) -> V {
+        let C(tag, fields) = self else { return stuck(name) };
+        fields[TAGS[tag as usize].1.iter().position(|it| *it == name).unwrap()]
+    }
+    pub fn number(self) -> u64 {
+        if let N(n) = self { n } else { panic!("a number") }
+    }
+    pub fn list(self) -> &'static [V] {
+        if let L(items) = self { items } else { panic!("a list") }
+    }
+    pub fn bytes(self) -> Vec<u8> {
+        self.list().iter().map(|c| c.number() as u8).collect()
+    }
+    pub fn string(self) -> String {
+        String::from_utf8(self.bytes()).expect("UTF-8")
+    }
+}
+
+pub fn eq(a: V, b: V) -> bool {
+    match (a, b) {
+        (N(a), N(b)) => a == b,
+        (C(s, a), C(t, b)) => s == t && a.iter().zip(b).all(|(a, b)| eq(*a, *b)),
+        (L(a), L(b)) => a.len() == b.len() && a.iter().zip(b).all(|(a, b)| eq(*a, *b)),
+        _ => panic!("functions, or values of two kinds, are compared"),
+    }
+}
+
+// ---- showing
+
+/// A value as Rust's `{:?}` shows it, without the names of structs; a list of bytes is a text.
+pub fn show(out: &mut String, v: V) {
+    let items = |out: &mut String, open: &str, names: &[&str], items: &[V], close: &str| {
+        out.push_str(open);
+        for (i, item) in items.iter().enumerate() {
+            if i > 0 {
+                out.push_str(", ");
+            }
+            if let Some(name) = names.get(i) {
+                out.push_str(name);
+                out.push_str(": ");
+            }
+            show(out, *item);
+        }
+        out.push_str(close);
+    };
+    match v {
+        N(n) => out.push_str(&n.to_string()),
+        L(l) if l.iter().all(|it| matches!(it, N(_))) => out.push_str(&format!("{:?}", String::from_utf8_lossy(&v.bytes()))),
+        L(l) => items(out, "[", &[], l, "]"),
+        C(tag, fields) => match TAGS[tag as usize] {
+            (name, []) if fields.is_empty() => out.push_str(name),
+            (name, []) => {
+                out.push_str(name);
+                items(out, "(", &[], fields, ")");
+            }
+            (_, names) => items(out, "{ ", names, fields, " }"),
+        },
+        F(_) => out.push_str("a function"),
+    }
+}
+
+pub fn shown(v: V) -> String {
+    let mut out = String::new();
+    show(&mut out, v);
+    out
+}
+
+// ---- what variables of propositions range over
+
+pub fn any(domain: V, test: V) -> V {
+    truth(domain.list().iter().any(|it| apply(test, *it).yes()))
+}
+pub fn all(domain: V, test: V) -> V {
+    truth(domain.list().iter().all(|it| apply(test, *it).yes()))
+}
+/// Numbers of parts.
+pub fn numbers() -> V {
+    once(0, || L(filled(9, |i| N(i as u64))))
+}
+pub fn fields() -> V {
+    use crate::spec::*;
+    let all = [Field__Architecture, Field__Vendor, Field__OperatingSystem, Field__Environment, Field__BinaryFormat];
+    once(1, || library::seq(&all.map(|field| C(field, &[]))))
+}
+/// The lists of fields that increase.
+pub fn field_lists() -> V {
+    let chosen = |set: usize| library::seq(&(0..5).filter(|i| set >> i & 1 == 1).map(|i| fields().list()[i]).collect::<Vec<_>>());
+    once(2, || L(filled(32, chosen)))
+}
+
+/// What has no clause in library.antt. Numbers stay below 2^64, where they stop: no definition tells a larger one from that.
+pub mod library {
+    use super::*;
+
+    pub fn add(a: V, b: V) -> V {
+        N(a.number().saturating_add(b.number()))
+    }
+    pub fn sub(a: V, b: V) -> V {
+        N(a.number().saturating_sub(b.number()))
+    }
+    pub fn mul(a: V, b: V) -> V {
+        N(a.number().saturating_mul(b.number()))
+    }
+    pub fn pow(a: V, b: V) -> V {
+        N(a.number().saturating_pow(b.number() as u32))
+    }
+    pub fn suc(a: V) -> V {
+        add(a, N(1))
+    }
+    pub fn min(a: V, b: V) -> V {
+        N(a.number().min(b.number()))
+    }
+    pub fn nat_eq(a: V, b: V) -> V {
+        truth(a.number() == b.number())
+    }
+    pub fn nat_lt(a: V, b: V) -> V {
+        truth(a.number() < b.number())
+    }
+    pub fn nat_le(a: V, b: V) -> V {
+        truth(a.number() <= b.number())
+    }
+    pub fn not(a: V) -> V {
+        truth(!a.yes())
+    }
+    pub fn seq(items: &[V]) -> V {
+        L(filled(items.len(), |i| items[i]))
+    }
+    pub fn cons(x: V, xs: V) -> V {
+        let xs = xs.list();
+        L(filled(xs.len() + 1, |i| if i == 0 { x } else { xs[i - 1] }))
+    }
+    pub fn append(a: V, b: V) -> V {
+        let (x, y) = (a.list(), b.list());
+        if y.is_empty() { a } else { L(filled(x.len() + y.len(), |i| if i < x.len() { x[i] } else { y[i - x.len()] })) }
+    }
+    pub fn map(f: V, xs: V) -> V {
+        seq(&xs.list().iter().map(|x| apply(f, *x)).collect::<Vec<_>>())
+    }
+    pub fn length(xs: V) -> V {
+        N(xs.list().len() as u64)
+    }
+    fn up_to(n: V, items: &[V]) -> usize {
+        items.len().min(n.number() as usize)
+    }
+    pub fn take(n: V, xs: V) -> V {
+        L(&xs.list()[..up_to(n, xs.list())])
+    }
+    pub fn drop(n: V, xs: V) -> V {
+        L(&xs.list()[up_to(n, xs.list())..])
+    }
+    pub fn starts_with(is_equal: V, xs: V, beginning: V) -> V {
+        let (xs, beginning) = (xs.list(), beginning.list());
+        truth(xs.len() >= beginning.len() && xs.iter().zip(beginning).all(|(a, b)| apply(apply(is_equal, *a), *b).yes()))
+    }
+    pub fn slice_split(test: V, xs: V) -> V {
+        seq(&xs.list().split(|x| apply(test, *x).yes()).map(|part| L(part)).collect::<Vec<_>>())
+    }
+    pub fn codes(text: V) -> V {
+        text
+    }
+    pub fn string_bytes(text: V) -> V {
+        text
+    }
+    pub fn bytes_eq(a: V, b: V) -> V {
+        truth(eq(a, b))
+    }
+    pub fn decimal(n: V) -> V {
+        text(&n.number().to_string())
+    }
+}
