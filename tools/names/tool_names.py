@@ -158,8 +158,8 @@ def lists_of_languages(dialects, others):
         "the dialects for Rust": ["pub const ALL: &'static [Dialect] = &[", *(f"    Dialect::{it.variant}," for it in dialects), "];"],
         "the dialects that are only read": ["fn is_only_read(dialect: Dialect) -> bool {",
                                             f"    matches!(dialect, {' | '.join(f'Dialect::{it.variant}' for it in dialects if not it.is_written)})", "}"],
-        "the other names of dialects for the command": [f"const OTHER_NAMES: [(&str, Dialect); {len(others)}] = [",
-                                                        *(f'    ("{name}", Dialect::{it.variant}),' for name, it in others), "];"],
+        "the other names of dialects for the command": [f"const OTHER_NAMES: [(&str, Dialect); {len(others)}] = "
+                                                        f"[{', '.join(f'({chr(34)}{name}{chr(34)}, Dialect::{it.variant})' for name, it in others)}];"],
         "the dialects for the manual": [f"the tool whose names are read or written: {', '.join(words[:-1])} or {words[-1]}.",
                                         f"{' and '.join(f'{name} is {it.name}' for name, it in others)}.",
                                         f"Names of {' and '.join(it.name for it in dialects if not it.is_written)} are only read."],

@@ -13,6 +13,15 @@ use lexicon_fields::{
 };
 
 /// A family of triples that don't come back: printed and parsed again, they are another triple or none.
+///
+/// # Examples
+///
+/// ```
+/// use target_lexicon::{Family, triple};
+///
+/// let triple = triple!("riscv32imc-esp-espidf-elf");
+/// assert_eq!((triple.comes_back(), triple.family()), (false, Some(Family::PrintsAsSpecial)));
+/// ```
 #[derive(Clone, Copy, Debug, PartialEq, Eq)]
 pub enum Family {
     /// The first three fields are those of `armv6k-nintendo-3ds` or `riscv32imc-esp-espidf`, which is printed, and

@@ -26,7 +26,17 @@ const element = (name, attributes = {}, ...inside) => {
   made.append(...inside);
   return made;
 };
-const code = (text) => element("code", {}, text);
+/**
+ * A string of the user as it is shown: what steers the direction of text or can't be seen is escaped, and of a long one only the ends are
+ * there. The text field has the whole.
+ */
+const HIDDEN = /[^\P{C}]|[^\P{Z} ]/gu;
+const SHOWN = 60, HEAD = 36;
+function shown(text) {
+  const letters = [...text.replace(HIDDEN, (it) => `\\u{${it.codePointAt(0).toString(16)}}`)];
+  return letters.length <= SHOWN ? letters.join("") : `${letters.slice(0, HEAD).join("")}\u2026${letters.slice(HEAD - SHOWN).join("")}`;
+}
+const code = (text) => element("code", {}, shown(text));
 const small = (...inside) => element("small", {}, ...inside);
 const cell = (label, ...inside) => {
   const value = element("div", {}, ...inside);
@@ -54,7 +64,7 @@ function fieldCell(triple, name, source, text) {
 const answerCell = (label, answer) => cell(label, answer === null ? element("span", { class: "dim" }, "none") : `${answer}`);
 
 function offer(name, text, fixed) {
-  const button = element("button", { type: "button", class: "offer", "aria-label": `${name}: replace ${text} by ${fixed}` }, name);
+  const button = element("button", { type: "button", class: "offer", "aria-label": `${shown(name)}: replace ${shown(text)} by ${shown(fixed)}` }, shown(name));
   button.addEventListener("click", () => replaceTarget(text, fixed));
   return button;
 }
@@ -64,7 +74,7 @@ const question = (name, text, { start, end }) =>
   ["Did you mean ", offer(name, text, text.slice(0, start) + name + text.slice(end)), "?"];
 
 const header = (text, ...inside) => element("th", { role: "rowheader", scope: "row" },
-  element("div", { class: "target" }, ...inside));
+  element("div", { class: "target" }, ...inside.map((it) => typeof it === "string" ? shown(it) : it)));
 
 /** The printed and the canonical form, where they aren't the target. */
 function* forms(triple, text) {
@@ -74,7 +84,7 @@ function* forms(triple, text) {
 }
 
 function foldButton(row, text) {
-  const button = element("button", { type: "button", class: "fold", "aria-label": `Details of ${text}` });
+  const button = element("button", { type: "button", class: "fold", "aria-label": `Details of ${shown(text)}` });
   row.fold = (isFolded) => {
     row.classList.toggle("folded", isFolded);
     button.setAttribute("aria-expanded", !isFolded);
@@ -99,14 +109,14 @@ const meaning = (meant, text) => ["Other tools mean ", offer(meant, text, meant)
 /** The cell with the button for the names in other tools, and the cell of these, which are looked up when they are shown. */
 function namesCells(triple, text) {
   const list = element("dl"), cell = element("td", { role: "cell", class: "names", colspan: 11, "aria-colspan": 11, hidden: "" }, list);
-  const button = element("button", { type: "button", "aria-label": `Names in other tools: ${text}` }, element("span", {}, "names"));
+  const button = element("button", { type: "button", "aria-label": `Names in other tools: ${shown(text)}` }, element("span", {}, "names"));
   const show = (isOpen) => {
     cell.hidden = !isOpen;
     button.setAttribute("aria-expanded", isOpen);
     if (!isOpen || list.firstChild) return;
     for (const dialect of WRITTEN) {
-      const name = triple.nameIn(dialect), shown = name === null ? element("span", { class: "dim" }, "none") : code(name);
-      list.append(element("div", {}, element("dt", {}, toolName(dialect)), element("dd", {}, shown)));
+      const name = triple.nameIn(dialect), answer = name === null ? element("span", { class: "dim" }, "none") : code(name);
+      list.append(element("div", {}, element("dt", {}, toolName(dialect)), element("dd", {}, answer)));
     }
   };
   button.addEventListener("click", () => show(cell.hidden));
@@ -117,7 +127,7 @@ function parsedRow({ text, triple, fields, suggestion }) {
   const facts = triple.facts(), { part, start, end } = fields.vendor;
   const meant = triple.hasCustomVendor ? meaningElsewhere(text) : null, isSuspicious = Boolean(meant || suggestion);
   const head = isSuspicious && part !== null
-    ? header(text, text.slice(0, start), element("span", { class: "odd" }, part), text.slice(end)) : header(text, text);
+    ? header(text, text.slice(0, start), element("span", { class: "odd" }, shown(part)), text.slice(end)) : header(text, text);
   const row = element("tr", { role: "row", class: isSuspicious ? "suspicious" : "" }, head);
   head.classList.add("folds");
   head.append(...forms(triple, text));
@@ -167,9 +177,9 @@ function* knownNames(text) {
 }
 
 function refusedRow({ text, error, fields, suggestion }) {
-  const part = element("strong", { class: "wrong" }, error.part || "(empty)");
+  const part = element("strong", { class: "wrong" }, shown(error.part) || "(empty)");
   const head = header(text, text.slice(0, error.start), part, text.slice(error.end));
-  const inside = [element("p", { class: "message" }, error.message)];
+  const inside = [element("p", { class: "message" }, error.message.replace(error.part, () => shown(error.part)))];
   const meant = meaningElsewhere(text), names = [...knownNames(text)];
   if (names.length) inside.push(...names);
   else if (meant) inside.push(element("p", {}, ...meaning(meant, text)));
@@ -214,10 +224,10 @@ async function replaceTarget(text, fixed) {
 
 // ---- which rows are shown
 
-let shown = "all";
+let shownKind = "all";
 
 function showOnly(kind) {
-  shown = table.dataset.show = kind;
+  shownKind = table.dataset.show = kind;
   for (const chip of byId("chips").children) chip.setAttribute("aria-pressed", chip.dataset.show === kind);
 }
 
@@ -228,7 +238,7 @@ function showCounts(counts) {
     chip.textContent = `${countOf(count)} ${count === 1 ? one : more}`;
     chip.disabled = count === 0;
   }
-  if (counts[shown] === 0) showOnly("all");
+  if (counts[shownKind] === 0) showOnly("all");
   byId("chips").hidden = counts.all === 0;
 }
 

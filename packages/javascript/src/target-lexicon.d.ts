@@ -97,16 +97,20 @@ export const DIALECTS: readonly ["debian", "go", "oci", "node", "gnu", "python",
 /** A C library of Linux, which the caller says where a name doesn't state it. */
 export type LinuxLibc = "glibc" | "musl";
 
+/** The version of an operating system. As an argument it has a `major`, and what else is left out is 0: `{ major: 17, minor: 1 }`. */
 export interface Version {
   readonly major: number;
   readonly minor: number;
   readonly patch: number;
 }
 
+/** A version as an argument. */
+export type GivenVersion = { readonly major: number; readonly minor?: number; readonly patch?: number };
+
 /** What a triple is made of. The architecture may be an alias, and a field may be left out. */
 export type Given = Partial<Omit<Values, "architecture">> & {
   architecture?: Architecture | ArchitectureAlias;
-  version?: { major: number; minor?: number; patch?: number } | null;
+  version?: GivenVersion | null;
   /** What a triple has besides, such as one that is spread: it follows from the names, and isn't looked at. */
   hasCustomVendor?: boolean;
   numbers?: Readonly<Record<Field, number>>;
@@ -239,7 +243,7 @@ export class Triple {
 
   /**
    * The triple with other values in these fields. A binary format that the fields imply becomes the one that the new ones imply;
-   * another one stays. A new operating system has no version unless it is given.
+   * another one stays. A new operating system has no version unless it is given. A value that is undefined is as if left out.
    */
   with(values: Given): Triple;
   /** The printed string. */
@@ -249,9 +253,9 @@ export class Triple {
   /**
    * The name in a dialect, or null if it has none. The vendor doesn't matter, nor what the dialect doesn't name; byte order, pointer
    * width and object format do. With a version, the name states it, as some of Python's do: of glibc, musl, macOS, or Android's
-   * API level. `manylinux_2_17_x86_64` has the version `[2, 17]`.
+   * API level. `manylinux_2_17_x86_64` has the version `{ major: 2, minor: 17 }`.
    */
-  nameIn(dialect: Dialect, version?: [major: number, minor?: number]): string | null;
+  nameIn(dialect: Dialect, version?: GivenVersion): string | null;
   /** The triple with the usual environment of a C library, if it is of Linux and states none; any other one as it is. */
   complete(libc: LinuxLibc): Triple;
   /** The canonical form: two canonical triples with the same printed string are equal, so the string is a key. */

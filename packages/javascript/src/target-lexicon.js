@@ -243,15 +243,41 @@ const OTHER_NAMES = { docker: "oci", npm: "node" };
 /** The number of a dialect in target_lexicon.h. */
 function dialectOf(name) {
   const index = DIALECTS.indexOf(Object.hasOwn(OTHER_NAMES, name) ? OTHER_NAMES[name] : name);
-  if (index < 0) throw new TypeError(`there is no dialect ${name}`);
+  if (index < 0) throw new TypeError(`there is no dialect ${String(name)}`);
   return index + 1;
 }
 
 /** The number of a C library of Linux in target_lexicon.h. */
 function libcOf(name) {
   const number = LINUX_LIBCS.indexOf(name);
-  if (number < 1) throw new TypeError(`there is no C library ${name}`);
+  if (number < 1) throw new TypeError(`there is no C library ${String(name)}`);
   return number;
+}
+
+/** The largest number of each part of a version. */
+const LARGEST = Object.freeze({ major: 65535, minor: 255, patch: 255 });
+
+/** What a value is, for the message that refuses it. */
+const kindOf = (value) => (value === null || value === undefined ? `${value}` : Array.isArray(value) ? "an array" : typeof value === "object" ? "an object" : `a ${typeof value}`);
+
+/** A version as every call takes it, `{ major, minor, patch }`: its numbers, of which the last two are 0 if they are left out. */
+function fullVersion(value) {
+  if (kindOf(value) !== "an object") throw new TypeError(`a version is an object such as { major: 17, minor: 2 }, not ${kindOf(value)}`);
+  for (const part of Object.keys(value)) if (!Object.hasOwn(LARGEST, part)) throw new TypeError(`a version has no ${part}`);
+  if (value.major === undefined) throw new TypeError("a version has a major: { major: 17, minor: 2 }");
+  const { major, minor = 0, patch = 0 } = value, version = { major, minor, patch };
+  for (const [part, most] of Object.entries(LARGEST)) {
+    const number = version[part];
+    if (!Number.isInteger(number) || number < 0 || number > most) throw new RangeError(`a version's ${part} is a whole number up to ${most}`);
+  }
+  return version;
+}
+
+/** The values of an argument, of which those that are undefined are as if left out. */
+function givenValues(values) {
+  if (typeof values === "string") throw new TypeError("the values are an object; Triple.parse has the triple of a string");
+  if (kindOf(values) !== "an object") throw new TypeError(`the values are an object such as { architecture: "x86_64" }, not ${kindOf(values)}`);
+  return Object.fromEntries(Object.entries(values).filter(([, value]) => value !== undefined));
 }
 
 function tripleOf(value) {
@@ -368,21 +394,19 @@ export class Triple {
    * The triple of these values, by their names. A field that is left out is unknown, and the binary format is implied. What a triple
    * has besides, such as one that was spread or cloned, follows from the names, and isn't looked at.
    */
-  static of({ version = null, hasCustomVendor: _custom, numbers: _numbers, ...values }) {
+  static of(given) {
+    const { version = null, hasCustomVendor: _custom, numbers: _numbers, ...values } = givenValues(given);
     const it = instance(), numbers = {}, names = {};
     for (const field of Object.keys(values)) if (!FIELDS.includes(field)) throw new TypeError(`a triple has no ${field}`);
     for (const [index, field] of FIELDS.entries()) {
       const name = values[field] ?? "unknown";
+      if (typeof name !== "string") throw new TypeError(`${field} is a name, not ${kindOf(name)}`);
       const known = field === "operatingSystem" ? it.numbers[index].get(name) ?? null : numberOf(field, name);
       if (known === null) throw new RangeError(`no ${field} has the name ${name}`);
       numbers[field] = known;
       names[field] = known === CUSTOM && field === "vendor" ? name : it.names[index][known];
     }
-    const triple = make(names, version && { minor: 0, patch: 0, ...version }, numbers);
-    for (const [part, most] of [["major", 65535], ["minor", 255], ["patch", 255]]) {
-      const number = triple.version?.[part] ?? 0;
-      if (!Number.isInteger(number) || number < 0 || number > most) throw new RangeError(`a version's ${part} is a number up to ${most}`);
-    }
+    const triple = make(names, version === null ? null : fullVersion(version), numbers);
     const { impliedFormat } = triple.facts(); // the module refuses a version of a system that has none
     if (values.binaryFormat != null) return triple;
     names.binaryFormat = impliedFormat;
@@ -391,9 +415,10 @@ export class Triple {
 
   /**
    * The triple with other values in these fields. A binary format that the fields imply becomes the one that the new ones imply;
-   * another one stays. A new operating system has no version unless it is given.
+   * another one stays. A new operating system has no version unless it is given. A value that is undefined is as if left out.
    */
-  with(values) {
+  with(given) {
+    const values = givenValues(given);
     const fields = Object.fromEntries(FIELDS.map((field) => [field, this[field]]));
     if (this.binaryFormat === this.facts().impliedFormat) delete fields.binaryFormat;
     return Triple.of({ ...fields, version: "operatingSystem" in values ? null : this.version, ...values });
@@ -409,14 +434,12 @@ export class Triple {
     return this.toString();
   }
 
-  /** The name in a dialect, which may have to state a version, or null if it has none. */
+  /** The name in a dialect, which may have to state a version such as `{ major: 2, minor: 17 }`, or null if it has none. */
   nameIn(dialect, version) {
     const it = instance(), number = dialectOf(dialect), { start, used } = it.triple(this);
     if (version === undefined) return it.written("write", used, number, start);
-    const [major, minor = 0, ...others] = version;
-    if (others.length || ![major, minor].every((it) => Number.isInteger(it) && it >= 0 && it <= 0xffffffff)) {
-      throw new RangeError("a version has one or two numbers");
-    }
+    const { major, minor, patch } = fullVersion(version);
+    if (patch !== 0) throw new RangeError("a name states at most two numbers of a version");
     return it.written("write_versioned", used, number, start, major, minor);
   }
 

@@ -136,13 +136,43 @@ const tests = {
     assert.equal(Triple.parse("x86_64-apple-ios65535.255-sim").nameIn("python"), "ios_65535_255_x86_64_iphonesimulator");
   },
   "a name with a version": () => {
-    for (const [text, version, name] of [
-      ["x86_64-unknown-linux-gnu", [2, 17], "manylinux_2_17_x86_64"], ["aarch64-apple-darwin", [11], "macosx_11_0_arm64"],
-      ["x86_64-linux-android", [21, 1], null], ["x86_64-unknown-linux-gnu", [65536, 0], null], ["x86_64-unknown-linux-gnu", [4294967295], null],
-    ]) assert.equal(Triple.parse(text).nameIn("python", version), name);
-    for (const wrong of [[], [1, 2, 3], [1.5], [-1], [4294967296], ["2", 17]]) {
-      assert.throws(() => Triple.parse("x86_64-linux-gnu").nameIn("python", wrong), RangeError);
+    for (const [text, major, minor, name] of [
+      ["x86_64-unknown-linux-gnu", 2, 17, "manylinux_2_17_x86_64"], ["aarch64-apple-darwin", 11, undefined, "macosx_11_0_arm64"],
+      ["x86_64-linux-android", 21, 1, null],
+    ]) assert.equal(Triple.parse(text).nameIn("python", { major, minor }), name);
+    assert.throws(() => Triple.parse("x86_64-linux-gnu").nameIn("python", { major: 2, minor: 17, patch: 1 }), { message: /at most two numbers/ });
+  },
+  "a version has one form": () => {
+    const ios = Triple.parse("aarch64-apple-ios17");
+    const calls = [(it) => ios.with({ version: it }), (it) => Triple.of({ operatingSystem: "ios", version: it }), (it) => ios.nameIn("python", it)];
+    for (const call of calls) {
+      for (const [wrong, kind, message] of [
+        [[17, 2], TypeError, "a version is an object such as { major: 17, minor: 2 }, not an array"],
+        ["17.2", TypeError, "a version is an object such as { major: 17, minor: 2 }, not a string"],
+        [17, TypeError, "a version is an object such as { major: 17, minor: 2 }, not a number"],
+        [{}, TypeError, "a version has a major: { major: 17, minor: 2 }"], [{ major: 17, micro: 2 }, TypeError, "a version has no micro"],
+        [{ major: 65536 }, RangeError, "a version's major is a whole number up to 65535"],
+        [{ major: 1, minor: -1 }, RangeError, "a version's minor is a whole number up to 255"],
+        [{ major: "17" }, RangeError, "a version's major is a whole number up to 65535"],
+        [{ major: 1, patch: 1.5 }, RangeError, "a version's patch is a whole number up to 255"],
+      ]) assert.throws(() => call(wrong), (error) => error.constructor === kind && error.message === message, JSON.stringify(wrong));
     }
+    assert.deepEqual([`${ios.with({ version: { major: 17, minor: 2 } })}`, `${ios.with({ version: ios.version })}`], ["aarch64-apple-ios17.2.0", "aarch64-apple-ios17.0.0"]);
+  },
+  "values have one form": () => {
+    const linux = Triple.parse("x86_64-unknown-linux-gnu"), object = "the values are an object such as { architecture: \"x86_64\" }, not ";
+    for (const [wrong, message] of [
+      [undefined, `${object}undefined`], [null, `${object}null`], [["x86_64"], `${object}an array`], [7, `${object}a number`],
+      ["x86_64-linux", "the values are an object; Triple.parse has the triple of a string"],
+      [{ architecture: 7 }, "architecture is a name, not a number"], [{ operatingSystem: {} }, "operatingSystem is a name, not an object"],
+      [{ environment: Symbol("x") }, "environment is a name, not a symbol"], [{ os: "linux" }, "a triple has no os"],
+    ]) for (const call of [() => Triple.of(wrong), () => linux.with(wrong)]) assert.throws(call, (it) => it.constructor === TypeError && it.message === message);
+    // What is undefined is as if left out, as in a call that passes its own optional argument on.
+    assert(linux.with({ environment: undefined, version: undefined, binaryFormat: undefined }).equals(linux));
+    assert.equal(`${linux.with({ operatingSystem: undefined, environment: "musl" })}`, "x86_64-unknown-linux-musl");
+    assert.equal(`${Triple.parse("aarch64-apple-ios17").with({ operatingSystem: undefined })}`, "aarch64-apple-ios17.0.0");
+    assert(Triple.of({ architecture: undefined }).equals(Triple.of({})));
+    for (const it of [Symbol("go"), {}]) assert.throws(() => linux.nameIn(it), { message: /^there is no dialect / });
   },
   "a C library completes a triple of Linux": () => {
     for (const [text, glibc, musl] of [

@@ -130,6 +130,24 @@ def shows_special_strings_and_formats(page):
     same(page.run(CELLS)[2][1], "aarch64 alias arm64")
 
 
+def escapes_and_shortens(page):
+    """What turns the direction of text, or can't be seen, is shown escaped, and a long part moves nothing."""
+    page.size(1280, 900)
+    vendor = "a" * 3000
+    typed(page, f"x86_64-\u202egnu-linux\nx86_64-{vendor}-linux\nx86_64-linux-\u200b{vendor}\nx86_64-pc-linux-\u2066gnu")
+    same(page.run(STATUS), "4 targets: 1 parsed, 3 refused.")
+    text = page.run("document.querySelector('table').textContent + [...document.querySelectorAll('[aria-label]')].map((it) => it.ariaLabel).join()")
+    for hidden in "\u202e", "\u200b", "\u2066", "a" * 61:
+        holds(hidden not in text, f"the table has {hidden!r}")
+    rows = page.run(CELLS)
+    same(rows[0], ["x86_64-\\u{202e}gnu-linux", "Unrecognized vendor: \\u{202e}gnuBefore it: architecture x86_64"])
+    short = f"{'a' * 36}\u2026{'a' * 24}"
+    same(rows[3][2], f"{short} custom")
+    holds("aaa\u2026aaa" in rows[3][0], rows[3][0])
+    tallest = page.run("Math.max(...[...document.querySelectorAll('tbody tr')].map((row) => row.getBoundingClientRect().height))")
+    holds(tallest < 300, f"a row is {tallest} pixels high")
+
+
 def refuses_and_suggests(page):
     page.size(1280, 900)
     typed(page, "x86_64-pc-windws-msvc\nx86_64--linux\nx86_64-<b>-linux\nx86_64-pc-\u4e2d\u6587\namd64-linux\nx86_64-linx-gnu")
@@ -404,7 +422,8 @@ def stays_responsive(page):
 
 def page_tests(url, program):
     """The name of each test of the page at a URL, and the test; `program` is the command `target-lexicon`."""
-    tests = [asks_for_two_files, forbids_what_it_does_not_need, shows_fields, shows_special_strings_and_formats, refuses_and_suggests,
+    tests = [asks_for_two_files, forbids_what_it_does_not_need, shows_fields, shows_special_strings_and_formats, escapes_and_shortens,
+             refuses_and_suggests,
              mistakes_come_first, has_a_head_that_stays, is_typed_in_a_column_of_60, is_cleared, links_to_pages,
              names_other_tools, says_what_other_tools_mean, is_a_card, breaks_no_name, folds_on_a_phone,
              says_what_to_paste, is_accessible, has_a_link, functools.partial(copies_the_matrix, program), stays_responsive]

@@ -1,7 +1,7 @@
 // For `tsc --strict`: each line after `@ts-expect-error` is an error, and no other one is.
 import { DIALECTS, FAMILIES, FIELDS, ParseError, Triple, changes, host, load, namesOf, numberOf, translate, version } from "target-lexicon";
 import type {
-  Architecture, BinaryFormat, Change, Dialect, Environment, Explained, Explanation, Facts, Family, Field, Given, KnownVendor, OperatingSystem, Values, Vendor, Version,
+  Architecture, BinaryFormat, Change, Dialect, Environment, Explained, Explanation, Facts, Family, Field, Given, GivenVersion, KnownVendor, OperatingSystem, Values, Vendor, Version,
 } from "target-lexicon";
 
 const triple: Triple = Triple.parse("arm64-apple-ios17");
@@ -57,7 +57,7 @@ const members: {
   [Name in keyof Triple]: Same<Triple[Name], {
     architecture: Architecture; vendor: Values["vendor"]; operatingSystem: OperatingSystem; environment: Environment; binaryFormat: BinaryFormat;
     version: Version | null; hasCustomVendor: boolean; numbers: Readonly<Record<Field, number>>; with: (values: Given) => Triple;
-    toString: () => string; toJSON: () => string; nameIn: (dialect: Dialect, version?: [number, number?]) => string | null; settle: () => Triple; comesBack: () => boolean;
+    toString: () => string; toJSON: () => string; nameIn: (dialect: Dialect, version?: GivenVersion) => string | null; settle: () => Triple; comesBack: () => boolean;
     equals: (other: Triple) => boolean; sameTarget: (other: Triple) => boolean; facts: () => Facts;
     canonical: string; complete: (libc: "glibc" | "musl") => Triple;
   }[Name]>

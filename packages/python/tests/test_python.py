@@ -196,8 +196,14 @@ class Fields(unittest.TestCase):
         darwin = Triple("x86_64-apple-darwin")
         for version in (), (1, 2, 3, 4), (-1,), (65536,), (1, 256), (1, 2, 256), (2 ** 70,):
             self.assertRaises(ValueError, darwin.replace, version=version)
-        for version in "13", b"13", 13, (1.5,), ("13",), (None,):
-            self.assertRaises(TypeError, darwin.replace, version=version)
+        for version in "13", b"13", 13, {13}, iter([13]), {"major": 13}:
+            for call in (lambda it: darwin.replace(version=it), lambda it: Triple.from_fields(operating_system=OperatingSystem.IOS, version=it),
+                         lambda it: darwin.name_in("python", it)):
+                message = f"^a version must be a tuple of numbers such as \\(17, 2\\), not {type(version).__name__}$"
+                self.assertRaisesRegex(TypeError, message, call, version)
+        for number in 1.5, "13", None:
+            self.assertRaisesRegex(TypeError, f"^the numbers of a version must be int, not {type(number).__name__}$", darwin.replace, version=(number,))
+        self.assertEqual(darwin.replace(version=[13]), darwin.replace(version=(13, 0, 0)))
         self.assertEqual(darwin.replace(version=(65535, 255, 255)).version, (65535, 255, 255))
         for call in (lambda: Triple(), lambda: Triple("x86_64", "linux"), lambda: triple.replace(cpu=1),
                      lambda: triple.same_target("x86_64")):
@@ -227,9 +233,14 @@ class Fields(unittest.TestCase):
             self.assertEqual(str(error).endswith(f"^ did you mean `{name}`?"), name is not None)
 
     def test_columns_of_wrong_types(self):
-        for value in None, 3, float("nan"), b"x86_64":
+        for value in 3, 1.5, b"x86_64", ["x86_64"]:
             for call in target_lexicon.settle_all, target_lexicon.facts_all:
-                self.assertRaisesRegex(TypeError, f"must be a str, not {type(value).__name__}", call, ["x86_64", value])
+                for before in 1, 5000:  # more than are answered at once
+                    self.assertRaisesRegex(TypeError, f"^a target must be a str, not {type(value).__name__}: index {before}$", call, [*["x86_64"] * before, value])
+        # A missing cell is as a target that is refused, so that each row has its answer.
+        missing = [None, float("nan"), type("NAType", (), {})()]
+        self.assertEqual(target_lexicon.settle_all([*missing, "arm64-linux"]), [None, None, None, "aarch64-unknown-linux"])
+        self.assertEqual([it.pointer_width for it in target_lexicon.facts_all(["avr", *missing])], [16, None, None, None])
         for call in target_lexicon.settle_all, target_lexicon.facts_all:
             self.assertRaisesRegex(TypeError, "not one str", call, "x86_64-linux")
         self.assertEqual(target_lexicon.settle_all([]), [])

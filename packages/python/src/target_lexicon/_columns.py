@@ -69,7 +69,8 @@ def settle_all(targets: Iterable[str]) -> List[Optional[str]]:
     >>> settle_all(["arm64-linux-gnu", "aarch64-unknown-linux-gnu", "x86_64-pc-linx"])
     ['aarch64-unknown-linux-gnu', 'aarch64-unknown-linux-gnu', None]
 
-    A single `str` raises a TypeError, and so does anything but a `str` among the targets.
+    A missing cell of a column, which is None, NaN or `pandas.NA`, is as a target that is refused. Anything else but a `str` raises a
+    TypeError that has its index, and so does a single `str` instead of an iterable.
     """
     return _each(targets, _canonical_texts)
 
@@ -80,7 +81,7 @@ def facts_all(targets: Iterable[str]) -> List[Facts]:
     >>> [it.pointer_width for it in facts_all(["arm64-linux-gnu", "avr", "x86_64-pc-linx"])]
     [64, 16, None]
 
-    A single `str` raises a TypeError, and so does anything but a `str` among the targets.
+    Missing cells and wrong types are as in `settle_all`.
     """
     return _each(targets, _facts_of_texts)
 
@@ -94,7 +95,7 @@ def _each(targets: Iterable[str], answers_of: Callable[[Sequence[str]], List[Ans
     rest = iter(targets)
     while some := list(islice(rest, _AT_ONCE)):
         if not {str}.issuperset(map(type, some)):
-            some = list(map(_plain, some))
+            some = [_plain(it, index) for index, it in enumerate(some, len(answers))]
         if len(remembered) > _REMEMBERED:
             remembered.clear()
         new = tuple(set(some).difference(remembered))
@@ -103,11 +104,15 @@ def _each(targets: Iterable[str], answers_of: Callable[[Sequence[str]], List[Ans
     return answers
 
 
-def _plain(target: str) -> str:
-    """The target as a `str`, so that no subclass says how it is compared, hashed or searched. Anything but a `str` is a TypeError."""
-    if not isinstance(target, str):
-        raise TypeError(f"a target must be a str, not {type(target).__name__}")
-    return str.__str__(target)
+def _plain(target: Any, index: int) -> str:
+    """The target as a `str`, so that no subclass says how it is compared, hashed or searched. A missing cell is the empty string,
+    which is refused. Anything else is a TypeError.
+    """
+    if isinstance(target, str):
+        return str.__str__(target)
+    if target is None or isinstance(target, float) and target != target or type(target).__name__ == "NAType":
+        return ""
+    raise TypeError(f"a target must be a str, not {type(target).__name__}: index {index}")
 
 
 def _canonical_texts(targets: Sequence[str]) -> List[Optional[str]]:

@@ -5,7 +5,7 @@ import ctypes
 import enum
 import operator
 from struct import Struct
-from typing import TYPE_CHECKING, Any, Callable, Dict, Iterable, Mapping, Optional, Tuple, Type, Union, final
+from typing import TYPE_CHECKING, Any, Callable, Dict, Mapping, Optional, Sequence, Tuple, Type, Union, final
 
 from . import _library
 from ._dialects import NO_DIALECT, Dialect, DialectName, LinuxLibc, LinuxLibcName, dialect_number, libc_number
@@ -131,14 +131,14 @@ class Triple:
         operating_system: OperatingSystem = OperatingSystem.UNKNOWN,
         environment: Environment = Environment.UNKNOWN,
         binary_format: Optional[BinaryFormat] = None,
-        version: Optional[Iterable[int]] = None,
+        version: Optional[Sequence[int]] = None,
     ) -> Triple:
         """The triple with these fields. The binary format None is the one that the other fields imply.
 
         >>> Triple.from_fields(Architecture.X86_64, operating_system=OperatingSystem.DARWIN, version=[23, 6])
         Triple('x86_64-unknown-darwin23.6.0')
 
-        A version has one to three numbers. A system that has no version raises a ValueError if there is one.
+        A version is a tuple or list of one to three numbers. A system that has no version raises a ValueError if there is one.
         """
         struct = _library.TripleStruct(
             _number(architecture, Architecture, "architecture"),
@@ -182,7 +182,7 @@ class Triple:
         form, version = values.get("binary_format"), values.get("version")
         return cls.from_fields(
             Architecture(architecture), Vendor.parse(vendor), OperatingSystem(system), Environment(environment),
-            None if form is None else BinaryFormat(form), map(int, version.split(".")) if isinstance(version, str) else version,
+            None if form is None else BinaryFormat(form), [int(it) for it in version.split(".")] if isinstance(version, str) else version,
         )
 
     @classmethod
@@ -372,7 +372,7 @@ class Triple:
 
         return facts_of(self)._asdict()
 
-    def name_in(self, dialect: Union[Dialect, DialectName], version: Optional[Iterable[int]] = None) -> Optional[str]:
+    def name_in(self, dialect: Union[Dialect, DialectName], version: Optional[Sequence[int]] = None) -> Optional[str]:
         """The name that another tool has for the target, or None if it has none. The tool is a `Dialect`, or its name.
 
         >>> triple = Triple("aarch64-unknown-linux-gnu")
@@ -440,7 +440,7 @@ class Triple:
         operating_system: Union[OperatingSystem, Keep] = _KEEP,
         environment: Union[Environment, Keep] = _KEEP,
         binary_format: Union[BinaryFormat, Keep, None] = _KEEP,
-        version: Union[Iterable[int], Keep, None] = _KEEP,
+        version: Union[Sequence[int], Keep, None] = _KEEP,
     ) -> Triple:
         """The triple with other values in the fields that are given.
 
@@ -597,13 +597,16 @@ def _number(value: Any, of: Union[Type[Any], Tuple[Type[Any], ...]], name: str) 
     return number
 
 
-def _full_version(version: Optional[Iterable[int]]) -> Optional[Version]:
-    """The version with all three numbers, of which what is missing is 0."""
+def _full_version(version: Optional[Sequence[int]]) -> Optional[Version]:
+    """The version with all three numbers, of which what is missing is 0. Only a tuple or a list is one."""
     if version is None:
         return None
-    if isinstance(version, (str, bytes)):
-        raise TypeError("a version must be a tuple of numbers, not a text")
-    numbers = tuple(operator.index(it) for it in version)
+    if not isinstance(version, (tuple, list)):
+        raise TypeError(f"a version must be a tuple of numbers such as (17, 2), not {type(version).__name__}")
+    for number in version:
+        if not hasattr(number, "__index__"):
+            raise TypeError(f"the numbers of a version must be int, not {type(number).__name__}")
+    numbers = tuple(map(operator.index, version))
     if not 1 <= len(numbers) <= 3:
         raise ValueError(f"a version has one to three numbers, not {len(numbers)}")
     major, minor, patch = full = numbers + (0,) * (3 - len(numbers))
