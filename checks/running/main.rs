@@ -1,5 +1,7 @@
 //! Compares the definitions with the crate: `running PART SHARD OF STEP` takes each OF-th case, from the SHARD-th on, of each STEP-th one.
+//! Or says what a definition says: `running ask DEFINITION WORD..`
 #![allow(non_upper_case_globals)]
+mod ask;
 mod calls;
 mod inputs;
 mod report;
@@ -61,10 +63,20 @@ fn run(part: &str, chosen: Chosen, r: &mut Report) {
 }
 
 fn main() {
-    let words: Vec<String> = std::env::args().collect();
+    let words: Vec<String> = std::env::args().skip(1).collect();
+    if words[0] == "ask" {
+        match ask::answer(&words[1..]) {
+            Ok(answer) => println!("{answer}"),
+            Err(why) => {
+                eprintln!("specification: {why}");
+                std::process::exit(2);
+            }
+        }
+        return;
+    }
     let number = |i: usize| words[i].parse().expect("a number");
     let mut report = Report::default();
-    run(&words[1], Chosen { shard: number(2), of: number(3), step: number(4) }, &mut report);
+    run(&words[0], Chosen { shard: number(1), of: number(2), step: number(3) }, &mut report);
     let reached = (0..spec::TITLES.len()).filter(|i| unsafe { spec::REACHED[*i] });
     println!("reached: {}", reached.map(|i| spec::TITLES[i]).collect::<Vec<_>>().join(" "));
     println!("answers: {} {}", report.same, report.differ);

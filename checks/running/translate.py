@@ -308,13 +308,16 @@ def variables(expression):
     return set().union(*map(variables, parts(expression)))
 
 
-def arity_in(type):
-    """How many arguments a type has: arrows outside of brackets, but for that after an implicit argument."""
-    depth = count = 0
+def arguments_in(type):
+    """The types of the arguments: what is before arrows that are outside of brackets. Implicit arguments are left out."""
+    found, depth = [[]], 0
     for token in TOKEN.findall(re.sub(r"\{[^}]*\} →", "", type)):
         depth += (token in "({") - (token in ")}")
-        count += token == "→" and not depth
-    return count
+        if token == "→" and not depth:
+            found.append([])
+        else:
+            found[-1].append(token)
+    return [" ".join(tokens) for tokens in found[:-1]]
 
 
 NO, YES, TRIVIALLY = range(3)  # whether an expression is closed: without variables, so that it is computed once
@@ -541,7 +544,7 @@ class Rust:
             count = self.arity.get(what, 0)
             call = f"con({self.constructor(what)}, &[{{}}])" if count else f"C({self.constructor(what)}, &[])"
         elif kind == "built in":
-            count, call = arity_in(what.type), f"library::{what.name}({{}})"
+            count, call = len(arguments_in(what.type)), f"library::{what.name}({{}})"
         elif kind == "constant":
             self.cited[what] = f"constant_{len(self.cited)}" if what not in self.cited else self.cited[what]
             return f"{self.cited[what]}()", YES
@@ -578,20 +581,29 @@ class Rust:
     def source(self):
         constants = [f"fn {name}() -> V {{ {self.constant(path)} }}\n" for path, name in self.cited.items()]
         shapes = list(self.shapes.values())
-        tags = [(it, it.split("__", 1)[1], []) for it in self.constructors]
-        tags += [("R_" + "_".join(it), "", it) for it in shapes] + [("TUPLE", "", [])]
+        tags = [(it, *it.split("__", 1), []) for it in self.constructors]
+        tags += [("R_" + "_".join(it), "", "", it) for it in shapes] + [("TUPLE", "", "", [])]
         out = ["// Written by checks/specification from the definitions of crates/*/specs.\nuse crate::values::*;\n", *self.functions, *constants]
-        out += [f"pub const {name}: u32 = {i};\n" for i, (name, _, _) in enumerate(tags)]
-        rows = ", ".join(f"({name!r}, &{fields})".replace("'", '"') for _, name, fields in tags)
-        out.append(f"pub static TAGS: &[(&str, &[&str])] = &[{rows}];\n")
+        out += [f"pub const {it[0]}: u32 = {i};\n" for i, it in enumerate(tags)]
+        rows = ", ".join(f"({type!r}, {name!r}, &{fields})".replace("'", '"') for _, type, name, fields in tags)
+        out.append(f"/// A tag: its type, its name, and the fields of a record.\npub static TAGS: &[(&str, &str, &[&str])] = &[{rows}];\n")
         for field in sorted(self.fields):
             arms = "".join(f"C(R_{'_'.join(it)}, f) => f[{it.index(field)}], " for it in shapes if field in it)
             out.append(f'pub fn get_{field}(v: V) -> V {{ match v {{ {arms}_ => stuck("{field}") }} }}\n')
+        out.append("/// The definitions of values, the types of their arguments, and the functions.\n"
+                   f"pub static ASKED: &[(&str, &[&str], fn(&[V]) -> V)] = &[{', '.join(self.asked())}];\n")
         titles = ", ".join(f'"{it.title}"' for it in self.todo)
         out.append(f"pub static TITLES: [&str; {len(self.todo)}] = [{titles}];\n")
         out.append(f"pub static mut REACHED: [bool; {len(self.todo)}] = [false; {len(self.todo)}];\n")
         out.append(f"pub static mut ONCE: [Option<V>; {self.constants}] = [None; {self.constants}];\n")
         return "".join(out)
+
+    def asked(self):
+        for it in self.todo:
+            types = arguments_in(it.type)
+            if not it.is_proposition and it.module.path != LIBRARY and len(types) == len(it.clauses[0][0]):
+                given = ", ".join(f"a[{i}]" for i in range(len(types)))
+                yield f"""("{it.title}", &[{', '.join(f'"{type}"' for type in types)}], |a| {self.of[it.module.path, it.name]}({given}))"""
 
     def constant(self, path):
         """A constant of the code, by its type, from the proved source."""

@@ -115,10 +115,15 @@ pub fn con(tag: u32, arguments: &[V]) -> V {
     C(tag, filled(arguments.len(), |i| arguments[i]))
 }
 
+/// The constructor of a type with this name, which has no arguments.
+pub fn named(kind: &str, name: &str) -> Option<V> {
+    TAGS.iter().position(|it| (it.0, it.1) == (kind, name)).map(|tag| C(tag as u32, &[]))
+}
+
 /// A record with some fields changed.
 pub fn with(v: V, changes: &[(&str, V)]) -> V {
     let C(tag, old) = v else { return stuck("a record") };
-    let names = TAGS[tag as usize].1;
+    let names = TAGS[tag as usize].2;
     C(tag, filled(old.len(), |i| changes.iter().find(|it| it.0 == names[i]).map_or(old[i], |it| it.1)))
 }
 
@@ -143,7 +148,7 @@ impl V {
     }
     pub fn field(self, name: &str) -> V {
         let C(tag, fields) = self else { return stuck(name) };
-        fields[TAGS[tag as usize].1.iter().position(|it| *it == name).unwrap()]
+        fields[TAGS[tag as usize].2.iter().position(|it| *it == name).unwrap()]
     }
     pub fn number(self) -> u64 {
         if let N(n) = self { n } else { panic!("a number") }
@@ -191,12 +196,12 @@ pub fn show(out: &mut String, v: V) {
         L(l) if l.iter().all(|it| matches!(it, N(_))) => out.push_str(&format!("{:?}", String::from_utf8_lossy(&v.bytes()))),
         L(l) => items(out, "[", &[], l, "]"),
         C(tag, fields) => match TAGS[tag as usize] {
-            (name, []) if fields.is_empty() => out.push_str(name),
-            (name, []) => {
+            (_, name, []) if fields.is_empty() => out.push_str(name),
+            (_, name, []) => {
                 out.push_str(name);
                 items(out, "(", &[], fields, ")");
             }
-            (_, names) => items(out, "{ ", names, fields, " }"),
+            (_, _, names) => items(out, "{ ", names, fields, " }"),
         },
         F(_) => out.push_str("a function"),
     }
