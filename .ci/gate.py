@@ -1,13 +1,17 @@
 #!/usr/bin/env python3
 """The gate: its steps, of which the first that fails ends the run.
 
-usage: .ci/run
+usage: .ci/run [--without NAME]..   NAME is a tool or Debian's package of it, as PACKAGES has them, or `kit`, `browser`, `wasm32`
 
 While `rt ci` proves, what needs no proof is built with cargo and tested; what the two built is tested after both. Each step
-runs by itself too, as it is printed, with BUILT as the folder that is said there. As root, Debian's packages of missing
-tools are installed; otherwise a step without its tools is left out. The last lines say how long each step took, what was
-left out and for which missing tool, what a step says that it left out, and which step failed.
+runs by itself too, as it is printed, with BUILT as the folder that is said there. As root, Debian's packages of missing tools
+are installed. If a tool is still missing that no --without names, no step runs, and the gate fails. A step that needs a named
+tool isn't run; a step without a part that needs one fails, unless that is named in WITHOUT, where the steps get all names.
+With UPSTREAM, the folder of upstream's crate, upstream's tests, public surface and dependents are tried too. The last lines say
+how long each step took, what was left out, and which step failed.
 """
+import argparse
+import glob
 import os
 import re
 import shutil
@@ -17,74 +21,84 @@ import tempfile
 import threading
 import time
 
+# Debian's packages of the tools: commands, modules of Debian's Python, and paths.
+PACKAGES = {it: it for it in "git clang valgrind cmake pkg-config mypy pypy3 shellcheck pyflakes3 chromium npm esbuild lintian rpm makepkg".split()} | {
+    "cargo": "cargo-web", "rustc": "rustc-web", "rustfmt": "rustfmt-web", "cargo-clippy": "rust-web-clippy", "cc": "gcc", "c++": "g++", "nm": "binutils",
+    "man": "man-db", "cram3": "python3-cram", "hypothesis": "python3-hypothesis", "pip": "python3-pip", "ensurepip": "python3-venv", "venv": "python3-venv",
+    "hatchling": "python3-hatchling", "build": "python3-build", "installer": "python3-installer", "pandas": "python3-pandas",
+    "distributed": "python3-distributed", "packaging": "python3-packaging", "selenium": "python3-selenium", "chromedriver": "chromium-driver",
+    "node": "nodejs", "tsc": "node-typescript", "dpkg-buildpackage": "dpkg-dev", "dh": "debhelper", "dh_python3": "dh-python", "llvm-config": "llvm-dev",
+    "go": "golang-go", "/usr/share/gocode/src/github.com/containerd/containerd/platforms": "golang-github-containerd-containerd-dev",
+    "nix-instantiate": "nix-bin", "/usr/share/misc/config.sub": "autotools-dev", "/usr/share/doc/nodejs/api/process.md*": "nodejs-doc",
+    "/usr/share/cargo/registry/clap-4.0.32": "librust-clap-4-dev", "/usr/share/cargo/registry/clap_complete-4.0.7": "librust-clap-complete-dev",
+    "/usr/share/cargo/registry/serde_json-1.0.87": "librust-serde-json-dev", "/usr/share/cargo/registry/cfg-expr-0.10.3": "librust-cfg-expr-dev",
+    "/usr/share/cargo/registry/cc-1*": "librust-cc-dev",
+}
+GROUPS = {"kit": ["rt"], "browser": ["chromium", "chromedriver", "selenium"]}
+
+
+parser = argparse.ArgumentParser(prog=".ci/run", description=__doc__, formatter_class=argparse.RawDescriptionHelpFormatter)
+parser.add_argument("--without", metavar="NAME", action="append", default=[])
+WITHOUT = {*parser.parse_args().without, *os.environ.get("WITHOUT", "").split()}
+WITHOUT |= {tool for name in WITHOUT for tool in GROUPS.get(name, [])} | {tool for tool, package in PACKAGES.items() if package in WITHOUT}
+
 TOP = os.path.dirname(os.path.dirname(os.path.realpath(__file__)))
 WORK = tempfile.mkdtemp(prefix="gate-")
 BUILT, CARGO_HOME, WASM = f"{WORK}/built", f"{WORK}/cargo", f"{WORK}/rust"
 COMMANDS = "packages/target/release"
 STARTED = time.time()
-DEBIAN_CRATES = "/usr/share/cargo/registry"
 
-# Each step: what it is for, its command, and the tools that it needs: commands, modules of python3, or paths.
+# Each step: what it is for, its command, and the tools without which it isn't run.
 FIRST = [
-    ("lists of names, the Rust source, what was reviewed of it, and SPEC are what they are made from", "tools/write --check", ""),
-    ("no script of bash has a warning", "checks/scripts shell", "shellcheck"),
-    ("no script of Python has a warning", "checks/scripts python", "pyflakes3"),
+    ("lists of names, the Rust source, what was reviewed of it, and SPEC are what they are made from", "tools/write --check", "rustfmt"),
+    ("no script has a warning", "checks/scripts", "shellcheck pyflakes3"),
     ("the crate's copies of the licence are the repository's", "cmp LICENSE packages/rust/LICENSE && cmp COPYRIGHT packages/rust/COPYRIGHT", ""),
 ]
-PROOFS = ("all proofs, must-fail edits, tests and proved programs", "rt ci", "")
+PROOFS = ("all proofs, must-fail edits, tests and proved programs", "rt ci", "rt")
 WITHOUT_PROOF = [
     ("the Rust crate, as its users build it: tests, samples of the documentation, public surface, features, a dependent",
-     "packages/rust/test", f"cargo {DEBIAN_CRATES}"),
+     "packages/rust/test", "cargo"),
+    ("the definitions run, and say what the Rust crate answers", "checks/specification quick", "cargo"),
     ("the command `target-lexicon`: arguments, output and statuses", "packages/command/test", "cargo"),
     ("it is built for the next steps, and a program to compare with", "cd packages/command && cargo build --quiet --locked --release --all-features", "cargo"),
     ("the library for C is built and installed for the next steps", f"packages/c/install {BUILT}", "cargo cc"),
     ("the library for C, header, packages and samples, as C and C++ users have them", "packages/c/test", "cargo cc"),
     ("the Python package: each answer, wheels, types, samples", f"packages/python/test {BUILT}/lib/libtarget_lexicon.so {COMMANDS}/lines",
-     "cargo cc pip venv ensurepip hatchling"),
-    ("Debian's packages are built, and lintian finds no error", f"packages/debian/build {WORK}/debian -d",
-     f"cargo cc dpkg-buildpackage dh dh_python3 lintian hatchling build installer {DEBIAN_CRATES}/clap-4.0.32"),
-    ("what is released is made, and works in clean folders", f"tools/release {WORK}/release", "git cargo cc pip venv ensurepip hatchling"),
-    ("the module, the package and the page for JavaScript are built", f"packages/javascript/build --out {WORK}/web", "wasm32"),
-    ("they answer as the program does, in Node and in a browser", f"packages/javascript/test {WORK}/web --program {COMMANDS}/lines",
-     "wasm32 node tsc esbuild chromium chromedriver selenium cargo"),
+     "cargo cc hatchling"),
+    ("Debian's packages are built, and lintian finds no error", f"packages/debian/build {WORK}/debian -d", "cargo cc dpkg-buildpackage"),
+    ("what is released is made, and works in clean folders", f"tools/release {WORK}/release", "cargo cc"),
+    ("the module, the package and the page for JavaScript are built", f"packages/javascript/build --out {WORK}/web", "cargo wasm32"),
+    ("they answer as the program does, in Node and in a browser", f"packages/javascript/test {WORK}/web --program {COMMANDS}/lines", "cargo wasm32"),
 ]
 LAST = [
-    ("links, names, samples, counts and versions of the pages, and the pictures", "checks/pages", "cc cargo"),
-    ("the program `triples` and the command `target-lexicon`: stored rows, unusual streams, large inputs, samples of the pages", "checks/rows/run", "cram3 cargo"),
-    ("each allocation fails in turn", "checks/fail_allocations", "cc"),
+    ("links, names, samples, counts and versions of the pages, and the pictures", "checks/pages", "cargo cc"),
+    ("the program `triples` and the command `target-lexicon`: stored rows, unusual streams, large inputs, samples of the pages", "checks/rows/run", "cargo cram3"),
+    ("each allocation fails in turn", "checks/fail_allocations", "rt cc"),
     ("names, rules and tables are upstream's, by its kept answers; what other tools say of names and targets",
-     "checks/compare answers && checks/compare elsewhere && checks/compare llvm", f"cargo {DEBIAN_CRATES}"),
+     "checks/compare answers && checks/compare elsewhere && checks/compare llvm", "cargo cc"),
     ("the mode json: the proved program answers as Rust's serde_json does", "/usr/bin/python3 checks/compare json --inputs 200 --of proved cargo",
-     "hypothesis cargo"),
+     "rt cargo hypothesis"),
 ]
-# Debian's packages of the tools.
-PACKAGES = {
-    "rustfmt": "rustfmt", "shellcheck": "shellcheck", "pyflakes3": "pyflakes3", "cram3": "python3-cram", "hypothesis": "python3-hypothesis", "cc": "gcc", "c++": "g++",
-    "cmake": "cmake", "pkg-config": "pkg-config", "dpkg-deb": "dpkg", "pip": "python3-pip", "ensurepip": "python3-venv", "chromium": "chromium",
-    "chromedriver": "chromium-driver", "selenium": "python3-selenium", "mypy": "mypy", "pandas": "python3-pandas",
-    "distributed": "python3-distributed", "node": "nodejs", "tsc": "node-typescript", "esbuild": "esbuild", "pypy3": "pypy3",
-    "dpkg-architecture": "dpkg-dev", "dpkg-buildpackage": "dpkg-dev", "dh": "debhelper", "dh_python3": "dh-python", "lintian": "lintian",
-    "hatchling": "python3-hatchling", "build": "python3-build", "installer": "python3-installer", "venv": "python3-venv", "/usr/share/misc/config.sub": "autotools-dev", "packaging": "python3-packaging",
-    f"{DEBIAN_CRATES}/clap-4.0.32": "librust-clap-4-dev", f"{DEBIAN_CRATES}/clap_complete-4.0.7": "librust-clap-complete-dev",
-    f"{DEBIAN_CRATES}/serde_json-1.0.87": "librust-serde-json-dev", f"{DEBIAN_CRATES}/cfg-expr-0.10.3": "librust-cfg-expr-dev",
-}
-# The tools that are modules of Debian's Python.
-MODULES = dict.fromkeys(("hypothesis", "selenium", "pandas", "distributed", "packaging", "pip", "venv", "ensurepip", "hatchling", "build", "installer"),
-                        "/usr/bin/python3")
-
 GIGABYTES_FOR_A_PROOF = 5
 
-running, passed, left_out, left_out_within, failed = set(), [], [], [], []
+running, passed, left_out, failed = set(), [], [], []
 lock = threading.Lock()
+
+
+def missing():
+    """The tools that aren't there, and that aren't named."""
+    tools = dict.fromkeys([*PACKAGES, *(tool for step in [*FIRST, PROOFS, *WITHOUT_PROOF, *LAST] for tool in step[2].split())])
+    return [tool for tool in tools if tool not in WITHOUT and not has(tool)]
 
 
 def has(tool):
     """Whether there is a command, a module or a path, or for `wasm32` rustc's `std`."""
-    if tool not in MODULES and tool != "wasm32":
-        return shutil.which(tool) is not None or os.path.exists(os.path.join(TOP, tool))
-    command = f"{MODULES.get(tool)} -c 'import {tool}'"
     if tool == "wasm32":
-        command = f'ls "$(PATH={WASM}/bin:$PATH rustc --print target-libdir --target wasm32-unknown-unknown)"/libstd-*.rlib'
+        command = f'ls "$(PATH={WASM}/bin:$PATH rustc --print target-libdir --target wasm32-unknown-unknown)"/libcore-*.rlib'
+    elif PACKAGES.get(tool, "").startswith("python3-") and tool != "cram3":
+        command = f"/usr/bin/python3 -c 'import {tool}'"
+    else:
+        return bool(glob.glob(tool) if tool.startswith("/") else shutil.which(tool))
     return subprocess.run(["bash", "-c", command], capture_output=True).returncode == 0
 
 
@@ -104,9 +118,9 @@ def start(command, environment):
 def run(step, environment, is_beside=False):
     """Runs a step. Returns whether it passed or was left out."""
     purpose, command, tools = step
-    missing = [tool for tool in tools.split() if not has(tool)]
-    if missing:
-        left_out.append((command, missing))
+    absent = sorted(WITHOUT.intersection(tools.split()))
+    if absent:
+        left_out.append(f"{command} (without {' '.join(absent)})")
         return True
     if failed:
         return False
@@ -132,7 +146,7 @@ def run(step, environment, is_beside=False):
     running.discard(process)
     if is_beside:
         say(f"beside the proofs, {command}:", *lines)
-    left_out_within.extend(f"{command}: {line}" for line in lines if re.search("left out[:,] ", line))
+    left_out.extend(f"within {command}: {line}" for line in lines if re.search("left out[:,] ", line))
     if status == 0:
         passed.append((command, time.monotonic() - begun))
     elif not failed:
@@ -151,37 +165,34 @@ def stop():
 
 
 def install(environment):
-    """As root, installs Debian's packages of the tools that are missing. Its rustc, for wasm32, is only unpacked: it is too
-    old for the other steps."""
-    missing = sorted({package for tool, package in PACKAGES.items() if not has(tool)})
+    """As root, installs Debian's packages of the missing tools, and removes none. Its rustc, for wasm32, is only unpacked."""
+    tools = missing()
+    packages = " ".join(sorted({PACKAGES[tool] for tool in tools if tool in PACKAGES}))
+    apt = "apt-get -o DPkg::Lock::Timeout=600"
+    commands = [f"{apt} update; {apt} install -y --no-install-recommends --no-remove {packages}"] * bool(packages)
+    commands += [f"packages/javascript/debian_rust {WASM}"] * ("wasm32" in tools)
     can = os.geteuid() == 0 and has("apt-get")
-    hint = "" if can or not missing else ", which are not installed: that takes root and apt-get"
-    say(f"missing packages: {' '.join(missing) or 'none'}{hint}")
-    commands = [f"apt-get update && apt-get install -y --no-install-recommends {' '.join(missing)}"] if missing and can else []
-    commands += [f"packages/javascript/debian_rust {WASM}"] if has("apt-get") and not has("wasm32") else []
-    for command in commands:
+    say(f"missing packages: {packages or 'none'}{'' if can or not commands else ', and none is installed: that takes root and apt-get'}")
+    for command in commands * can:
         process = start(command, {**environment, "DEBIAN_FRONTEND": "noninteractive"})
         lines = process.communicate()[0].splitlines()
         if process.returncode:
             say(f"failed: {command}", *lines[-5:])
         running.discard(process)
-
-
-def debian_crates(environment):
-    """Lets cargo take crates from Debian's packages, if they are installed, and then without a network."""
-    if has(f"{DEBIAN_CRATES}/clap-4.0.32") and subprocess.run(["tools/debian_crates", CARGO_HOME], cwd=TOP).returncode == 0:
-        environment["CARGO_HOME"] = CARGO_HOME
+    tools = missing()
+    if tools:
+        failed.append((f"missing: {' '.join(tools)}. Install these, or name what may be left out, as with --without {tools[0]}", 2))
 
 
 def beside(environment):
-    path = f"{WASM}/bin:{environment['PATH']}"
     for step in WITHOUT_PROOF:
-        if not run(step, {**environment, "PATH": path} if "packages/javascript" in step[1] else environment, is_beside=True):
+        path = f"{WASM}/bin:{environment['PATH']}" if "wasm32" in step[2] else environment["PATH"]
+        if not run(step, {**environment, "PATH": path}, is_beside="rt" not in WITHOUT):
             return
 
 
 def main():
-    environment = {**os.environ, "BUILT": BUILT, "PYTHONDONTWRITEBYTECODE": "1"}
+    environment = {**os.environ, "BUILT": BUILT, "PYTHONDONTWRITEBYTECODE": "1", "WITHOUT": " ".join(sorted(WITHOUT))}
     with open("/proc/meminfo", encoding="utf-8") as file:
         memory = next(int(line.split()[1]) // 1000000 for line in file if line.startswith("MemAvailable"))
     if memory >= GIGABYTES_FOR_A_PROOF * os.cpu_count():
@@ -189,13 +200,18 @@ def main():
         environment["RT_JOBS"] = str(os.cpu_count())
     os.makedirs(f"{BUILT}/bin")
     install(environment)
-    debian_crates(environment)
-    if not all(run(step, environment) for step in FIRST):
+    # With Debian's crates cargo needs no network.
+    if not failed and has("/usr/share/cargo/registry/clap-4.0.32") and subprocess.run(["tools/debian_crates", CARGO_HOME], cwd=TOP).returncode == 0:
+        environment["CARGO_HOME"] = CARGO_HOME
+    if failed or not all(run(step, environment) for step in FIRST):
         return
     thread = threading.Thread(target=beside, args=(environment,))
     thread.start()
     run(PROOFS, environment)
     thread.join()
+    if "rt" in WITHOUT and not failed and "cargo" not in WITHOUT:
+        shutil.copy(f"{TOP}/{COMMANDS}/lines", f"{BUILT}/bin/triples")
+        left_out.append("all proofs; the pages were tried with the Rust crate's program instead of the proved `triples`")
     for crate in ("triples", "oom_probe"):
         program = f"{TOP}/crates/{crate}/out/{crate}"
         # Where this run of `rt ci` left none, the checks ask `rt run`.
@@ -227,13 +243,8 @@ finally:
     print(f"the steps of .ci/run, after {(time.monotonic() - begun) / 60:.0f} min")
     for command, seconds in passed:
         print(f"{seconds:6.0f} s  {command}")
-    for command, missing in left_out:
-        print(f"left out: {command} (missing: {' '.join(missing)})")
-    for line in left_out_within:
-        print(f"left out within {line}")
-    if left_out:
-        tools = dict.fromkeys(tool for _, missing in left_out for tool in missing)
-        print(f"{len(left_out)} steps were left out; missing: {', '.join(tools)}")
+    for what in left_out:
+        print(f"left out: {what}")
     for command, code in failed:
         print(f"FAILED, with status {code}: {command}")
     print(f"{len(passed)} passed, {len(failed)} failed", flush=True)

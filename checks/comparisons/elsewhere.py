@@ -5,7 +5,7 @@ them; esbuild and Node's manual, the words; config.sub, which strings there are,
 table of prefixes. rustc lists its targets, and says the architecture, byte order, pointer width and object format of each, and what its cfg options are.
 clang prints its own form of each known name. Python's sysconfig says how it names platforms, and packaging which tags it makes. rpm says which machines have 64
 bits, and how they pass floating-point numbers; config.guess, what a system is whose `uname` is told; Nix and makepkg, how they name the
-machine that they run on. The tools that aren't installed are named.
+machine that they run on. Without one of them it fails, unless WITHOUT names that.
 Without any tool it checks that a machine's word means one architecture, and that each other spelling is explained by a rule or
 listed here. The status is 1 if an answer differs that docs/TOOL_NAMES.md doesn't list. The names of Android and iOS need a
 Python 3.13 that runs this.
@@ -20,7 +20,6 @@ import os
 import re
 import shutil
 import subprocess
-import sys
 
 import built
 import upstream
@@ -165,7 +164,7 @@ class Comparison(Report):
 
     def check_go(self):
         go = shutil.which("go")
-        if not self.has("Go", go):
+        if not self.has("go", go):
             return
         environment = {**os.environ, "GOFLAGS": "", "GO111MODULE": "off", "CGO_ENABLED": "0", "GOCACHE": f"{self.folder}/go",
                        "GOPATH": "/usr/share/gocode"}
@@ -230,7 +229,7 @@ class Comparison(Report):
         host = output("uname", "-m").strip()
         nix = shutil.which("nix-instantiate") and output("nix-instantiate", "--eval", "--expr", "builtins.currentSystem").strip('"\n')
         makepkg = re.search(r'^CARCH="(.*)"', upstream.read("/etc/makepkg.conf"), re.M) if os.path.exists("/etc/makepkg.conf") else None
-        for tool, dialect, name in (("Nix", "nix", nix), ("makepkg", "pacman", makepkg and makepkg[1])):
+        for tool, dialect, name in (("nix-instantiate", "nix", nix), ("makepkg", "pacman", makepkg and makepkg[1])):
             if self.has(tool, name):
                 self.fact(f"{tool} names this machine so", [(name, self.read(name, dialect).architecture, self.read(f"Linux {host}", "uname").architecture)])
 
@@ -241,9 +240,9 @@ class Comparison(Report):
             rows = [(f"{system}-{machine}", {"LE": "little", "BE": "big"}[order]) for system, machine, order in found]
             self.fact("esbuild's platforms have its byte order", (
                 (name, str(getattr(self.read(name, "node"), "endianness", None)), order) for name, order in rows), "sunos")
-        manual = "/usr/share/doc/nodejs/api/process.md.gz"
-        if self.has("Node's manual", os.path.exists(manual)):
-            with gzip.open(manual, "rt") as file:
+        manual = glob.glob("/usr/share/doc/nodejs/api/process.md*")
+        if self.has("nodejs-doc", manual):
+            with (gzip.open if manual[0].endswith(".gz") else open)(manual[0], "rt") as file:
                 text = file.read()
             # Machines and a system that are newer than the manual, as esbuild has them.
             known = {"arch": {"loong64", "riscv64", "mips64el"}, "platform": {"netbsd", "openharmony"}}
@@ -272,7 +271,7 @@ class Comparison(Report):
                 (text, form, it.environment.value, form.split("-")[-1]) for text, form in said.items()
                 if (it := self.read(text, "gnu")) and form.split("-")[-2:-1] == ["linux"]), "uclibcgnu")
         crate = glob.glob("/usr/share/cargo/registry/cc-1*/src/lib.rs")
-        if self.has("the crate cc", crate):
+        if self.has("librust-cc-dev", crate):
             text = upstream.read(crate[0])
             pairs = dict(re.findall(r'"([\w.-]+)" => Some\("([\w.-]+)"\)', text[text.index("fn prefix_for_target"):][:9000]))
             written = {name: it.name_in("gnu") for name, it in self.parsed(list(pairs)).items()}
@@ -311,7 +310,6 @@ class Comparison(Report):
 
     def check_python(self):
         self.has("Python's sysconfig", True)
-        self.has("Android and iOS by sysconfig", sys.version_info >= (3, 13))
         tags = {name: re.sub("[-.]", "_", name) for name in python_platforms.from_sysconfig()}
         said = {name: self.read(name, "python") for name in tags}
         self.fact("what sysconfig says is read", ((name, it is not None, True) for name, it in said.items()))

@@ -30,13 +30,13 @@ fn add_answers(output: &mut String, triple: &Triple) {
     }
 }
 
-/// Answers the lines of standard input in the mode that is the first argument. `print` adds what is printed of a triple, and
+/// Answers the lines of standard input in the mode that is the first argument, or in mode `print`. `print` adds what is printed of a triple, and
 /// `canonical` returns its canonical form.
 pub fn answer(
     print: impl Fn(&mut String, &Triple),
     canonical: impl Fn(Triple) -> Option<Triple>,
 ) -> io::Result<()> {
-    let mode = std::env::args().nth(1).expect("a mode");
+    let mode = std::env::args().nth(1).unwrap_or_else(|| "print".to_string());
     let mut input = String::new();
     io::stdin().read_to_string(&mut input)?;
     let lines: Vec<&str> = input.split_terminator('\n').collect();

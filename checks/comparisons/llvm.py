@@ -58,7 +58,7 @@ def main(options, folder):
             report.fact(f"{who} has the same {kind}", (row for row in rows if "-" not in row[1:]), but.get(kind))
 
     with concurrent.futures.ThreadPoolExecutor() as pool:
-        if report.has("LLVM", shutil.which("llvm-config") and shutil.which("c++")):
+        if report.has("llvm-config", shutil.which("llvm-config") and shutil.which("c++")):
             # LLVM 14 knows neither UEFI nor visionOS.
             compare("LLVM", parsed, llvm_answers(parsed, folder), width=NARROW, format="uefi|visionos")
         if report.has("clang", shutil.which("clang")):

@@ -14,7 +14,7 @@ def output(*command, **more):
 
 class Report:
     def __init__(self, options, folder):
-        self.asked, self.missing, self.failed, self.most = [], [], [], None if options.all else 5
+        self.asked, self.failed, self.most = [], [], None if options.all else 5
         tree = options.tree
         if not os.path.exists(f"{tree}/lib/libtarget_lexicon.so"):
             tree = f"{folder}/tree"
@@ -37,8 +37,11 @@ class Report:
             return None
 
     def has(self, name, there):
-        """Notes whether a tool is there, and returns it."""
-        (self.asked if there else self.missing).append(name)
+        """Notes whether a tool is there, and returns it. Without it the comparison fails, unless WITHOUT names the tool."""
+        if there:
+            self.asked.append(name)
+        else:
+            self.failed += [name] * built.left_out(name, "what it says")
         return there
 
     def fact(self, what, rows, but=None):
@@ -54,7 +57,7 @@ class Report:
 
     def conclude(self):
         """Prints who was asked, and returns the status."""
-        print(f"asked: {', '.join(dict.fromkeys(self.asked))}", *[f"left out: {name}" for name in self.missing], sep="\n")
+        print(f"asked: {', '.join(dict.fromkeys(self.asked))}")
         print(f"{len(self.failed)} facts don't hold")
         return 2 if not self.asked else 1 if self.failed else 0
 

@@ -1,5 +1,8 @@
-"""Runs the tests of this folder with the package that is installed, and prints how many passed. See ../test."""
+"""Runs the tests of this folder with the package that is installed, and prints how many passed. See ../test.
+
+A test that is skipped since there is `no TOOL` fails, unless the variable WITHOUT, a list of words, has the tool."""
 import os
+import re
 import sys
 import unittest
 
@@ -23,6 +26,10 @@ def main():
     failed = len(result.failures) + len(result.errors) + len(result.unexpectedSuccesses)
     for test, why in result.skipped:
         print(f"left out: {test.id()} ({why})")
+        tools = re.fullmatch("no (.*)", why)
+        if tools and not {*tools[1].split(" and ")} <= {*os.environ.get("WITHOUT", "").split()}:
+            print(f"install {tools[1]}, or name it in the variable WITHOUT")
+            failed += 1
     print(f"{result.passed} passed, {failed} failed")
     sys.exit(1 if failed or not result.passed else 0)
 

@@ -64,7 +64,7 @@ class Lines(unittest.TestCase):
             except ParseError:
                 pass
 
-    @unittest.skipUnless(lists.PROGRAM, "no program")
+    @unittest.skipUnless(lists.PROGRAM, "PROGRAM isn't given")
     def test_beside_the_program(self):
         for mode, call in ("show", show), ("settle", settle), ("print", print_it):
             given = "".join(f"{it}\n" for it in self.lines).encode()
@@ -181,7 +181,8 @@ class Memory(unittest.TestCase):
         self.assertLess(resident() - before, 1_000_000)
 
 
-@unittest.skipUnless(sys.implementation.name == "cpython" and sys.platform == "linux" and shutil.which("cc"), "no CPython on Linux with cc")
+@unittest.skipUnless(sys.implementation.name == "cpython" and sys.platform == "linux", "not CPython on Linux")
+@unittest.skipUnless(shutil.which("cc"), "no cc")
 @unittest.skipIf(sys.version_info >= (3, 12), "CPython from 3.12 on spoils its heap when it raises without memory")
 class WithoutMemory(unittest.TestCase):
     def test_each_allocation_fails_in_turn(self):

@@ -170,7 +170,8 @@ class Built(Folder):
             self.assertEqual((printed, library.startswith(home)), ("aarch64-unknown-linux", True), ran.stderr)
 
 
-@unittest.skipUnless(shutil.which("cc") and platform.machine() == "x86_64", "no cc, or another machine than its libraries are for")
+@unittest.skipUnless(shutil.which("cc"), "no cc")
+@unittest.skipUnless(platform.machine() == "x86_64", "another machine than its libraries are for")
 class Platforms(Folder):
     """The tag of the platforms that a library is for, by libraries that need more or less of the C library."""
 
@@ -301,11 +302,11 @@ class Samples(Folder):
     def test_programs_of_the_page(self):
         self.assertEqual(self.commands_run(sys.executable, None), 3)
 
-    @unittest.skipUnless(HAS_DASK, "no pandas and Dask")
+    @unittest.skipUnless(HAS_DASK, "no pandas and distributed")
     def test_columns_of_the_page(self):
         self.assertEqual(self.commands_run(DEBIAN_PYTHON, "pandas"), 1)
 
-    @unittest.skipUnless(run(PATH_PYTHON, "-c", "import pandas, pyarrow").returncode == 0, "no pandas and pyarrow")
+    @unittest.skipUnless(run(PATH_PYTHON, "-c", "import pandas, pyarrow").returncode == 0, "pandas and pyarrow aren't there; Debian doesn't have pyarrow")
     def test_parquet(self):
         """A frame of facts is written to a file, and read again."""
         path = os.path.join(self.folder, "targets.parquet")
@@ -314,11 +315,11 @@ class Samples(Folder):
                    f"frame.to_parquet({path!r})\nassert pandas.read_parquet({path!r}).equals(frame)\n")
         self.assertEqual(run(PATH_PYTHON, "-c", program, PYTHONPATH=PACKAGES).stderr, "")
 
-    @unittest.skipUnless(HAS_PYDANTIC, "no pydantic 2")
+    @unittest.skipUnless(HAS_PYDANTIC, "pydantic 2 isn't there; Debian 12 doesn't have it")
     def test_models_of_the_page(self):
         self.assertEqual(self.commands_run(PATH_PYTHON, "pydantic"), 1)
 
-    @unittest.skipUnless(HAS_PYDANTIC, "no pydantic 2")
+    @unittest.skipUnless(HAS_PYDANTIC, "pydantic 2 isn't there; Debian 12 doesn't have it")
     def test_models(self):
         program = os.path.join(os.path.dirname(os.path.abspath(__file__)), "with_pydantic.py")
         ran = run(PATH_PYTHON, program, PYTHONPATH=PACKAGES)
@@ -328,7 +329,7 @@ class Samples(Folder):
         ran = run(sys.executable, "-I", "-c", "import sys, target_lexicon; target_lexicon.Triple('avr'); print([it for it in sys.modules if 'pydantic' in it])")
         self.assertEqual(ran.stdout, "[]\n")
 
-    @unittest.skipUnless(HAS_DASK, "no pandas and Dask")
+    @unittest.skipUnless(HAS_DASK, "no pandas and distributed")
     def test_two_processes_count_as_one(self):
         ran = run(DEBIAN_PYTHON, os.path.join(SOURCE, "speed_many"), "50000", PYTHONPATH=PACKAGES)
         self.assertEqual((ran.stdout.count("   50000 lines: "), ran.returncode), (2, 0), ran.stdout + ran.stderr)
@@ -363,7 +364,7 @@ class Samples(Folder):
         for words in [], ["write", "x"], ["write", "--to", "podman", "x"], ["read", "--from", "podman", "x"], ["facts", "--yaml", "x"]:
             self.assertEqual((answer(*words)[0], answer(*words)[2]), ("", 2), words)
 
-    @unittest.skipUnless(COMMAND, "no command target-lexicon beside the program")
+    @unittest.skipUnless(COMMAND, "the command target-lexicon isn't beside PROGRAM")
     def test_command_writes_what_the_command_lexicon_writes(self):
         """The same bytes on standard output, except that objects of `read` have no `changes` here, and the same status."""
         targets = ["arm64-apple-ios17.1", "avr", "x86_64-aple-linux", "x86_64-unknown-uefi", "armv6k-nintendo-3ds", "thumbv7m-none-eabi",
@@ -390,7 +391,7 @@ class Samples(Folder):
     def test_counts_of_the_page(self):
         """Which targets of rustc come back, have another canonical text, and have an unknown system."""
         if not run("rustc", "--version", **HOMES).stdout.startswith("rustc 1.95."):
-            self.skipTest("another version of rustc than the page's")
+            self.skipTest("no rustc-1.95.0")
         triples = {}
         for text in run("rustc", "--print", "target-list", **HOMES).stdout.split():
             with contextlib.suppress(target_lexicon.ParseError):
