@@ -8,22 +8,21 @@ PACKAGES = {
         "target_lexicon": "",
         "tool_names": "tool_names",
     },
-    "packages/c": {"lexicon_c": ""},
 }
 # The modules that are compiled only with a feature of their name, and what of each is always compiled: suggestions need it.
-FEATURES = {"tool_names": {"distance", "known_names", "macos", "misspelling", "nearest", "rules", "spelled", "spelling", "suggested", "suggestions"}}
+FEATURES = {"tool_names": {"known_names", "macos", "rules", "spelled", "spelling"}}
 # The modules of which only the names of other tools use all, by the module that they are in; and the public names of those.
-PARTLY = {"": {"decimal", "reading"}, "tool_names": {"rules", "spelled", "spelling"}}
+PARTLY = {"": {"decimal", "reading"}, "tool_names": {"macos", "rules", "spelled", "spelling"}}
 ONLY_FOR_TOOL_NAMES = {"MAX_DECIMAL_LENGTH", "decimal_text", "Spelling"}
 # Public names that no package uses.
-NOT_EXPORTED = {"FixedRow", "ROW_COUNT", "expected_after", "round", "row_order"}
+NOT_EXPORTED = {"FixedRow", "ROW_COUNT", "expected_after", "row_order"}
 # The module of the layer that proved files name: what older versions of Rust lack.
 LAYER = {"compat"}
 # Where one package finds the crates of another.
 OUTSIDE = "target_lexicon::proved::"
 
 # Modules that are left out: laws, the counter of steps, JSON, the host, and the error that has an allocation's failure.
-MODULES = {"laws", "steps", "json", "json_error", "list_error", "macros", "host", "parse_error"}
+MODULES = {"laws", "steps", "json", "json_error", "list_error", "macros", "host", "parse_error", "round_trip"}
 # Types, functions and impls that are left out. The proved host is fixed; the layer has the others in Rust's form.
 ITEMS = {
     "host", "VendorError", "Triple::normal", "Triple::settle", "TripleRef::normal", "TripleRef::settle",
@@ -35,7 +34,7 @@ GROWS = 'cfg_attr(not(lexicon_internal), non_exhaustive)'
 NON_EXHAUSTIVE = set(
     """Architecture ArmArchitecture Aarch64Architecture CleverArchitecture Riscv32Architecture Riscv64Architecture
     X86_32Architecture Mips32Architecture Mips64Architecture Z80Architecture Vendor KnownVendor OperatingSystem Environment BinaryFormat
-    CallingConvention CDataModel CLibrary Dialect""".split())
+    CallingConvention CDataModel Dialect""".split())
 
 # Methods that only the crates above need, of which documentation doesn't speak.
 HIDDEN = {"DeploymentTarget::from_text", "Refusal::write_to", "TripleRef::step", "TripleRef::write_upstream_to"}
@@ -48,8 +47,7 @@ INLINE = {
     "put", "Refusal::write_to",
 }
 INLINE_MODULES = {
-    "aarch64", "arm", "clever", "distance", "macos", "mips", "misspelling", "nearest", "queries", "riscv", "rules", "settle",
-    "settles_as", "spelled", "spelling", "suggested", "suggestions", "x86_32", "z80",
+    "aarch64", "arm", "clever", "macos", "mips", "queries", "riscv", "rules", "settle", "settles_as", "spelled", "spelling", "x86_32", "z80",
 }
 
 # Calls that constants can use: what `const fn` can have in Rust 1.65.
@@ -60,8 +58,8 @@ CONST = set(
     CleverArchitecture::name Mips32Architecture::name Mips64Architecture::name Riscv32Architecture::name
     Riscv64Architecture::name X86_32Architecture::name Z80Architecture::name BinaryFormat::name CallingConvention::name
     CDataModel::double_size CDataModel::float_size CDataModel::int_size CDataModel::long_long_size CDataModel::long_size
-    CDataModel::name CDataModel::pointer_width CDataModel::short_size CLibrary::name Dialect::name Endianness::name
-    Environment::name FloatAbi::name KnownVendor::name KnownVendor::to_vendor OperatingSystem::is_like_darwin OperatingSystem::prefix
+    CDataModel::name CDataModel::pointer_width CDataModel::short_size Dialect::name Endianness::name
+    Environment::name KnownVendor::name KnownVendor::to_vendor OperatingSystem::is_like_darwin OperatingSystem::prefix
     OperatingSystem::version PointerWidth::bits PointerWidth::bytes PointerWidth::name Refusal::range Size::bits Size::bytes
     TextPart::range Triple::unknown TripleRef::default_binary_format TripleRef::default_calling_convention
     TripleRef::endianness TripleRef::pointer_width TripleRef::unknown VendorRef::as_str VendorRef::is_custom""".split())
@@ -83,8 +81,6 @@ REPLACEMENTS = [
     ("lexicon_fields/src/table.rt", "/// `steps` ticks once for each row that is compared with the string: at least once, and at most eight times.\n", ""),
     ("lexicon_fields/src/table.rt", " `steps` ticks once.", ""),
     ("", ", &mut Steps::new()", ""),
-    # `FromStr` has it.
-    ("lexicon_c/src/numbers.rt", "use target_lexicon::{", "use std::str::FromStr as _;\nuse target_lexicon::{"),
     # A name has the width that is asked for. Triples and their fields have none, as upstream's.
     ("tool_names/src/", "f.write_str(self.name())", "f.pad(self.name())"),
     ("tool_names/src/name.rt", "f.write_str(self.as_str())", "f.pad(self.as_str())"),

@@ -209,7 +209,6 @@ def antt_lists(tables):
         "dialect_name": [f'dialect_name dialect.{it.variant} = codes "{it.name}"' for it in dialects],
         "dialects": ["dialects = " + " ∷ ".join([*(f"dialect.{it.variant}" for it in dialects), "[]"])],
         "other_dialect_names": ["other_dialect_names = " + " ∷ ".join([*(f'(codes "{name}", dialect.{it.variant})' for name, it in other_names(tables)), "[]"])],
-        "dialects_by_number": ["dialects_by_number = " + " ∷ ".join(["None", *(f"Some dialect.{it.variant}" for it in dialects), "[]"])],
         "rules_of": [f"rules_of dialect.{it.variant} = record {{ "
                      + "; ".join(f"{name} = {value}" for name, value in rules(it, lambda value: value.replace("AbiRule::", "abi.").replace("MachineRule::", "machine."))) + " }"
                      for it in dialects],

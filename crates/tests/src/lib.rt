@@ -9,8 +9,6 @@ mod callers;
 #[cfg(test)]
 mod completion;
 #[cfg(test)]
-mod driver;
-#[cfg(test)]
 mod json;
 #[cfg(test)]
 mod names;
@@ -22,8 +20,6 @@ mod printing;
 mod queries;
 #[cfg(test)]
 mod reading;
-#[cfg(test)]
-mod rustc_cfg;
 #[cfg(test)]
 mod systems;
 #[cfg(test)]

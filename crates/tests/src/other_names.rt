@@ -1,153 +1,9 @@
-//! Suggestions, object formats, names of Python's platforms, and how the values of `tool_names` are compared and displayed.
+//! Object formats, names of Python's platforms, and how the values of `tool_names` are compared and displayed.
 
 use crate::values::{hash_alike, prints, writes};
 use std::process::Abort;
 use target_lexicon::{Field, Refusal, TextPart, TripleRef};
-use tool_names::known_names::names;
-use tool_names::{Change, Dialect, NameError, changes, object_format, read, suggestion};
-
-/// For each field strings, and after `=` the name that should be suggested, or nothing.
-const OPERATING_SYSTEMS: &str = "\
-linx=linux
-darwim=darwin
-widows=windows
-plan9=
-w64=
-solar=
-solart=solaris
-darwxyz=
-lniux=linux
-psx=
-kfreebsd=
-uclinux=
-wasip3=
-Linux=linux
-iso17=ios17
-iso17.2=ios17.2
-iso=ios
-iso017.2.3=ios017.2.3
-iso17.2.3.4=ios
-iso65536=ios
-darwim20.1=darwin20.1
-darwin20.1.2.3=darwin
-macosc14=macosx14
-iOS17=ios17
-MacOS14.5=macosx14.5
-macOS=macosx
-LINUX=linux
-macos14=macosx14
-macos14.=macosx
-macos.11.0=macosx
-macosx.11.0=macosx
-iso17x=
-ios17x=ios
-ios17é=ios
-iosé17=
-linux5.10=linux
-Linux5.10=linux
-linx5.10=
-windows10=windows
-windows.win10=windows
-haiku1=haiku
-freebsd13.2=freebsd
-freebsd13x=freebsd
-wasi0.2=wasi
-wasip4=
-psp2=psp
-psx1=
-5.10=
-.=
-aux7=";
-
-const ARCHITECTURES: &str = "\
-x86-64=x86_64
-=
-arm64e=
-arm64ec=
-riscv64im=
-riscv32em=
-riscv32mi=riscv32im
-thumbv8r=
-armv7hl=
-armv6hl=
-armv7l=armv7
-armel=arm
-thumbv8m.bas=thumbv8m.base
-aarch64be=aarch64_be
-X86_64=x86_64
-ARM64=arm64
-mips32el=
-iso17=
-arm6j=armv6j
-i368=i386
-amd64=x86_64
-wasm=
-x86=
-x86_32=
-mipsel64=
-arc=
-arceb=
-crisv32=
-m88k=
-r600=
-s390=
-spir64=
-spirv64=
-z8k=";
-
-const VENDORS: &str = "\
-linxu=linux
-aple=apple
-freebsd13.2=freebsd
-mingw32=windows-gnu
-macos13=macosx13
-iso17=ios17
-linux5.10=linux
-w64=pc";
-
-const ENVIRONMENTS: &str = "\
-android21=android
-mingw32=
-gnuabi=gnueabi
-musl=musl
-msul=musl
-glibc=
-gnuabi32=
-iso17=
-macos14=
-linux5.10=
-ela=
-efl=elf";
-
-const BINARY_FORMATS: &str = "\
-mach0=
-mahco=macho
-nothing of the kind=";
-
-#[test]
-fn suggestions(rt: HostRuntime) {
-    for (field, rows) in [
-        (Field::OperatingSystem, OPERATING_SYSTEMS),
-        (Field::Architecture, ARCHITECTURES),
-        (Field::Vendor, VENDORS),
-        (Field::Environment, ENVIRONMENTS),
-        (Field::BinaryFormat, BINARY_FORMATS),
-    ] {
-        for row in rows.lines() {
-            let (text, name) = row.split_once('=').unwrap_or((row, ""));
-            match suggestion(field, text) {
-                Some(found) => assert!(rt; prints(&found, name), "{row}"),
-                None => assert!(rt; name.is_empty(), "{row}"),
-            }
-        }
-        for name in names(field) {
-            match suggestion(field, name) {
-                Some(found) => assert!(rt; writes(&found, name), "{name}"),
-                None => assert!(rt; false, "{name}"),
-            }
-        }
-    }
-}
+use tool_names::{Change, Dialect, NameError, changes, object_format, read};
 
 /// A name, what it means, and the name that is written for that. A row without a name is only written, one without a meaning
 /// means nothing, and one without a last name has none.
@@ -310,12 +166,8 @@ fn names_of_dialects(rt: HostRuntime) {
     assert!(rt; Dialect::Python.read("macosx-10.9-universal2") == Err(several));
     assert!(rt; Dialect::Python.read("macosx-14-universal2") == Err(several));
     assert!(rt; Dialect::Python.read("any") == Err(NameError::WithoutTriple("no machine")));
-    assert!(rt; Dialect::Python.suggestion("linux_x86_46") == Some("linux_x86_64"));
-    assert!(rt; Dialect::Python.suggestion("macosx_11_0_arm46") == None);
     let unknown = "a target of rustc that has no triple here: its architecture is no known name";
     assert!(rt; Dialect::Rust.read("arm64e-apple-ios") == Err(NameError::WithoutTriple(unknown)));
-    assert!(rt; Dialect::Gnu.suggestion("x86_64-linux-gnuu") == Some("x86_64-linux-gnu"));
-    assert!(rt; Dialect::Rust.suggestion("x86_64-apple-darwn") == Some("x86_64-apple-darwin"));
     assert!(rt; "python".parse() == Ok(Dialect::Python) && prints(&Dialect::Python, "python"));
 }
 

@@ -5,19 +5,10 @@ use Rattle.std.specs.Option.{option_map_or}
 use Rattle.std.proofs.lemmas.Bool.{and_parts}
 use Rattle.lexicon_fields.specs.Names.{dash, is_dash_free}
 use Rattle.lexicon_fields.specs.Vendor.{VendorValue, is_custom, vendor_of}
-use Rattle.lexicon_fields.specs.declared.field.Field.{Field}
 use Rattle.lexicon_fields.proofs.VendorsReadBack.{vendor_of-dash_free}
 use Rattle.target_lexicon.proofs.PartLemmas.{parts_of-are, parts-only}
 use Rattle.target_lexicon.specs.Placement.{parts_of}
-use Rattle.tool_names.specs.Suggestion.{has_place, joined_if_placed}
 use Rattle.tool_names.specs.Spelling.{is_like_system, is_other_system}
-
--- if the first name has a place, the names are joined again
-pub placed_joined : (expected : Field) (names first : List ℕ) (others : List (List ℕ)) → parts_of names ≡ first ∷ others → has_place expected first ≡ true
-    → joined_if_placed expected (parts_of names) ≡ Some names
-placed_joined expected names first others are placed =
-    let joined : join_with_byte dash (first ∷ others) ≡ names = ap (join_with_byte dash) (sym are) ∙ (parts_of-are names).joined in
-    rw (are, placed) (ap Some joined)
 
 -- a text without a dash is one part
 one-part : (part : List ℕ) → is_dash_free part ≡ true → parts_of part ≡ part ∷ []

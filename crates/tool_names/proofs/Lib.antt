@@ -1,27 +1,20 @@
--- LookUps, TableLemmas, MacosNames: tables are searched, and `macosx` with a version is a system. JoinedNames: the names of a listed
+-- TableLemmas, MacosNames: tables are searched, and `macosx` with a version is a system. JoinedNames: the names of a listed
 -- spelling. SpelledNames, SpelledReading, SpelledOnce: what parses is read as before, and once is enough. ReadAgain: what is
 -- read of what was read is the same. ChangeLemmas, PlacedParts, RefusedNames: the changes of a string, the ranges of parts, and
--- where a string is refused. ObjectFormats, KeptFormats: the object format of a triple. CfgLines: the lines of rustc's families.
--- ShapeLemmas: what a shape keeps. NumberLemmas, Matches, Tags, Filling: names with numbers, and how they are matched.
--- RowChecks, RowLemmas, NameLaws: what the rows pass,
--- what follows of the row of a name, and the laws. DistanceLemmas: the edit distance is the least number of edits.
--- Completions: what completion keeps. SuggestedNames: what is suggested has a place. VersionParts: a part is cut
--- before its version. StatedVersions: names with a version that a caller says.
-pub mod CfgLines
+-- where a string is refused. ObjectFormats, KeptFormats: the object format of a triple. ShapeLemmas: what a shape keeps.
+-- NumberLemmas, Matches, Tags, Filling: names with numbers, and how they are matched. RowChecks, RowLemmas, NameLaws: what the
+-- rows pass, what follows of the row of a name, and the laws. Completions: what completion keeps. StatedVersions: names with a
+-- version that a caller says.
 pub mod ChangeLemmas
 pub mod Completions
-pub mod DistanceLemmas
 pub mod Filling
 pub mod JoinedNames
 pub mod KeptFormats
 pub mod KnownStay
-pub mod LookUps
 pub mod MacosNames
 pub mod Matches
 pub mod NameLaws
 pub mod NamesRead
-pub mod NearestLemmas
-pub mod NearestNames
 pub mod NumberLemmas
 pub mod ObjectFormats
 pub mod PlacedParts
@@ -35,8 +28,6 @@ pub mod SpelledNames
 pub mod SpelledOnce
 pub mod SpelledReading
 pub mod StatedVersions
-pub mod SuggestedNames
 pub mod TableLemmas
 pub mod Tags
-pub mod VersionParts
 pub mod Words

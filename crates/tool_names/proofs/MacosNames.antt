@@ -2,12 +2,9 @@
 use Rattle.std.proofs.Common.{◌≡◌, ◌∙◌, ℕ, Bool, List, [], ◌∷◌, Some, false, true, refl, sym}
 use Rattle.std.specs.Prelude.{codes, is_some, ◌||◌}
 use Rattle.lexicon_fields.specs.{Architecture.architecture_of, BinaryFormat.binary_format_of, FixedRow.has_row, Environment.environment_of, OperatingSystem.operating_system_of, OperatingSystem.fixed_operating_system_of, Vendor.known_vendor_of, Vendor.vendor_of, Version.version_of}
-use Rattle.lexicon_fields.specs.declared.field.Field.{Field}
-use Rattle.lexicon_fields.specs.declared.field.Field.TheVariants as field
 use Rattle.lexicon_fields.specs.declared.deployment_target.DeploymentTarget.{DeploymentTarget}
 use Rattle.lexicon_fields.specs.declared.operating_system.OperatingSystem.TheVariants.{MacOSX}
 use Rattle.tool_names.specs.Spelling.{macosx_name}
-use Rattle.tool_names.specs.Suggestion.{has_place}
 
 no_version : (version : DeploymentTarget) → version_of [] ≡ Some version → ⊥
 unfolding version_of
@@ -22,17 +19,3 @@ pub no_row : (text : List ℕ) (version : DeploymentTarget) → version_of text 
 unfolding architecture_of known_vendor_of fixed_operating_system_of environment_of binary_format_of
 no_row [] version is = absurd (no_version version is)
 no_row (c ∷ cs) version is = refl
-
-pub or_true : (b : Bool) → (b || true) ≡ true
-or_true true = refl
-or_true false = refl
-
--- the version doesn't matter where a field is expected
-pub has_place-of_macosx : (expected : Field) (text : List ℕ) (version : DeploymentTarget) → version_of text ≡ Some version → has_place expected (macosx_name text) ≡ has_place expected (codes "macosx")
-unfolding has_place architecture_of operating_system_of fixed_operating_system_of environment_of binary_format_of
-has_place-of_macosx expected [] version is = absurd (no_version version is)
-has_place-of_macosx field.Architecture (c ∷ cs) version is = refl
-has_place-of_macosx field.Vendor (c ∷ cs) version is = rw is (or_true (is_some (vendor_of (macosx_name (c ∷ cs)))) ∙ sym (or_true (is_some (vendor_of (codes "macosx")))))
-has_place-of_macosx field.OperatingSystem (c ∷ cs) version is = rw is refl
-has_place-of_macosx field.Environment (c ∷ cs) version is = refl
-has_place-of_macosx field.BinaryFormat (c ∷ cs) version is = refl

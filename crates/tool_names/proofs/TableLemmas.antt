@@ -8,9 +8,11 @@ use Rattle.std.proofs.lemmas.List.Elements.{filter-append}
 use Rattle.tool_names.specs.declared.dialect.Dialect.{Dialect}
 use Rattle.tool_names.specs.Dialects.{joined_rows, rows_of, tables_of}
 use Rattle.tool_names.specs.Patterns.{matched}
-use Rattle.tool_names.specs.Tables.{Row, first_row, has_plain_name, plain_rows, row_named, rows_in}
-use Rattle.tool_names.specs.ToolNames.{plain_names}
-use Rattle.tool_names.proofs.NearestNames.{BorrowedRow}
+use Rattle.tool_names.specs.Tables.{Row, first_row, plain_rows, row_named, rows_in}
+use Rattle.tool_names.specs.declared.tables.Way.{Way}
+
+abbrev pub BorrowedRow : Type 0
+BorrowedRow = Bor (List ℕ) × Bor (List ℕ) × Way
 
 -- the rows of a dialect are those of its tables
 pub rows-joined : (d : Dialect) → joined_rows (tables_of d) ≡ rows_of d
@@ -55,23 +57,6 @@ pub first_more : (p : Row → Bool) (tables : List Table) (i : ℕ) → i < leng
 first_more p tables i more =
     ap (λ ts. first_row p (rows_in ts)) (drop_more tables i no_table more)
     ∙ first-append p (plain_rows (get_or tables i no_table).now) (rows_in (drop (i + 1) tables))
-
--- the names of the first tables, and of one more
-
-abbrev pub first_tables : Bool → List Table → ℕ → List (List ℕ)
-first_tables written tables n = plain_names written (rows_in (take n tables))
-
-names-append : (written : Bool) (xs ys : List Row) → plain_names written (xs ++ ys) ≡ plain_names written xs ++ plain_names written ys
-names-append written xs ys =
-    ap (map (λ (row : Row). row.pattern)) (filter-append (has_plain_name written) xs ys)
-    ∙ map-append (λ (row : Row). row.pattern) (filter (has_plain_name written) xs) (filter (has_plain_name written) ys)
-
-pub names_more : (written : Bool) (tables : List Table) (i : ℕ) → i < length tables
-    → first_tables written tables (i + 1) ≡ first_tables written tables i ++ plain_names written (plain_rows (get_or tables i no_table).now)
-names_more written tables i more =
-    ap (λ ts. plain_names written (rows_in ts)) (take_more tables i no_table more)
-    ∙ ap (plain_names written) (flat_map-append (λ (table : Table). plain_rows table.now) (take i tables) (get_or tables i no_table ∷ []) ∙ ap (λ rs. rows_in (take i tables) ++ rs) (append-nil (plain_rows (get_or tables i no_table).now)))
-    ∙ names-append written (rows_in (take i tables)) (plain_rows (get_or tables i no_table).now)
 
 -- the pattern of the first of two rows, and of the second where there is no first
 

@@ -1,9 +1,9 @@
 -- Definitions for the contracts of private functions; no public contract cites them.
 use Rattle.std.specs.Prelude.{◌≡◌, ⊤, ℕ, ◌+◌, ◌^◌, ◌<◌, ◌==◌, ◌&&◌, nat_le, nat_lt, Bool, List, [], ◌∷◌, ◌++◌, Option, Some, None, map, option_map, if◌then◌else◌}
-use Rattle.std.specs.{Borrow.Bor, List.list_all, Option.option_map_or}
+use Rattle.std.specs.{Borrow.Bor, List.list_all}
 use Rattle.lexicon_fields.specs.Names.{Pair}
 use Rattle.target_lexicon.specs.Placement.{parts_after, parts_of}
-use Rattle.tool_names.specs.{declared.names_left.Left.Left, declared.pattern.Numbers.Numbers, declared.platform.Platform.Platform, declared.rustc_cfg.Line.Line, RustcCfg.option_line, declared.tables.Way.Way}
+use Rattle.tool_names.specs.{declared.names_left.Left.Left, declared.pattern.Numbers.Numbers, declared.platform.Platform.Platform, declared.tables.Way.Way}
 use Rattle.tool_names.specs.declared.pattern.Numbers.TheVariants.{NoNumber, One, Two}
 use Rattle.tool_names.specs.Changes.{name_text, parts_left, plain_rule, spelling_names}
 use Rattle.tool_names.specs.declared.spelled.SpelledPart.{SpelledPart as CodePart}
@@ -12,8 +12,6 @@ use Rattle.tool_names.specs.declared.spelled.RuleNames.TheVariants.{Known, MacOs
 use Rattle.tool_names.specs.{declared.rules.Form.Form, declared.rules.Place.Place}
 use Rattle.tool_names.specs.declared.rules.Place.TheVariants as place
 use Rattle.tool_names.specs.declared.rules.TheConstants as code
-use Rattle.tool_names.specs.Nearest.{AreAllFar, IsNearest, misspelling, too_many_edits}
-use Rattle.tool_names.specs.declared.nearest.NearestName.{NearestName}
 use Rattle.tool_names.specs.Platforms.{Words}
 use Rattle.tool_names.specs.{Patterns.plain_number, Patterns.rest_of, Patterns.star, Tables.Row, Tables.plain_row}
 use Rattle.tool_names.specs.Spelling.{Rule, Standing, first_rule, fits, is_known_at, rules_in, macosx_name, SpelledName, SpelledPart, names_by, names_of, spelled_by}
@@ -92,15 +90,3 @@ longest widths (p ∷ ps) = if p == star then first_width widths + longest (rest
 -- whether a pattern is ASCII, and its names have at most 36 bytes
 abbrev pub is_short_pattern : List ℕ → Bool
 is_short_pattern pattern = list_all (λ (c : ℕ). nat_lt c 128) pattern && nat_le (longest (5 ∷ 3 ∷ []) pattern) 36
-
--- what is printed of an option; nothing if it has no value
-abbrev pub line_text : Line → List ℕ
-line_text line = option_map_or (λ (value : Bor (List ℕ)). option_line line.key.now value.now) line.value []
-
--- the name is the nearest of these, at these edits; without a name the part is a misspelling of none
-abbrev pub IsNearestAt : List ℕ → List (List ℕ) → Option (Bor (List ℕ)) → ℕ → Type 0
-IsNearestAt part seen None edits = (edits ≡ too_many_edits) × AreAllFar part seen
-IsNearestAt part seen (Some name) edits = (edits ≡ misspelling part name.now) × IsNearest part seen name.now
-
-abbrev pub IsNearestIn : List ℕ → List (List ℕ) → NearestName → Type 0
-IsNearestIn part seen it = IsNearestAt part seen it.name it.edits

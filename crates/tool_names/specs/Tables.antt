@@ -56,7 +56,3 @@ abbrev pub is_read_and : Bool → Way → Bool
 is_read_and true Both = true
 is_read_and false Read = true
 is_read_and written _ = false
-
--- whether a row has such a name, without a number
-abbrev pub has_plain_name : Bool → Row → Bool
-has_plain_name written row = is_read_and written row.way && star_count row.pattern == 0

@@ -1,5 +1,5 @@
 -- What a name of a dialect means, and the name of a triple in a dialect.
-use Rattle.std.specs.Prelude.{ℕ, Bool, true, false, List, [], ◌∷◌, ◌++◌, Option, Some, None, Result, Ok, Err, filter, length, map, take, option_map}
+use Rattle.std.specs.Prelude.{ℕ, Bool, true, false, List, [], ◌∷◌, ◌++◌, Option, Some, None, Result, Ok, Err, length, map, take, option_map}
 use Rattle.lexicon_fields.specs.declared.deployment_target.DeploymentTarget.{DeploymentTarget}
 use Rattle.target_lexicon.specs.{declared.triple_ref.TripleRef.TripleRef, GreedyReading.reading, Printing.text_of, Refusal.Refusal, Values.OperatingSystem, Values.Values, ValuesRef.values_of_ref}
 use Rattle.target_lexicon.specs.Values.operating_system
@@ -11,7 +11,7 @@ use Rattle.std.specs.Option.{option_or}
 use Rattle.tool_names.specs.declared.shape.Rules.{Rules}
 use Rattle.tool_names.specs.Patterns.{filled}
 use Rattle.tool_names.specs.Platforms.{normal_words, row_with_words, words_of}
-use Rattle.tool_names.specs.Tables.{Row, has_plain_name, row_for, row_named}
+use Rattle.tool_names.specs.Tables.{Row, row_for, row_named}
 
 -- why a name isn't read: it isn't known, or it has no triple, for this reason
 pub data Unread : Type 0 where
@@ -108,13 +108,6 @@ shape_name d s = option_map (λ (row : Row). filled row.pattern (numbers_in s.op
 -- the name of a triple: that of its shape
 unfoldable pub triple_name : Dialect → Values → Option (List ℕ)
 triple_name d t = shape_name d (shape d t)
-
-abbrev pub plain_names : Bool → List Row → List (List ℕ)
-plain_names written rows = map (λ (row : Row). row.pattern) (filter (has_plain_name written) rows)
-
--- the names without a number that are read: first those that are also written
-unfoldable pub names_that_are_read : Dialect → List (List ℕ)
-names_that_are_read d = plain_names true (rows_of d) ++ plain_names false (rows_of d)
 
 abbrev pub name_bytes : Name → List ℕ
 name_bytes name = take name.length name.bytes

@@ -1,30 +1,11 @@
-//! Laws of the definitions, and of equality. Each function's contract is a law; a call does nothing.
-ghost use Rattle.std.specs.Prelude.{◌≡◌, ◌↔◌, ℕ, List, IsTrue};
-ghost use Rattle.lexicon_fields.specs.Laws.{ComparesByValue, CopiesEqualTheirSources};
-ghost use Rattle.tool_names.specs.Changes.{change_value, spelling_names, ChangedPartsAreInTheString, KnownNamesStay, UnchangedStringsAreReadAsTheyParse};
+//! Laws of the definitions. Each function's contract is a law; a call does nothing.
+ghost use Rattle.tool_names.specs.Changes.{ChangedPartsAreInTheString, KnownNamesStay, UnchangedStringsAreReadAsTheyParse};
 ghost use Rattle.tool_names.specs.Completion.{CompletedTriplesStay, CompletionFillsOnlyAGap, CompletionIsUnstated, CompletionKeepsAnswers};
-ghost use Rattle.tool_names.specs.Distance.{edit_distance, IsLeastEdits};
 ghost use Rattle.tool_names.specs.Laws.{NamesAreCanonical, NamesKeepAnswers, NamesMeanTheShape, NamesMeanTheirRows, NamesReadBack, NamesWithoutTripleAreRefused, OneNumberIsEnough, ShapesAreFixed, TagsMeanTheSame};
 ghost use Rattle.tool_names.specs.ObjectFormat.{GivenFormatsAreKept};
 ghost use Rattle.tool_names.specs.Spelling.{KnownNamesAreReadAsBefore, ListedPartsAreUnknown, OnceIsEnough, ReadingAgainIsTheSame, RefusalsAreAtTheRefusedName, RefusedPartsAreInTheString};
 ghost use Rattle.tool_names.specs.StatedVersion.{VersionedNamesAreRead};
-ghost use Rattle.tool_names.specs.Suggestion.{SuggestionsHaveAPlace, suggestion_text};
-ghost use Rattle.tool_names.specs.ToolNames.{name_bytes, unread_of};
-ghost use Rattle.tool_names.specs.Translation.{untranslated_of};
-ghost use Rattle.tool_names.specs.declared.change.Change.{Change};
-ghost use Rattle.tool_names.specs.declared.name.Name.{Name};
-ghost use Rattle.tool_names.specs.declared.names.NameError.{NameError};
-ghost use Rattle.tool_names.specs.declared.spelling.Spelling.{Spelling};
-ghost use Rattle.tool_names.specs.declared.suggested.Suggestion.{Suggestion};
 
-use crate::change::Change;
-use crate::completion::LinuxLibc;
-use crate::dialect::Dialect;
-use crate::name::Name;
-use crate::names::NameError;
-use crate::spelling::Spelling;
-use crate::suggested::Suggestion;
-use crate::translation::{TranslateError, WriteError};
 use target_lexicon::laws::{read_triples_are_plain, round_is_normal_step};
 
 /// A string that parses without a custom vendor is read as it parses.
@@ -74,11 +55,6 @@ pub fn reading_again_is_the_same()
 {
     round_is_normal_step();
 }
-
-/// What is suggested isn't refused there again: its first name parses as a value of the expected field or of a later one.
-pub fn suggestions_have_a_place()
-    ensures { SuggestionsHaveAPlace }
-{}
 
 /// The object format is the field `binary_format`, with two exceptions: that field is unknown, or it is the implied
 /// format on UEFI, Cygwin or WebAssembly.
@@ -165,56 +141,4 @@ pub fn completion_keeps_answers()
 /// A dialect that doesn't state the C library names a completed triple as before.
 pub fn completion_is_unstated()
     ensures { CompletionIsUnstated }
-{}
-
-/// Two dialects, two C libraries, or two reasons why a name isn't read, written or translated, are equal exactly if they are
-/// the same. Two names that are equal have the same bytes; two changes that are equal are of the same part, and name the same;
-/// two suggestions that are equal are the same string.
-pub fn values_are_equal_by_value()
-    ensures dialect { ComparesByValue ⟦<Dialect as PartialEq>⟧.eq }
-    ensures c_library { ComparesByValue ⟦<LinuxLibc as PartialEq>⟧.eq }
-    ensures name_error { (x y : NameError) →
-        IsTrue (⟦<NameError as PartialEq>⟧.eq x y) ↔ (unread_of x ≡ unread_of y) }
-    ensures write_error { ComparesByValue ⟦<WriteError as PartialEq>⟧.eq }
-    ensures translate_error { (x y : TranslateError) →
-        IsTrue (⟦<TranslateError as PartialEq>⟧.eq x y) ↔ (untranslated_of x ≡ untranslated_of y) }
-    ensures name { (x y : Name) →
-        IsTrue (⟦<Name as PartialEq>⟧.eq x y) →
-        name_bytes x ≡ name_bytes y }
-    ensures spelling { (x y : Spelling) →
-        IsTrue (⟦<Spelling<'static> as PartialEq>⟧.eq x y) →
-        spelling_names x ≡ spelling_names y }
-    ensures change { (x y : Change) →
-        IsTrue (⟦<Change<'static> as PartialEq>⟧.eq x y) →
-        change_value x ≡ change_value y }
-    ensures suggestion { (x y : Suggestion) →
-        IsTrue (⟦<Suggestion<'static> as PartialEq>⟧.eq x y) →
-        suggestion_text x ≡ suggestion_text y }
-{}
-
-/// A copy of a value is that value, and copying allocates nothing.
-pub fn copies_equal_their_sources()
-    ensures dialect { CopiesEqualTheirSources ⟦<Dialect as Clone>⟧.is_clone
-        ⟦<Dialect as Clone>⟧.is_infallible }
-    ensures c_library { CopiesEqualTheirSources ⟦<LinuxLibc as Clone>⟧.is_clone
-        ⟦<LinuxLibc as Clone>⟧.is_infallible }
-    ensures name_error { CopiesEqualTheirSources ⟦<NameError as Clone>⟧.is_clone
-        ⟦<NameError as Clone>⟧.is_infallible }
-    ensures write_error { CopiesEqualTheirSources ⟦<WriteError as Clone>⟧.is_clone
-        ⟦<WriteError as Clone>⟧.is_infallible }
-    ensures translate_error { CopiesEqualTheirSources ⟦<TranslateError as Clone>⟧.is_clone
-        ⟦<TranslateError as Clone>⟧.is_infallible }
-    ensures name { CopiesEqualTheirSources ⟦<Name as Clone>⟧.is_clone
-        ⟦<Name as Clone>⟧.is_infallible }
-    ensures spelling { CopiesEqualTheirSources ⟦<Spelling<'static> as Clone>⟧.is_clone
-        ⟦<Spelling<'static> as Clone>⟧.is_infallible }
-    ensures change { CopiesEqualTheirSources ⟦<Change<'static> as Clone>⟧.is_clone
-        ⟦<Change<'static> as Clone>⟧.is_infallible }
-    ensures suggestion { CopiesEqualTheirSources ⟦<Suggestion<'static> as Clone>⟧.is_clone
-        ⟦<Suggestion<'static> as Clone>⟧.is_infallible }
-{}
-
-/// The edit distance of two strings is the least number of edits that turn the one into the other.
-pub fn edit_distance_is_least()
-    ensures { (old new : List ℕ) → IsLeastEdits old new (edit_distance old new) }
 {}

@@ -1,2 +1,1 @@
 pub mod Boot
-pub mod Conclusions

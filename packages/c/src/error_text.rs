@@ -1,5 +1,5 @@
 //! Why a text is refused, in words.
-use crate::proved::{expected_at, TextError};
+use crate::error::{expected_at, TextError};
 use crate::text::Text;
 use crate::{Status, NAME_WITHOUT_TRIPLE, NEEDS_C_LIBRARY, NOT_UTF8, NO_SUCH_VALUE, TRIPLE_WITHOUT_NAME, UNKNOWN_NAME};
 use core::str;

@@ -1,6 +1,10 @@
 //! The numbers of target_lexicon.h and target_lexicon.hpp are the library's.
-use crate::proved::values::{architecture_at, environment_at, operating_system_at};
-use crate::proved::{c_library_at, dialect_at, expected_at, facts, field_at, name_at, NumberedTriple, TripleNumbers};
+use crate::calls::facts;
+use crate::dialects::{c_library_at, dialect_at};
+use crate::error::expected_at;
+use crate::numbers::name_at;
+use crate::triple::{NumberedTriple, TripleNumbers};
+use crate::values::{architecture_at, environment_at, field_at, operating_system_at};
 use std::collections::BTreeMap;
 use target_lexicon::tool_names::{CLibrary, FloatAbi};
 use target_lexicon::TripleRef;
@@ -237,8 +241,8 @@ fn flattened(fields: Vec<(String, String)>, inner: &str, of: &[(String, String)]
 
 #[test]
 fn the_structs_are_those_of_the_library() {
-    let (triple, facts) = (include_str!("proved/triple.rs"), include_str!("proved/triple_facts.rs"));
-    let (error, sources) = (include_str!("proved/error.rs"), include_str!("proved/sources.rs"));
+    let (triple, facts) = (include_str!("triple.rs"), include_str!("facts.rs"));
+    let (error, sources) = (include_str!("error.rs"), include_str!("sources.rs"));
     let library = include_str!("lib.rs");
     let numbers = fields(triple, "TripleNumbers");
     assert_eq!(members("lexicon_triple"), flattened(fields(library, "Triple"), "TripleNumbers", &numbers));

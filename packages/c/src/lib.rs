@@ -1,4 +1,4 @@
-//! The calls of target_lexicon.h. What they answer is decided in `proved`; here is what only concerns memory: pointers and sizes
+//! The calls of target_lexicon.h. What they answer is the Rust crate's, as numbers (`calls`); here is what only concerns memory: pointers and sizes
 //! become slices, answers are written where the caller wants them, and texts get a zero byte at the end.
 //!
 //! What a call writes, the caller may have left without a value, and so too what target_lexicon.h says is not read. To such memory
@@ -11,32 +11,42 @@
 #![deny(unsafe_op_in_unsafe_fn)]
 #![allow(clippy::missing_safety_doc)] // target_lexicon.h says it
 
+mod calls;
+mod dialects;
+mod error;
 mod error_text;
+mod facts;
 #[cfg(test)]
 mod header_tests;
 mod lines;
 mod names;
-#[allow(dead_code, unused_imports)] // the proved crate exports more
-mod proved;
+mod numbers;
 #[cfg(not(test))]
 mod runtime;
+mod sources;
 mod text;
+mod triple;
+mod values;
 
+use calls::{explain, first_facts, parse, print, query_facts, same_target, settle};
 use core::mem::{size_of, MaybeUninit};
 use core::ptr::{self, addr_of, null};
 use core::{slice, str};
+use dialects::{
+    c_library_at, complete, dialect_at, name_in, name_suggestion, read, reason, translate, unwritten_status, versioned_name_in,
+};
+use error::TextError;
 use error_text::{line, line_and_caret, suggestion};
+use facts::{Facts, FirstFacts, QueryFacts};
 use lines::settle_lines;
 use names::{c_name, c_reason};
-use proved::triple::CUSTOM_VENDOR;
-use proved::{
-    c_library_at, complete, dialect_at, explain, field_at, first_facts, name_at, name_in, name_suggestion, number_in, parse, print,
-    query_facts, read, reason, same_target, settle, translate, unwritten_status, versioned_name_in, Facts, Fault, FieldSource,
-    FieldSources, FirstFacts, NumberedTriple, QueryFacts, TextError, TripleNumbers,
-};
+use numbers::{name_at, number_in};
+use sources::{FieldSource, FieldSources};
 use target_lexicon::tool_names::{self, Dialect, Name, Suggestion};
 use target_lexicon::Field;
 use text::{shown, write_text, written, Text};
+use triple::{Fault, NumberedTriple, TripleNumbers, CUSTOM_VENDOR};
+use values::field_at;
 
 /// `enum lexicon_status`. From 1 to 6 a text is refused, where a value of the first to the fifth field was expected, or none.
 pub type Status = u32;
@@ -281,12 +291,12 @@ pub unsafe extern "C" fn lexicon_settle_lines(
 
 #[no_mangle]
 pub unsafe extern "C" fn lexicon_comes_back(triple: *const Triple, comes_back: *mut bool) -> Status {
-    unsafe { answer(comes_back, proved::comes_back(&Triple::read(triple))) }
+    unsafe { answer(comes_back, calls::comes_back(&Triple::read(triple))) }
 }
 
 #[no_mangle]
 pub unsafe extern "C" fn lexicon_equal(first: *const Triple, second: *const Triple, equal: *mut bool) -> Status {
-    unsafe { answer(equal, proved::equal(&Triple::read(first), &Triple::read(second))) }
+    unsafe { answer(equal, calls::equal(&Triple::read(first), &Triple::read(second))) }
 }
 
 #[no_mangle]
@@ -299,7 +309,7 @@ pub unsafe extern "C" fn lexicon_facts(triple: *const Triple, facts: *mut u8, fa
     match facts_size {
         QUERIES => unsafe { write_facts(triple, facts, query_facts) },
         FIRST => unsafe { write_facts(triple, facts, first_facts) },
-        ALL => unsafe { write_facts(triple, facts, proved::facts) },
+        ALL => unsafe { write_facts(triple, facts, calls::facts) },
         0..=MAX_SIZE => unsafe { write_facts_of_size(triple, facts, facts_size) },
         _ => TOO_LARGE,
     }
@@ -315,7 +325,7 @@ unsafe fn write_facts<T>(triple: *const Triple, facts: *mut u8, ask: impl Fn(&Nu
 unsafe fn write_facts_of_size(triple: *const Triple, facts: *mut u8, facts_size: usize) -> Status {
     let mut all = MaybeUninit::<Facts>::uninit();
     unsafe {
-        let status = write_facts(triple, all.as_mut_ptr().cast(), proved::facts);
+        let status = write_facts(triple, all.as_mut_ptr().cast(), calls::facts);
         if status == OK {
             let known = facts_size.min(ALL);
             ptr::copy_nonoverlapping(all.as_ptr().cast(), facts, known);

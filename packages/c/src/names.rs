@@ -260,7 +260,9 @@ fn c_text(texts: &[&'static str], text: &str) -> *const u8 {
 #[cfg(test)]
 mod tests {
     use super::*;
-    use crate::proved::{field_at, name_at, reason};
+    use crate::dialects::reason;
+    use crate::numbers::name_at;
+    use crate::values::field_at;
     use std::ffi::CStr;
     use target_lexicon::tool_names::Dialect;
 

@@ -74,6 +74,10 @@ mod rustc_cfg;
 #[cfg(feature = "serde_support")]
 mod serde;
 mod suggestion;
+#[cfg(feature = "tool_names")]
+pub mod tool_names;
+#[cfg(not(feature = "tool_names"))]
+mod tool_names;
 
 pub use canonical::NotPlain;
 pub use host::HOST;
@@ -88,14 +92,7 @@ pub use proved::{
     Vendor, VendorRef, X86_32Architecture, Z80Architecture,
 };
 
-pub use proved::tool_names::Suggestion;
-
-/// Names of targets in other tools, and the object format that toolchains write.
-#[cfg(feature = "tool_names")]
-pub mod tool_names {
-    pub use crate::dialects::UnknownWord;
-    pub use crate::proved::tool_names::*;
-}
+pub use tool_names::Suggestion;
 
 /// The samples of the page are tested; the first one uses this feature.
 #[cfg(all(doctest, feature = "tool_names"))]

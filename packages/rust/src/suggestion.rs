@@ -1,6 +1,6 @@
 //! The known names of a field, and the one that was perhaps meant.
-use crate::proved::tool_names;
-use crate::{Field, ParseError, Refusal, Suggestion};
+use crate::proved::tool_names::known_names;
+use crate::{tool_names, Field, ParseError, Refusal, Suggestion};
 
 impl Field {
     /// The known names of the field, each once. A system like Darwin has its name without a version.
@@ -15,7 +15,7 @@ impl Field {
     /// ```
     #[must_use]
     pub fn names(self) -> &'static [&'static str] {
-        tool_names::known_names::names(self)
+        known_names::names(self)
     }
 }
 

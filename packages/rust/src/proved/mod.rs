@@ -23,7 +23,6 @@ pub(crate) mod read;
 #[cfg_attr(not(feature = "tool_names"), allow(dead_code, unused_imports))]
 pub(crate) mod reading;
 pub(crate) mod refusal;
-pub(crate) mod round_trip;
 pub(crate) mod settle;
 pub(crate) mod settles_as;
 pub(crate) mod special;

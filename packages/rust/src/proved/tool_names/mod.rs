@@ -1,6 +1,5 @@
 // Erased from crates/tool_names/src/lib.rt by tools/erase. Don't edit it here.
-//! Names of targets in other tools, the name that is suggested for an unknown part, and the object format that
-//! toolchains write.
+//! Names of targets in other tools, and the object format that toolchains write.
 
 #[cfg(feature = "tool_names")]
 pub(crate) mod change;
@@ -8,23 +7,19 @@ pub(crate) mod change;
 pub(crate) mod completion;
 #[cfg(feature = "tool_names")]
 pub(crate) mod dialect;
-pub(crate) mod distance;
-#[cfg(feature = "tool_names")]
-pub(crate) mod driver;
 #[cfg(feature = "tool_names")]
 pub(crate) mod formats;
 #[cfg(feature = "tool_names")]
 pub(crate) mod gnu;
 pub(crate) mod known_names;
+#[cfg_attr(not(feature = "tool_names"), allow(dead_code, unused_imports))]
 pub(crate) mod macos;
-pub(crate) mod misspelling;
 #[cfg(feature = "tool_names")]
 pub(crate) mod name;
 #[cfg(feature = "tool_names")]
 pub(crate) mod names;
 #[cfg(feature = "tool_names")]
 pub(crate) mod names_left;
-pub(crate) mod nearest;
 #[cfg(feature = "tool_names")]
 pub(crate) mod pattern;
 #[cfg(feature = "tool_names")]
@@ -34,8 +29,6 @@ pub(crate) mod reading;
 #[cfg_attr(not(feature = "tool_names"), allow(dead_code, unused_imports))]
 pub(crate) mod rules;
 #[cfg(feature = "tool_names")]
-pub(crate) mod rustc_cfg;
-#[cfg(feature = "tool_names")]
 pub(crate) mod shape;
 #[cfg_attr(not(feature = "tool_names"), allow(dead_code, unused_imports))]
 pub(crate) mod spelled;
@@ -43,8 +36,6 @@ pub(crate) mod spelled;
 pub(crate) mod spelling;
 #[cfg(feature = "tool_names")]
 pub(crate) mod stated_version;
-pub(crate) mod suggested;
-pub(crate) mod suggestions;
 #[cfg(feature = "tool_names")]
 pub(crate) mod tables;
 #[cfg(feature = "tool_names")]
@@ -57,8 +48,6 @@ pub use completion::{complete, LinuxLibc};
 #[cfg(feature = "tool_names")]
 pub use dialect::Dialect;
 #[cfg(feature = "tool_names")]
-pub use driver::{CLibrary, FloatAbi, TypeLayout};
-#[cfg(feature = "tool_names")]
 pub use formats::object_format;
 #[cfg(feature = "tool_names")]
 pub use name::Name;
@@ -67,10 +56,6 @@ pub use names::NameError;
 #[cfg(feature = "tool_names")]
 pub use reading::read;
 #[cfg(feature = "tool_names")]
-pub use rustc_cfg::{is_unix, RustcCfg};
-#[cfg(feature = "tool_names")]
 pub use spelling::Spelling;
-pub use suggested::Suggestion;
-pub use suggestions::suggestion;
 #[cfg(feature = "tool_names")]
 pub use translation::{TranslateError, WriteError};

@@ -4,7 +4,6 @@
 use crate::proved::tool_names::dialect::Dialect;
 use crate::proved::tool_names::gnu::read_as_gnu;
 use crate::proved::tool_names::name::Name;
-use crate::proved::tool_names::nearest::NearestName;
 use crate::proved::tool_names::pattern::{matched, star_count, Numbers};
 use crate::proved::tool_names::platform::row_of_platform;
 use crate::proved::tool_names::stated_version::{has_version, is_read};
@@ -99,24 +98,6 @@ impl Dialect {
             },
         )?;
         Some(Name::filled(pattern, numbers))
-    }
-
-    /// The name that is suggested for an unknown one: the nearest of the names without a version that
-    /// [`read`](Dialect::read) knows, if the name may be a misspelling of it. Nothing is allocated.
-    ///
-    /// # Examples
-    ///
-    /// ```
-    /// use target_lexicon::tool_names::Dialect;
-    ///
-    /// assert_eq!(Dialect::Go.suggestion("linux/amd46"), Some("linux/amd64"));
-    /// ```
-    #[must_use]
-    pub fn suggestion(self, name: &str) -> Option<&'static str> {
-        let name = name.as_bytes();
-        let tables = self.tables();
-        let written = nearest_name(NearestName::NONE, name, &tables, true);
-        nearest_name(written, name, &tables, false).name
     }
 
     /// The pattern of the first row that is wanted for a triple without a version.
@@ -263,44 +244,4 @@ fn without_numbers(system: OperatingSystem) -> OperatingSystem {
         OperatingSystem::IOS(_) => OperatingSystem::IOS(None),
         other => other,
     }
-}
-
-/// The nearest of the names so far and of those without a number that are read, and are written or aren't.
-fn nearest_name(
-    so_far: NearestName,
-    name: &[u8],
-    tables: &[&'static [Row]],
-    written: bool,
-) -> NearestName {
-    let mut nearest = so_far;
-    for rows in tables {
-        nearest = nearest_in(nearest, name, rows, written);
-    }
-    nearest
-}
-
-/// The nearest of the names so far and of those in one table.
-fn nearest_in(
-    so_far: NearestName,
-    name: &[u8],
-    rows: &'static [Row],
-    written: bool,
-) -> NearestName {
-    let mut nearest = so_far;
-    for row in rows {
-        if has_plain_name(written, *row) {
-            nearest = nearest.or(name, row.0);
-        }
-    }
-    nearest
-}
-
-/// Whether a row has a name without a number that is read, and is written or isn't.
-fn has_plain_name(written: bool, row: Row) -> bool {
-    let fits = match row.2 {
-        Way::Both => written,
-        Way::Read => !written,
-        Way::Written | Way::NoTriple => false,
-    };
-    fits && star_count(row.0.as_bytes()) == 0
 }

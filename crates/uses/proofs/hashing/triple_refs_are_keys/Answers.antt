@@ -1,5 +1,0 @@
-use Rattle.uses.proofs.Conclusions.{pairs_of_keys}
-use Rattle.uses.proofs.hashing.triple_refs_are_keys.Goals as goal
-
-pub returns : goal.returns
-returns c = pairs_of_keys _ _ _ c.triple_refs_hash_by_value.ensures
