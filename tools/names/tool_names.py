@@ -142,7 +142,6 @@ def rust_lists(tables):
             for it in dialects],
         "the modules of the dialects": [f"mod {name};" for name in sorted(tables.dialects)],
         **lists_of_languages(list(dialects), other_names(tables)),
-        "the dialects by number": [f"{number} => Some(Some(Dialect::{it.variant}))," for number, it in enumerate(dialects, 1)],
     }
 
 

@@ -1,8 +1,10 @@
 //! Why a string is refused, as numbers.
+use crate::values::field_at;
+use crate::{Status, NAME_WITHOUT_TRIPLE, NEEDS_C_LIBRARY, NO_SUCH_VALUE, NO_SUCH_VENDOR, TRIPLE_WITHOUT_NAME, UNKNOWN_NAME};
+use target_lexicon::tool_names::{NameError, TranslateError, WriteError};
+use target_lexicon::{Field, Refusal};
 
-use target_lexicon::proved::{Field, Refusal};
-
-/// Why a string is refused, and the range of the refused part in bytes.
+/// `struct lexicon_error`: why a string is refused, and the range of the refused part in bytes.
 #[repr(C)]
 #[derive(Clone, Copy)]
 pub struct TextError {
@@ -12,38 +14,64 @@ pub struct TextError {
     pub end: usize,
 }
 
-/// A refusal as numbers.
-pub(crate) fn error_of(refusal: &Refusal<'_>) -> TextError {
-    let range = refusal.range();
-    TextError {
-        status: refusal_status(refusal.expected),
-        start: range.start,
-        end: range.end,
+/// The status of a part that is refused where nothing was expected.
+const UNRECOGNIZED_FIELD: Status = 6;
+
+impl TextError {
+    /// An error of the call, and of no part.
+    pub(crate) fn without_part(status: Status) -> TextError {
+        TextError { status, start: 0, end: 0 }
+    }
+
+    /// The error of a whole name.
+    pub(crate) fn of_name(error: TranslateError, name: &str) -> TextError {
+        let status = match error {
+            TranslateError::Read(NameError::Unknown) => UNKNOWN_NAME,
+            TranslateError::Read(NameError::WithoutTriple(_)) => NAME_WITHOUT_TRIPLE,
+            TranslateError::Write(error) => unwritten_status(error),
+        };
+        TextError { status, start: 0, end: name.len() }
     }
 }
 
-/// The status of a refusal.
-fn refusal_status(expected: Option<Field>) -> u32 {
-    match expected {
-        Some(Field::Architecture) => 1,
-        Some(Field::Vendor) => 2,
-        Some(Field::OperatingSystem) => 3,
-        Some(Field::Environment) => 4,
-        Some(Field::BinaryFormat) => 5,
-        None => 6,
+impl From<Refusal<'_>> for TextError {
+    fn from(refusal: Refusal<'_>) -> TextError {
+        let range = refusal.range();
+        let status = refusal.expected.map_or(UNRECOGNIZED_FIELD, |field| 1 + field as Status);
+        TextError { status, start: range.start, end: range.end }
     }
 }
 
 /// What was expected where a refusal has this status, if one has. `None` in it is no field.
-#[must_use]
-pub fn expected_at(status: u32) -> Option<Option<Field>> {
+pub(crate) fn expected_at(status: Status) -> Option<Option<Field>> {
     match status {
-        1 => Some(Some(Field::Architecture)),
-        2 => Some(Some(Field::Vendor)),
-        3 => Some(Some(Field::OperatingSystem)),
-        4 => Some(Some(Field::Environment)),
-        5 => Some(Some(Field::BinaryFormat)),
-        6 => Some(None),
-        _ => None,
+        UNRECOGNIZED_FIELD => Some(None),
+        _ => field_at(status.checked_sub(1)?).map(Some),
+    }
+}
+
+/// Why a triple isn't written, as a status.
+pub(crate) fn unwritten_status(error: WriteError) -> Status {
+    match error {
+        WriteError::NoName => TRIPLE_WITHOUT_NAME,
+        WriteError::NeedsCLibrary => NEEDS_C_LIBRARY,
+    }
+}
+
+/// Why there is no triple of some numbers.
+#[derive(Clone, Copy)]
+pub(crate) enum Fault {
+    /// A number is that of no value.
+    NoSuchValue,
+    /// No string parses as the custom vendor.
+    NoSuchVendor,
+}
+
+impl From<Fault> for Status {
+    fn from(fault: Fault) -> Status {
+        match fault {
+            Fault::NoSuchValue => NO_SUCH_VALUE,
+            Fault::NoSuchVendor => NO_SUCH_VENDOR,
+        }
     }
 }

@@ -1,9 +1,8 @@
-//! The facts of a triple, as numbers.
-// Hints of inlining: functions with the name `.._facts_of` return wide values.
-
+//! The facts of a triple, as numbers: where an enum has no answer, 0, and otherwise 1 more than its index. The functions return wide
+//! values, and so are inlined.
 use crate::values::{binary_format_number, family_number};
-use target_lexicon::proved::tool_names::{is_unix, object_format, CLibrary, FloatAbi, TypeLayout};
-use target_lexicon::proved::{Architecture, CDataModel, CallingConvention, Endianness, TripleRef};
+use target_lexicon::tool_names::{is_unix, object_format, CLibrary, FloatAbi, TypeLayout};
+use target_lexicon::{Architecture, CDataModel, TripleRef};
 
 /// The sizes of C's types in bytes, by the data model; all 0 if there is none.
 #[repr(C)]
@@ -92,149 +91,85 @@ pub struct Facts {
     pub driver: DriverFacts,
 }
 
-/// What the queries of a triple answer.
-#[inline(always)]
-pub(crate) fn query_facts_of(triple: &TripleRef<'_>) -> QueryFacts {
-    let model = model_number(model_of(triple));
-    QueryFacts {
-        endianness: endianness_number(triple),
-        pointer_width: pointer_width(triple),
-        default_calling_convention: convention_number(triple),
-        data_model: model,
-        is_thumb: is_thumb(triple.architecture),
-        is_like_darwin: triple.operating_system.is_like_darwin(),
-        has_custom_vendor: triple.vendor.is_custom(),
-        // last, so that they are copied straight into the struct
-        sizes: TYPE_SIZES[usize::from(model)],
+impl From<&TripleRef<'_>> for QueryFacts {
+    #[inline(always)]
+    fn from(triple: &TripleRef<'_>) -> QueryFacts {
+        let data_model = triple.data_model().map_or(0, |it| 1 + it as u8);
+        QueryFacts {
+            endianness: triple.endianness().map_or(0, |it| 1 + it as u8),
+            pointer_width: triple.pointer_width().map_or(0, |it| it.bits()),
+            default_calling_convention: triple.default_calling_convention().map_or(0, |it| 1 + it as u8),
+            data_model,
+            is_thumb: matches!(triple.architecture, Architecture::Arm(sub) if sub.is_thumb()),
+            is_like_darwin: triple.operating_system.is_like_darwin(),
+            has_custom_vendor: triple.vendor.is_custom(),
+            // last, so that they are copied straight into the struct
+            sizes: TYPE_SIZES[usize::from(data_model)],
+        }
     }
 }
 
-/// The binary formats of a triple, and the family of its architecture.
-#[inline(always)]
-pub(crate) fn format_facts_of(triple: &TripleRef<'_>) -> FormatFacts {
-    FormatFacts {
-        implied_format: binary_format_number(triple.default_binary_format()),
-        object_format: binary_format_number(object_format(triple)),
-        family: family_number(triple.architecture),
+impl From<&TripleRef<'_>> for FormatFacts {
+    #[inline(always)]
+    fn from(triple: &TripleRef<'_>) -> FormatFacts {
+        FormatFacts {
+            implied_format: binary_format_number(triple.default_binary_format()),
+            object_format: binary_format_number(object_format(triple)),
+            family: family_number(triple.architecture),
+        }
     }
 }
 
-/// What a compiler's driver asks of a triple.
-#[inline(always)]
-pub(crate) fn driver_facts_of(triple: &TripleRef<'_>) -> DriverFacts {
-    DriverFacts {
-        c_library: library_number(CLibrary::of(triple)),
-        float_abi: float_abi_number(FloatAbi::of(triple)),
-        is_unix: is_unix(triple),
-        long_double: layout_numbers(TypeLayout::of_long_double(triple)),
-        wchar: layout_numbers(TypeLayout::of_wchar(triple)),
+impl From<&TripleRef<'_>> for DriverFacts {
+    #[inline(always)]
+    fn from(triple: &TripleRef<'_>) -> DriverFacts {
+        DriverFacts {
+            c_library: CLibrary::of(triple).map_or(0, |it| 1 + it as u8),
+            float_abi: FloatAbi::of(triple).map_or(0, |it| 1 + it as u8),
+            is_unix: is_unix(triple),
+            long_double: TypeLayout::of_long_double(triple).into(),
+            wchar: TypeLayout::of_wchar(triple).into(),
+        }
     }
 }
 
-/// The number of a C library, or 0 if there is none.
-fn library_number(library: Option<CLibrary>) -> u8 {
-    match library {
-        Some(CLibrary::Bionic) => 1,
-        Some(CLibrary::Glibc) => 2,
-        Some(CLibrary::Mingw) => 3,
-        Some(CLibrary::Msvc) => 4,
-        Some(CLibrary::Musl) => 5,
-        Some(CLibrary::Newlib) => 6,
-        Some(CLibrary::Relibc) => 7,
-        Some(CLibrary::System) => 8,
-        Some(CLibrary::Uclibc) => 9,
-        None => 0,
+impl From<&TripleRef<'_>> for FirstFacts {
+    #[inline(always)]
+    fn from(triple: &TripleRef<'_>) -> FirstFacts {
+        FirstFacts { queries: triple.into(), formats: triple.into() }
     }
 }
 
-/// The number of a way to pass floating-point arguments, or 0 if there is none.
-fn float_abi_number(floats: Option<FloatAbi>) -> u8 {
-    match floats {
-        Some(FloatAbi::Soft) => 1,
-        Some(FloatAbi::Hard) => 2,
-        None => 0,
+impl From<&TripleRef<'_>> for Facts {
+    #[inline(always)]
+    fn from(triple: &TripleRef<'_>) -> Facts {
+        Facts { queries: triple.into(), formats: triple.into(), driver: triple.into() }
     }
 }
 
-/// The numbers of a layout; both are 0 if there is none.
-fn layout_numbers(layout: Option<TypeLayout>) -> LayoutNumbers {
-    match layout {
-        Some(layout) => LayoutNumbers {
-            size: layout.size,
-            alignment: layout.alignment,
-        },
-        None => LayoutNumbers {
-            size: 0,
-            alignment: 0,
-        },
+impl From<Option<TypeLayout>> for LayoutNumbers {
+    fn from(layout: Option<TypeLayout>) -> LayoutNumbers {
+        layout.map_or(LayoutNumbers { size: 0, alignment: 0 }, |it| LayoutNumbers { size: it.size, alignment: it.alignment })
     }
 }
 
-/// 1 if the triple is little-endian, 2 if it is big-endian, and 0 if the query has no answer.
-fn endianness_number(triple: &TripleRef<'_>) -> u8 {
-    match triple.endianness() {
-        Ok(Endianness::Little) => 1,
-        Ok(Endianness::Big) => 2,
-        Err(()) => 0,
-    }
-}
-
-/// The width of a pointer in bits, or 0 if the query has no answer.
-fn pointer_width(triple: &TripleRef<'_>) -> u8 {
-    match triple.pointer_width() {
-        Ok(width) => width.bits(),
-        Err(()) => 0,
-    }
-}
-
-/// The number of the calling convention, or 0 if the query has no answer.
-fn convention_number(triple: &TripleRef<'_>) -> u8 {
-    match triple.default_calling_convention() {
-        Ok(CallingConvention::SystemV) => 1,
-        Ok(CallingConvention::WasmBasicCAbi) => 2,
-        Ok(CallingConvention::WindowsFastcall) => 3,
-        Ok(CallingConvention::AppleAarch64) => 4,
-        // no answer, or a convention that a later version adds
-        _ => 0,
-    }
-}
-
-/// The data model of C, if there is one.
-fn model_of(triple: &TripleRef<'_>) -> Option<CDataModel> {
-    match triple.data_model() {
-        Ok(model) => Some(model),
-        Err(()) => None,
-    }
-}
-
-/// The number of the data model of C, or 0 if there is none.
-fn model_number(model: Option<CDataModel>) -> u8 {
-    match model {
-        Some(CDataModel::LP32) => 1,
-        Some(CDataModel::ILP32) => 2,
-        Some(CDataModel::LLP64) => 3,
-        Some(CDataModel::LP64) => 4,
-        Some(CDataModel::ILP64) => 5,
-        // no model, or one that a later version adds
-        _ => 0,
-    }
-}
-
-#[rustfmt::skip]
 /// The sizes of C's types by the number of the data model; all 0 without one.
 static TYPE_SIZES: [TypeSizes; 6] = [
     TypeSizes { short: 0, int: 0, long: 0, long_long: 0, float: 0, double: 0 },
-    TypeSizes { short: 2, int: 2, long: 4, long_long: 8, float: 4, double: 8 },
-    TypeSizes { short: 2, int: 4, long: 4, long_long: 8, float: 4, double: 8 },
-    TypeSizes { short: 2, int: 4, long: 4, long_long: 8, float: 4, double: 8 },
-    TypeSizes { short: 2, int: 4, long: 8, long_long: 8, float: 4, double: 8 },
-    TypeSizes { short: 2, int: 8, long: 8, long_long: 8, float: 4, double: 8 },
+    type_sizes(CDataModel::LP32),
+    type_sizes(CDataModel::ILP32),
+    type_sizes(CDataModel::LLP64),
+    type_sizes(CDataModel::LP64),
+    type_sizes(CDataModel::ILP64),
 ];
 
-/// Whether an architecture is an Arm one that is Thumb.
-fn is_thumb(architecture: Architecture) -> bool {
-    match architecture {
-        Architecture::Arm(sub) => sub.is_thumb(),
-        _ => false,
+const fn type_sizes(model: CDataModel) -> TypeSizes {
+    TypeSizes {
+        short: model.short_size().bytes(),
+        int: model.int_size().bytes(),
+        long: model.long_size().bytes(),
+        long_long: model.long_long_size().bytes(),
+        float: model.float_size().bytes(),
+        double: model.double_size().bytes(),
     }
 }

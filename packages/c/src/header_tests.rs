@@ -1,10 +1,8 @@
 //! The numbers of target_lexicon.h and target_lexicon.hpp are the library's.
-use crate::calls::facts;
-use crate::dialects::{c_library_at, dialect_at};
 use crate::error::expected_at;
-use crate::numbers::name_at;
+use crate::facts::Facts;
 use crate::triple::{NumberedTriple, TripleNumbers};
-use crate::values::{architecture_at, environment_at, field_at, operating_system_at};
+use crate::values::{architecture_at, c_library_at, dialect_at, environment_at, field_at, name_at, operating_system_at};
 use std::collections::BTreeMap;
 use target_lexicon::tool_names::{CLibrary, FloatAbi};
 use target_lexicon::TripleRef;
@@ -88,12 +86,16 @@ fn numbered(architecture: u16, operating_system: u8) -> NumberedTriple<'static> 
     NumberedTriple { numbers, custom_vendor: &[] }
 }
 
+fn facts(it: &NumberedTriple<'_>) -> Facts {
+    Facts::from(&it.triple().ok().expect("a triple"))
+}
+
 #[test]
 fn the_families_are_the_values() {
     let (found, cpp_found) = (enumerators(HEADER, "LEXICON_FAMILY_"), cpp_enumerators("Family"));
     for number in 0.. {
         let Some(architecture) = architecture_at(number) else { break };
-        let family = facts(&numbered(number, 0)).ok().expect("a triple").formats.family.into();
+        let family = facts(&numbered(number, 0)).formats.family.into();
         let shown = format!("{architecture:?}");
         let variant = shown.split('(').next().unwrap_or("");
         assert_eq!(found[&family], variant.to_uppercase());
@@ -118,7 +120,7 @@ fn the_conventions_and_models_are_those_of_the_queries() {
     for (number, architecture) in (0..).map_while(|it| Some((it, architecture_at(it)?))) {
         for (system_number, operating_system) in (0..).map_while(|it| Some((it, operating_system_at(it, None)?))) {
             let triple = TripleRef { architecture, operating_system, ..TripleRef::unknown() };
-            let facts = facts(&numbered(number, system_number)).ok().expect("a triple").queries;
+            let facts = facts(&numbered(number, system_number)).queries;
             let convention = triple.default_calling_convention().map_or("", |it| it.name());
             assert_eq!(conventions[usize::from(facts.default_calling_convention)], convention);
             assert_eq!(models[usize::from(facts.data_model)], triple.data_model().map_or("", |it| it.name()));
@@ -139,7 +141,7 @@ fn the_answers_for_a_driver_are_those_of_the_library() {
             for architecture in [15, 91] {
                 let mut it = numbered(architecture, system);
                 it.numbers.environment = environment;
-                let facts = facts(&it).ok().expect("a triple").driver;
+                let facts = facts(&it).driver;
                 let triple = TripleRef {
                     architecture: architecture_at(architecture).expect("a value"),
                     operating_system,

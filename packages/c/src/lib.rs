@@ -1,4 +1,4 @@
-//! The calls of target_lexicon.h. What they answer is the Rust crate's, as numbers (`calls`); here is what only concerns memory: pointers and sizes
+//! The calls of target_lexicon.h. What they answer is the Rust crate's, as numbers; here is what only concerns memory: pointers and sizes
 //! become slices, answers are written where the caller wants them, and texts get a zero byte at the end.
 //!
 //! What a call writes, the caller may have left without a value, and so too what target_lexicon.h says is not read. To such memory
@@ -11,8 +11,6 @@
 #![deny(unsafe_op_in_unsafe_fn)]
 #![allow(clippy::missing_safety_doc)] // target_lexicon.h says it
 
-mod calls;
-mod dialects;
 mod error;
 mod error_text;
 mod facts;
@@ -20,7 +18,6 @@ mod facts;
 mod header_tests;
 mod lines;
 mod names;
-mod numbers;
 #[cfg(not(test))]
 mod runtime;
 mod sources;
@@ -28,25 +25,20 @@ mod text;
 mod triple;
 mod values;
 
-use calls::{explain, first_facts, parse, print, query_facts, same_target, settle};
 use core::mem::{size_of, MaybeUninit};
 use core::ptr::{self, addr_of, null};
 use core::{slice, str};
-use dialects::{
-    c_library_at, complete, dialect_at, name_in, name_suggestion, read, reason, translate, unwritten_status, versioned_name_in,
-};
-use error::TextError;
+use error::{unwritten_status, Fault, TextError};
 use error_text::{line, line_and_caret, suggestion};
 use facts::{Facts, FirstFacts, QueryFacts};
 use lines::settle_lines;
 use names::{c_name, c_reason};
-use numbers::{name_at, number_in};
-use sources::{FieldSource, FieldSources};
-use target_lexicon::tool_names::{self, Dialect, Name, Suggestion};
-use target_lexicon::Field;
+use sources::FieldSources;
+use target_lexicon::tool_names::{self, Dialect, Name, NameError, Suggestion, TranslateError};
+use target_lexicon::{Field, TripleRef};
 use text::{shown, write_text, written, Text};
-use triple::{Fault, NumberedTriple, TripleNumbers, CUSTOM_VENDOR};
-use values::field_at;
+use triple::{NumberedTriple, TripleNumbers};
+use values::{c_library_at, dialect_at, field_at, name_at, number_in, CUSTOM_VENDOR};
 
 /// `enum lexicon_status`. From 1 to 6 a text is refused, where a value of the first to the fifth field was expected, or none.
 pub type Status = u32;
@@ -69,15 +61,6 @@ const NO_SUGGESTION: Status = 20;
 
 /// The greatest size of anything in memory, `PTRDIFF_MAX`. Rust has no slice that is larger.
 const MAX_SIZE: usize = isize::MAX as usize;
-
-impl From<Fault> for Status {
-    fn from(fault: Fault) -> Status {
-        match fault {
-            Fault::NoSuchValue => NO_SUCH_VALUE,
-            Fault::NoSuchVendor => NO_SUCH_VENDOR,
-        }
-    }
-}
 
 /// `struct lexicon_triple`.
 #[repr(C)]
@@ -109,20 +92,25 @@ const _: () = {
     assert!(ALL == 23);
 };
 
+impl From<TripleRef<'_>> for Triple {
+    fn from(triple: TripleRef<'_>) -> Triple {
+        let NumberedTriple { numbers, custom_vendor: vendor } = triple.into();
+        let custom_vendor = if vendor.is_empty() { null() } else { vendor.as_ptr() };
+        Triple { numbers, custom_vendor, custom_vendor_size: vendor.len() }
+    }
+}
+
 impl Triple {
-    fn new(it: &NumberedTriple<'_>) -> Triple {
-        let vendor = it.custom_vendor;
-        Triple {
-            numbers: it.numbers,
-            custom_vendor: if vendor.is_empty() { null() } else { vendor.as_ptr() },
-            custom_vendor_size: vendor.len(),
-        }
+    /// The triple of a caller's struct.
+    #[inline(always)]
+    unsafe fn read<'a>(from: *const Triple) -> Result<TripleRef<'a>, Fault> {
+        unsafe { Triple::numbered(from) }.triple()
     }
 
-    /// The triple of a caller's struct. The numbers of a version are read only if it has one, and the text only of a custom
+    /// What a caller's struct has. The numbers of a version are read only if it has one, and the text only of a custom
     /// vendor. One of a size that no text has is empty here, which no string parses as either.
     #[inline(always)]
-    unsafe fn read<'a>(from: *const Triple) -> NumberedTriple<'a> {
+    unsafe fn numbered<'a>(from: *const Triple) -> NumberedTriple<'a> {
         // SAFETY: the caller's struct, in which what is read has a value.
         unsafe {
             let it = addr_of!((*from).numbers);
@@ -155,7 +143,7 @@ unsafe fn bytes_at<'a>(text: *const u8, size: usize) -> Result<&'a [u8], TextErr
         0 => Ok(&[]),
         // SAFETY: the caller's text of this size, which isn't null.
         1..=MAX_SIZE => Ok(unsafe { slice::from_raw_parts(text, size) }),
-        _ => Err(TextError { status: TOO_LARGE, start: 0, end: 0 }),
+        _ => Err(TextError::without_part(TOO_LARGE)),
     }
 }
 
@@ -187,11 +175,11 @@ unsafe fn refused_at<'a>(text: *const u8, size: usize, error: *const TextError) 
 
 /// Writes an answer if there is one.
 #[inline(always)]
-unsafe fn answer<T>(to: *mut T, answer: Result<T, impl Into<Status>>) -> Status {
+unsafe fn answer<T>(to: *mut T, answer: Result<impl Into<T>, impl Into<Status>>) -> Status {
     match answer {
         Ok(it) => {
             // SAFETY: the caller's variable.
-            unsafe { to.write(it) }
+            unsafe { to.write(it.into()) }
             OK
         }
         Err(fault) => fault.into(),
@@ -200,11 +188,11 @@ unsafe fn answer<T>(to: *mut T, answer: Result<T, impl Into<Status>>) -> Status 
 
 /// Writes what parsing gives. The error is written if the caller wants it.
 #[inline(always)]
-unsafe fn parsed(result: Result<NumberedTriple<'_>, TextError>, triple: *mut Triple, error: *mut TextError) -> Status {
+unsafe fn parsed(result: Result<TripleRef<'_>, TextError>, triple: *mut Triple, error: *mut TextError) -> Status {
     // SAFETY: the caller's variables.
     match result {
         Ok(it) => unsafe {
-            triple.write(Triple::new(&it));
+            triple.write(it.into());
             OK
         },
         Err(it) => unsafe { refused(it, error) },
@@ -233,7 +221,7 @@ fn not_utf8(bytes: &[u8], error: str::Utf8Error) -> TextError {
 
 #[no_mangle]
 pub unsafe extern "C" fn lexicon_parse(text: *const u8, text_size: usize, triple: *mut Triple, error: *mut TextError) -> Status {
-    unsafe { parsed(text_at(text, text_size).and_then(parse), triple, error) }
+    unsafe { parsed(text_at(text, text_size).and_then(|text| Ok(TripleRef::from_str(text)?)), triple, error) }
 }
 
 #[no_mangle]
@@ -244,35 +232,22 @@ pub unsafe extern "C" fn lexicon_explain(
     sources: *mut FieldSources,
     error: *mut TextError,
 ) -> Status {
-    let (result, found) = match unsafe { text_at(text, text_size) } {
-        Ok(text) => explain(text),
-        Err(error) => (Err(error), NO_SOURCES),
-    };
+    let explained = unsafe { text_at(text, text_size) }.map(TripleRef::explain);
     unsafe {
-        sources.write(found);
-        parsed(result, triple, error)
+        sources.write(explained.map_or(FieldSources::default(), |it| it.sources.into()));
+        parsed(explained.and_then(|it| Ok(it.triple?)), triple, error)
     }
 }
-
-const NO_SOURCE: FieldSource = FieldSource { origin: 0, start: 0, end: 0 };
-const NO_SOURCES: FieldSources = FieldSources {
-    architecture: NO_SOURCE,
-    vendor: NO_SOURCE,
-    operating_system: NO_SOURCE,
-    environment: NO_SOURCE,
-    binary_format: NO_SOURCE,
-};
 
 #[no_mangle]
 pub unsafe extern "C" fn lexicon_print(triple: *const Triple, out: *mut u8, out_size: usize, length: *mut usize) -> Status {
     let triple = unsafe { Triple::read(triple) };
-    unsafe { write_text(out, out_size, length, |out| print(&triple, out).map_err(Status::from)) }
+    unsafe { write_text(out, out_size, length, |out| Ok(triple?.write_to(out))) }
 }
 
 #[no_mangle]
 pub unsafe extern "C" fn lexicon_settle(triple: *mut Triple) -> Status {
-    let settled = settle(&unsafe { Triple::read(triple) });
-    unsafe { answer(triple, settled.map(|it| Triple::new(&it))) }
+    unsafe { answer(triple, Triple::read(triple).map(|it| it.step())) }
 }
 
 #[no_mangle]
@@ -291,25 +266,30 @@ pub unsafe extern "C" fn lexicon_settle_lines(
 
 #[no_mangle]
 pub unsafe extern "C" fn lexicon_comes_back(triple: *const Triple, comes_back: *mut bool) -> Status {
-    unsafe { answer(comes_back, calls::comes_back(&Triple::read(triple))) }
+    unsafe { answer(comes_back, Triple::read(triple).map(|it| it.comes_back())) }
 }
 
 #[no_mangle]
 pub unsafe extern "C" fn lexicon_equal(first: *const Triple, second: *const Triple, equal: *mut bool) -> Status {
-    unsafe { answer(equal, calls::equal(&Triple::read(first), &Triple::read(second))) }
+    unsafe { answer(equal, both(first, second).map(|(first, second)| first == second)) }
 }
 
 #[no_mangle]
 pub unsafe extern "C" fn lexicon_same_target(first: *const Triple, second: *const Triple, same: *mut bool) -> Status {
-    unsafe { answer(same, same_target(&Triple::read(first), &Triple::read(second))) }
+    unsafe { answer(same, both(first, second).map(|(first, second)| first.settles_as(&second))) }
+}
+
+/// Two triples of the caller. Of two that are wrong, the fault is the first one's.
+unsafe fn both<'a>(first: *const Triple, second: *const Triple) -> Result<(TripleRef<'a>, TripleRef<'a>), Fault> {
+    unsafe { Ok((Triple::read(first)?, Triple::read(second)?)) }
 }
 
 #[no_mangle]
 pub unsafe extern "C" fn lexicon_facts(triple: *const Triple, facts: *mut u8, facts_size: usize) -> Status {
     match facts_size {
-        QUERIES => unsafe { write_facts(triple, facts, query_facts) },
-        FIRST => unsafe { write_facts(triple, facts, first_facts) },
-        ALL => unsafe { write_facts(triple, facts, calls::facts) },
+        QUERIES => unsafe { write_facts::<QueryFacts>(triple, facts) },
+        FIRST => unsafe { write_facts::<FirstFacts>(triple, facts) },
+        ALL => unsafe { write_facts::<Facts>(triple, facts) },
         0..=MAX_SIZE => unsafe { write_facts_of_size(triple, facts, facts_size) },
         _ => TOO_LARGE,
     }
@@ -317,15 +297,15 @@ pub unsafe extern "C" fn lexicon_facts(triple: *const Triple, facts: *mut u8, fa
 
 /// Writes facts of a triple. Each kind is compiled by itself: together, each would save the registers that all need.
 #[inline(never)]
-unsafe fn write_facts<T>(triple: *const Triple, facts: *mut u8, ask: impl Fn(&NumberedTriple<'_>) -> Result<T, Fault>) -> Status {
-    unsafe { answer(facts.cast(), ask(&Triple::read(triple))) }
+unsafe fn write_facts<T: for<'a> From<&'a TripleRef<'a>>>(triple: *const Triple, facts: *mut u8) -> Status {
+    unsafe { answer(facts.cast::<T>(), Triple::read(triple).as_ref().map_err(|fault| *fault)) }
 }
 
 /// Writes as many of the facts as a struct of another size has room for. What this version doesn't answer has no answer.
 unsafe fn write_facts_of_size(triple: *const Triple, facts: *mut u8, facts_size: usize) -> Status {
     let mut all = MaybeUninit::<Facts>::uninit();
     unsafe {
-        let status = write_facts(triple, all.as_mut_ptr().cast(), calls::facts);
+        let status = write_facts::<Facts>(triple, all.as_mut_ptr().cast());
         if status == OK {
             let known = facts_size.min(ALL);
             ptr::copy_nonoverlapping(all.as_ptr().cast(), facts, known);
@@ -338,7 +318,7 @@ unsafe fn write_facts_of_size(triple: *const Triple, facts: *mut u8, facts_size:
 #[no_mangle]
 pub unsafe extern "C" fn lexicon_complete(triple: *mut Triple, linux_libc: u32) -> Status {
     match c_library_at(linux_libc).flatten() {
-        Some(c_library) => unsafe { answer(triple, complete(&Triple::read(triple), c_library).map(|it| Triple::new(&it))) },
+        Some(c_library) => unsafe { answer(triple, Triple::read(triple).map(|it| tool_names::complete(&it, c_library))) },
         None => NO_SUCH_C_LIBRARY,
     }
 }
@@ -353,10 +333,18 @@ pub unsafe extern "C" fn lexicon_read(
 ) -> Status {
     let find = || {
         let bytes = unsafe { bytes_at(text, text_size) }?;
-        let dialect = dialect_at(dialect).ok_or(TextError { status: NO_SUCH_DIALECT, start: 0, end: 0 })?;
-        read(dialect, text_of(bytes)?)
+        let dialect = dialect_at(dialect).ok_or(TextError::without_part(NO_SUCH_DIALECT))?;
+        meant(dialect, text_of(bytes)?)
     };
     unsafe { parsed(find(), triple, error) }
+}
+
+/// The triple that a name of a dialect means, or a string that is spelled like a triple.
+fn meant(dialect: Option<Dialect>, text: &str) -> Result<TripleRef<'_>, TextError> {
+    match dialect {
+        Some(dialect) => dialect.read(text).map_err(|error| TextError::of_name(TranslateError::Read(error), text)),
+        None => Ok(tool_names::read(text)?),
+    }
 }
 
 #[no_mangle]
@@ -367,7 +355,7 @@ pub unsafe extern "C" fn lexicon_write(
     out_size: usize,
     length: *mut usize,
 ) -> Status {
-    let find = |dialect, triple: &NumberedTriple<'_>| name_in(dialect, triple)?.map_err(unwritten_status);
+    let find = |dialect: Dialect, triple: &TripleRef<'_>| dialect.write_with(triple, None).map_err(unwritten_status);
     unsafe { write_name(dialect, triple, find, out, out_size, length) }
 }
 
@@ -381,8 +369,10 @@ pub unsafe extern "C" fn lexicon_write_versioned(
     out_size: usize,
     length: *mut usize,
 ) -> Status {
-    let find =
-        |dialect, triple: &NumberedTriple<'_>| versioned_name_in(dialect, triple, major, minor)?.ok_or(TRIPLE_WITHOUT_NAME);
+    let find = |dialect: Dialect, triple: &TripleRef<'_>| {
+        let version = u16::try_from(major).ok().zip(u8::try_from(minor).ok());
+        version.and_then(|(major, minor)| dialect.write_versioned(triple, major, minor)).ok_or(TRIPLE_WITHOUT_NAME)
+    };
     unsafe { write_name(dialect, triple, find, out, out_size, length) }
 }
 
@@ -390,7 +380,7 @@ pub unsafe extern "C" fn lexicon_write_versioned(
 unsafe fn write_name(
     dialect: u32,
     triple: *const Triple,
-    find: impl FnOnce(Dialect, &NumberedTriple<'_>) -> Result<Name, Status>,
+    find: impl FnOnce(Dialect, &TripleRef<'_>) -> Result<Name, Status>,
     out: *mut u8,
     out_size: usize,
     length: *mut usize,
@@ -400,7 +390,7 @@ unsafe fn write_name(
             return Err(TOO_LARGE);
         }
         let dialect = dialect_at(dialect).flatten().ok_or(NO_SUCH_DIALECT)?;
-        find(dialect, &unsafe { Triple::read(triple) })
+        find(dialect, &unsafe { Triple::read(triple) }?)
     };
     match named() {
         Ok(name) => unsafe { write_text(out, out_size, length, |out| Ok(written(name.as_str(), out))) },
@@ -421,7 +411,7 @@ pub unsafe extern "C" fn lexicon_translate(
     error: *mut TextError,
 ) -> Status {
     let find = || {
-        let no_range = |status| TextError { status, start: 0, end: 0 };
+        let no_range = TextError::without_part;
         let bytes = unsafe { bytes_at(name, name_size) }?;
         if out_size > MAX_SIZE {
             return Err(no_range(TOO_LARGE));
@@ -429,7 +419,9 @@ pub unsafe extern "C" fn lexicon_translate(
         let from = dialect_at(from).ok_or(no_range(NO_SUCH_DIALECT))?;
         let to = dialect_at(to).flatten().ok_or(no_range(NO_SUCH_DIALECT))?;
         let c_library = c_library_at(linux_libc).ok_or(no_range(NO_SUCH_C_LIBRARY))?;
-        translate(from, text_of(bytes)?, c_library, to)
+        let text = text_of(bytes)?;
+        let found = to.write_with(&meant(from, text)?, c_library);
+        found.map_err(|error| TextError::of_name(TranslateError::Write(error), text))
     };
     match find() {
         Ok(found) => unsafe { write_text(out, out_size, length, |out| Ok(written(found.as_str(), out))) },
@@ -470,14 +462,18 @@ pub unsafe extern "C" fn lexicon_changes(
 pub unsafe extern "C" fn lexicon_reason(dialect: u32, name: *const u8, name_size: usize) -> *const u8 {
     let dialect = dialect_at(dialect).flatten();
     let name = unsafe { text_at(name, name_size) }.ok();
-    dialect.zip(name).and_then(|(dialect, name)| reason(dialect, name)).map_or(null(), c_reason)
+    match dialect.zip(name).map(|(dialect, name)| dialect.read(name)) {
+        Some(Err(NameError::WithoutTriple(why))) => c_reason(why),
+        _ => null(),
+    }
 }
 
 #[no_mangle]
 pub unsafe extern "C" fn lexicon_name_suggestion(dialect: u32, name: *const u8, name_size: usize) -> *const u8 {
     let dialect = dialect_at(dialect).flatten();
     let name = unsafe { text_at(name, name_size) }.ok();
-    dialect.zip(name).and_then(|(dialect, name)| name_suggestion(dialect, name)).map_or(null(), c_name)
+    let unknown = dialect.zip(name).filter(|(dialect, name)| dialect.read(name) == Err(NameError::Unknown));
+    unknown.and_then(|(dialect, name)| dialect.suggestion(name)).map_or(null(), c_name)
 }
 
 #[no_mangle]
@@ -527,7 +523,7 @@ pub unsafe extern "C" fn lexicon_suggestion(
 
 #[no_mangle]
 pub unsafe extern "C" fn lexicon_vendor_suggestion(triple: *const Triple, out: *mut u8, out_size: usize, length: *mut usize) -> Status {
-    let triple = unsafe { Triple::read(triple) };
+    let triple = unsafe { Triple::numbered(triple) };
     let vendor = str::from_utf8(triple.custom_vendor).ok().filter(|vendor| !vendor.is_empty());
     unsafe { write_suggestion(vendor.and_then(|vendor| tool_names::suggestion(Field::Vendor, vendor)), out, out_size, length) }
 }
@@ -549,7 +545,7 @@ pub unsafe extern "C" fn lexicon_number(field: u32, text: *const u8, text_size: 
         let named = field_at(field).ok_or(NO_SUCH_FIELD)?;
         number_in(named, text_of(bytes).map_err(status_of)?).ok_or(1 + field)
     };
-    unsafe { answer(number, find()) }
+    unsafe { answer::<u32>(number, find()) }
 }
 
 #[no_mangle]

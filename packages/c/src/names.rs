@@ -260,11 +260,9 @@ fn c_text(texts: &[&'static str], text: &str) -> *const u8 {
 #[cfg(test)]
 mod tests {
     use super::*;
-    use crate::dialects::reason;
-    use crate::numbers::name_at;
-    use crate::values::field_at;
+    use crate::values::{field_at, name_at};
     use std::ffi::CStr;
-    use target_lexicon::tool_names::Dialect;
+    use target_lexicon::tool_names::{Dialect, NameError};
 
     #[test]
     fn every_name_has_a_zero_byte_after_it() {
@@ -305,7 +303,8 @@ mod tests {
     fn every_reason_has_a_zero_byte_after_it() {
         let mut count = 0;
         for row in rows().filter(|row| row.get(3) == Some(&"-")) {
-            let why = reason(row[0].parse().expect("a dialect"), &row[1].replace('*', "10")).expect(row[1]);
+            let dialect: Dialect = row[0].parse().expect("a dialect");
+            let Err(NameError::WithoutTriple(why)) = dialect.read(&row[1].replace('*', "10")) else { panic!("{}", row[1]) };
             let found = c_reason(why);
             assert!(!found.is_null(), "{why}");
             assert_eq!(unsafe { CStr::from_ptr(found.cast()) }.to_str(), Ok(row[4]));
