@@ -298,7 +298,13 @@ pub unsafe extern "C" fn lexicon_facts(triple: *const Triple, facts: *mut u8, fa
 /// Writes facts of a triple. Each kind is compiled by itself: together, each would save the registers that all need.
 #[inline(never)]
 unsafe fn write_facts<T: for<'a> From<&'a TripleRef<'a>>>(triple: *const Triple, facts: *mut u8) -> Status {
-    unsafe { answer(facts.cast::<T>(), Triple::read(triple).as_ref().map_err(|fault| *fault)) }
+    match unsafe { Triple::read(triple) } {
+        Ok(asked) => unsafe {
+            facts.cast::<T>().write(T::from(&asked));
+            OK
+        },
+        Err(fault) => fault.into(),
+    }
 }
 
 /// Writes as many of the facts as a struct of another size has room for. What this version doesn't answer has no answer.

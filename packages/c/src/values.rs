@@ -25,10 +25,17 @@ macro_rules! numbers {
 
         /// The value of this number.
         pub(crate) fn $value_at(number: $int $(, $held: $holds)?) -> Option<$type> {
-            match number {
-                $($number => Some($type::$variant $(($($inner)+))?),)+
-                _ => None,
-            }
+            numbers!(@at $type, number $(, $held)?; $($number [$type::$variant $(($($inner)+))?])+)
+        }
+    };
+    (@at $type:ident, $at:ident; $($number:literal [$($value:tt)+])+) => {{
+        static VALUES: &[$type] = &[$($($value)+),+];
+        VALUES.get(usize::from($at)).copied()
+    }};
+    (@at $type:ident, $at:ident, $held:ident; $($number:literal [$($value:tt)+])+) => {
+        match $at {
+            $($number => Some($($value)+),)+
+            _ => None,
         }
     };
 }
@@ -163,7 +170,7 @@ pub(crate) fn vendor_number(vendor: VendorRef<'_>) -> u8 {
 
 /// The system of this number with this version, if it may have one.
 pub(crate) fn operating_system_at(number: u8, version: Option<DeploymentTarget>) -> Option<OperatingSystem> {
-    operating_system_with(number, version).filter(|system| system.version() == version)
+    operating_system_with(number, version).filter(|system| version.is_none() || system.is_like_darwin())
 }
 
 /// The field of this number.
