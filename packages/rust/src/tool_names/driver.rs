@@ -1,7 +1,7 @@
-//! What a compiler's driver asks of a triple besides the queries.
+//! What a compiler's driver asks of a triple besides the queries. `checks/compare llvm` asks rustc and clang of each of rustc's targets.
 
 use crate::tool_names::rustc_cfg::UnlistedSystem;
-use crate::{Architecture, Environment, OperatingSystem, TripleRef, VendorRef};
+use crate::{Architecture, Environment, OperatingSystem, TripleRef};
 use core::fmt;
 
 /// The C library of a target.
@@ -95,9 +95,24 @@ impl CLibrary {
     /// ```
     #[must_use]
     pub fn of(triple: &TripleRef<'_>) -> Option<CLibrary> {
-        match environment_library(triple.operating_system, triple.environment) {
-            Some(library) => Some(library),
-            None => library_of_system(triple.vendor, triple.operating_system),
+        use {Environment::*, OperatingSystem::*};
+        match (triple.environment, triple.operating_system) {
+            (Android | Androideabi, _) => Some(CLibrary::Bionic),
+            (
+                Gnu | Gnuabi64 | Gnueabi | Gnueabihf | Gnuspe | Gnux32 | GnuIlp32 | GnuLlvm,
+                Hurd | Linux,
+            ) => Some(CLibrary::Glibc),
+            (
+                Gnu | Gnuabi64 | Gnueabi | Gnueabihf | Gnuspe | Gnux32 | GnuIlp32 | GnuLlvm,
+                OperatingSystem::Windows,
+            ) => Some(CLibrary::Mingw),
+            (Environment::Msvc, _) => Some(CLibrary::Msvc),
+            (Environment::Musl | Muslabi64 | Musleabi | Musleabihf | Ohos, _) => {
+                Some(CLibrary::Musl)
+            }
+            (Environment::Newlib, _) => Some(CLibrary::Newlib),
+            (Environment::Uclibc | Uclibceabi | Uclibceabihf, _) => Some(CLibrary::Uclibc),
+            _ => library_of_system(triple),
         }
     }
 
@@ -130,73 +145,21 @@ impl fmt::Display for CLibrary {
     }
 }
 
-fn environment_library(system: OperatingSystem, environment: Environment) -> Option<CLibrary> {
-    match environment {
-        Environment::Android | Environment::Androideabi => Some(CLibrary::Bionic),
-        Environment::Gnu
-        | Environment::Gnuabi64
-        | Environment::Gnueabi
-        | Environment::Gnueabihf
-        | Environment::Gnuspe
-        | Environment::Gnux32
-        | Environment::GnuIlp32
-        | Environment::GnuLlvm => gnu_library(system),
-        Environment::Msvc => Some(CLibrary::Msvc),
-        Environment::Musl
-        | Environment::Muslabi64
-        | Environment::Musleabi
-        | Environment::Musleabihf
-        | Environment::Ohos => Some(CLibrary::Musl),
-        Environment::Newlib => Some(CLibrary::Newlib),
-        Environment::Uclibc | Environment::Uclibceabi | Environment::Uclibceabihf => {
-            Some(CLibrary::Uclibc)
-        }
-        _ => None,
-    }
-}
-
-/// What `gnu` is on a system.
-fn gnu_library(system: OperatingSystem) -> Option<CLibrary> {
-    match system {
-        OperatingSystem::Hurd | OperatingSystem::Linux => Some(CLibrary::Glibc),
-        OperatingSystem::Windows => Some(CLibrary::Mingw),
-        _ => None,
-    }
-}
-
 /// The library of a system that has only one.
-fn library_of_system(vendor: VendorRef<'_>, system: OperatingSystem) -> Option<CLibrary> {
-    match UnlistedSystem::of(vendor, system) {
-        Some(UnlistedSystem::Nuttx) => Some(CLibrary::System),
-        Some(UnlistedSystem::Rtems) => Some(CLibrary::Newlib),
-        Some(UnlistedSystem::WasiP3) => None,
-        None => system_library(system),
+fn library_of_system(triple: &TripleRef<'_>) -> Option<CLibrary> {
+    use OperatingSystem::*;
+    match UnlistedSystem::of(triple) {
+        Some(UnlistedSystem::Nuttx) => return Some(CLibrary::System),
+        Some(UnlistedSystem::Rtems) => return Some(CLibrary::Newlib),
+        Some(UnlistedSystem::WasiP3) => return None,
+        None => {}
     }
-}
-
-fn system_library(system: OperatingSystem) -> Option<CLibrary> {
-    match system {
-        OperatingSystem::Espidf | OperatingSystem::Horizon => Some(CLibrary::Newlib),
-        OperatingSystem::Redox => Some(CLibrary::Relibc),
-        OperatingSystem::Aix
-        | OperatingSystem::Bitrig
-        | OperatingSystem::Cygwin
-        | OperatingSystem::Darwin(_)
-        | OperatingSystem::Dragonfly
-        | OperatingSystem::Freebsd
-        | OperatingSystem::Fuchsia
-        | OperatingSystem::Haiku
-        | OperatingSystem::Illumos
-        | OperatingSystem::IOS(_)
-        | OperatingSystem::MacOSX(_)
-        | OperatingSystem::Netbsd
-        | OperatingSystem::Openbsd
-        | OperatingSystem::Solaris
-        | OperatingSystem::TvOS(_)
-        | OperatingSystem::VisionOS(_)
-        | OperatingSystem::VxWorks
-        | OperatingSystem::WatchOS(_)
-        | OperatingSystem::XROS(_) => Some(CLibrary::System),
+    match triple.operating_system {
+        Espidf | Horizon => Some(CLibrary::Newlib),
+        Redox => Some(CLibrary::Relibc),
+        Aix | Bitrig | Cygwin | Darwin(_) | Dragonfly | Freebsd | Fuchsia | Haiku | Illumos
+        | IOS(_) | MacOSX(_) | Netbsd | Openbsd | Solaris | TvOS(_) | VisionOS(_) | VxWorks
+        | WatchOS(_) | XROS(_) => Some(CLibrary::System),
         _ => None,
     }
 }
@@ -223,12 +186,18 @@ impl FloatAbi {
     /// ```
     #[must_use]
     pub fn of(triple: &TripleRef<'_>) -> Option<FloatAbi> {
-        match triple.architecture {
-            Architecture::Arm(_) => arm_floats(triple.operating_system, triple.environment),
-            _ => match triple.environment {
-                Environment::Softfloat => Some(FloatAbi::Soft),
-                _ => None,
-            },
+        use Environment::*;
+        let is_arm = matches!(triple.architecture, Architecture::Arm(_));
+        match (triple.environment, triple.operating_system) {
+            (Softfloat, _) => Some(FloatAbi::Soft),
+            _ if !is_arm => Option::None,
+            (Androideabi | Eabi | Gnueabi | Musleabi | Ohos | Uclibceabi, _) => {
+                Some(FloatAbi::Soft)
+            }
+            (Eabihf | Gnueabihf | Musleabihf | Uclibceabihf, _) => Some(FloatAbi::Hard),
+            (_, OperatingSystem::Freebsd | OperatingSystem::Horizon) => Some(FloatAbi::Hard),
+            (_, OperatingSystem::Windows | OperatingSystem::WatchOS(_)) => Some(FloatAbi::Hard),
+            _ => Option::None,
         }
     }
 
@@ -254,29 +223,6 @@ impl fmt::Display for FloatAbi {
     }
 }
 
-fn arm_floats(system: OperatingSystem, environment: Environment) -> Option<FloatAbi> {
-    match environment {
-        Environment::Eabi
-        | Environment::Gnueabi
-        | Environment::Musleabi
-        | Environment::Uclibceabi
-        | Environment::Androideabi
-        | Environment::Ohos
-        | Environment::Softfloat => Some(FloatAbi::Soft),
-        Environment::Eabihf
-        | Environment::Gnueabihf
-        | Environment::Musleabihf
-        | Environment::Uclibceabihf => Some(FloatAbi::Hard),
-        _ => match system {
-            OperatingSystem::Freebsd
-            | OperatingSystem::Horizon
-            | OperatingSystem::Windows
-            | OperatingSystem::WatchOS(_) => Some(FloatAbi::Hard),
-            _ => None,
-        },
-    }
-}
-
 impl TypeLayout {
     /// The layout of `long double`. `None` where no source is sure, such as on UEFI, VxWorks and AIX.
     ///
@@ -295,19 +241,27 @@ impl TypeLayout {
     /// ```
     #[must_use]
     pub fn of_long_double(triple: &TripleRef<'_>) -> Option<TypeLayout> {
-        match triple.operating_system {
-            OperatingSystem::Uefi | OperatingSystem::VxWorks => None,
-            OperatingSystem::Windows => {
-                windows_long_double(triple.architecture, triple.environment)
-            }
-            system => {
-                if system.is_like_darwin() {
-                    darwin_long_double(triple.architecture)
-                } else {
-                    usual_long_double(triple.architecture, system, triple.environment)
-                }
-            }
-        }
+        use {Architecture::*, OperatingSystem::*};
+        let (size, alignment) = match (triple.architecture, triple.operating_system) {
+            (_, Uefi | VxWorks) => return None,
+            (_, Windows) => return windows_long_double(triple),
+            (Aarch64(_), system) if system.is_like_darwin() => (8, 8),
+            (X86_32(_) | X86_64 | X86_64h, system) if system.is_like_darwin() => (16, 16),
+            (_, system) if system.is_like_darwin() => return None,
+            (Arm(_) | Hexagon | Mips32(_), _) => (8, 8),
+            (Aarch64(_) | LoongArch64 | Riscv32(_) | Riscv64(_), _) => (16, 16),
+            (Sparc64 | Sparcv9 | X86_64 | X86_64h, _) => (16, 16),
+            (Mips64(_), Linux) => (16, 16),
+            (Msp430, _) => (8, 2),
+            (Powerpc | Powerpc64 | Powerpc64le, _) => return powerpc_long_double(triple),
+            (S390x, _) => (16, 8),
+            (Wasm32 | Wasm64, Emscripten) => (16, 8),
+            (Wasm32 | Wasm64, _) => (16, 16),
+            (X86_32(_), _) if triple.environment == Environment::Android => (8, 4),
+            (X86_32(_), _) => (12, 4),
+            _ => return None,
+        };
+        Some(TypeLayout { size, alignment })
     }
 
     /// The layout of `wchar_t`. `None` where no source is sure, such as on VxWorks and AIX.
@@ -326,128 +280,45 @@ impl TypeLayout {
     /// ```
     #[must_use]
     pub fn of_wchar(triple: &TripleRef<'_>) -> Option<TypeLayout> {
-        match triple.operating_system {
-            OperatingSystem::Windows | OperatingSystem::Cygwin | OperatingSystem::Uefi => {
-                layout(2, 2)
-            }
-            OperatingSystem::Aix | OperatingSystem::VxWorks => None,
-            _ => usual_wide_character(triple.architecture),
-        }
+        use {Architecture::*, OperatingSystem::*};
+        let size = match (triple.architecture, triple.operating_system) {
+            (_, Windows | Cygwin | Uefi) => 2,
+            (_, Aix | VxWorks) => return None,
+            (Msp430, _) => 2,
+            (Arm(_) | Aarch64(_) | Hexagon | X86_32(_) | LoongArch64 | Mips32(_), _) => 4,
+            (Mips64(_) | Powerpc | Powerpc64 | Powerpc64le | Riscv32(_) | Riscv64(_), _) => 4,
+            (S390x | Sparc | Sparc64 | Sparcv9 | Wasm32 | Wasm64 | X86_64 | X86_64h, _) => 4,
+            _ => return None,
+        };
+        Some(TypeLayout {
+            size,
+            alignment: size,
+        })
     }
 }
 
-fn layout(size: u8, alignment: u8) -> Option<TypeLayout> {
+fn windows_long_double(triple: &TripleRef<'_>) -> Option<TypeLayout> {
+    use {Architecture::*, Environment::*};
+    let (size, alignment) = match (triple.environment, triple.architecture) {
+        (Msvc, Arm(_) | Aarch64(_) | X86_32(_) | X86_64) => (8, 8),
+        (Gnu | GnuLlvm, Arm(_) | Aarch64(_)) => (8, 8),
+        (Gnu | GnuLlvm, X86_32(_)) => (12, 4),
+        (Gnu | GnuLlvm, X86_64) => (16, 16),
+        _ => return Option::None,
+    };
     Some(TypeLayout { size, alignment })
 }
 
-fn windows_long_double(architecture: Architecture, environment: Environment) -> Option<TypeLayout> {
-    match environment {
-        Environment::Msvc => msvc_long_double(architecture),
-        Environment::Gnu | Environment::GnuLlvm => mingw_long_double(architecture),
-        _ => None,
-    }
-}
-
-fn msvc_long_double(architecture: Architecture) -> Option<TypeLayout> {
-    match architecture {
-        Architecture::Arm(_)
-        | Architecture::Aarch64(_)
-        | Architecture::X86_32(_)
-        | Architecture::X86_64 => layout(8, 8),
-        _ => None,
-    }
-}
-
-fn mingw_long_double(architecture: Architecture) -> Option<TypeLayout> {
-    match architecture {
-        Architecture::Arm(_) | Architecture::Aarch64(_) => layout(8, 8),
-        Architecture::X86_32(_) => layout(12, 4),
-        Architecture::X86_64 => layout(16, 16),
-        _ => None,
-    }
-}
-
-fn darwin_long_double(architecture: Architecture) -> Option<TypeLayout> {
-    match architecture {
-        Architecture::Aarch64(_) => layout(8, 8),
-        Architecture::X86_32(_) | Architecture::X86_64 | Architecture::X86_64h => layout(16, 16),
-        _ => None,
-    }
-}
-
-fn usual_long_double(
-    architecture: Architecture,
-    system: OperatingSystem,
-    environment: Environment,
-) -> Option<TypeLayout> {
-    match architecture {
-        Architecture::Arm(_) | Architecture::Hexagon | Architecture::Mips32(_) => layout(8, 8),
-        Architecture::Aarch64(_)
-        | Architecture::LoongArch64
-        | Architecture::Riscv32(_)
-        | Architecture::Riscv64(_)
-        | Architecture::Sparc64
-        | Architecture::Sparcv9
-        | Architecture::X86_64
-        | Architecture::X86_64h => layout(16, 16),
-        Architecture::Mips64(_) => match system {
-            OperatingSystem::Linux => layout(16, 16),
-            _ => None,
-        },
-        Architecture::Msp430 => layout(8, 2),
-        Architecture::Powerpc | Architecture::Powerpc64 | Architecture::Powerpc64le => {
-            powerpc_long_double(system, environment)
-        }
-        Architecture::S390x => layout(16, 8),
-        Architecture::Wasm32 | Architecture::Wasm64 => match system {
-            OperatingSystem::Emscripten => layout(16, 8),
-            _ => layout(16, 16),
-        },
-        Architecture::X86_32(_) => match environment {
-            Environment::Android => layout(8, 4),
-            _ => layout(12, 4),
-        },
-        _ => None,
-    }
-}
-
-fn powerpc_long_double(system: OperatingSystem, environment: Environment) -> Option<TypeLayout> {
-    match system {
-        OperatingSystem::Linux => match environment {
-            Environment::Gnu | Environment::Gnuspe => layout(16, 16),
-            Environment::Musl => layout(8, 8),
-            _ => None,
-        },
-        OperatingSystem::Freebsd | OperatingSystem::Netbsd | OperatingSystem::Openbsd => {
-            layout(8, 8)
-        }
-        _ => None,
-    }
-}
-
-fn usual_wide_character(architecture: Architecture) -> Option<TypeLayout> {
-    match architecture {
-        Architecture::Msp430 => layout(2, 2),
-        Architecture::Arm(_)
-        | Architecture::Aarch64(_)
-        | Architecture::Hexagon
-        | Architecture::X86_32(_)
-        | Architecture::LoongArch64
-        | Architecture::Mips32(_)
-        | Architecture::Mips64(_)
-        | Architecture::Powerpc
-        | Architecture::Powerpc64
-        | Architecture::Powerpc64le
-        | Architecture::Riscv32(_)
-        | Architecture::Riscv64(_)
-        | Architecture::S390x
-        | Architecture::Sparc
-        | Architecture::Sparc64
-        | Architecture::Sparcv9
-        | Architecture::Wasm32
-        | Architecture::Wasm64
-        | Architecture::X86_64
-        | Architecture::X86_64h => layout(4, 4),
-        _ => None,
-    }
+fn powerpc_long_double(triple: &TripleRef<'_>) -> Option<TypeLayout> {
+    use {Environment::*, OperatingSystem::*};
+    let size = match (triple.operating_system, triple.environment) {
+        (Linux, Gnu | Gnuspe) => 16,
+        (Linux, Musl) => 8,
+        (Freebsd | Netbsd | Openbsd, _) => 8,
+        _ => return Option::None,
+    };
+    Some(TypeLayout {
+        size,
+        alignment: size,
+    })
 }

@@ -1,4 +1,4 @@
-//! The values of rustc's cfg options for a triple.
+//! The values of rustc's cfg options for a triple. `checks/compare llvm` asks rustc for those of each of its targets.
 
 use crate::{
     Architecture, Endianness, Environment, KnownVendor, Mips32Architecture, Mips64Architecture,
@@ -41,14 +41,6 @@ pub struct RustcCfg<'a> {
     pub target_endian: Option<Endianness>,
 }
 
-/// A system of rustc that is no known name, so that a triple has it as a custom vendor.
-#[derive(Clone, Copy)]
-pub(crate) enum UnlistedSystem {
-    Nuttx,
-    Rtems,
-    WasiP3,
-}
-
 impl<'a> RustcCfg<'a> {
     /// The values for a triple. They are rustc's for each of its targets that parses; the targets whose triples the
     /// library can't represent have none. What rustc has no target of keeps its name, such as the architecture
@@ -75,419 +67,186 @@ impl<'a> RustcCfg<'a> {
     /// ```
     #[must_use]
     pub fn of(triple: &TripleRef<'a>) -> RustcCfg<'a> {
+        let is_unix = is_unix(triple);
         RustcCfg {
             target_arch: target_arch(triple.architecture),
             target_os: target_os(triple),
             target_env: target_env(triple),
             target_abi: target_abi(triple),
-            target_family: target_family(triple),
+            target_family: match (triple.architecture, triple.operating_system) {
+                (Architecture::Wasm32 | Architecture::Wasm64, _) if is_unix => &["unix", "wasm"],
+                (Architecture::Wasm32 | Architecture::Wasm64, _) => &["wasm"],
+                (_, OperatingSystem::Windows) => &["windows"],
+                _ if is_unix => &["unix"],
+                _ => &[],
+            },
             target_vendor: target_vendor(triple),
-            target_pointer_width: pointer_width(triple),
-            target_endian: endianness(triple),
+            target_pointer_width: triple.pointer_width().ok(),
+            target_endian: triple.endianness().ok(),
         }
     }
 }
 
 impl fmt::Display for RustcCfg<'_> {
     fn fmt(&self, f: &mut fmt::Formatter<'_>) -> fmt::Result {
-        Line::of("target_abi", self.target_abi).fmt(f)?;
-        Line::of("target_arch", self.target_arch).fmt(f)?;
-        Line::of_endianness(self.target_endian).fmt(f)?;
-        Line::of("target_env", self.target_env).fmt(f)?;
-        FamilyLines(self.target_family).fmt(f)?;
-        Line::of("target_os", self.target_os).fmt(f)?;
-        Line::of_width(self.target_pointer_width).fmt(f)?;
-        Line::of("target_vendor", self.target_vendor).fmt(f)?;
-        FamilyNames(self.target_family).fmt(f)
-    }
-}
-
-/// The line of an option with this key; nothing if it has no value.
-#[derive(Clone, Copy)]
-struct Line<'a> {
-    key: &'static str,
-    value: Option<&'a str>,
-}
-
-impl<'a> Line<'a> {
-    fn of(key: &'static str, value: &'a str) -> Line<'a> {
-        Line {
-            key,
-            value: Some(value),
+        writeln!(f, "target_abi=\"{}\"", self.target_abi)?;
+        writeln!(f, "target_arch=\"{}\"", self.target_arch)?;
+        if let Some(order) = self.target_endian {
+            writeln!(f, "target_endian=\"{order}\"")?;
         }
-    }
-
-    fn of_endianness(endianness: Option<Endianness>) -> Line<'a> {
-        match endianness {
-            Some(endianness) => Line::of("target_endian", endianness.name()),
-            None => Line::none(),
+        writeln!(f, "target_env=\"{}\"", self.target_env)?;
+        for family in self.target_family {
+            writeln!(f, "target_family=\"{family}\"")?;
         }
-    }
-
-    fn of_width(width: Option<PointerWidth>) -> Line<'a> {
-        match width {
-            Some(width) => Line::of("target_pointer_width", width.name()),
-            None => Line::none(),
+        writeln!(f, "target_os=\"{}\"", self.target_os)?;
+        if let Some(width) = self.target_pointer_width {
+            writeln!(f, "target_pointer_width=\"{width}\"")?;
         }
-    }
-
-    fn none() -> Line<'a> {
-        Line {
-            key: "",
-            value: None,
-        }
-    }
-}
-
-impl fmt::Display for Line<'_> {
-    fn fmt(&self, f: &mut fmt::Formatter<'_>) -> fmt::Result {
-        match self.value {
-            Some(value) => {
-                f.write_str(self.key)?;
-                f.write_str("=\"")?;
-                f.write_str(value)?;
-                f.write_str("\"\n")
-            }
-            None => Ok(()),
-        }
-    }
-}
-
-/// The lines of the families.
-#[derive(Clone, Copy)]
-struct FamilyLines(&'static [&'static str]);
-
-impl fmt::Display for FamilyLines {
-    fn fmt(&self, f: &mut fmt::Formatter<'_>) -> fmt::Result {
-        for family in self.0 {
-            Line::of("target_family", family).fmt(f)?;
+        writeln!(f, "target_vendor=\"{}\"", self.target_vendor)?;
+        // These families are options themselves.
+        for family in self.target_family.iter().filter(|it| **it != "wasm") {
+            writeln!(f, "{family}")?;
         }
         Ok(())
     }
 }
 
-/// The lines of the families that are options themselves.
-#[derive(Clone, Copy)]
-struct FamilyNames(&'static [&'static str]);
-
-impl fmt::Display for FamilyNames {
-    fn fmt(&self, f: &mut fmt::Formatter<'_>) -> fmt::Result {
-        for family in self.0 {
-            f.write_str(name_line(family))?;
-        }
-        Ok(())
-    }
-}
-
-/// The line of a family that is an option itself; nothing for any other.
-fn name_line(family: &str) -> &'static str {
-    match family {
-        "unix" => "unix\n",
-        "windows" => "windows\n",
-        _ => "",
-    }
-}
-
-fn pointer_width(triple: &TripleRef<'_>) -> Option<PointerWidth> {
-    match triple.pointer_width() {
-        Ok(width) => Some(width),
-        Err(()) => None,
-    }
-}
-
-fn endianness(triple: &TripleRef<'_>) -> Option<Endianness> {
-    match triple.endianness() {
-        Ok(endianness) => Some(endianness),
-        Err(()) => None,
-    }
+/// A system of rustc that is no known name, so that a triple has it as a custom vendor.
+pub(super) enum UnlistedSystem {
+    Nuttx,
+    Rtems,
+    WasiP3,
 }
 
 impl UnlistedSystem {
-    /// The unlisted system of a triple with these fields.
-    pub(crate) fn of(vendor: VendorRef<'_>, system: OperatingSystem) -> Option<UnlistedSystem> {
-        match (vendor, system) {
-            (VendorRef::Custom(text), OperatingSystem::Unknown) => match text {
-                "nuttx" => Some(UnlistedSystem::Nuttx),
-                "rtems" => Some(UnlistedSystem::Rtems),
-                "wasip3" => Some(UnlistedSystem::WasiP3),
-                _ => None,
-            },
+    /// The unlisted system of a triple.
+    pub(super) fn of(triple: &TripleRef<'_>) -> Option<UnlistedSystem> {
+        match (triple.vendor, triple.operating_system) {
+            (VendorRef::Custom("nuttx"), OperatingSystem::Unknown) => Some(UnlistedSystem::Nuttx),
+            (VendorRef::Custom("rtems"), OperatingSystem::Unknown) => Some(UnlistedSystem::Rtems),
+            (VendorRef::Custom("wasip3"), OperatingSystem::Unknown) => Some(UnlistedSystem::WasiP3),
             _ => None,
-        }
-    }
-
-    fn os(self) -> &'static str {
-        match self {
-            UnlistedSystem::Nuttx => "nuttx",
-            UnlistedSystem::Rtems => "rtems",
-            UnlistedSystem::WasiP3 => "wasi",
-        }
-    }
-
-    fn env(self) -> &'static str {
-        match self {
-            UnlistedSystem::Nuttx => "",
-            UnlistedSystem::Rtems => "newlib",
-            UnlistedSystem::WasiP3 => "p3",
-        }
-    }
-
-    fn is_unix(self) -> bool {
-        match self {
-            UnlistedSystem::Nuttx | UnlistedSystem::Rtems => true,
-            UnlistedSystem::WasiP3 => false,
         }
     }
 }
 
 fn target_arch(architecture: Architecture) -> &'static str {
+    use {Mips32Architecture::*, Mips64Architecture::*};
     match architecture {
         Architecture::Arm(_) => "arm",
         Architecture::AmdGcn => "amdgpu",
         Architecture::Aarch64(_) => "aarch64",
         Architecture::Bpfeb | Architecture::Bpfel => "bpf",
         Architecture::X86_32(_) => "x86",
-        Architecture::Mips32(sub) => mips32_arch(sub),
-        Architecture::Mips64(sub) => mips64_arch(sub),
+        Architecture::Mips32(Mips | Mipsel) => "mips",
+        Architecture::Mips32(Mipsisa32r6 | Mipsisa32r6el) => "mips32r6",
+        Architecture::Mips64(Mips64 | Mips64el) => "mips64",
+        Architecture::Mips64(Mipsisa64r6 | Mipsisa64r6el) => "mips64r6",
         Architecture::Powerpc64le => "powerpc64",
         Architecture::Riscv32(_) => "riscv32",
         Architecture::Riscv64(_) => "riscv64",
         Architecture::Sparcv9 => "sparc64",
         Architecture::X86_64h => "x86_64",
-        _ => architecture.name(),
-    }
-}
-
-fn mips32_arch(sub: Mips32Architecture) -> &'static str {
-    match sub {
-        Mips32Architecture::Mips | Mips32Architecture::Mipsel => "mips",
-        Mips32Architecture::Mipsisa32r6 | Mips32Architecture::Mipsisa32r6el => "mips32r6",
-    }
-}
-
-fn mips64_arch(sub: Mips64Architecture) -> &'static str {
-    match sub {
-        Mips64Architecture::Mips64 | Mips64Architecture::Mips64el => "mips64",
-        Mips64Architecture::Mipsisa64r6 | Mips64Architecture::Mipsisa64r6el => "mips64r6",
+        other => other.name(),
     }
 }
 
 fn target_os(triple: &TripleRef<'_>) -> &'static str {
-    match UnlistedSystem::of(triple.vendor, triple.operating_system) {
-        Some(system) => system.os(),
-        None => listed_os(triple.operating_system, triple.environment),
+    use OperatingSystem::*;
+    match UnlistedSystem::of(triple) {
+        Some(UnlistedSystem::Nuttx) => return "nuttx",
+        Some(UnlistedSystem::Rtems) => return "rtems",
+        Some(UnlistedSystem::WasiP3) => return "wasi",
+        None => {}
     }
-}
-
-fn listed_os(system: OperatingSystem, environment: Environment) -> &'static str {
-    match (system, environment) {
-        (OperatingSystem::Linux, Environment::Android | Environment::Androideabi) => "android",
-        (OperatingSystem::Darwin(_) | OperatingSystem::MacOSX(_), _) => "macos",
-        (OperatingSystem::IOS(_), _) => "ios",
-        (OperatingSystem::TvOS(_), _) => "tvos",
-        (OperatingSystem::VisionOS(_) | OperatingSystem::XROS(_), _) => "visionos",
-        (OperatingSystem::WatchOS(_), _) => "watchos",
-        (OperatingSystem::WasiP1 | OperatingSystem::WasiP2, _) => "wasi",
-        _ => system.prefix(),
+    match (triple.operating_system, triple.environment) {
+        (Linux, Environment::Android | Environment::Androideabi) => "android",
+        (Darwin(_) | MacOSX(_), _) => "macos",
+        (VisionOS(_) | XROS(_), _) => "visionos",
+        (WasiP1 | WasiP2, _) => "wasi",
+        (other, _) => other.prefix(),
     }
 }
 
 fn target_env(triple: &TripleRef<'_>) -> &'static str {
-    if let Some(env) = environment_env(triple.environment) {
-        return env;
-    }
-    match UnlistedSystem::of(triple.vendor, triple.operating_system) {
-        Some(system) => system.env(),
-        None => listed_env(triple.architecture, triple.operating_system),
-    }
-}
-
-/// The value that an environment states.
-fn environment_env(environment: Environment) -> Option<&'static str> {
-    match environment {
-        Environment::Gnu
-        | Environment::Gnuabi64
-        | Environment::Gnueabi
-        | Environment::Gnueabihf
-        | Environment::Gnuspe
-        | Environment::Gnux32
-        | Environment::GnuIlp32
-        | Environment::GnuLlvm => Some("gnu"),
-        Environment::Macabi => Some("macabi"),
-        Environment::Msvc => Some("msvc"),
-        Environment::Musl
-        | Environment::Muslabi64
-        | Environment::Musleabi
-        | Environment::Musleabihf => Some("musl"),
-        Environment::Newlib => Some("newlib"),
-        Environment::Ohos => Some("ohos"),
-        Environment::Sgx => Some("sgx"),
-        Environment::Sim => Some("sim"),
-        Environment::Uclibc | Environment::Uclibceabi | Environment::Uclibceabihf => Some("uclibc"),
-        _ => None,
+    use Environment::*;
+    match triple.environment {
+        Gnu | Gnuabi64 | Gnueabi | Gnueabihf | Gnuspe | Gnux32 | GnuIlp32 | GnuLlvm => "gnu",
+        Macabi => "macabi",
+        Msvc => "msvc",
+        Musl | Muslabi64 | Musleabi | Musleabihf => "musl",
+        Newlib => "newlib",
+        Ohos => "ohos",
+        Sgx => "sgx",
+        Sim => "sim",
+        Uclibc | Uclibceabi | Uclibceabihf => "uclibc",
+        _ => env_of_system(triple),
     }
 }
 
 /// The value of a system where the environment states none.
-fn listed_env(architecture: Architecture, system: OperatingSystem) -> &'static str {
-    match system {
+fn env_of_system(triple: &TripleRef<'_>) -> &'static str {
+    match UnlistedSystem::of(triple) {
+        Some(UnlistedSystem::Nuttx) => return "",
+        Some(UnlistedSystem::Rtems) => return "newlib",
+        Some(UnlistedSystem::WasiP3) => return "p3",
+        None => {}
+    }
+    match triple.operating_system {
         OperatingSystem::Espidf | OperatingSystem::Horizon => "newlib",
         OperatingSystem::Redox => "relibc",
         OperatingSystem::VxWorks => "gnu",
         OperatingSystem::WasiP1 => "p1",
         OperatingSystem::WasiP2 => "p2",
-        _ => {
-            if is_simulator(architecture, system) {
-                "sim"
-            } else {
-                ""
-            }
-        }
+        _ if is_simulator(triple) => "sim",
+        _ => "",
     }
 }
 
 /// Whether this is a system of Apple's devices on x86, which only simulators have.
-fn is_simulator(architecture: Architecture, system: OperatingSystem) -> bool {
-    match architecture {
-        Architecture::X86_32(_) | Architecture::X86_64 | Architecture::X86_64h => matches!(
-            system,
-            OperatingSystem::IOS(_)
-                | OperatingSystem::TvOS(_)
-                | OperatingSystem::VisionOS(_)
-                | OperatingSystem::WatchOS(_)
-                | OperatingSystem::XROS(_)
-        ),
-        _ => false,
-    }
+fn is_simulator(triple: &TripleRef<'_>) -> bool {
+    use {Architecture::*, OperatingSystem::*};
+    matches!(triple.architecture, X86_32(_) | X86_64 | X86_64h)
+        && matches!(
+            triple.operating_system,
+            IOS(_) | TvOS(_) | VisionOS(_) | WatchOS(_) | XROS(_)
+        )
 }
 
 fn target_abi(triple: &TripleRef<'_>) -> &'static str {
-    if let Some(abi) = vendor_abi(triple) {
-        return abi;
-    }
-    match environment_abi(triple.environment) {
-        Some(abi) => abi,
-        None => usual_abi(
-            triple.architecture,
-            triple.operating_system,
-            triple.environment,
-        ),
-    }
-}
-
-/// The ABI that a vendor states.
-fn vendor_abi(triple: &TripleRef<'_>) -> Option<&'static str> {
+    use Environment::*;
     match (triple.vendor, triple.operating_system, triple.environment) {
-        (VendorRef::Known(KnownVendor::Uwp), OperatingSystem::Windows, _) => Some("uwp"),
-        (VendorRef::Known(KnownVendor::Fortanix), _, Environment::Sgx) => Some("fortanix"),
-        _ => None,
-    }
-}
-
-/// The ABI that an environment states.
-fn environment_abi(environment: Environment) -> Option<&'static str> {
-    match environment {
-        Environment::Androideabi
-        | Environment::Eabi
-        | Environment::Gnueabi
-        | Environment::Musleabi
-        | Environment::Uclibceabi => Some("eabi"),
-        Environment::Eabihf
-        | Environment::Gnueabihf
-        | Environment::Musleabihf
-        | Environment::Uclibceabihf => Some("eabihf"),
-        Environment::Gnuabi64 | Environment::Muslabi64 => Some("abi64"),
-        Environment::Gnuspe | Environment::Spe => Some("spe"),
-        Environment::Gnux32 => Some("x32"),
-        Environment::GnuIlp32 => Some("ilp32"),
-        Environment::GnuLlvm => Some("llvm"),
-        Environment::Macabi => Some("macabi"),
-        Environment::Sim => Some("sim"),
-        Environment::Softfloat => Some("softfloat"),
-        _ => None,
+        (VendorRef::Known(KnownVendor::Uwp), OperatingSystem::Windows, _) => "uwp",
+        (VendorRef::Known(KnownVendor::Fortanix), _, Sgx) => "fortanix",
+        (_, _, Androideabi | Eabi | Gnueabi | Musleabi | Uclibceabi) => "eabi",
+        (_, _, Eabihf | Gnueabihf | Musleabihf | Uclibceabihf) => "eabihf",
+        (_, _, Gnuabi64 | Muslabi64) => "abi64",
+        (_, _, Gnuspe | Spe) => "spe",
+        (_, _, Gnux32) => "x32",
+        (_, _, GnuIlp32) => "ilp32",
+        (_, _, GnuLlvm) => "llvm",
+        (_, _, Macabi) => "macabi",
+        (_, _, Sim) => "sim",
+        (_, _, Softfloat) => "softfloat",
+        _ => abi_of_system(triple),
     }
 }
 
 /// The ABI where neither vendor nor environment states one.
-fn usual_abi(
-    architecture: Architecture,
-    system: OperatingSystem,
-    environment: Environment,
-) -> &'static str {
-    match architecture {
-        Architecture::Arm(_) => arm_abi(system, environment),
-        Architecture::Mips64(_) => mips64_abi(system),
-        Architecture::Powerpc64 => powerpc64_abi(system, environment),
-        Architecture::Powerpc64le => "elfv2",
-        _ => {
-            if is_simulator(architecture, system) {
-                "sim"
-            } else {
-                ""
-            }
-        }
-    }
-}
-
-fn arm_abi(system: OperatingSystem, environment: Environment) -> &'static str {
-    match (system, environment) {
-        (OperatingSystem::Freebsd | OperatingSystem::Horizon, _) => "eabihf",
-        (OperatingSystem::Linux, Environment::Ohos) => "eabi",
-        _ => "",
-    }
-}
-
-fn mips64_abi(system: OperatingSystem) -> &'static str {
-    match system {
-        OperatingSystem::Linux => "abi64",
-        _ => "",
-    }
-}
-
-fn powerpc64_abi(system: OperatingSystem, environment: Environment) -> &'static str {
-    match system {
-        OperatingSystem::Aix => "vec-extabi",
-        OperatingSystem::Freebsd | OperatingSystem::Openbsd => "elfv2",
-        OperatingSystem::Linux => {
-            if is_musl(environment) {
-                "elfv2"
-            } else {
-                "elfv1"
-            }
-        }
-        OperatingSystem::VxWorks => "elfv1",
-        _ => "",
-    }
-}
-
-fn is_musl(environment: Environment) -> bool {
-    matches!(
-        environment,
-        Environment::Musl
-            | Environment::Muslabi64
-            | Environment::Musleabi
-            | Environment::Musleabihf
-    )
-}
-
-fn target_family(triple: &TripleRef<'_>) -> &'static [&'static str] {
-    let is_unix = is_unix(triple);
+fn abi_of_system(triple: &TripleRef<'_>) -> &'static str {
+    use OperatingSystem::*;
+    let is_musl = matches!(triple.environment, Environment::Musl); // the others state their ABI
     match (triple.architecture, triple.operating_system) {
-        (Architecture::Wasm32 | Architecture::Wasm64, _) => {
-            if is_unix {
-                &["unix", "wasm"]
-            } else {
-                &["wasm"]
-            }
-        }
-        (_, OperatingSystem::Windows) => &["windows"],
-        _ => {
-            if is_unix {
-                &["unix"]
-            } else {
-                &[]
-            }
-        }
+        (Architecture::Arm(_), Freebsd | Horizon) => "eabihf",
+        (Architecture::Arm(_), Linux) if triple.environment == Environment::Ohos => "eabi",
+        (Architecture::Mips64(_), Linux) => "abi64",
+        (Architecture::Powerpc64, Aix) => "vec-extabi",
+        (Architecture::Powerpc64, Freebsd | Openbsd) => "elfv2",
+        (Architecture::Powerpc64, Linux) if is_musl => "elfv2",
+        (Architecture::Powerpc64, Linux | VxWorks) => "elfv1",
+        (Architecture::Powerpc64le, _) => "elfv2",
+        _ if is_simulator(triple) => "sim",
+        _ => "",
     }
 }
 
@@ -503,72 +262,29 @@ fn target_family(triple: &TripleRef<'_>) -> &'static [&'static str] {
 /// ```
 #[must_use]
 pub fn is_unix(triple: &TripleRef<'_>) -> bool {
-    match UnlistedSystem::of(triple.vendor, triple.operating_system) {
-        Some(system) => system.is_unix(),
-        None => is_unix_system(triple.operating_system),
+    use OperatingSystem::*;
+    match UnlistedSystem::of(triple) {
+        Some(UnlistedSystem::Nuttx | UnlistedSystem::Rtems) => return true,
+        Some(UnlistedSystem::WasiP3) => return false,
+        None => {}
     }
-}
-
-fn is_unix_system(system: OperatingSystem) -> bool {
-    match system {
-        OperatingSystem::Aix
-        | OperatingSystem::Bitrig
-        | OperatingSystem::Cygwin
-        | OperatingSystem::Darwin(_)
-        | OperatingSystem::Dragonfly
-        | OperatingSystem::Emscripten
-        | OperatingSystem::Espidf
-        | OperatingSystem::Freebsd
-        | OperatingSystem::Fuchsia
-        | OperatingSystem::Haiku
-        | OperatingSystem::Horizon
-        | OperatingSystem::Hurd
-        | OperatingSystem::Illumos
-        | OperatingSystem::IOS(_)
-        | OperatingSystem::L4re
-        | OperatingSystem::Linux
-        | OperatingSystem::MacOSX(_)
-        | OperatingSystem::Netbsd
-        | OperatingSystem::Openbsd
-        | OperatingSystem::Redox
-        | OperatingSystem::Solaris
-        | OperatingSystem::TvOS(_)
-        | OperatingSystem::VisionOS(_)
-        | OperatingSystem::VxWorks
-        | OperatingSystem::WatchOS(_)
-        | OperatingSystem::XROS(_) => true,
-        OperatingSystem::AmdHsa
-        | OperatingSystem::Cloudabi
-        | OperatingSystem::Cuda
-        | OperatingSystem::Hermit
-        | OperatingSystem::Nebulet
-        | OperatingSystem::None_
-        | OperatingSystem::Psp
-        | OperatingSystem::SolidAsp3
-        | OperatingSystem::Uefi
-        | OperatingSystem::Unknown
-        | OperatingSystem::Wasi
-        | OperatingSystem::WasiP1
-        | OperatingSystem::WasiP2
-        | OperatingSystem::Windows => false,
+    match triple.operating_system {
+        Aix | Bitrig | Cygwin | Darwin(_) | Dragonfly | Emscripten | Espidf | Freebsd | Fuchsia
+        | Haiku | Horizon | Hurd | Illumos | IOS(_) | L4re | Linux | MacOSX(_) | Netbsd
+        | Openbsd | Redox | Solaris | TvOS(_) | VisionOS(_) | VxWorks | WatchOS(_) | XROS(_) => {
+            true
+        }
+        AmdHsa | Cloudabi | Cuda | Hermit | Nebulet | None_ | Psp | SolidAsp3 | Uefi | Unknown
+        | Wasi | WasiP1 | WasiP2 | Windows => false,
     }
 }
 
 fn target_vendor<'a>(triple: &TripleRef<'a>) -> &'a str {
-    match UnlistedSystem::of(triple.vendor, triple.operating_system) {
-        Some(_) => "unknown",
-        None => match triple.vendor {
-            VendorRef::Known(known) => known.name(),
-            VendorRef::Custom(text) => custom_vendor(text),
-        },
-    }
-}
-
-/// The vendor that a custom one is for rustc.
-fn custom_vendor(text: &str) -> &str {
-    match text {
-        "esp" | "esp32" | "esp32s2" | "esp32s3" => "espressif",
-        "wali" => "unknown",
-        _ => text,
+    match triple.vendor {
+        _ if UnlistedSystem::of(triple).is_some() => "unknown",
+        VendorRef::Custom("esp" | "esp32" | "esp32s2" | "esp32s3") => "espressif",
+        VendorRef::Custom("wali") => "unknown",
+        VendorRef::Custom(text) => text,
+        VendorRef::Known(known) => known.name(),
     }
 }
