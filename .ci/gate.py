@@ -50,7 +50,7 @@ STARTED = time.time()
 
 # Each step: what it is for, its command, and the tools without which it isn't run.
 FIRST = [
-    ("lists of names, the Rust source, what was reviewed of it, and SPEC are what they are made from", "tools/write --check", "rustfmt"),
+    ("lists of names, the Rust source, what was reviewed of it, and PROMISES are what they are made from", "tools/write --check", "rustfmt"),
     ("no script has a warning", "checks/scripts", "shellcheck pyflakes3"),
     ("the crate's copies of the licence are the repository's", "cmp LICENSE packages/rust/LICENSE && cmp COPYRIGHT packages/rust/COPYRIGHT", ""),
 ]
