@@ -15,13 +15,14 @@ FEATURES = {"tool_names": {"known_names", "macos", "rules", "spelled", "spelling
 PARTLY = {"": {"decimal", "reading"}, "tool_names": {"macos", "rules", "spelled", "spelling"}}
 ONLY_FOR_TOOL_NAMES = {"MAX_DECIMAL_LENGTH", "decimal_text", "Spelling"}
 # Public names that no package uses.
-NOT_EXPORTED = {"FixedRow", "ROW_COUNT", "expected_after", "row_order"}
+NOT_EXPORTED = {"FixedRow", "ROW_COUNT", "row_order"}
 # The module of the layer that proved files name: what older versions of Rust lack.
 LAYER = {"compat"}
 # Where one package finds the crates of another.
 OUTSIDE = "target_lexicon::proved::"
 
-# Modules that are left out: laws, the counter of steps, JSON, the host, and the error that has an allocation's failure.
+# Modules that are left out: laws, the counter of steps, JSON, the host, the error that has an allocation's failure, and the
+# round trip, which Rust writes as `triple.to_string().parse()`.
 MODULES = {"laws", "steps", "json", "json_error", "list_error", "macros", "host", "parse_error", "round_trip"}
 # Types, functions and impls that are left out. The proved host is fixed; the layer has the others in Rust's form.
 ITEMS = {

@@ -1,10 +1,15 @@
 -- The elements of a JSON array that have been parsed so far.
-use Rattle.std.proofs.Common.{◌≡◌, ℕ, zero, suc, ◌+◌, ◌<◌, ◌≤◌, List, [], ◌∷◌, ◌++◌, Option, Some, MatchOption, All, length, get_or, take, map, add-one, arith, subst}
+use Rattle.std.proofs.Common.{◌≡◌, ℕ, zero, suc, ◌+◌, ◌<◌, ◌≤◌, List, [], ◌∷◌, ◌++◌, Option, Some, MatchOption, All, length, get_or, take, map, add-one, arith, subst, refl}
 use Rattle.std.proofs.lemmas.{List.map-append, List.take_all, List.Elements.All-append}
-use Rattle.serde_json.specs.{Data.Data, Data.Items, View.view, View.items_view, declared.value.Value.Value}
-use Rattle.serde_json.proofs.Views.{get_item_within}
+use Rattle.serde_json.specs.{Data.Data, Data.Items, Find.get_item, View.view, View.items_view, declared.value.Value.Value}
 use Rattle.target_lexicon.specs.{Json.JsonReadsAs, Json.ElementsReadAs, Json.IsElementRead, Json.JsonErrorValue, Json.IsJsonErrorOf, Json.IsFirstError, Values.Values, Values.values_of}
 use Rattle.target_lexicon.specs.declared.triple.Triple.{Triple}
+
+-- an element of an array, by its index
+get_item-view : (xs : List Value) (i : ℕ) (x : Value) → i < length xs → Some (view (get_or xs i x)) ≡ get_item i (items_view xs)
+get_item-view [] i x within = absurd (omega arith)
+get_item-view (y ∷ ys) zero x within = refl
+get_item-view (y ∷ ys) (suc i) x within = get_item-view ys i x (omega arith)
 
 -- a fact about the elements of an array is one about the value
 pub at_array : (P : Items → Type 0) (elements : Option Items) (xs ys : List Value) → Some (items_view xs) ≡ elements → ys ≡ xs → P (items_view ys)
@@ -42,7 +47,7 @@ pub elements_refused : (xs : List Value) (i : ℕ) (x : Value) (ts : List Values
 elements_refused xs i x ts error within is read refused =
     let here : IsJsonErrorOf (view (get_or xs i x)) error = subst (λ (v : Value). IsJsonErrorOf (view v) error) is refused in
     record {
-      here = subst (λ (o : Option Data). MatchOption o ⊥ (λ value. IsJsonErrorOf value error)) (get_item_within xs i x within) here;
+      here = subst (λ (o : Option Data). MatchOption o ⊥ (λ value. IsJsonErrorOf value error)) (get_item-view xs i x within) here;
       before = λ k before. read-before xs i ts k before (omega arith) read;
     }
 

@@ -2,7 +2,6 @@
 use Rattle.std.proofs.Common.{◌≡◌, true, sym, ap, subst}
 use Rattle.lexicon_fields.specs.{Vendor.is_plain, Laws.HasVersionInRange}
 use Rattle.target_lexicon.specs.{FixedPoints.FixedExactlyOutsideFamilies, FixedPoints.RoundIsNormalStep, Laws.ComesBack, NormalStep.normal_step, Printing.text_of, Reading.ReadsAs, Values.Values}
-use Rattle.target_lexicon.proofs.TextRoundTrips.{round}
 use Rattle.target_lexicon.proofs.StepCases.{IsOutside, step_cases, outside-fixed, plain-family, none-plain_outside}
 use Rattle.target_lexicon.proofs.{ReadValues.read_plain, UniqueReading.values_unique}
 
@@ -31,7 +30,3 @@ module _ (round : RoundIsNormalStep) where
     λ back. let is = back-outside t range back in plain-family t is.0 is.1,
     λ found. let is = none-plain_outside t found in outside-back t range is.0 is.1,
   )
-
--- so it does, since the round trip is the normal step
-pub fixed_exactly_outside_families : FixedExactlyOutsideFamilies
-fixed_exactly_outside_families = fixed_exactly_outside round

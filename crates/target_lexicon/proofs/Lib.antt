@@ -1,20 +1,20 @@
--- of one field, parsed as an earlier field); GreedyPlacement, RefusalLemmas, UniqueReading, ComputedReading (from
--- parsing as a function to the least placement); SourceLemmas, TakenParts (the source of each field); ReadValues (facts about
--- all parsed triples). Printing: PrintingLemmas, Upstream, Lengths (how much longer than the string). Round trips:
--- RoundTrips, TextRoundTrips (a printed string parsed again); StepCases, FamilyTests (the facts and the tests of each
--- family), FixedPointLemmas, RoundCall, SettleLemmas, ModelsKnown, QueriesKept; Elements. SameValues: equality of triples. HashInputPairs: what fields feed a hasher.
+-- The lemmas, by topic. Parsing: PartLemmas (parts and dashes), NamesAcross (the law of names, and the names of one field,
+-- parsed as an earlier field); GreedyPlacement, RefusalLemmas, UniqueReading, ComputedReading (from parsing as a function
+-- to the least placement); SourceLemmas, ResumedLemmas (the source of each field); ReadValues, Vendors (facts about all
+-- parsed triples). Printing: PrintingLemmas, Upstream, Lengths (how much longer than the string). Round trips: RoundTrips,
+-- TextRoundTrips (a printed string parsed again); StepCases (the facts of each family), FixedPointLemmas, RoundCall,
+-- SettleLemmas, ModelsKnown, QueriesKept. Elements: JSON lists. SameValues: equality of triples. HashInputPairs,
+-- VariantHashes: what is fed to a hasher. OnLiterals: for proofs of callers.
 pub mod ComputedReading
-pub mod PartLemmas
 pub mod Elements
-pub mod SourceLemmas
-pub mod HashInputPairs
-pub mod FamilyTests
 pub mod FixedPointLemmas
 pub mod GreedyPlacement
+pub mod HashInputPairs
 pub mod Lengths
 pub mod ModelsKnown
 pub mod NamesAcross
 pub mod OnLiterals
+pub mod PartLemmas
 pub mod PrintingLemmas
 pub mod QueriesKept
 pub mod ReadValues
@@ -24,9 +24,10 @@ pub mod RoundCall
 pub mod RoundTrips
 pub mod SameValues
 pub mod SettleLemmas
+pub mod SourceLemmas
 pub mod StepCases
-pub mod SystemNames
 pub mod TextRoundTrips
 pub mod UniqueReading
 pub mod Upstream
+pub mod VariantHashes
 pub mod Vendors

@@ -1,14 +1,21 @@
--- The names of one field, parsed as an earlier field.
-use Rattle.std.proofs.Common.{◌≡◌, ℕ, List, false, Option, Some, None, refl}
+-- The law of names for the five fields, and the names of one field, parsed as an earlier field.
+use Rattle.std.proofs.Common.{◌≡◌, ℕ, List, true, false, Option, Some, None, refl}
 use Rattle.std.proofs.Math.Bool.{and-false}
 use Rattle.target_lexicon.specs.Values.{OperatingSystem, Environment, BinaryFormat, VendorValue, Known}
-use Rattle.lexicon_fields.specs.{declared.known_vendor.KnownVendor.TheVariants.Unknown, Vendor.known_vendor_of, Vendor.is_admitted, Vendor.vendor_of, Environment.environment_name, Environment.environment_of}
+use Rattle.lexicon_fields.specs.{Architecture.architecture_name, Architecture.architecture_of, declared.known_vendor.KnownVendor.TheVariants.Unknown, Vendor.known_vendor_of, Vendor.is_admitted, Vendor.is_plain, Vendor.vendor_name, Vendor.vendor_of, Environment.environment_name, Environment.environment_of}
 use Rattle.lexicon_fields.specs.OperatingSystem.{operating_system_name, operating_system_of, fixed_operating_system_of}
-use Rattle.lexicon_fields.specs.{BinaryFormat.binary_format_name, Laws.HasVersionInRange}
-use Rattle.lexicon_fields.proofs.LawOfNames.{NamesAreRead}
+use Rattle.lexicon_fields.specs.{BinaryFormat.binary_format_name, BinaryFormat.binary_format_of, Laws.HasVersionInRange, Laws.NamesReadBack, Laws.NamesReadBackOn}
 use Rattle.target_lexicon.specs.Values.operating_system
 use Rattle.target_lexicon.specs.Values.environment
 use Rattle.target_lexicon.specs.Values.binary_format
+
+-- what the law `names_read_back` says of the five fields
+pub record NamesAreRead : Type 0 where
+  pub architecture : NamesReadBack architecture_name architecture_of
+  pub vendor : NamesReadBackOn (λ v. is_plain v ≡ true) vendor_name vendor_of
+  pub operating_system : NamesReadBackOn HasVersionInRange operating_system_name operating_system_of
+  pub environment : NamesReadBack environment_name environment_of
+  pub binary_format : NamesReadBack binary_format_name binary_format_of
 
 -- of the names of formats only `unknown` is that of an environment, and of a system
 abbrev pub format_as_environment : BinaryFormat → Option Environment

@@ -1,6 +1,5 @@
 -- The shown parts of a triple with a plain vendor parse as its normal step, if no special string is printed.
 use Rattle.std.proofs.Common.{◌≡◌, ◌≢◌, ◌∙◌, ℕ, Bool, true, false, not, ◌&&◌, ◌||◌, cond, List, [], ◌∷◌, None, Result, Ok, refl, sym, ap, ◌⊎◌, inl, inr}
-use Rattle.lexicon_fields.proofs.LawOfNames.{NamesAreRead}
 use Rattle.target_lexicon.specs.Values.{Architecture, Environment, OperatingSystem, BinaryFormat, VendorValue, Known, Values, values, implies_newlib, is_same_format, is_clever_without_system}
 use Rattle.target_lexicon.specs.{Field.Field, ImpliedFormat.default_binary_format, ImpliedFormat.implied_format, FamilyFacts.PrintsAsSpecial, FamilyFacts.HidesNewlib, FamilyFacts.PrintsTheEspIdfText, FamilyFacts.ShowsOnlyNone, Refusal.Refusal, SpecialTexts.special_text}
 use Rattle.target_lexicon.specs.NormalStep.{normal_step, elf_if_unknown}
@@ -10,7 +9,7 @@ use Rattle.lexicon_fields.specs.{ArchitectureQueries.is_clever, declared.archite
 use Rattle.lexicon_fields.specs.declared.known_vendor.KnownVendor.TheVariants.{Unknown, Nintendo, Espressif}
 use Rattle.std.proofs.{lemmas.Bool.not-false, lemmas.Bool.not-true, Math.Bool.and-false, lemmas.Bool.false≢true, lemmas.Bool.true≢false}
 use Rattle.target_lexicon.proofs.PrintingLemmas.{printed_names}
-use Rattle.target_lexicon.proofs.NamesAcross.{environment_of-format, operating_system_of-format, operating_system_of-environment, vendor_of-operating_system, system_as_vendor}
+use Rattle.target_lexicon.proofs.NamesAcross.{NamesAreRead, environment_of-format, operating_system_of-format, operating_system_of-environment, vendor_of-operating_system, system_as_vendor}
 use Rattle.target_lexicon.proofs.StepCases.{step_cases, outside-fixed, only_none-step}
 use Rattle.target_lexicon.specs.Values.architecture
 use Rattle.target_lexicon.specs.Values.operating_system

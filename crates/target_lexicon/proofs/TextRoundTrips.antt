@@ -3,7 +3,6 @@ use Rattle.std.proofs.Common.{◌≡◌, ◌≢◌, ◌∙◌, ℕ, Bool, true, 
 use Rattle.std.specs.{List.list_all, List.join_with_byte, Str.bytes_eq}
 use Rattle.std.proofs.lemmas.Slice.Eq.{bytes_eq-Decides}
 use Rattle.lexicon_fields.specs.Names.{dash}
-use Rattle.lexicon_fields.proofs.LawOfNames.{NamesAreRead, names_are_read}
 use Rattle.target_lexicon.specs.Values.{Architecture, OperatingSystem, Environment, BinaryFormat, VendorValue, Known, Custom, Values, values}
 use Rattle.target_lexicon.specs.{FixedPoints.RoundIsNormalStep, ImpliedFormat.implied_format, NormalStep.normal_step, Families.family_by_fields, FamilyFacts.PrintsTheEspIdfText, Placement.parts_of}
 use Rattle.target_lexicon.specs.Printing.{shows_vendor, shows_operating_system, shows_environment, shows_binary_format, shows_unknowns, shown_names, text_of, cons_if}
@@ -13,7 +12,7 @@ use Rattle.lexicon_fields.specs.{Names.is_dash_free, Architecture.architecture_n
 use Rattle.lexicon_fields.specs.declared.known_vendor.KnownVendor.TheVariants.{Nintendo, Espressif}
 use Rattle.lexicon_fields.specs.{Vendor.vendor_of, Vendor.known_vendor_of, Vendor.is_admitted, Vendor.is_plain, BinaryFormat.binary_format_name, BinaryFormat.binary_format_of}
 use Rattle.lexicon_fields.specs.OperatingSystem.{operating_system_name, operating_system_of, fixed_operating_system_of}
-use Rattle.target_lexicon.proofs.{ComputedReading.reading_computed, PartLemmas.parts_of-joined, PrintingLemmas.printed_names, RoundTrips.parts-round, StepCases.step_cases, StepCases.is_esp}
+use Rattle.target_lexicon.proofs.{ComputedReading.reading_computed, NamesAcross.NamesAreRead, PartLemmas.parts_of-joined, PrintingLemmas.printed_names, RoundTrips.parts-round, StepCases.step_cases, StepCases.is_esp}
 use Rattle.target_lexicon.specs.Values.architecture
 use Rattle.target_lexicon.specs.Values.arm
 use Rattle.target_lexicon.specs.Values.riscv32
@@ -106,8 +105,8 @@ round_by names t None plain range is (inl esp) = rw esp custom_esp-round
 round_by names t None plain range is (inr apart) = shown-round names t.architecture t.vendor t.operating_system t.environment t.binary_format plain range is apart
 
 -- the round trip of a plain triple is its normal step
-pub round : RoundIsNormalStep
-round t plain = ((reading_computed (text_of t)).read (normal_step t)).1 (round_by names_are_read t _ plain.vendor plain.version refl (is_esp t))
+pub round : NamesAreRead → RoundIsNormalStep
+round names t plain = ((reading_computed (text_of t)).read (normal_step t)).1 (round_by names t _ plain.vendor plain.version refl (is_esp t))
 
 pub round_by_step : RoundIsNormalStep → (t u : Values) → is_plain t.vendor ≡ true → HasVersionInRange t.operating_system → u ≡ normal_step t → ReadsAs (text_of t) u
 round_by_step round t u plain range is = subst (λ (x : Values). ReadsAs (text_of t) x) (sym is) (round t (record { vendor = plain; version = range }))

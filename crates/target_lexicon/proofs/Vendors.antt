@@ -1,5 +1,5 @@
 -- The strings that parse as a vendor.
-use Rattle.std.proofs.Common.{◌≡◌, ◌⊎◌, inl, inr, ℕ, List, true, refl, sym, ◌∙◌, Option, Some, None}
+use Rattle.std.proofs.Common.{◌≡◌, ◌⊎◌, inl, inr, ℕ, List, true, refl, sym, Option, Some, None}
 use Rattle.std.specs.{Prelude.option_map, Option.option_or}
 use Rattle.lexicon_fields.specs.{declared.known_vendor.KnownVendor.KnownVendor}
 use Rattle.lexicon_fields.specs.Vendor.{known_vendor_of, is_admitted, custom_vendor_of, vendor_of, is_plain}

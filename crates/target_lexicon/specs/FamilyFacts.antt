@@ -23,10 +23,18 @@ pub record IsEspIdf (t : Values) : Type 0 where
   pub vendor : t.vendor ≡ Known Espressif
   pub operating_system : t.operating_system ≡ operating_system.Espidf
 
+-- the first three fields are those of a special string, which is printed
+abbrev pub HasSpecialFields : Values → Type 0
+HasSpecialFields t = IsNintendo3ds t ⊎ IsEspIdf t
+
+-- environment and format are those of both special strings
+abbrev pub HasNewlibAndElf : Values → Type 0
+HasNewlibAndElf t = (t.environment ≡ environment.Newlib) × (t.binary_format ≡ binary_format.Elf)
+
 -- a special string is printed, which doesn't show environment and format, and these aren't `Newlib` and `Elf`
 pub record PrintsAsSpecial (t : Values) : Type 0 where
-  pub fields : IsNintendo3ds t ⊎ IsEspIdf t
-  pub others : ¬ ((t.environment ≡ environment.Newlib) × (t.binary_format ≡ binary_format.Elf))
+  pub fields : HasSpecialFields t
+  pub others : ¬ HasNewlibAndElf t
 
 -- the environment is a `Newlib` that isn't shown, and the string isn't special
 abbrev pub HidesNewlib : Values → Type 0

@@ -9,7 +9,6 @@ pub mod ImpliedFormat
 pub mod Json
 pub mod Laws
 pub mod NormalStep
-pub mod RemainingParts
 pub mod Pieces
 pub mod Placement
 pub mod Printing

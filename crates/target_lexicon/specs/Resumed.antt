@@ -6,7 +6,7 @@ use Rattle.target_lexicon.specs.Explanation.{PlacedPart, part_value, SourceValue
 use Rattle.target_lexicon.specs.{declared.explanation.TextPart.TextPart, Field.Field, Refusal.Refusal, Refusal.refusal_with}
 use Rattle.target_lexicon.specs.GreedyReading.{field_reading, final_reading, reading_from_binary_format}
 use Rattle.target_lexicon.specs.Field as field
-use Rattle.target_lexicon.specs.Values.{Architecture, OperatingSystem, Values, values}
+use Rattle.target_lexicon.specs.Values.{Architecture, Values, values}
 
 abbrev pub rest_from_environment : Values → Field → List (List ℕ) → Result Values Refusal
 rest_from_environment t last names =

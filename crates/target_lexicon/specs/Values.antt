@@ -49,10 +49,6 @@ abbrev pub is_newlib : Environment → Bool
 is_newlib environment.Newlib = true
 is_newlib _ = false
 
-abbrev pub is_environment_none : Environment → Bool
-is_environment_none environment.None = true
-is_environment_none _ = false
-
 abbrev pub is_clever_without_system : Architecture → OperatingSystem → Bool
 is_clever_without_system (architecture.Clever sub) operating_system.Unknown = true
 is_clever_without_system _ _ = false

@@ -1,15 +1,15 @@
 //! The families of triples that don't come back.
-ghost use Rattle.std.specs.Prelude.{◌≡◌};
-ghost use Rattle.lexicon_fields.specs.VendorRef.{ref_value};
+ghost use Rattle.std.specs.Prelude.{◌≡◌, ◌↔◌, IsTrue};
 ghost use Rattle.target_lexicon.specs.Families as spec;
-ghost use Rattle.target_lexicon.specs.Private as private;
+ghost use Rattle.target_lexicon.specs.FamilyFacts as facts;
 ghost use Rattle.target_lexicon.specs.Values.{values_of};
 ghost use Rattle.target_lexicon.specs.ValuesRef.{values_of_ref};
 
 use crate::triple::Triple;
 use crate::triple_ref::TripleRef;
 use lexicon_fields::{
-    Architecture, BinaryFormat, Environment, OperatingSystem, Riscv32Architecture, VendorRef,
+    Architecture, ArmArchitecture, BinaryFormat, Environment, KnownVendor, OperatingSystem,
+    Riscv32Architecture, VendorRef,
 };
 
 /// A family of triples that don't come back: printed and parsed again, they are another triple or none.
@@ -85,37 +85,58 @@ impl TripleRef<'_> {
         }
     }
 
-    /// Whether the first three fields are those of a special string.
-    fn is_3ds_or_esp_idf(&self) -> bool
-        ensures { result ≡ private.is_3ds_or_esp_idf self.now.architecture (ref_value self.now.vendor)
-            self.now.operating_system }
+    /// Whether the first three fields are those of a special string, which is printed.
+    fn has_special_fields(&self) -> bool
+        ensures { IsTrue result ↔ facts.HasSpecialFields (values_of_ref self.now) }
     {
         self.special_text().is_some()
     }
 
+    /// Whether environment and format are those of both special strings.
+    fn has_newlib_and_elf(&self) -> bool
+        ensures { IsTrue result ↔ facts.HasNewlibAndElf (values_of_ref self.now) }
+    {
+        matches!(
+            (self.environment, self.binary_format),
+            (Environment::Newlib, BinaryFormat::Elf)
+        )
+    }
+
     /// Whether a special string is printed, and environment and format aren't `Newlib` and `Elf`.
     fn prints_as_special(&self) -> bool
-        ensures { result ≡ private.prints_as_special (values_of_ref self.now) }
+        ensures { IsTrue result ↔ facts.PrintsAsSpecial (values_of_ref self.now) }
     {
-        self.is_3ds_or_esp_idf()
-            && !matches!(
-                (self.environment, self.binary_format),
-                (Environment::Newlib, BinaryFormat::Elf)
-            )
+        self.has_special_fields() && !self.has_newlib_and_elf()
     }
 
     /// Whether the environment is a `Newlib` that isn't shown, and the string isn't special.
     fn hides_newlib(&self) -> bool
-        ensures { result ≡ private.hides_newlib (values_of_ref self.now) }
+        ensures { IsTrue result ↔ facts.HidesNewlib (values_of_ref self.now) }
     {
-        self.implies_newlib()
-            && matches!(self.environment, Environment::Newlib)
-            && !self.is_3ds_or_esp_idf()
+        match (self.vendor, self.operating_system, self.environment) {
+            (
+                VendorRef::Known(KnownVendor::Nintendo),
+                OperatingSystem::Horizon,
+                Environment::Newlib,
+            ) => !matches!(
+                self.architecture,
+                Architecture::Arm(ArmArchitecture::Armv6k)
+            ),
+            (
+                VendorRef::Known(KnownVendor::Espressif),
+                OperatingSystem::Espidf,
+                Environment::Newlib,
+            ) => !matches!(
+                self.architecture,
+                Architecture::Riscv32(Riscv32Architecture::Riscv32imc)
+            ),
+            _ => false,
+        }
     }
 
     /// Whether the vendor is the custom `esp`, and the string is the special one.
     fn prints_the_esp_idf_text(&self) -> bool
-        ensures { result ≡ private.prints_the_esp_idf_text (values_of_ref self.now) }
+        ensures { IsTrue result ↔ facts.PrintsTheEspIdfText (values_of_ref self.now) }
     {
         match (
             self.architecture,
@@ -137,7 +158,7 @@ impl TripleRef<'_> {
 
     /// Whether the environment `none` is shown without a system, on Clever.
     fn shows_only_none(&self) -> bool
-        ensures { result ≡ private.shows_only_none (values_of_ref self.now) }
+        ensures { IsTrue result ↔ facts.ShowsOnlyNone (values_of_ref self.now) }
     {
         match self.environment {
             Environment::None => !self.shows_operating_system(),

@@ -179,12 +179,16 @@ pub fn families_are_facts_of_fields()
 /// its vendor is not plain.
 pub fn fixed_exactly_outside_families()
     ensures { FixedExactlyOutsideFamilies }
-{}
+{
+    round_is_normal_step();
+}
 
 /// The printed string of each triple with a plain vendor parses as the triple's normal step.
 pub fn round_is_normal_step()
     ensures { RoundIsNormalStep }
-{}
+{
+    names_read_back();
+}
 
 /// A second normal step changes none: one round trip gives the canonical form. The name is from upstream's rules of
 /// printing, by which it changes one.
@@ -195,7 +199,9 @@ pub fn second_step_changes_one()
 /// The canonical form of a triple with a plain vendor comes back, and no other canonical triple has its string.
 pub fn settled_texts_are_keys()
     ensures { SettledTextsAreKeys }
-{}
+{
+    round_is_normal_step();
+}
 
 /// The headline, all of these laws in one: every string parses or is refused, in exactly one way. Each parsed triple
 /// has a plain vendor. A triple comes back exactly if it is in none of five families. The round trip of each triple

@@ -53,7 +53,7 @@ pub use lexicon_fields::{
 };
 pub use list_error::ListError;
 pub use parse_error::ParseError;
-pub use read::{expected_after, explain, first_part};
+pub use read::{explain, first_part};
 pub use reading::Reading;
 pub use refusal::{Refusal, refusal_prefix};
 pub use round_trip::round;

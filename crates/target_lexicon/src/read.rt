@@ -33,7 +33,7 @@ pub fn first_part(text: &str) -> (&str, Option<&str>)
 }
 
 /// The field that is expected after this one is filled, if any is left.
-pub fn expected_after(last: Field) -> Option<Field>
+pub(crate) fn expected_after(last: Field) -> Option<Field>
     ensures { result ≡ spec.expected_after last }
 {
     match last {

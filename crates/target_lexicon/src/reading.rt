@@ -15,7 +15,7 @@ use crate::triple_ref::TripleRef;
 use lexicon_fields::{Architecture, Field, OperatingSystem, Steps, VendorRef, fixed_row};
 
 /// The fields that the names so far fill, the others `Unknown`; and the first field that is still open.
-#[derive(Clone, Copy)]
+#[derive(Clone, Copy, Debug)]
 pub struct Reading<'a> {
     pub expected: Option<Field>,
     pub triple: TripleRef<'a>,

@@ -33,7 +33,8 @@ pub fn round(alloc: Global, triple: &Triple) -> Result<Triple, ParseError>
         IfOk result (λ it. ComesBack (values_of it)) }
     ensures fixed { IfOk result (λ it. (values_of it ≡ values_of triple.now)
         ↔ (family (values_of triple.now) ≡ None)) }
-    ensures err { IfErr result (λ error. IsRefusalOrOutOfMemory (text_of (values_of triple.now)) error) }
+    ensures err { IfErr result
+        (λ error. IsRefusalOrOutOfMemory (text_of (values_of triple.now)) error) }
     ensures refused { IfErr result (λ error. IfSome (refusal_of error)
         (λ _. is_plain (vendor_value triple.now.vendor) ≡ false)) }
 {

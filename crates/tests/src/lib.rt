@@ -11,6 +11,8 @@ mod completion;
 #[cfg(test)]
 mod json;
 #[cfg(test)]
+mod known_triples;
+#[cfg(test)]
 mod names;
 #[cfg(test)]
 mod other_names;

@@ -1,10 +1,10 @@
 //! The printed strings of triples, parsed and built, and what they parse as.
 
-use crate::all_names::KNOWN_TRIPLES;
-use crate::values::{hash_alike, is_answer, prints};
+use crate::known_triples::KNOWN_TRIPLES;
+use crate::values::{hash_alike, is_answer, prints, writes};
 use std::alloc::Global;
 use std::process::Abort;
-use target_lexicon::{Architecture, CustomVendor, Triple, Vendor};
+use target_lexicon::{Architecture, CustomVendor, Family, Triple, Vendor, round};
 
 /// Whether the triple and the borrowed one display this string, and `to_text` returns it.
 fn is_printed(alloc: Global, triple: &Triple, text: &str) -> bool {
@@ -63,8 +63,9 @@ aarch64-nintendo-horizon-newlib-coff=aarch64-nintendo-horizon-coff
 clever1.0-pc-unknown-none-coff=clever1.0-pc-none-coff
 x86_64-apple-darwin*23.*=x86_64-apple-darwin23.0.0";
 
-/// Whether the triple of the string prints this and comes back exactly if that parses as the triple; and the triple of the
-/// printed string is the next step and the canonical triple, and prints the last string.
+/// Whether the triple of the string prints this, and comes back and is in no family exactly if that parses as the triple;
+/// and the triple of the printed string is the round trip, the next step and the canonical triple, and prints the last
+/// string.
 fn is_round_trip(alloc: Global, text: &str, print: &str, last: &str) -> bool {
     match (
         Triple::from_str(alloc, text),
@@ -74,6 +75,8 @@ fn is_round_trip(alloc: Global, text: &str, print: &str, last: &str) -> bool {
         (Ok(triple), Ok(same), Ok(back)) => is_printed(alloc, &triple, print)
             && is_printed(alloc, &back, last)
             && triple.comes_back() == (triple == back)
+            && triple.family().is_none() == (triple == back)
+            && matches!(round(alloc, &triple), Ok(again) if again == back)
             && triple.normal() == back
             && same.settle() == back,
         _ => false,
@@ -104,6 +107,34 @@ fn parsed_triples_print(rt: HostRuntime) {
     }
 }
 
+/// A string, and after `=` the family of its triple.
+const FAMILIES: &str = "\
+armv6k-nintendo-3ds=None
+armv6k-nintendo-horizon-gnu-coff=Some(PrintsAsSpecial)
+riscv32imc-espressif-espidf-newlib-coff=Some(PrintsAsSpecial)
+aarch64-nintendo-horizon-newlib-unknown=Some(HidesNewlib)
+riscv64-espressif-espidf-newlib=Some(HidesNewlib)
+riscv32imc-esp-espidf-elf=Some(PrintsTheEspIdfText)
+riscv32imc-esp-espidf-unknown-unknown=None
+clever-unknown-unknown-none=Some(ShowsOnlyNone)
+clever-unknown-unknown-unknown-unknown=None
+x86_64-none-none=None
+x86_64-unknown-linux-unknown-unknown=None";
+
+#[test]
+fn triples_have_their_families(rt: HostRuntime) {
+    for row in FAMILIES.lines() {
+        let (text, expected) = row.split_once('=').unwrap_or((row, ""));
+        match Triple::from_str(rt.alloc(), text) {
+            Ok(triple) => assert!(rt;
+                writes(&format_args!("{:?}", triple.family()), expected),
+                "{row}"
+            ),
+            Err(_) => panic!(rt; "{row}"),
+        }
+    }
+}
+
 /// A custom vendor and a string; what the string's triple prints with that vendor; and the triple that this parses as, or
 /// why it is refused. Only the first vendor is plain.
 const BUILT: &str = "\
@@ -115,8 +146,8 @@ pc x86_64-unknown-windows-msvc-coff=x86_64-pc-windows-msvc=X86_64 Pc Windows Msv
 unknown-linux x86_64-unknown-unknown-unknown-elf=x86_64-unknown-linux-unknown-elf=X86_64 Unknown Linux Unknown Elf
 none x86_64-unknown-linux-unknown-elf=x86_64-none-linux=Unrecognized environment: linux";
 
-/// Whether the triple of the string with this vendor prints this string, which parses as that; and it comes back exactly if
-/// its vendor is plain.
+/// Whether the triple of the string with this vendor prints this string, which parses as that, as a round trip does; and it
+/// comes back and is in no family exactly if its vendor is plain.
 fn is_built(alloc: Global, text: &str, vendor: &'static str, print: &str, expected: &str) -> bool {
     let Ok(parsed) = Triple::from_str(alloc, text) else {
         return false;
@@ -129,7 +160,9 @@ fn is_built(alloc: Global, text: &str, vendor: &'static str, print: &str, expect
     let is_back = matches!(&answer, Ok(back) if hash_alike(back, &triple));
     triple.comes_back() == is_back
         && triple.vendor.is_plain() == is_back
+        && matches!(triple.family(), Some(Family::VendorIsNotPlain)) != is_back
         && is_printed(alloc, &triple, print)
+        && is_answer(round(alloc, &triple), expected)
         && is_answer(answer, expected)
 }
 

@@ -3,7 +3,8 @@
 use crate::values::writes;
 use std::process::Abort;
 use target_lexicon::{
-    Architecture, CDataModel, CallingConvention, Endianness, PointerWidth, Triple,
+    Architecture, BinaryFormat, CDataModel, CallingConvention, Endianness, Environment,
+    PointerWidth, Size, Triple, Vendor,
 };
 
 /// A string, and after `=` the byte order, pointer width, calling convention and data model of its triple; `-` for no
@@ -116,6 +117,10 @@ fn architectures_answer(rt: HostRuntime) {
         let Ok(architecture) = Architecture::from_str(name) else {
             panic!(rt; "{row}");
         };
+        assert!(rt;
+            architecture.is_clever() == name.starts_with("clever"),
+            "{row}"
+        );
         let order = architecture.endianness().ok().map(Endianness::name);
         let width = architecture.pointer_width().ok().map(PointerWidth::name);
         let (is_thumb, own) = match architecture {
@@ -144,4 +149,52 @@ fn architectures_answer(rt: HostRuntime) {
     let unknown = Triple::unknown();
     assert!(rt; unknown.endianness().is_err() && unknown.pointer_width().is_err());
     assert!(rt; unknown.default_calling_convention().is_err() && unknown.data_model().is_err());
+}
+
+/// A data model, and the bits of its short, int, long, long long, pointer, float and double.
+const SIZES: [(CDataModel, &str); 5] = [
+    (CDataModel::LP32, "16 16 32 64 32 32 64"),
+    (CDataModel::ILP32, "16 32 32 64 32 32 64"),
+    (CDataModel::LLP64, "16 32 32 64 64 32 64"),
+    (CDataModel::LP64, "16 32 64 64 64 32 64"),
+    (CDataModel::ILP64, "16 64 64 64 64 32 64"),
+];
+
+#[test]
+fn data_models_have_their_sizes(rt: HostRuntime) {
+    for (model, bits) in SIZES {
+        let sizes = format_args!(
+            "{} {} {} {} {} {} {}",
+            model.short_size().bits(),
+            model.int_size().bits(),
+            model.long_size().bits(),
+            model.long_long_size().bits(),
+            model.pointer_width().bits(),
+            model.float_size().bits(),
+            model.double_size().bits()
+        );
+        assert!(rt; writes(&sizes, bits), "{bits}");
+    }
+    for (size, bytes) in [
+        (Size::U8, 1),
+        (Size::U16, 2),
+        (Size::U32, 4),
+        (Size::U64, 8),
+    ] {
+        assert!(rt; size.bytes() == bytes, "{bytes}");
+    }
+    for (width, bits, bytes) in [
+        (PointerWidth::U16, 16, 2),
+        (PointerWidth::U32, 32, 4),
+        (PointerWidth::U64, 64, 8),
+    ] {
+        assert!(rt; width.bits() == bits && width.bytes() == bytes, "{bits}");
+    }
+}
+
+#[test]
+fn fields_have_their_hosts(rt: HostRuntime) {
+    assert!(rt; Vendor::host() == Vendor::Unknown);
+    assert!(rt; Environment::host() == Environment::Gnu);
+    assert!(rt; BinaryFormat::host() == BinaryFormat::Elf);
 }

@@ -114,6 +114,7 @@ fn versions_are_read_and_named(rt: HostRuntime) {
         match OperatingSystem::from_str(text) {
             Ok(system) => {
                 assert!(rt; prints(&system, expected), "{row}");
+                assert!(rt; system.is_like_darwin() == (text != "none"), "{row}");
                 let name = system.into_str(rt.alloc());
                 assert!(rt;
                     matches!(&name, Ok(name) if name.as_str() == expected),

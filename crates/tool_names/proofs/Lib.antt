@@ -28,6 +28,7 @@ pub mod SpelledNames
 pub mod SpelledOnce
 pub mod SpelledReading
 pub mod StatedVersions
+pub mod SystemNames
 pub mod TableLemmas
 pub mod Tags
 pub mod Words

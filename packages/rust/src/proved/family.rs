@@ -4,7 +4,8 @@
 use crate::proved::triple::Triple;
 use crate::proved::triple_ref::TripleRef;
 use crate::proved::{
-    Architecture, BinaryFormat, Environment, OperatingSystem, Riscv32Architecture, VendorRef,
+    Architecture, ArmArchitecture, BinaryFormat, Environment, KnownVendor, OperatingSystem,
+    Riscv32Architecture, VendorRef,
 };
 
 /// A family of triples that don't come back: printed and parsed again, they are another triple or none.
@@ -78,25 +79,45 @@ impl TripleRef<'_> {
         }
     }
 
-    /// Whether the first three fields are those of a special string.
-    fn is_3ds_or_esp_idf(&self) -> bool {
+    /// Whether the first three fields are those of a special string, which is printed.
+    fn has_special_fields(&self) -> bool {
         self.special_text().is_some()
+    }
+
+    /// Whether environment and format are those of both special strings.
+    fn has_newlib_and_elf(&self) -> bool {
+        matches!(
+            (self.environment, self.binary_format),
+            (Environment::Newlib, BinaryFormat::Elf)
+        )
     }
 
     /// Whether a special string is printed, and environment and format aren't `Newlib` and `Elf`.
     fn prints_as_special(&self) -> bool {
-        self.is_3ds_or_esp_idf()
-            && !matches!(
-                (self.environment, self.binary_format),
-                (Environment::Newlib, BinaryFormat::Elf)
-            )
+        self.has_special_fields() && !self.has_newlib_and_elf()
     }
 
     /// Whether the environment is a `Newlib` that isn't shown, and the string isn't special.
     fn hides_newlib(&self) -> bool {
-        self.implies_newlib()
-            && matches!(self.environment, Environment::Newlib)
-            && !self.is_3ds_or_esp_idf()
+        match (self.vendor, self.operating_system, self.environment) {
+            (
+                VendorRef::Known(KnownVendor::Nintendo),
+                OperatingSystem::Horizon,
+                Environment::Newlib,
+            ) => !matches!(
+                self.architecture,
+                Architecture::Arm(ArmArchitecture::Armv6k)
+            ),
+            (
+                VendorRef::Known(KnownVendor::Espressif),
+                OperatingSystem::Espidf,
+                Environment::Newlib,
+            ) => !matches!(
+                self.architecture,
+                Architecture::Riscv32(Riscv32Architecture::Riscv32imc)
+            ),
+            _ => false,
+        }
     }
 
     /// Whether the vendor is the custom `esp`, and the string is the special one.

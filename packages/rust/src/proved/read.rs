@@ -19,8 +19,7 @@ pub fn first_part(text: &str) -> (&str, Option<&str>) {
 }
 
 /// The field that is expected after this one is filled, if any is left.
-#[must_use]
-pub fn expected_after(last: Field) -> Option<Field> {
+pub(crate) fn expected_after(last: Field) -> Option<Field> {
     match last {
         Field::Architecture => Some(Field::Vendor),
         Field::Vendor => Some(Field::OperatingSystem),

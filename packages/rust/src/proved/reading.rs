@@ -8,7 +8,7 @@ use crate::proved::triple_ref::TripleRef;
 use crate::proved::{fixed_row, Architecture, Field, OperatingSystem, VendorRef};
 
 /// The fields that the names so far fill, the others `Unknown`; and the first field that is still open.
-#[derive(Clone, Copy)]
+#[derive(Clone, Copy, Debug)]
 pub struct Reading<'a> {
     pub expected: Option<Field>,
     pub triple: TripleRef<'a>,

@@ -1,5 +1,5 @@
-use Rattle.target_lexicon.proofs.{SettleLemmas.settled_are_keys, TextRoundTrips.round}
+use Rattle.target_lexicon.proofs.SettleLemmas.{settled_are_keys}
 use Rattle.target_lexicon.proofs.laws.settled_texts_are_keys.Goals as goal
 
 pub returns : goal.returns
-returns c = settled_are_keys round
+returns c = settled_are_keys c.round_is_normal_step.ensures

@@ -1,23 +1,27 @@
 use Rattle.std.specs.Borrow.{Bor}
-use Rattle.std.proofs.Common.{arith, ◌≤◌, ◌+◌, ◌-◌, length, rules, refl, [], ◌∷◌, Option, ◌≡◌, ◌∙◌, ℕ, List, Ok, Err, Some, None, ap, sym, subst}
+use Rattle.std.proofs.Common.{arith, ◌≤◌, ◌+◌, ◌-◌, length, rules, refl, [], ◌∷◌, Option, ◌≡◌, ◌∙◌, ℕ, List, Result, Ok, Err, Some, None, ap, sym, subst}
 use Rattle.std.specs.Option.{option_map_or}
-use Rattle.std.specs.Prelude.{IfOk, IfErr, IfSome, option_map, slice_get}
-use Rattle.target_lexicon.specs.{declared.reading.Reading.Reading, declared.explanation.Sources.Sources, declared.explanation.Explanation.Explanation, declared.refusal.Refusal.Refusal as BorrowedRefusal, declared.triple_ref.TripleRef.TripleRef, GreedyReading.reading_of_parts, Placement.parts_after, Placement.parts_of, Reading.ReadsAs, Reading.IsRefusedAs, SpecialTexts.special_values, ValuesRef.values_of_ref, ValuesRef.refusal_value, Refusal.refusal_with}
+use Rattle.std.specs.Prelude.{IfOk, IfErr, IfSome, slice_get}
+use Rattle.target_lexicon.specs.{declared.reading.Reading.Reading, declared.explanation.Sources.Sources, declared.explanation.Explanation.Explanation, declared.refusal.Refusal.Refusal as BorrowedRefusal, declared.triple_ref.TripleRef.TripleRef, GreedyReading.reading_of_parts, Placement.parts_after, Placement.parts_of, Reading.ReadsAs, Reading.IsRefusedAs, SpecialTexts.special_values, ValuesRef.values_of_ref, ValuesRef.refusal_value, Refusal.Refusal, Refusal.refusal_with}
 use Rattle.target_lexicon.specs.Explanation.{SourceValue, SourceValues, AreInText, AreSourcesOf, IsInText, IsRefusedAfter, Implied, NotGiven, PlacedPart, part_from, part_value, placed_from, sources_of}
-use Rattle.target_lexicon.specs.RemainingParts.{left_by_fields, outcome_of, taken_sources, texts_of}
 use Rattle.target_lexicon.proofs.{ComputedReading.Holds, ComputedReading.ordinary-holds}
-use Rattle.target_lexicon.proofs.SourceLemmas.{sources-in, refused-in, sources-explained, refused-explained, texts-placed}
-use Rattle.target_lexicon.proofs.{PartLemmas.parts_of-some, ResumedLemmas.GoesOn, ResumedLemmas.goes_on-first, ResumedLemmas.placed-some}
+use Rattle.target_lexicon.proofs.SourceLemmas.{sources-in, refused-in, sources-explained, refused-explained, names-placed}
+use Rattle.target_lexicon.proofs.{PartLemmas.parts_of-some, ResumedLemmas.GoesOn, ResumedLemmas.given_sources, ResumedLemmas.goes_on-first, ResumedLemmas.left_by_fields, ResumedLemmas.placed-some, ResumedLemmas.plain}
 use Rattle.target_lexicon.specs.Resumed.{NamedPart, plain_parts, resumed, resumed_left, resumed_sources, names_of}
 use Rattle.target_lexicon.specs.{Field.Field, Private.rest_parts, Values.Values}
 use Rattle.target_lexicon.proofs.read.explain.Goals as goal
 
+-- the values or the refusal of a result
+abbrev outcome_of : Result TripleRef BorrowedRefusal → Result Values Refusal
+outcome_of (Ok triple) = Ok (values_of_ref triple)
+outcome_of (Err refusal) = Err (refusal_value refusal)
+
 -- what the parts of a string that isn't special give
 record IsGivenBy (parts : List PlacedPart) (it : Explanation) : Type 0 where
-  outcome : outcome_of it.triple ≡ reading_of_parts (texts_of parts)
-  sources : IfOk it.triple (λ _. sources_of it.sources ≡ taken_sources Implied parts)
-  refused_sources : IfErr it.triple (λ _. sources_of it.sources ≡ taken_sources NotGiven parts)
-  part : IfErr it.triple (λ refusal. slice_get (left_by_fields parts) 0 ≡ Some (part_value refusal.part))
+  outcome : outcome_of it.triple ≡ reading_of_parts (names_of (plain_parts parts))
+  sources : IfOk it.triple (λ _. sources_of it.sources ≡ given_sources Implied parts)
+  refused_sources : IfErr it.triple (λ _. sources_of it.sources ≡ given_sources NotGiven parts)
+  part : IfErr it.triple (λ refusal. slice_get (left_by_fields parts) 0 ≡ Some (plain (part_value refusal.part)))
 
 record IsExplained (text : List ℕ) (it : Explanation) : Type 0 where
   triple : IfOk it.triple (λ triple. ReadsAs text (values_of_ref triple))
@@ -32,7 +36,7 @@ module _ (text : List ℕ) (s : Sources) (ordinary : special_values text ≡ Non
       → IsExplained text (record { triple = Ok triple; sources = s })
   triple-explained triple given =
       let reads : ReadsAs text (values_of_ref triple) =
-      subst (Holds text) (ap reading_of_parts (sym (texts-placed 0 (parts_of text))) ∙ sym given.outcome) (ordinary-holds text ordinary) in
+      subst (Holds text) (ap reading_of_parts (sym (names-placed 0 (parts_of text))) ∙ sym given.outcome) (ordinary-holds text ordinary) in
       let sources = subst (AreSourcesOf text) (sym given.sources) (sources-explained text ordinary _ reads) in
       record { triple = reads; sources = sources; ranges = sources-in text _ sources; error = tt; refused = tt; range = tt }
 
@@ -40,26 +44,21 @@ module _ (text : List ℕ) (s : Sources) (ordinary : special_values text ≡ Non
       → IsExplained text (record { triple = Err refusal; sources = s })
   refusal-explained refusal given =
       let error : IsRefusedAs text (refusal_value refusal) =
-      subst (Holds text) (ap reading_of_parts (sym (texts-placed 0 (parts_of text))) ∙ sym given.outcome) (ordinary-holds text ordinary) in
+      subst (Holds text) (ap reading_of_parts (sym (names-placed 0 (parts_of text))) ∙ sym given.outcome) (ordinary-holds text ordinary) in
       let refused : IsRefusedAfter text (refusal_value refusal) (sources_of s) (part_value refusal.part) =
       subst (λ s. IsRefusedAfter text (refusal_value refusal) s (part_value refusal.part)) (sym given.refused_sources)
       (refused-explained text ordinary _ _ error given.part) in
       let within = refused-in text _ _ _ refused in
       record { triple = tt; sources = tt; ranges = within.0; error = error; refused = refused; range = within.1 }
 
--- the first of what is left is the first of the parts that no field takes
-first-left : (p : PlacedPart) (ns : List NamedPart) (ps : List PlacedPart) → record { name = p.text; part = p } ∷ ns ≡ plain_parts ps → slice_get ps 0 ≡ Some p
-first-left p ns [] e = absurd cc
-first-left p ns (q ∷ qs) e = ap (λ (part : Option NamedPart). option_map (λ (it : NamedPart). it.part) part) (ap (λ (k : List NamedPart). slice_get k 0) (sym e))
-
 if_some : {A P : Type 0} (o : Option A) → P → IfSome o (λ _. P)
 if_some (Some x) p = p
 if_some None p = tt
 
 module _ (p : PlacedPart) (ns : List NamedPart) (rest : List NamedPart) (expected : Option Field) (t : Values) (s : SourceValues) (parts : List PlacedPart)
-    (is : rest ≡ record { name = p.text; part = p } ∷ ns) (before : GoesOn expected t s rest parts) where
+    (is : rest ≡ plain p ∷ ns) (before : GoesOn expected t s rest parts) where
   abbrev first : NamedPart
-  first = record { name = p.text; part = p }
+  first = plain p
 
   step : (next : Option Field) (u : Values) (v : SourceValues)
       → ((names : List (List ℕ)) → resumed expected t (p.text ∷ names) ≡ resumed next u names)
@@ -126,9 +125,9 @@ loop-rest-preserved c =
 
 -- what is refused after the parts before
 module _ (text : List ℕ) (refusal : BorrowedRefusal) (sources : Sources) (ordinary : special_values text ≡ None) (ns rest : List NamedPart) (expected : Option Field) (t : Values) (s : SourceValues)
-    (p : PlacedPart) (same : part_value refusal.part ≡ p) (is : rest ≡ record { name = p.text; part = p } ∷ ns) (before : GoesOn expected t s rest (placed_from 0 (parts_of text))) where
+    (p : PlacedPart) (same : part_value refusal.part ≡ p) (is : rest ≡ plain p ∷ ns) (before : GoesOn expected t s rest (placed_from 0 (parts_of text))) where
   abbrev refused : NamedPart
-  refused = record { name = p.text; part = p }
+  refused = plain p
 
   refused-explained-by : resumed expected t (p.text ∷ names_of ns) ≡ Err (refusal_with refusal.expected p.text)
       → resumed_left expected (refused ∷ ns) ≡ refused ∷ ns
@@ -138,7 +137,7 @@ module _ (text : List ℕ) (refusal : BorrowedRefusal) (sources : Sources) (ordi
     outcome = ap (λ (q : PlacedPart). Err (refusal_with refusal.expected q.text)) same ∙ sym outcome ∙ ap (λ k. resumed expected t (names_of k)) (sym is) ∙ before.outcome;
     sources = tt;
     refused_sources = sym from ∙ ap (resumed_sources NotGiven expected s) (sym is) ∙ before.sources NotGiven;
-    part = first-left p ns _ (sym unread ∙ ap (resumed_left expected) (sym is) ∙ before.unread) ∙ ap Some (sym same);
+    part = ap (λ (left : List NamedPart). slice_get left 0) (sym (sym unread ∙ ap (resumed_left expected) (sym is) ∙ before.unread)) ∙ ap (λ (q : PlacedPart). Some (plain q)) (sym same);
   })
 
 -- what is read when no part is left

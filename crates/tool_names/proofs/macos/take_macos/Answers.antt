@@ -1,5 +1,5 @@
 use Rattle.std.proofs.Common.{arith}
-use Rattle.target_lexicon.proofs.SystemNames.{system_no_vendor}
+use Rattle.tool_names.proofs.SystemNames.{system_no_vendor}
 use Rattle.tool_names.proofs.MacosNames.{is_macosx, no_row}
 use Rattle.tool_names.proofs.macos.take_macos.Goals as goal
 

@@ -1,27 +1,30 @@
 use Rattle.std.proofs.Common.{◌∙◌, sym}
-use Rattle.target_lexicon.proofs.FamilyTests.{special-by_test, newlib-by_test, esp-by_test, only_none-by_test, none-by_tests, vendor-by_tests}
+use Rattle.std.proofs.lemmas.Bool.{false≢true}
+use Rattle.target_lexicon.proofs.StepCases.{special-family, newlib-family, esp-family, only_none-family, plain-family, vendor-family}
 use Rattle.target_lexicon.proofs.triple_ref.TripleRef.family.Goals as goal
 
 pub returns-then-prints_as_special : goal.returns-then-prints_as_special
-returns-then-prints_as_special c = sym (special-by_test _ (sym c.prints_as_special.ensures ∙ c.if-prints_as_special.true))
+returns-then-prints_as_special c = sym (special-family _ (c.prints_as_special.ensures.0 c.if-prints_as_special.true))
 
 pub returns-then-hides_newlib : goal.returns-then-hides_newlib
-returns-then-hides_newlib c = sym (newlib-by_test _ (sym c.hides_newlib.ensures ∙ c.if-hides_newlib.true))
+returns-then-hides_newlib c = sym (newlib-family _ (c.hides_newlib.ensures.0 c.if-hides_newlib.true))
 
 pub returns-then-prints_the_esp_idf_text : goal.returns-then-prints_the_esp_idf_text
-returns-then-prints_the_esp_idf_text c = sym (esp-by_test _ (sym c.prints_the_esp_idf_text.ensures ∙ c.if-prints_the_esp_idf_text.true))
+returns-then-prints_the_esp_idf_text c = sym (esp-family _ (c.prints_the_esp_idf_text.ensures.0 c.if-prints_the_esp_idf_text.true))
 
 pub returns-then-shows_only_none : goal.returns-then-shows_only_none
-returns-then-shows_only_none c = sym (only_none-by_test _ (sym c.shows_only_none.ensures ∙ c.if-shows_only_none.true))
+returns-then-shows_only_none c = sym (only_none-family _ (c.shows_only_none.ensures.0 c.if-shows_only_none.true))
 
 pub returns-then-is_plain : goal.returns-then-is_plain
-returns-then-is_plain c = sym (none-by_tests _
-    (sym c.prints_as_special.ensures ∙ c.if-prints_as_special.false) (sym c.hides_newlib.ensures ∙ c.if-hides_newlib.false)
-    (sym c.prints_the_esp_idf_text.ensures ∙ c.if-prints_the_esp_idf_text.false) (sym c.shows_only_none.ensures ∙ c.if-shows_only_none.false)
-    (sym c.is_plain.ensures ∙ c.if-is_plain.true))
+returns-then-is_plain c = sym (plain-family _ (sym c.is_plain.ensures ∙ c.if-is_plain.true) (record {
+  special = λ is. false≢true (sym c.if-prints_as_special.false ∙ c.prints_as_special.ensures.1 is);
+  newlib = λ is. false≢true (sym c.if-hides_newlib.false ∙ c.hides_newlib.ensures.1 is);
+  esp = λ is. false≢true (sym c.if-prints_the_esp_idf_text.false ∙ c.prints_the_esp_idf_text.ensures.1 is);
+  none = λ is. false≢true (sym c.if-shows_only_none.false ∙ c.shows_only_none.ensures.1 is);
+}))
 
 pub returns-else-is_plain : goal.returns-else-is_plain
-returns-else-is_plain c = sym (vendor-by_tests _
-    (sym c.prints_as_special.ensures ∙ c.if-prints_as_special.false) (sym c.hides_newlib.ensures ∙ c.if-hides_newlib.false)
-    (sym c.prints_the_esp_idf_text.ensures ∙ c.if-prints_the_esp_idf_text.false) (sym c.shows_only_none.ensures ∙ c.if-shows_only_none.false)
-    (sym c.is_plain.ensures ∙ c.if-is_plain.false))
+returns-else-is_plain c = sym (vendor-family _ (record {
+  vendor = sym c.is_plain.ensures ∙ c.if-is_plain.false;
+  others = λ is. false≢true (sym c.if-shows_only_none.false ∙ c.shows_only_none.ensures.1 is);
+}))
