@@ -30,12 +30,14 @@ ITEMS = {
     "FromStr for Dialect", "FromStr for LinuxLibc",
 }
 
-# The enums to which upstream, or a later version, may add variants. The packages of the same repository match on each.
+# The types to which upstream, or a later version, may add variants or fields. The packages of the same repository match on each.
 GROWS = 'cfg_attr(not(lexicon_internal), non_exhaustive)'
 NON_EXHAUSTIVE = set(
     """Architecture ArmArchitecture Aarch64Architecture CleverArchitecture Riscv32Architecture Riscv64Architecture
     X86_32Architecture Mips32Architecture Mips64Architecture Z80Architecture Vendor KnownVendor OperatingSystem Environment BinaryFormat
-    CallingConvention CDataModel Dialect""".split())
+    CallingConvention CDataModel Dialect Explanation Refusal Sources WriteError""".split())
+# The public types that get the derive `Hash` too.
+HASHED = set("Explanation Family Field Name NameError Refusal Source Sources TextPart TranslateError WriteError".split())
 
 # Methods that only the crates above need, of which documentation doesn't speak.
 HIDDEN = {"DeploymentTarget::from_text", "Refusal::write_to", "TripleRef::step", "TripleRef::write_upstream_to"}
@@ -45,7 +47,7 @@ HIDDEN = {"DeploymentTarget::from_text", "Refusal::write_to", "TripleRef::step",
 INLINE = {
     "TripleRef::from_str", "Triple::write_to", "TripleRef::write_to", "TripleRef::write_upstream_to", "Pieces::write_to",
     "Pieces::text_length", "Pieces::version_length", "Pieces::put_version", "Pieces::put", "Piece::text_length", "Piece::put",
-    "put", "Refusal::write_to",
+    "put", "Refusal::write_to", "Triple::as_triple_ref", "Vendor::as_vendor_ref",
 }
 INLINE_MODULES = {
     "aarch64", "arm", "clever", "macos", "mips", "queries", "riscv", "rules", "settle", "settles_as", "spelled", "spelling", "x86_32", "z80",
@@ -62,7 +64,8 @@ CONST = set(
     CDataModel::name CDataModel::pointer_width CDataModel::short_size Dialect::name Endianness::name
     Environment::name KnownVendor::name KnownVendor::to_vendor OperatingSystem::is_like_darwin OperatingSystem::prefix
     OperatingSystem::version PointerWidth::bits PointerWidth::bytes PointerWidth::name Refusal::range Size::bits Size::bytes
-    TextPart::range Triple::unknown TripleRef::default_binary_format TripleRef::default_calling_convention
+    TextPart::range Triple::default_calling_convention Triple::endianness Triple::pointer_width Triple::unknown
+    Triple::without_vendor TripleRef::default_binary_format TripleRef::default_calling_convention
     TripleRef::endianness TripleRef::pointer_width TripleRef::unknown VendorRef::as_str VendorRef::is_custom""".split())
 
 # The start of the names of files, what is there, and what it becomes.

@@ -20,7 +20,7 @@ use lexicon_fields::{
 /// use target_lexicon::{Family, triple};
 ///
 /// let triple = triple!("riscv32imc-esp-espidf-elf");
-/// assert_eq!((triple.comes_back(), triple.family()), (false, Some(Family::PrintsAsSpecial)));
+/// assert_eq!((triple.comes_back(), triple.family()), (false, Some(Family::PrintsTheEspIdfText)));
 /// ```
 #[derive(Clone, Copy, Debug, PartialEq, Eq)]
 pub enum Family {

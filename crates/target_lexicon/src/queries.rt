@@ -2,14 +2,17 @@
 ghost use Rattle.std.specs.Prelude.{◌≡◌, ◌↔◌, IsErr, false};
 ghost use Rattle.lexicon_fields.specs.Names.{MatchesLookup};
 ghost use Rattle.target_lexicon.specs.Queries as spec;
-ghost use Rattle.target_lexicon.specs.Values.{values_of};
+ghost use Rattle.lexicon_fields.specs.declared.known_vendor.KnownVendor.TheVariants.{Unknown};
+ghost use Rattle.target_lexicon.specs.Values.{Known, values, values_of};
 ghost use Rattle.target_lexicon.specs.ValuesRef.{values_of_ref};
 
 use crate::calling_convention::CallingConvention;
 use crate::data_model::CDataModel;
 use crate::triple::Triple;
 use crate::triple_ref::TripleRef;
-use lexicon_fields::{Architecture, Endianness, Environment, OperatingSystem, PointerWidth};
+use lexicon_fields::{
+    Architecture, Endianness, Environment, KnownVendor, OperatingSystem, PointerWidth, VendorRef,
+};
 
 impl TripleRef<'_> {
     /// The byte order, as [`Triple::endianness`] says.
@@ -188,6 +191,20 @@ impl TripleRef<'_> {
 }
 
 impl Triple {
+    /// The same triple with an unknown vendor, at which no query looks.
+    fn without_vendor(&self) -> TripleRef<'static>
+        ensures { values_of_ref result ≡ values self.now.architecture (Known Unknown)
+            self.now.operating_system self.now.environment self.now.binary_format }
+    {
+        TripleRef {
+            architecture: self.architecture,
+            vendor: VendorRef::Known(KnownVendor::Unknown),
+            operating_system: self.operating_system,
+            environment: self.environment,
+            binary_format: self.binary_format,
+        }
+    }
+
     /// The byte order of the architecture.
     ///
     /// # Errors
@@ -205,7 +222,7 @@ impl Triple {
         ensures answer { MatchesLookup (spec.endianness (values_of self.now)) result }
         ensures refusal { IsErr result ↔ (self.now.architecture ≡ Architecture.Unknown) }
     {
-        self.as_triple_ref().endianness()
+        self.without_vendor().endianness()
     }
 
     /// The width of a pointer: 32 bits in the environments `Gnux32` and `GnuIlp32`, in every other environment the
@@ -229,7 +246,7 @@ impl Triple {
             ↔ ((self.now.architecture ≡ Architecture.Unknown)
             × (spec.is_ilp32 self.now.environment ≡ false)) }
     {
-        self.as_triple_ref().pointer_width()
+        self.without_vendor().pointer_width()
     }
 
     /// The calling convention. It depends on the operating system, and on systems like Darwin and those that run
@@ -251,7 +268,7 @@ impl Triple {
     pub fn default_calling_convention(&self) -> Result<CallingConvention, ()>
         ensures { MatchesLookup (spec.calling_convention (values_of self.now)) result }
     {
-        self.as_triple_ref().default_calling_convention()
+        self.without_vendor().default_calling_convention()
     }
 
     /// The data model of C. It depends on the pointer width, the operating system, the calling convention and the
@@ -272,6 +289,6 @@ impl Triple {
     pub fn data_model(&self) -> Result<CDataModel, ()>
         ensures { MatchesLookup (spec.data_model (values_of self.now)) result }
     {
-        self.as_triple_ref().data_model()
+        self.without_vendor().data_model()
     }
 }

@@ -1,5 +1,7 @@
 //! Conversions. Those into a [`Triple`] or a [`Vendor`] copy the string of a custom vendor, and so allocate. No other one does.
-use crate::{KnownVendor, ParseTripleError, Triple, TripleRef, Vendor, VendorRef};
+use core::str::FromStr;
+
+use crate::{DeploymentTarget, KnownVendor, ParseTripleError, Triple, TripleRef, Vendor, VendorRef};
 
 impl<'a> From<&'a Triple> for TripleRef<'a> {
     /// The same as [`Triple::as_triple_ref`], which allocates nothing.
@@ -65,5 +67,23 @@ impl<'a> TryFrom<&'a str> for TripleRef<'a> {
     #[inline]
     fn try_from(text: &'a str) -> Result<Self, ParseTripleError> {
         TripleRef::parse(text)
+    }
+}
+
+impl FromStr for DeploymentTarget {
+    type Err = ();
+
+    /// The version that a string such as `10.15.7` or `14` parses as, as after the name of a system. `Err` for every other one.
+    ///
+    /// # Examples
+    ///
+    /// ```
+    /// use target_lexicon::DeploymentTarget;
+    ///
+    /// assert_eq!("14.1".parse(), Ok(DeploymentTarget { major: 14, minor: 1, patch: 0 }));
+    /// assert_eq!("14.256".parse::<DeploymentTarget>(), Err(()));
+    /// ```
+    fn from_str(text: &str) -> Result<Self, ()> {
+        DeploymentTarget::from_text(text).ok_or(())
     }
 }

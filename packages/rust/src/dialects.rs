@@ -1,5 +1,6 @@
-//! The dialects as a list, and by the words that people write.
-use crate::tool_names::{Dialect, LinuxLibc};
+//! The dialects as a list and by the words that people write, and names with what Rust expects of a string.
+use crate::tool_names::{Dialect, LinuxLibc, Name, NameError};
+use crate::TripleRef;
 use alloc::boxed::Box;
 use core::fmt;
 use core::str::FromStr;
@@ -147,5 +148,151 @@ impl FromStr for LinuxLibc {
     /// The C library of a name: `glibc` or `musl`.
     fn from_str(word: &str) -> Result<Self, UnknownWord> {
         LinuxLibc::from_str(word).map_err(|()| UnknownWord::new(word, Words::LinuxLibcs))
+    }
+}
+
+/// Why a name isn't read, with the name and its dialect. It owns what it needs, so that `?` takes it out of a function.
+///
+/// # Examples
+///
+/// ```
+/// use target_lexicon::tool_names::Dialect;
+///
+/// let error = Dialect::Go.parse("linux/amd46").unwrap_err();
+/// assert_eq!((error.dialect(), error.name(), error.suggestion()), (Dialect::Go, "linux/amd46", Some("linux/amd64")));
+/// assert_eq!(error.to_string(), "Unknown name of go: linux/amd46; did you mean `linux/amd64`?");
+/// let error = Dialect::Node.parse("sunos-x64").unwrap_err();
+/// assert_eq!(error.to_string(), "No triple means the name of node sunos-x64: two systems: Solaris and illumos");
+/// ```
+#[derive(Clone, Debug, PartialEq, Eq, Hash)]
+pub struct ParseNameError {
+    dialect: Dialect,
+    name: Box<str>,
+    why: NameError,
+}
+
+impl Dialect {
+    /// The triple that a name of this dialect means. It is that of [`read`](Dialect::read), with an error that says the name.
+    ///
+    /// # Errors
+    ///
+    /// [`ParseNameError`] if the name isn't read.
+    ///
+    /// # Examples
+    ///
+    /// ```
+    /// use target_lexicon::tool_names::{Dialect, ParseNameError};
+    ///
+    /// fn system(platform: String) -> Result<String, ParseNameError> {
+    ///     Ok(Dialect::Oci.parse(&platform)?.operating_system.to_string())
+    /// }
+    ///
+    /// assert_eq!(system("linux/arm64".into()).unwrap(), "linux");
+    /// assert_eq!(system("linus/arm64".into()).unwrap_err().suggestion(), Some("linux/arm64"));
+    /// ```
+    pub fn parse(self, name: &str) -> Result<TripleRef<'static>, ParseNameError> {
+        self.read(name).map_err(|why| ParseNameError {
+            dialect: self,
+            name: name.into(),
+            why,
+        })
+    }
+}
+
+impl ParseNameError {
+    /// The dialect in which the name was read.
+    ///
+    /// # Examples
+    ///
+    /// ```
+    /// use target_lexicon::tool_names::Dialect;
+    ///
+    /// assert_eq!(Dialect::Go.parse("foo").unwrap_err().dialect(), Dialect::Go);
+    /// ```
+    #[must_use]
+    pub fn dialect(&self) -> Dialect {
+        self.dialect
+    }
+
+    /// The name.
+    ///
+    /// # Examples
+    ///
+    /// ```
+    /// use target_lexicon::tool_names::Dialect;
+    ///
+    /// assert_eq!(Dialect::Go.parse("foo").unwrap_err().name(), "foo");
+    /// ```
+    #[must_use]
+    pub fn name(&self) -> &str {
+        &self.name
+    }
+
+    /// What [`read`](Dialect::read) says.
+    ///
+    /// # Examples
+    ///
+    /// ```
+    /// use target_lexicon::tool_names::{Dialect, NameError};
+    ///
+    /// assert_eq!(Dialect::Go.parse("foo").unwrap_err().why(), NameError::Unknown);
+    /// ```
+    #[must_use]
+    pub fn why(&self) -> NameError {
+        self.why
+    }
+
+    /// The name that was perhaps meant by one that is unknown.
+    ///
+    /// # Examples
+    ///
+    /// ```
+    /// use target_lexicon::tool_names::Dialect;
+    ///
+    /// assert_eq!(Dialect::Debian.parse("amd46").unwrap_err().suggestion(), Some("amd64"));
+    /// ```
+    #[must_use]
+    pub fn suggestion(&self) -> Option<&'static str> {
+        match self.why {
+            NameError::Unknown => self.dialect.suggestion(&self.name),
+            _ => None,
+        }
+    }
+}
+
+impl fmt::Display for ParseNameError {
+    fn fmt(&self, f: &mut fmt::Formatter<'_>) -> fmt::Result {
+        let (dialect, name) = (self.dialect, self.name.escape_debug());
+        match self.why {
+            NameError::Unknown => write!(f, "Unknown name of {dialect}: {name}")?,
+            NameError::WithoutTriple(why) => {
+                write!(f, "No triple means the name of {dialect} {name}: {why}")?;
+            }
+        }
+        match self.suggestion() {
+            Some(meant) => write!(f, "; did you mean `{meant}`?"),
+            None => Ok(()),
+        }
+    }
+}
+
+impl AsRef<str> for Name {
+    #[inline]
+    fn as_ref(&self) -> &str {
+        self.as_str()
+    }
+}
+
+impl PartialEq<str> for Name {
+    #[inline]
+    fn eq(&self, text: &str) -> bool {
+        self.as_str() == text
+    }
+}
+
+impl PartialEq<&str> for Name {
+    #[inline]
+    fn eq(&self, text: &&str) -> bool {
+        self.as_str() == *text
     }
 }

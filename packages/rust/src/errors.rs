@@ -54,5 +54,7 @@ mod impls {
     #[cfg(feature = "tool_names")]
     impl Error for crate::tool_names::TranslateError {}
     #[cfg(feature = "tool_names")]
+    impl Error for crate::tool_names::ParseNameError {}
+    #[cfg(feature = "tool_names")]
     impl Error for crate::tool_names::UnknownWord {}
 }

@@ -1,12 +1,16 @@
 //! Orders. Fields are in the order of their names, and triples in that of their fields, the first one first. So a list of
 //! triples is in the order of what a reader sees, except that a version is a number: `ios9` comes before `ios17`. Only
 //! equal values have the same place: a custom vendor comes after the known one of its name.
+#[cfg(feature = "tool_names")]
+use crate::tool_names::{CLibrary, Dialect, FloatAbi, LinuxLibc, Name};
 use crate::{
-    Architecture, BinaryFormat, CustomVendor, Environment, Field, KnownVendor, OperatingSystem,
-    PointerWidth, Triple, TripleRef, Vendor, VendorRef,
+    Aarch64Architecture, Architecture, ArmArchitecture, BinaryFormat, CDataModel,
+    CallingConvention, CleverArchitecture, CustomVendor, Endianness, Environment, Field,
+    KnownVendor, Mips32Architecture, Mips64Architecture, OperatingSystem, PointerWidth,
+    Riscv32Architecture, Riscv64Architecture, Size, Triple, TripleRef, Vendor, VendorRef,
+    X86_32Architecture, Z80Architecture,
 };
 use core::cmp::Ordering;
-use core::hash::{Hash, Hasher};
 
 /// `Ord` as that of a key.
 macro_rules! order {
@@ -40,12 +44,27 @@ order! {
     TripleRef<'_>, it => (it.architecture, it.vendor, it.operating_system, it.environment, it.binary_format);
     Triple, it => it.as_triple_ref();
     PointerWidth, it => it.bits();
+    Size, it => it.bits();
     Field, it => *it as u8;
+    Aarch64Architecture, it => it.name();
+    ArmArchitecture, it => it.name();
+    CleverArchitecture, it => it.name();
+    Mips32Architecture, it => it.name();
+    Mips64Architecture, it => it.name();
+    Riscv32Architecture, it => it.name();
+    Riscv64Architecture, it => it.name();
+    X86_32Architecture, it => it.name();
+    Z80Architecture, it => it.name();
+    Endianness, it => it.name();
+    CallingConvention, it => it.name();
+    CDataModel, it => it.name();
 }
 
-impl Hash for Field {
-    #[inline]
-    fn hash<H: Hasher>(&self, state: &mut H) {
-        (*self as u8).hash(state);
-    }
+#[cfg(feature = "tool_names")]
+order! {
+    CLibrary, it => it.name();
+    Dialect, it => it.name();
+    FloatAbi, it => it.name();
+    LinuxLibc, it => it.name();
+    Name, it => it.as_str();
 }

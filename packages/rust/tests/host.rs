@@ -31,14 +31,24 @@ fn the_host_is_what_rustc_says() {
 }
 
 /// Names and queries are constants too.
-const WIDTH: usize = match HOST.architecture.pointer_width() {
+const WIDTH: usize = match HOST.pointer_width() {
     Ok(width) => width.bytes() as usize,
     Err(()) => 0,
 };
+const IS_LITTLE: bool = matches!(HOST.endianness(), Ok(target_lexicon::Endianness::Little));
+const HAS_SYSTEM_V: bool = matches!(
+    HOST.default_calling_convention(),
+    Ok(target_lexicon::CallingConvention::SystemV)
+);
 const SYSTEM: &str = HOST.operating_system.prefix();
 
 #[test]
 fn queries_are_constants() {
     assert_eq!([0; WIDTH].len(), std::mem::size_of::<usize>());
+    assert_eq!(IS_LITTLE, cfg!(target_endian = "little"));
+    assert_eq!(
+        HAS_SYSTEM_V,
+        HOST.default_calling_convention() == Ok(target_lexicon::CallingConvention::SystemV)
+    );
     assert!(HOST.operating_system.to_string().starts_with(SYSTEM));
 }

@@ -92,6 +92,46 @@ fn fields_have_the_order_of_a_triple_and_the_words_of_errors() {
 }
 
 #[test]
+fn a_suggestion_has_the_width_that_is_asked_for() {
+    let suggestion = |text| TripleRef::from_str(text).unwrap_err().suggestion().unwrap();
+    let (one, versioned) = (
+        suggestion("x86_64-pc-linxu"),
+        suggestion("arm64-apple-iso17"),
+    );
+    assert_eq!(
+        format!("{one:>7}|{versioned:<7}|{versioned:.3}"),
+        "  linux|ios17  |ios"
+    );
+}
+
+#[test]
+fn small_values_have_an_order_and_a_hash() {
+    assert!(ArmArchitecture::Armv6 < ArmArchitecture::Armv7);
+    assert!(Riscv64Architecture::Riscv64 < Riscv64Architecture::Riscv64gc);
+    assert!(Endianness::Big < Endianness::Little && Size::U8 < Size::U16);
+    assert!(CDataModel::ILP32 < CDataModel::LP64);
+    let explained = ["x86_64-linux", "x86_64-foo-bar", "x86_64-linux"].map(TripleRef::explain);
+    assert_eq!(HashSet::from(explained).len(), 2);
+}
+
+#[test]
+fn versions_are_parsed() {
+    for (text, version) in [
+        ("17", "17.0.0"),
+        ("10.15.7", "10.15.7"),
+        ("65535.255.255", "65535.255.255"),
+    ] {
+        assert_eq!(
+            text.parse::<DeploymentTarget>().unwrap().to_string(),
+            version
+        );
+    }
+    for text in ["", "x", "1.", "1.2.3.4", "65536", "1.256", "-1"] {
+        assert_eq!(text.parse::<DeploymentTarget>(), Err(()), "{text}");
+    }
+}
+
+#[test]
 fn what_has_a_name_is_shown_as_it() {
     assert_eq!(
         format!("{:>6}|{:<4}|", KnownVendor::Apple, PointerWidth::U64),
@@ -186,7 +226,10 @@ fn a_refusal_of_another_string_is_about_its_part() {
 
 #[cfg(feature = "tool_names")]
 mod of_tool_names {
-    use target_lexicon::tool_names::{CLibrary, Dialect, FloatAbi, LinuxLibc, UnknownWord};
+    use std::collections::{BTreeSet, HashSet};
+    use target_lexicon::tool_names::{
+        CLibrary, Dialect, FloatAbi, LinuxLibc, Name, ParseNameError, UnknownWord,
+    };
     use target_lexicon::TripleRef;
 
     #[test]
@@ -202,6 +245,53 @@ mod of_tool_names {
                 FloatAbi::Hard
             ),
             "    go|musl  | glibc |  amd64|hard  |"
+        );
+    }
+
+    #[test]
+    fn a_name_is_compared_like_a_string() {
+        let triple = TripleRef::from_str("x86_64-unknown-linux-gnu").unwrap();
+        let names: Vec<Name> = Dialect::ALL
+            .iter()
+            .filter_map(|it| it.write(&triple))
+            .collect();
+        assert!(names
+            .iter()
+            .any(|it| *it == "linux/amd64" && *it == *"linux/amd64"));
+        let texts = names.iter().map(|it| it.as_ref().to_string());
+        assert_eq!(
+            texts.collect::<HashSet<String>>().len(),
+            names.iter().collect::<HashSet<_>>().len()
+        );
+        let sorted: Vec<&str> = names
+            .iter()
+            .map(Name::as_str)
+            .collect::<BTreeSet<_>>()
+            .into_iter()
+            .collect();
+        assert_eq!(
+            names
+                .iter()
+                .collect::<BTreeSet<_>>()
+                .into_iter()
+                .map(Name::as_str)
+                .collect::<Vec<_>>(),
+            sorted
+        );
+    }
+
+    #[test]
+    fn an_error_of_a_name_leaves_the_function_that_owns_it() {
+        fn read(name: String) -> Result<String, Box<dyn std::error::Error + Send + Sync>> {
+            Ok(Dialect::Oci.parse(&name)?.to_string())
+        }
+        assert_eq!(read("linux/arm64".into()).unwrap(), "aarch64-unknown-linux");
+        let error = read("linux/\u{202e}".into()).unwrap_err();
+        assert_eq!(error.to_string(), "Unknown name of oci: linux/\\u{202e}");
+        let error = error.downcast::<ParseNameError>().unwrap();
+        assert_eq!(
+            (error.dialect(), error.name(), error.suggestion()),
+            (Dialect::Oci, "linux/\u{202e}", None)
         );
     }
 

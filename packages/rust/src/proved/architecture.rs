@@ -1,4 +1,4 @@
-// Erased from crates/lexicon_fields/src/architecture.rt by tools/erase. Don't edit it here.
+// @generated: erased from crates/lexicon_fields/src/architecture.rt by tools/erase. Don't edit it here.
 //! The architectures.
 // Hint of inlining: that of `name` saves 1 % of mode `print`'s instructions.
 

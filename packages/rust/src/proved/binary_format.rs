@@ -1,4 +1,4 @@
-// Erased from crates/lexicon_fields/src/binary_format.rt by tools/erase. Don't edit it here.
+// @generated: erased from crates/lexicon_fields/src/binary_format.rt by tools/erase. Don't edit it here.
 //! The binary formats.
 
 use crate::proved::table::fixed_row;

@@ -1,4 +1,4 @@
-// Erased from crates/target_lexicon/src/calling_convention.rt by tools/erase. Don't edit it here.
+// @generated: erased from crates/target_lexicon/src/calling_convention.rt by tools/erase. Don't edit it here.
 //! Calling conventions.
 
 /// A calling convention: which registers have the arguments of a call, which ones a call preserves, and so on.

@@ -1,4 +1,4 @@
-// Erased from crates/target_lexicon/src/data_model.rt by tools/erase. Don't edit it here.
+// @generated: erased from crates/target_lexicon/src/data_model.rt by tools/erase. Don't edit it here.
 //! The data models of C, and the sizes of its types.
 
 /// The size of a type.

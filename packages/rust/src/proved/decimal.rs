@@ -1,4 +1,4 @@
-// Erased from crates/lexicon_fields/src/decimal.rt by tools/erase. Don't edit it here.
+// @generated: erased from crates/lexicon_fields/src/decimal.rt by tools/erase. Don't edit it here.
 //! Numbers in decimal.
 
 use core::str::from_utf8;

@@ -1,4 +1,4 @@
-// Erased from crates/target_lexicon/src/default_format.rt by tools/erase. Don't edit it here.
+// @generated: erased from crates/target_lexicon/src/default_format.rt by tools/erase. Don't edit it here.
 //! The binary format that the other fields imply.
 
 use crate::proved::triple::Triple;

@@ -1,4 +1,4 @@
-// Erased from crates/target_lexicon/src/defaults.rt by tools/erase. Don't edit it here.
+// @generated: erased from crates/target_lexicon/src/defaults.rt by tools/erase. Don't edit it here.
 //! Triples with a default.
 
 use crate::proved::triple::Triple;

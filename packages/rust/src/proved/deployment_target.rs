@@ -1,4 +1,4 @@
-// Erased from crates/lexicon_fields/src/deployment_target.rt by tools/erase. Don't edit it here.
+// @generated: erased from crates/lexicon_fields/src/deployment_target.rt by tools/erase. Don't edit it here.
 //! The versions of deployment targets.
 
 use crate::proved::decimal::{put_byte, put_decimal};

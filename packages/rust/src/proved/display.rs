@@ -1,4 +1,4 @@
-// Erased from crates/target_lexicon/src/display.rt by tools/erase. Don't edit it here.
+// @generated: erased from crates/target_lexicon/src/display.rt by tools/erase. Don't edit it here.
 //! Printing: what is shown of a triple, as pieces, and how these are written. Functions are inlined if they return a
 //! wide value, or if that saves a hundredth of printing.
 

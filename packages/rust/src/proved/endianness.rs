@@ -1,4 +1,4 @@
-// Erased from crates/lexicon_fields/src/endianness.rt by tools/erase. Don't edit it here.
+// @generated: erased from crates/lexicon_fields/src/endianness.rt by tools/erase. Don't edit it here.
 //! Byte orders.
 
 /// The order of the bytes of a number in memory.

@@ -1,4 +1,4 @@
-// Erased from crates/target_lexicon/src/explanation.rt by tools/erase. Don't edit it here.
+// @generated: erased from crates/target_lexicon/src/explanation.rt by tools/erase. Don't edit it here.
 //! Where the value of each field comes from.
 
 use crate::proved::refusal::Refusal;
@@ -16,7 +16,7 @@ use core::ops::Range;
 /// let part = TripleRef::from_str(text).unwrap_err().part;
 /// assert_eq!(&text[part.range()], part.text);
 /// ```
-#[derive(Clone, Copy, Debug, PartialEq, Eq)]
+#[derive(Clone, Copy, Debug, PartialEq, Eq, Hash)]
 pub struct TextPart<'a> {
     /// The bytes of the part.
     pub text: &'a str,
@@ -50,7 +50,7 @@ impl TextPart<'_> {
 /// let explanation = TripleRef::explain("x86_64-linux");
 /// assert_eq!(explanation.sources.environment, Source::NotGiven);
 /// ```
-#[derive(Clone, Copy, Debug, PartialEq, Eq)]
+#[derive(Clone, Copy, Debug, PartialEq, Eq, Hash)]
 pub enum Source<'a> {
     /// From this part of the string. A special string is one part, which gives all five fields.
     Part(TextPart<'a>),
@@ -72,7 +72,8 @@ pub enum Source<'a> {
 ///     other => panic!("{other:?}"),
 /// }
 /// ```
-#[derive(Clone, Copy, Debug, PartialEq, Eq)]
+#[cfg_attr(not(lexicon_internal), non_exhaustive)]
+#[derive(Clone, Copy, Debug, PartialEq, Eq, Hash)]
 pub struct Sources<'a> {
     /// Never `NotGiven` if the string parses: each string has an architecture.
     pub architecture: Source<'a>,
@@ -97,7 +98,8 @@ pub struct Sources<'a> {
 /// assert_eq!(explanation.triple.unwrap().binary_format, BinaryFormat::Elf);
 /// assert_eq!(explanation.sources.binary_format, Source::Implied);
 /// ```
-#[derive(Clone, Copy, Debug, PartialEq, Eq)]
+#[cfg_attr(not(lexicon_internal), non_exhaustive)]
+#[derive(Clone, Copy, Debug, PartialEq, Eq, Hash)]
 pub struct Explanation<'a> {
     /// The triple that the string parses as, or why it is refused.
     pub triple: Result<TripleRef<'a>, Refusal<'a>>,

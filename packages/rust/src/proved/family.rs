@@ -1,4 +1,4 @@
-// Erased from crates/target_lexicon/src/family.rt by tools/erase. Don't edit it here.
+// @generated: erased from crates/target_lexicon/src/family.rt by tools/erase. Don't edit it here.
 //! The families of triples that don't come back.
 
 use crate::proved::triple::Triple;
@@ -16,9 +16,9 @@ use crate::proved::{
 /// use target_lexicon::{Family, triple};
 ///
 /// let triple = triple!("riscv32imc-esp-espidf-elf");
-/// assert_eq!((triple.comes_back(), triple.family()), (false, Some(Family::PrintsAsSpecial)));
+/// assert_eq!((triple.comes_back(), triple.family()), (false, Some(Family::PrintsTheEspIdfText)));
 /// ```
-#[derive(Clone, Copy, Debug, PartialEq, Eq)]
+#[derive(Clone, Copy, Debug, PartialEq, Eq, Hash)]
 pub enum Family {
     /// The first three fields are those of `armv6k-nintendo-3ds` or `riscv32imc-esp-espidf`, which is printed, and
     /// environment and format aren't `Newlib` and `Elf`.

@@ -1,4 +1,4 @@
-// Erased from crates/lexicon_fields/src/field.rt by tools/erase. Don't edit it here.
+// @generated: erased from crates/lexicon_fields/src/field.rt by tools/erase. Don't edit it here.
 //! The fields themselves.
 
 /// A field of a target triple. The variants are in the order in which a triple has them.
@@ -11,7 +11,7 @@
 /// let refusal = TripleRef::from_str("x86_64-unknown-foo").unwrap_err();
 /// assert_eq!(refusal.expected, Some(Field::OperatingSystem));
 /// ```
-#[derive(Clone, Copy, Debug, PartialEq, Eq)]
+#[derive(Clone, Copy, Debug, PartialEq, Eq, Hash)]
 pub enum Field {
     /// The instruction set.
     Architecture,

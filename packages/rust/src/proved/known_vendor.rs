@@ -1,4 +1,4 @@
-// Erased from crates/lexicon_fields/src/known_vendor.rt by tools/erase. Don't edit it here.
+// @generated: erased from crates/lexicon_fields/src/known_vendor.rt by tools/erase. Don't edit it here.
 //! The known vendors.
 
 use crate::proved::vendor::Vendor;

@@ -1,4 +1,4 @@
-// Erased from crates/lexicon_fields/src/lib.rt and crates/target_lexicon/src/lib.rt by tools/erase. Don't edit it here.
+// @generated: erased from crates/lexicon_fields/src/lib.rt and crates/target_lexicon/src/lib.rt by tools/erase. Don't edit it here.
 
 pub(crate) mod architecture;
 pub(crate) mod binary_format;

@@ -1,4 +1,4 @@
-// Erased from crates/lexicon_fields/src/operating_system.rt by tools/erase. Don't edit it here.
+// @generated: erased from crates/lexicon_fields/src/operating_system.rt by tools/erase. Don't edit it here.
 //! The operating systems.
 
 use crate::proved::deployment_target::{version_text, DeploymentTarget, MAX_VERSION_LENGTH};

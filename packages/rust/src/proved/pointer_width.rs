@@ -1,4 +1,4 @@
-// Erased from crates/lexicon_fields/src/pointer_width.rt by tools/erase. Don't edit it here.
+// @generated: erased from crates/lexicon_fields/src/pointer_width.rt by tools/erase. Don't edit it here.
 //! Pointer widths.
 
 /// The width of a pointer in the default address space.

@@ -1,11 +1,13 @@
-// Erased from crates/target_lexicon/src/queries.rt by tools/erase. Don't edit it here.
+// @generated: erased from crates/target_lexicon/src/queries.rt by tools/erase. Don't edit it here.
 //! Queries for code generators.
 
 use crate::proved::calling_convention::CallingConvention;
 use crate::proved::data_model::CDataModel;
 use crate::proved::triple::Triple;
 use crate::proved::triple_ref::TripleRef;
-use crate::proved::{Architecture, Endianness, Environment, OperatingSystem, PointerWidth};
+use crate::proved::{
+    Architecture, Endianness, Environment, KnownVendor, OperatingSystem, PointerWidth, VendorRef,
+};
 
 impl TripleRef<'_> {
     /// The byte order, as [`Triple::endianness`] says.
@@ -172,6 +174,18 @@ impl TripleRef<'_> {
 }
 
 impl Triple {
+    /// The same triple with an unknown vendor, at which no query looks.
+    #[inline]
+    const fn without_vendor(&self) -> TripleRef<'static> {
+        TripleRef {
+            architecture: self.architecture,
+            vendor: VendorRef::Known(KnownVendor::Unknown),
+            operating_system: self.operating_system,
+            environment: self.environment,
+            binary_format: self.binary_format,
+        }
+    }
+
     /// The byte order of the architecture.
     ///
     /// # Errors
@@ -186,8 +200,8 @@ impl Triple {
     /// assert_eq!(triple!("s390x-unknown-linux-gnu").endianness(), Ok(Endianness::Big));
     /// ```
     #[inline]
-    pub fn endianness(&self) -> Result<Endianness, ()> {
-        self.as_triple_ref().endianness()
+    pub const fn endianness(&self) -> Result<Endianness, ()> {
+        self.without_vendor().endianness()
     }
 
     /// The width of a pointer: 32 bits in the environments `Gnux32` and `GnuIlp32`, in every other environment the
@@ -206,8 +220,8 @@ impl Triple {
     /// assert_eq!(triple!("x86_64-unknown-linux-gnux32").pointer_width(), Ok(PointerWidth::U32));
     /// ```
     #[inline]
-    pub fn pointer_width(&self) -> Result<PointerWidth, ()> {
-        self.as_triple_ref().pointer_width()
+    pub const fn pointer_width(&self) -> Result<PointerWidth, ()> {
+        self.without_vendor().pointer_width()
     }
 
     /// The calling convention. It depends on the operating system, and on systems like Darwin and those that run
@@ -227,8 +241,8 @@ impl Triple {
     /// assert_eq!(triple!("wasm32-wasip1").default_calling_convention(), Err(()));
     /// ```
     #[inline]
-    pub fn default_calling_convention(&self) -> Result<CallingConvention, ()> {
-        self.as_triple_ref().default_calling_convention()
+    pub const fn default_calling_convention(&self) -> Result<CallingConvention, ()> {
+        self.without_vendor().default_calling_convention()
     }
 
     /// The data model of C. It depends on the pointer width, the operating system, the calling convention and the
@@ -248,6 +262,6 @@ impl Triple {
     /// ```
     #[inline]
     pub fn data_model(&self) -> Result<CDataModel, ()> {
-        self.as_triple_ref().data_model()
+        self.without_vendor().data_model()
     }
 }

@@ -1,4 +1,4 @@
-// Erased from crates/target_lexicon/src/reading.rt by tools/erase. Don't edit it here.
+// @generated: erased from crates/target_lexicon/src/reading.rt by tools/erase. Don't edit it here.
 //! Reading: a state that takes one name after the other, each spelled by a part of the string.
 
 use crate::proved::explanation::{Source, Sources, TextPart};

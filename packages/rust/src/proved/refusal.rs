@@ -1,4 +1,4 @@
-// Erased from crates/target_lexicon/src/refusal.rt by tools/erase. Don't edit it here.
+// @generated: erased from crates/target_lexicon/src/refusal.rt by tools/erase. Don't edit it here.
 //! Why a string doesn't parse as a triple.
 
 use crate::proved::display::put;
@@ -21,7 +21,8 @@ use core::ops::Range;
 /// let refusal = TripleRef::from_str("x86_64-linux-gnu-elf-foo").unwrap_err();
 /// assert_eq!(refusal.expected, None);
 /// ```
-#[derive(Clone, Copy, Debug, PartialEq, Eq)]
+#[cfg_attr(not(lexicon_internal), non_exhaustive)]
+#[derive(Clone, Copy, Debug, PartialEq, Eq, Hash)]
 pub struct Refusal<'a> {
     /// The field that was expected: this one or a later one. After a binary format none was, and it is `None`.
     pub expected: Option<Field>,

@@ -1,4 +1,4 @@
-// Erased from crates/target_lexicon/src/settle.rt by tools/erase. Don't edit it here.
+// @generated: erased from crates/target_lexicon/src/settle.rt by tools/erase. Don't edit it here.
 //! Round trips of a triple: the five families that don't come back, the normal step, and the canonical form.
 
 use crate::proved::family::Family;

@@ -1,4 +1,4 @@
-// Erased from crates/target_lexicon/src/settles_as.rt by tools/erase. Don't edit it here.
+// @generated: erased from crates/target_lexicon/src/settles_as.rt by tools/erase. Don't edit it here.
 //! Whether two borrowed triples have the same canonical form.
 
 use crate::proved::triple::Triple;

@@ -1,4 +1,4 @@
-// Erased from crates/target_lexicon/src/special.rt by tools/erase. Don't edit it here.
+// @generated: erased from crates/target_lexicon/src/special.rt by tools/erase. Don't edit it here.
 //! The two strings that have a triple of their own.
 
 use crate::proved::triple_ref::TripleRef;

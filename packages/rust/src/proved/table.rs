@@ -1,4 +1,4 @@
-// Erased from crates/lexicon_fields/src/table.rt by tools/erase. Don't edit it here.
+// @generated: erased from crates/lexicon_fields/src/table.rt by tools/erase. Don't edit it here.
 //! The table of the fixed names, and of the alias `arm64`. A function is inlined if it returns a wide value.
 
 #[allow(unused_imports)]

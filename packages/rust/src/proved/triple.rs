@@ -1,4 +1,4 @@
-// Erased from crates/target_lexicon/src/triple.rt by tools/erase. Don't edit it here.
+// @generated: erased from crates/target_lexicon/src/triple.rt by tools/erase. Don't edit it here.
 //! The type [`Triple`].
 
 use crate::proved::{Architecture, BinaryFormat, Environment, OperatingSystem, Vendor};

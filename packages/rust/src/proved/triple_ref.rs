@@ -1,4 +1,4 @@
-// Erased from crates/target_lexicon/src/triple_ref.rt by tools/erase. Don't edit it here.
+// @generated: erased from crates/target_lexicon/src/triple_ref.rt by tools/erase. Don't edit it here.
 //! The type [`TripleRef`].
 
 use crate::proved::triple::Triple;
@@ -65,6 +65,7 @@ impl Triple {
     /// assert_eq!(Ok(triple.as_triple_ref()), TripleRef::from_str("x86_64-linux"));
     /// ```
     #[must_use]
+    #[inline]
     pub fn as_triple_ref(&self) -> TripleRef<'_> {
         TripleRef {
             architecture: self.architecture,

@@ -1,4 +1,4 @@
-// Erased from crates/lexicon_fields/src/vendor.rt by tools/erase. Don't edit it here.
+// @generated: erased from crates/lexicon_fields/src/vendor.rt by tools/erase. Don't edit it here.
 //! The vendors.
 
 use alloc::boxed::Box;

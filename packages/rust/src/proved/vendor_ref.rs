@@ -1,4 +1,4 @@
-// Erased from crates/lexicon_fields/src/vendor_ref.rt by tools/erase. Don't edit it here.
+// @generated: erased from crates/lexicon_fields/src/vendor_ref.rt by tools/erase. Don't edit it here.
 //! The vendors, of which a custom one borrows its string.
 
 use crate::proved::known_vendor::KnownVendor;
@@ -119,6 +119,7 @@ impl Vendor {
     /// assert_eq!(Vendor::Custom(CustomVendor::Static("acme")).as_vendor_ref(), VendorRef::Custom("acme"));
     /// ```
     #[must_use]
+    #[inline]
     pub fn as_vendor_ref(&self) -> VendorRef<'_> {
         match self {
             Vendor::Unknown => VendorRef::Known(KnownVendor::Unknown),

@@ -47,6 +47,7 @@ pub enum CLibrary {
 /// let triple = TripleRef::from_str("armv7-unknown-linux-gnueabi").unwrap();
 /// assert_eq!(FloatAbi::of(&triple), Some(FloatAbi::Soft));
 /// ```
+#[cfg_attr(not(lexicon_internal), non_exhaustive)]
 #[derive(Clone, Copy, Debug, PartialEq, Eq, Hash)]
 pub enum FloatAbi {
     /// In integer registers. The processor may have floating-point registers.

@@ -10,7 +10,7 @@ mod rustc_cfg;
 mod suggestions;
 
 #[cfg(feature = "tool_names")]
-pub use crate::dialects::UnknownWord;
+pub use crate::dialects::{ParseNameError, UnknownWord};
 #[cfg(feature = "tool_names")]
 pub use crate::proved::tool_names::{
     changes, complete, object_format, read, Change, ChangedParts, Dialect, LinuxLibc, Name,

@@ -21,7 +21,8 @@ use core::fmt;
 /// assert_eq!((cfg.target_arch, cfg.target_os, cfg.target_env), ("aarch64", "macos", ""));
 /// assert_eq!(cfg.target_family, ["unix"]);
 /// ```
-#[derive(Clone, Copy, Debug, PartialEq, Eq)]
+#[cfg_attr(not(lexicon_internal), non_exhaustive)]
+#[derive(Clone, Copy, Debug, PartialEq, Eq, Hash)]
 pub struct RustcCfg<'a> {
     /// The instruction set, such as `x86_64`, `x86` or `arm`, without version and byte order.
     pub target_arch: &'static str,

@@ -1,4 +1,4 @@
-// Erased from crates/lexicon_fields/src/architecture/aarch64.rt by tools/erase. Don't edit it here.
+// @generated: erased from crates/lexicon_fields/src/architecture/aarch64.rt by tools/erase. Don't edit it here.
 //! The 64-bit Arm architectures.
 
 use crate::proved::architecture::Architecture;

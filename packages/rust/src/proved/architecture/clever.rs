@@ -1,4 +1,4 @@
-// Erased from crates/lexicon_fields/src/architecture/clever.rt by tools/erase. Don't edit it here.
+// @generated: erased from crates/lexicon_fields/src/architecture/clever.rt by tools/erase. Don't edit it here.
 //! The Clever architectures.
 
 use crate::proved::architecture::Architecture;

@@ -1,4 +1,4 @@
-// Erased from crates/lexicon_fields/src/architecture/mips.rt by tools/erase. Don't edit it here.
+// @generated: erased from crates/lexicon_fields/src/architecture/mips.rt by tools/erase. Don't edit it here.
 //! The MIPS architectures.
 
 use crate::proved::architecture::Architecture;

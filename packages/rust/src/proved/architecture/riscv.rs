@@ -1,4 +1,4 @@
-// Erased from crates/lexicon_fields/src/architecture/riscv.rt by tools/erase. Don't edit it here.
+// @generated: erased from crates/lexicon_fields/src/architecture/riscv.rt by tools/erase. Don't edit it here.
 //! The RISC-V architectures.
 
 use crate::proved::architecture::Architecture;

@@ -1,4 +1,4 @@
-// Erased from crates/lexicon_fields/src/architecture/x86_32.rt by tools/erase. Don't edit it here.
+// @generated: erased from crates/lexicon_fields/src/architecture/x86_32.rt by tools/erase. Don't edit it here.
 //! The 32-bit x86 architectures.
 
 use crate::proved::architecture::Architecture;

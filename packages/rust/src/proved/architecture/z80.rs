@@ -1,4 +1,4 @@
-// Erased from crates/lexicon_fields/src/architecture/z80.rt by tools/erase. Don't edit it here.
+// @generated: erased from crates/lexicon_fields/src/architecture/z80.rt by tools/erase. Don't edit it here.
 //! The architectures of the Z80 family.
 
 use crate::proved::architecture::Architecture;

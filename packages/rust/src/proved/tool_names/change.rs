@@ -1,4 +1,4 @@
-// Erased from crates/tool_names/src/change.rt by tools/erase. Don't edit it here.
+// @generated: erased from crates/tool_names/src/change.rt by tools/erase. Don't edit it here.
 //! What is changed in a string that is spelled like a triple.
 
 use crate::proved::tool_names::rules::{Form, Place};

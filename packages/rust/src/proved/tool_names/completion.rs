@@ -1,4 +1,4 @@
-// Erased from crates/tool_names/src/completion.rt by tools/erase. Don't edit it here.
+// @generated: erased from crates/tool_names/src/completion.rt by tools/erase. Don't edit it here.
 //! The environment that a C library gives to a triple of Linux.
 
 use crate::proved::tool_names::shape::arm_of_version;

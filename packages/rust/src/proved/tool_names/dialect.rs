@@ -1,4 +1,4 @@
-// Erased from crates/tool_names/src/dialect.rt by tools/erase. Don't edit it here.
+// @generated: erased from crates/tool_names/src/dialect.rt by tools/erase. Don't edit it here.
 //! The dialects: whose names are read and written.
 
 use crate::proved::tool_names::spelling::look_up;

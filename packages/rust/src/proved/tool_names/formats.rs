@@ -1,4 +1,4 @@
-// Erased from crates/tool_names/src/formats.rt by tools/erase. Don't edit it here.
+// @generated: erased from crates/tool_names/src/formats.rt by tools/erase. Don't edit it here.
 //! The object format that toolchains write.
 
 use crate::proved::{Architecture, BinaryFormat, OperatingSystem, TripleRef};

@@ -1,4 +1,4 @@
-// Erased from crates/tool_names/src/gnu.rt by tools/erase. Don't edit it here.
+// @generated: erased from crates/tool_names/src/gnu.rt by tools/erase. Don't edit it here.
 //! Strings that are spelled like triples, as GNU's config.sub completes them.
 
 use crate::proved::tool_names::formats::wasm_or;

@@ -1,4 +1,4 @@
-// Erased from crates/tool_names/src/known_names.rt by tools/erase. Don't edit it here.
+// @generated: erased from crates/tool_names/src/known_names.rt by tools/erase. Don't edit it here.
 //! The known names of each field.
 
 use crate::proved::Field;

@@ -1,4 +1,4 @@
-// Erased from crates/tool_names/src/macos.rt by tools/erase. Don't edit it here.
+// @generated: erased from crates/tool_names/src/macos.rt by tools/erase. Don't edit it here.
 //! The version of macOS after `macos`.
 
 use crate::proved::{DeploymentTarget, Field, OperatingSystem, Reading, Refusal, Source, TextPart};

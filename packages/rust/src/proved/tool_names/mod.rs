@@ -1,4 +1,4 @@
-// Erased from crates/tool_names/src/lib.rt by tools/erase. Don't edit it here.
+// @generated: erased from crates/tool_names/src/lib.rt by tools/erase. Don't edit it here.
 //! Names of targets in other tools, and the object format that toolchains write.
 
 #[cfg(feature = "tool_names")]

@@ -1,4 +1,4 @@
-// Erased from crates/tool_names/src/name.rt by tools/erase. Don't edit it here.
+// @generated: erased from crates/tool_names/src/name.rt by tools/erase. Don't edit it here.
 //! A name of a target in a dialect.
 
 use crate::proved::tool_names::pattern::Numbers;
@@ -19,7 +19,7 @@ const MAX_NAME_LENGTH: usize = 36;
 /// let triple = TripleRef::from_str("x86_64-unknown-freebsd").unwrap();
 /// assert_eq!(Dialect::Go.write(&triple).unwrap().to_string(), "freebsd/amd64");
 /// ```
-#[derive(Clone, Copy, PartialEq, Eq)]
+#[derive(Clone, Copy, PartialEq, Eq, Hash)]
 pub struct Name {
     bytes: [u8; 36],
     length: usize,

@@ -1,4 +1,4 @@
-// Erased from crates/tool_names/src/names.rt by tools/erase. Don't edit it here.
+// @generated: erased from crates/tool_names/src/names.rt by tools/erase. Don't edit it here.
 //! Reading and writing the names of a dialect.
 
 use crate::proved::tool_names::dialect::Dialect;
@@ -20,7 +20,7 @@ use crate::proved::{DeploymentTarget, OperatingSystem, TripleRef};
 /// let error = Dialect::Debian.read("foo").unwrap_err();
 /// assert_eq!(error.to_string(), "Unknown name");
 /// ```
-#[derive(Clone, Copy, Debug, PartialEq, Eq)]
+#[derive(Clone, Copy, Debug, PartialEq, Eq, Hash)]
 pub enum NameError {
     /// The dialect has no such name.
     Unknown,

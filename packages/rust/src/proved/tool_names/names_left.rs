@@ -1,4 +1,4 @@
-// Erased from crates/tool_names/src/names_left.rt by tools/erase. Don't edit it here.
+// @generated: erased from crates/tool_names/src/names_left.rt by tools/erase. Don't edit it here.
 //! The names of a string that are left while it is read.
 
 use crate::proved::first_part;

@@ -1,4 +1,4 @@
-// Erased from crates/tool_names/src/pattern.rt by tools/erase. Don't edit it here.
+// @generated: erased from crates/tool_names/src/pattern.rt by tools/erase. Don't edit it here.
 //! Names with numbers: a star in the name of a row is a number.
 
 use core::str::from_utf8;

@@ -1,4 +1,4 @@
-// Erased from crates/tool_names/src/platform.rt by tools/erase. Don't edit it here.
+// @generated: erased from crates/tool_names/src/platform.rt by tools/erase. Don't edit it here.
 //! Platforms of container images, as containerd normalises them.
 
 use crate::proved::tool_names::pattern::star_count;

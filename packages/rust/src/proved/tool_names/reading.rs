@@ -1,4 +1,4 @@
-// Erased from crates/tool_names/src/reading.rt by tools/erase. Don't edit it here.
+// @generated: erased from crates/tool_names/src/reading.rt by tools/erase. Don't edit it here.
 //! Reading a string that is spelled like a triple.
 
 use crate::proved::tool_names::names_left::Left;

@@ -1,4 +1,4 @@
-// Erased from crates/tool_names/src/rules.rt by tools/erase. Don't edit it here.
+// @generated: erased from crates/tool_names/src/rules.rt by tools/erase. Don't edit it here.
 //! The rules by which parts of a string are other spellings of known names.
 
 use crate::proved::tool_names::rules::Form::{Dropped, HardFloats, MacOs, Pair, PairWithin, Whole};

@@ -1,4 +1,4 @@
-// Erased from crates/tool_names/src/shape.rt by tools/erase. Don't edit it here.
+// @generated: erased from crates/tool_names/src/shape.rt by tools/erase. Don't edit it here.
 //! The shape of a triple in a dialect.
 
 use crate::proved::tool_names::dialect::Dialect;

@@ -1,4 +1,4 @@
-// Erased from crates/tool_names/src/spelled.rt by tools/erase. Don't edit it here.
+// @generated: erased from crates/tool_names/src/spelled.rt by tools/erase. Don't edit it here.
 //! What the parts of a string spell, one after the other.
 
 use crate::proved::tool_names::macos::{macos_version, MacOsVersion};

@@ -1,4 +1,4 @@
-// Erased from crates/tool_names/src/spelling.rt by tools/erase. Don't edit it here.
+// @generated: erased from crates/tool_names/src/spelling.rt by tools/erase. Don't edit it here.
 //! Other spellings of the parts of a triple.
 
 use crate::proved::tool_names::known_names::names;

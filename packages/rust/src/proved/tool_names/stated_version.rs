@@ -1,4 +1,4 @@
-// Erased from crates/tool_names/src/stated_version.rt by tools/erase. Don't edit it here.
+// @generated: erased from crates/tool_names/src/stated_version.rt by tools/erase. Don't edit it here.
 //! Names that state a version which triples don't have.
 
 use crate::proved::tool_names::dialect::Dialect;

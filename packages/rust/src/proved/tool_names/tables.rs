@@ -1,4 +1,4 @@
-// Erased from crates/tool_names/src/tables.rt by tools/erase. Don't edit it here.
+// @generated: erased from crates/tool_names/src/tables.rt by tools/erase. Don't edit it here.
 //! The tables of the dialects: what each states, and its rows.
 
 mod apk;

@@ -1,4 +1,4 @@
-// Erased from crates/tool_names/src/translation.rt by tools/erase. Don't edit it here.
+// @generated: erased from crates/tool_names/src/translation.rt by tools/erase. Don't edit it here.
 //! From a name in one dialect to the name in another.
 
 use crate::proved::tool_names::completion::{complete, LinuxLibc};
@@ -17,7 +17,8 @@ use crate::proved::TripleRef;
 /// let triple = TripleRef::from_str("x86_64-unknown-linux").unwrap();
 /// assert_eq!(Dialect::Debian.write_with(&triple, None), Err(WriteError::NeedsCLibrary));
 /// ```
-#[derive(Clone, Copy, Debug, PartialEq, Eq)]
+#[cfg_attr(not(lexicon_internal), non_exhaustive)]
+#[derive(Clone, Copy, Debug, PartialEq, Eq, Hash)]
 pub enum WriteError {
     /// The dialect has no name for it.
     NoName,
@@ -37,7 +38,7 @@ pub enum WriteError {
 /// assert_eq!(to_debian("linux/amd64"), TranslateError::Write(WriteError::NeedsCLibrary));
 /// assert_eq!(to_debian("windows/amd64"), TranslateError::Write(WriteError::NoName));
 /// ```
-#[derive(Clone, Copy, Debug, PartialEq, Eq)]
+#[derive(Clone, Copy, Debug, PartialEq, Eq, Hash)]
 pub enum TranslateError {
     /// The name isn't read.
     Read(NameError),

@@ -1,4 +1,4 @@
-// Erased from crates/tool_names/src/tables/conda.rt by tools/erase. Don't edit it here.
+// @generated: erased from crates/tool_names/src/tables/conda.rt by tools/erase. Don't edit it here.
 //! Subdirectories of conda's channels, whose packages for Linux have glibc: `linux-64`, `osx-arm64`. Written by tools/names/write.
 
 use crate::proved::tool_names::tables::Way::{Both, NoTriple, Read};

@@ -1,4 +1,4 @@
-// Erased from crates/tool_names/src/tables/debian.rt by tools/erase. Don't edit it here.
+// @generated: erased from crates/tool_names/src/tables/debian.rt by tools/erase. Don't edit it here.
 //! Debian's architectures, as `dpkg` names them: `amd64`, `armhf`, `musl-linux-arm64`. Written by tools/names/write.
 
 use crate::proved::tool_names::tables::Way::{Both, NoTriple, Read};

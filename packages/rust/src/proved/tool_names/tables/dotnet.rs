@@ -1,4 +1,4 @@
-// Erased from crates/tool_names/src/tables/dotnet.rt by tools/erase. Don't edit it here.
+// @generated: erased from crates/tool_names/src/tables/dotnet.rt by tools/erase. Don't edit it here.
 //! Identifiers of .NET's runtimes, in its portable list: `linux-x64`, `win-arm64`. Written by tools/names/write.
 
 use crate::proved::tool_names::tables::Way::{Both, NoTriple, Read};

@@ -1,4 +1,4 @@
-// Erased from crates/tool_names/src/tables/gnu.rt by tools/erase. Don't edit it here.
+// @generated: erased from crates/tool_names/src/tables/gnu.rt by tools/erase. Don't edit it here.
 //! Prefixes of GNU's cross compilers, and strings that mean the same to config.sub: `x86_64-w64-mingw32`. Written by tools/names/write.
 
 use crate::proved::tool_names::tables::Way::Both;

@@ -1,4 +1,4 @@
-// Erased from crates/tool_names/src/tables/go.rt by tools/erase. Don't edit it here.
+// @generated: erased from crates/tool_names/src/tables/go.rt by tools/erase. Don't edit it here.
 //! Go's ports, as `go tool dist list` prints them: `linux/amd64`. Written by tools/names/write.
 
 use crate::proved::tool_names::tables::Way::{Both, NoTriple, Read};

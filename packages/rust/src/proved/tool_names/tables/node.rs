@@ -1,4 +1,4 @@
-// Erased from crates/tool_names/src/tables/node.rt by tools/erase. Don't edit it here.
+// @generated: erased from crates/tool_names/src/tables/node.rt by tools/erase. Don't edit it here.
 //! `process.platform` and `process.arch` of Node, as npm's packages join them, some with a C library: `linux-x64`, `linux-x64-musl`. Written by tools/names/write.
 
 use crate::proved::tool_names::tables::Way::{Both, NoTriple, Read, Written};

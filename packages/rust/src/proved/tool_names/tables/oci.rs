@@ -1,4 +1,4 @@
-// Erased from crates/tool_names/src/tables/oci.rt by tools/erase. Don't edit it here.
+// @generated: erased from crates/tool_names/src/tables/oci.rt by tools/erase. Don't edit it here.
 //! Platforms of container images, as containerd writes them: `linux/arm/v7`. Written by tools/names/write.
 
 use crate::proved::tool_names::tables::Way::{Both, NoTriple, Read};

@@ -1,4 +1,4 @@
-// Erased from crates/tool_names/src/tables/pacman.rt by tools/erase. Don't edit it here.
+// @generated: erased from crates/tool_names/src/tables/pacman.rt by tools/erase. Don't edit it here.
 //! Architectures of packages of Arch Linux and its ports, which have glibc: `x86_64`, `armv7h`. Written by tools/names/write.
 
 use crate::proved::tool_names::tables::Way::{Both, NoTriple, Read};

@@ -1,4 +1,4 @@
-// Erased from crates/tool_names/src/tables/python.rt by tools/erase. Don't edit it here.
+// @generated: erased from crates/tool_names/src/tables/python.rt by tools/erase. Don't edit it here.
 //! Platforms of Python, as tags of wheels such as `macosx_11_0_arm64`, and as `sysconfig.get_platform()` prints them. Written by tools/names/write.
 
 use crate::proved::tool_names::tables::Way::{Both, NoTriple, Read};

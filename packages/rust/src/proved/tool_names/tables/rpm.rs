@@ -1,4 +1,4 @@
-// Erased from crates/tool_names/src/tables/rpm.rt by tools/erase. Don't edit it here.
+// @generated: erased from crates/tool_names/src/tables/rpm.rt by tools/erase. Don't edit it here.
 //! Architectures of packages of RPM, whose distributions have glibc: `x86_64`, `armv7hl`. Written by tools/names/write.
 
 use crate::proved::tool_names::tables::Way::{Both, NoTriple, Read};

@@ -1,4 +1,4 @@
-// Erased from crates/tool_names/src/tables/rust.rt by tools/erase. Don't edit it here.
+// @generated: erased from crates/tool_names/src/tables/rust.rt by tools/erase. Don't edit it here.
 //! Targets of rustc, as `rustc --print target-list` lists them: `riscv64gc-unknown-linux-gnu`. Written by tools/names/write.
 
 use crate::proved::tool_names::tables::Way::{Both, NoTriple, Read};

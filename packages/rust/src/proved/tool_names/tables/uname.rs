@@ -1,4 +1,4 @@
-// Erased from crates/tool_names/src/tables/uname.rt by tools/erase. Don't edit it here.
+// @generated: erased from crates/tool_names/src/tables/uname.rt by tools/erase. Don't edit it here.
 //! What `uname -s` and `uname -m` print, with a space between them, which is only read: `Linux x86_64`. Written by tools/names/write.
 
 use crate::proved::tool_names::tables::Way::{NoTriple, Read};

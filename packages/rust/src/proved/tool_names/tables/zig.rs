@@ -1,4 +1,4 @@
-// Erased from crates/tool_names/src/tables/zig.rt by tools/erase. Don't edit it here.
+// @generated: erased from crates/tool_names/src/tables/zig.rt by tools/erase. Don't edit it here.
 //! Zig's targets: `x86_64-linux-musl`, `aarch64-macos`. Written by tools/names/write.
 
 use crate::proved::tool_names::tables::Way::{Both, NoTriple, Read};
