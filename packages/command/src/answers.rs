@@ -1,12 +1,11 @@
 //! What is answered for a target that was parsed.
-use crate::arguments::{written, FIELDS};
+use crate::arguments::FIELDS;
 use crate::input::{Place, Target};
 use crate::json::{Json, Object};
 use crate::refusal::Parsed;
 use std::io::{self, Write};
 use target_lexicon::tool_names::{
-    self, changes, is_unix, object_format, read, CLibrary, Change, Dialect, FloatAbi, RustcCfg,
-    TypeLayout,
+    self, changes, is_unix, object_format, read, CLibrary, Change, FloatAbi, RustcCfg, TypeLayout,
 };
 use target_lexicon::{
     default_binary_format, Architecture, CDataModel, CallingConvention, Endianness, Field,
@@ -282,14 +281,6 @@ fn implied_format(triple: &TripleRef<'_>) -> String {
     default_binary_format(&triple.to_triple()).to_string()
 }
 
-/// The names that other tools have for a triple.
-pub fn elsewhere(triple: &TripleRef<'_>) -> Object {
-    let name = |dialect: Dialect| dialect.write(triple).map(|name| name.to_string());
-    written()
-        .map(|dialect| (dialect.name(), name(dialect).into()))
-        .collect()
-}
-
 /// The target, and a line for each fact.
 pub fn write_facts(out: &mut dyn Write, target: &str, facts: Object) -> io::Result<()> {
     let width = facts.iter().map(|(key, _)| key.len()).max().unwrap_or(0);
@@ -300,7 +291,7 @@ pub fn write_facts(out: &mut dyn Write, target: &str, facts: Object) -> io::Resu
             Json::Bool(is_so) => writeln!(out, "{}", if is_so { "yes" } else { "no" })?,
             Json::Text(text) => writeln!(out, "{text}")?,
             Json::Number(number) => writeln!(out, "{number}")?,
-            _ => writeln!(out, "-")?,
+            _ => writeln!(out, "-  no answer")?,
         }
     }
     Ok(())

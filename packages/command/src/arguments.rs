@@ -218,10 +218,17 @@ pub fn command() -> Command {
                 "Example:\n  $ target-lexicon cfg aarch64-apple-ios",
             ),
             of_targets(
-                "elsewhere",
-                "Show the names that other tools have for a target",
-                "Example:\n  $ target-lexicon elsewhere aarch64-unknown-linux-gnu",
-            ),
+                "what",
+                "Show what a name of any tool means, and what every tool calls it",
+                "Names may be written as lists have them: with commas, quotes, brackets or a dash before each.\n\n\
+                 Example:\n  $ target-lexicon what linux/amd64,linux/arm64 --libc glibc",
+            )
+            .mut_arg("target", |names| names.value_name("NAME"))
+            .mut_arg("strict", |strict| strict.hide(true))
+            .arg(libc()),
+            Command::new("host")
+                .about("Write the target that the command was built for")
+                .after_help("Example:\n  $ target-lexicon host"),
             Command::new("names")
                 .about("List the known names of a field, or of all fields")
                 .after_help("Example:\n  $ target-lexicon names environment")

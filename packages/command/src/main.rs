@@ -11,6 +11,7 @@ mod matrix;
 mod output;
 mod refusal;
 mod streams;
+mod what;
 
 use arguments::{Version, ANY, FIELDS};
 use clap::error::{ContextKind, ContextValue, ErrorKind};
@@ -28,7 +29,8 @@ use std::num::NonZeroUsize;
 use std::path::Path;
 use std::process;
 use target_lexicon::tool_names::{complete, Dialect, LinuxLibc, Name, RustcCfg};
-use target_lexicon::TripleRef;
+use target_lexicon::{TripleRef, HOST};
+use what::What;
 
 /// What ends a run early.
 pub enum Fault {
@@ -60,7 +62,7 @@ enum Call {
     Write(Dialect, Option<Version>),
     Translate(Dialect, Dialect),
     Cfg,
-    Elsewhere,
+    What,
 }
 
 /// Whose names are read.
@@ -79,6 +81,7 @@ enum Found<'a> {
     Read(TripleRef<'a>),
     /// Which dialects have the name, and what it means in each.
     Meanings(Vec<(&'static str, TripleRef<'a>)>),
+    What(What<'a>),
     Name(Name),
 }
 
@@ -108,6 +111,20 @@ const REMEMBERED_LENGTH: usize = 100;
 
 impl Answers for Run {
     fn answer(&mut self, target: Target<'_>) -> Result<(), Fault> {
+        match self.call {
+            Call::What => what::names_in(target).try_for_each(|name| self.answer_one(name)),
+            _ => self.answer_one(target),
+        }
+    }
+
+    fn pause(&mut self) -> Result<(), Fault> {
+        self.outputs.flush()?;
+        self.progress.show()
+    }
+}
+
+impl Run {
+    fn answer_one(&mut self, target: Target<'_>) -> Result<(), Fault> {
         self.progress.targets += 1;
         match self.find(target.text) {
             Ok(_) if self.is_quiet => Ok(()),
@@ -133,11 +150,6 @@ impl Answers for Run {
                             answers::facts(&explanation.triple),
                         ),
                         Call::Cfg => write!(out, "{}", RustcCfg::of(&explanation.triple)),
-                        Call::Elsewhere => answers::write_facts(
-                            out,
-                            target.text,
-                            answers::elsewhere(&explanation.triple),
-                        ),
                         _ => writeln!(out, "{}", answers::canonical(explanation.triple)),
                     },
                     Found::Read(triple) => {
@@ -154,6 +166,7 @@ impl Answers for Run {
                         })
                     }
                     Found::Name(name) => writeln!(out, "{name}"),
+                    Found::What(what) => what.write(out, target.text),
                 })
             }
             Err(refusal) => {
@@ -174,13 +187,6 @@ impl Answers for Run {
         }
     }
 
-    fn pause(&mut self) -> Result<(), Fault> {
-        self.outputs.flush()?;
-        self.progress.show()
-    }
-}
-
-impl Run {
     /// What the user may have meant. It is remembered for a line that isn't long.
     fn help(&mut self, target: Target<'_>, refusal: &Refusal<'_>) -> Help {
         if let Some(help) = self.helps.get(target.text) {
@@ -201,6 +207,7 @@ impl Run {
 
     fn find<'a>(&self, text: &'a str) -> Result<Found<'a>, Refusal<'a>> {
         match self.call {
+            Call::What => return What::of(text, self.libc).map(Found::What),
             Call::Read(From::Any) => {
                 let meanings = refusal::meanings(text)?;
                 let complete = |(name, triple)| (name, self.completed(triple));
@@ -242,7 +249,6 @@ impl Run {
                 Call::Explain => answers::explained(explanation),
                 Call::Facts => answers::facts(&explanation.triple),
                 Call::Cfg => answers::cfg(&explanation.triple),
-                Call::Elsewhere => answers::elsewhere(&explanation.triple),
                 _ => canonical(explanation.triple),
             },
             Found::Read(triple) => {
@@ -260,6 +266,7 @@ impl Run {
                 vec![("meanings", meanings)]
             }
             Found::Name(name) => vec![("name", name.as_str().into())],
+            Found::What(what) => what.members(),
         }
     }
 
@@ -287,7 +294,7 @@ impl Run {
     /// What the user may have meant by a target that is refused.
     fn note(&self, target: Target<'_>) -> Option<String> {
         let text = target.text.trim();
-        let is_name = matches!(self.call, Call::Read(_) | Call::Translate(..));
+        let is_name = matches!(self.call, Call::Read(_) | Call::Translate(..) | Call::What);
         let parses = TripleRef::from_str(text).is_ok();
         if !is_name && !parses {
             if let Some(meant) = answers::meaning_elsewhere(text) {
@@ -298,7 +305,7 @@ impl Run {
         }
         let command = match self.call {
             Call::Read(From::Triples) => Some(""),
-            Call::Read(_) | Call::Translate(..) => None,
+            Call::Read(_) | Call::Translate(..) | Call::What => None,
             _ if parses => None,
             _ => Some("target-lexicon read "),
         };
@@ -436,7 +443,10 @@ fn from(arguments: &ArgMatches) -> From {
 }
 
 fn libc(call: Call, arguments: &ArgMatches) -> Option<LinuxLibc> {
-    let has_option = matches!(call, Call::Read(_) | Call::Write(..) | Call::Translate(..));
+    let has_option = matches!(
+        call,
+        Call::Read(_) | Call::Write(..) | Call::Translate(..) | Call::What
+    );
     let requested = has_option.then(|| arguments.get_one::<String>("libc"))??;
     requested.parse().ok()
 }
@@ -459,11 +469,12 @@ fn run(arguments: &ArgMatches) -> Result<i32, Fault> {
             dialect(arguments, "to").expect("a dialect is required"),
             arguments.get_one("with-version").copied(),
         ),
-        "elsewhere" => Call::Elsewhere,
+        "what" => Call::What,
         _ => {
             let mut outputs = Outputs::plain();
             outputs.write(|out| match name {
                 "names" => write_names(out, arguments),
+                "host" => writeln!(out, "{HOST}"),
                 "completions" => out.write_all(completion_script(arguments).as_bytes()),
                 "manual" => out.write_all(include_bytes!("../man/target-lexicon.1")),
                 other => unreachable!("{other} is no subcommand"),

@@ -22,6 +22,8 @@ pub struct Refusal<'a> {
 
 /// Among which names one is suggested. To find it takes longer than all else, so it is found only where it is shown.
 enum Names<'a> {
+    /// Those of every dialect, and of triples.
+    OfAll(&'a str),
     OfParts(target_lexicon::Refusal<'a>),
     OfVendors(&'a str),
     OfDialect(Dialect, &'a str),
@@ -78,7 +80,7 @@ pub fn meanings(text: &str) -> Result<Vec<(&'static str, TripleRef<'_>)>, Refusa
         meanings.insert(0, ("triple", triple));
     }
     if meanings.is_empty() {
-        return Err(Refusal::of_all("no tool has the name".into(), text));
+        return Err(Refusal::unknown_to_all(text));
     }
     Ok(meanings)
 }
@@ -170,6 +172,14 @@ impl<'a> Refusal<'a> {
         }
     }
 
+    /// A name that no tool has.
+    pub fn unknown_to_all(text: &'a str) -> Self {
+        Refusal {
+            names: Names::OfAll(text),
+            ..Refusal::of_all("no tool has the name".into(), text)
+        }
+    }
+
     fn of_all(error: String, text: &'a str) -> Self {
         Refusal {
             error,
@@ -194,6 +204,10 @@ impl Refusal<'_> {
         let found = match &self.names {
             Names::OfParts(refusal) => refusal.suggestion(),
             Names::OfVendors(vendor) => tool_names::suggestion(Field::Vendor, vendor),
+            Names::OfAll(name) => {
+                let mut names = Dialect::ALL.iter().filter_map(|it| it.suggestion(name));
+                return names.next().map(str::to_string);
+            }
             Names::OfDialect(dialect, name) => return dialect.suggestion(name).map(str::to_string),
             Names::No => None,
         };

@@ -149,7 +149,7 @@ fn targets_and_answers_end_with_a_zero_byte_if_asked() {
 
 #[test]
 fn a_quiet_run_has_only_a_status() {
-    for call in ["explain", "facts", "settle", "check", "matrix", "elsewhere"] {
+    for call in ["explain", "facts", "settle", "check", "matrix"] {
         assert_eq!(
             answers(&[call, "-q", "z80", "x86_64-linx"]),
             ("".into(), "".into(), 0)
@@ -544,11 +544,95 @@ fn names_of_other_tools_are_read_and_written() {
         .1
         .contains(" did you mean `linux_x86_64`?\n"));
     assert_eq!(answers(&["write", "--to", "debian", "wasm32-wasip1"]).2, 1);
-    let names = json_of(&["elsewhere", "--json", "x86_64-pc-windows-msvc"]);
+}
+
+#[test]
+fn any_name_is_explained_with_every_tool() {
+    let (out, errors, status) = answers(&["what", "linux/arm64", "--libc", "musl"]);
+    assert_eq!((errors.as_str(), status), ("", 0));
+    for line in [
+        "linux/arm64\n  is aarch64-unknown-linux-musl, as go, oci\n",
+        "\n    debian  musl-linux-arm64\n",
+        "\n    rust    aarch64-unknown-linux-musl\n",
+        "\n    -       rpm",
+    ] {
+        assert!(out.contains(line), "{out}");
+    }
+    // Without a C library the tools that state one have no name, and it says what helps.
+    let (out, _, _) = answers(&["what", "linux/arm64"]);
+    assert!(
+        out.contains(": it depends on the C library: use `--libc glibc` or `--libc musl`\n"),
+        "{out}"
+    );
+    // One name may mean different things to different tools, or no triple.
+    let meant = |name: &str| json_of(&["what", "--json", name])[0].clone();
+    let amd64 = meant("amd64");
     assert_eq!(
-        (&names[0]["go"], &names[0]["debian"]),
+        amd64["meanings"][0]["canonical"],
+        "x86_64-unknown-linux-gnu"
+    );
+    assert_eq!(amd64["meanings"][0]["tools"][0], "debian");
+    assert_eq!(amd64["without_triple"]["go"], "a machine without a system");
+    let sunos = meant("sunos-x64");
+    assert_eq!(sunos["meanings"], json!([]));
+    assert_eq!(
+        sunos["without_triple"]["node"],
+        "two systems: Solaris and illumos"
+    );
+    // A triple is a name too.
+    let windows = meant("x86_64-pc-windows-msvc");
+    let names = &windows["meanings"][0]["names"];
+    assert_eq!(
+        (&names["go"], &names["debian"]),
         (&json!("windows/amd64"), &Value::Null)
     );
+    assert!(windows["meanings"][0]["reasons"]["debian"].is_string());
+    let (out, errors, status) = answers(&["what", "linux/amd46"]);
+    assert_eq!((out.as_str(), status), ("", 1));
+    assert_eq!(
+        errors,
+        "error: no tool has the name `linux/amd46`\n  linux/amd46\n  ^^^^^^^^^^^ did you mean `linux/amd64`?\n"
+    );
+}
+
+#[test]
+fn names_come_as_lists_have_them() {
+    let names = |words: &[&str], input: &str| -> Vec<String> {
+        let (out, _, status) = answers_on(&[&["what"], words].concat(), input);
+        assert_eq!(status, 0, "{input}");
+        let heads = out.lines().filter(|line| !line.starts_with(' '));
+        heads.map(String::from).collect()
+    };
+    assert_eq!(
+        names(&["linux/amd64,linux/arm64", "win-x64"], ""),
+        ["linux/amd64", "linux/arm64", "win-x64"]
+    );
+    for list in [
+        "- linux/amd64\n- \"linux/arm64\"\n",
+        "  \"linux/amd64\",\r\n  \"linux/arm64\"\r\n",
+        "[\"linux/amd64\", 'linux/arm64']",
+        "linux/amd64, linux/arm64",
+    ] {
+        assert_eq!(names(&[], list), ["linux/amd64", "linux/arm64"], "{list}");
+    }
+    // The place is that of the name in its line.
+    let (_, errors, _) = answers_on(&["what"], "- linux/amd64, foo/bar\n");
+    assert!(
+        errors.starts_with("<stdin>:1:16: error: no tool has the name `foo/bar`"),
+        "{errors}"
+    );
+    let (_, errors, status) = answers(&["what", " , "]);
+    assert!(errors.contains("no tool has the name"), "{errors}");
+    assert_eq!(status, 1);
+}
+
+#[test]
+fn the_host_is_a_target() {
+    let (host, _, status) = answers(&["host"]);
+    assert_eq!(status, 0);
+    assert_eq!(answers(&["check", host.trim_end()]).2, 0);
+    let width = format!("  pointer_width               {}\n", usize::BITS);
+    assert!(answers(&["facts", host.trim_end()]).0.contains(&width));
 }
 
 #[test]
@@ -740,7 +824,7 @@ fn the_manual_and_the_completions_have_all_of_the_help() {
         .map_while(|line| line.strip_prefix("  ")?.split(' ').next())
         .filter(|call| *call != "help")
         .collect();
-    assert_eq!(calls.len(), 13);
+    assert_eq!(calls.len(), 14);
     for call in calls {
         assert!(
             page.contains(&format!(".B target-lexicon {call}\n")),

@@ -358,7 +358,7 @@ class Samples(Folder):
         places = {"avr": (None, None), "arm64-apple-ios17": ("<stdin>", 1)}
         expected = [{"target": it, "file": file, "line": line, **target_lexicon.Triple(it).to_dict()} for it, (file, line) in places.items()]
         self.assertEqual((json.loads(objects), status), (expected, 0))
-        self.assertIn("  pointer_width               16\n  default_calling_convention  -\n", answer("facts", "avr")[0])
+        self.assertIn("  pointer_width               16\n  default_calling_convention  -  no answer\n", answer("facts", "avr")[0])
         self.assertEqual(answer("--version"), (f"target_lexicon {target_lexicon.LIBRARY_VERSION}\n", "", 0))
         self.assertEqual(answer("check", "x")[2], 2)
         for words in [], ["write", "x"], ["write", "--to", "podman", "x"], ["read", "--from", "podman", "x"], ["facts", "--yaml", "x"]:
@@ -370,7 +370,7 @@ class Samples(Folder):
         targets = ["arm64-apple-ios17.1", "avr", "x86_64-aple-linux", "x86_64-unknown-uefi", "armv6k-nintendo-3ds", "thumbv7m-none-eabi",
                    "x86_64-w64-windows-gnu", "x86_64-pc-linx", "x86_64-\u00e9\U0001f600-x", "", "x86_64-linux-elf-gnu", "x86_64-w64-mingw32"]
         names = ["linux/arm64", "amd64", "linux-x64-musl", "js/wasm", "linux/amd46", "x86_64-linux-gnu", "", "x86_64-w64-mingw32", "gnu-\u00e9"]
-        calls = [["facts"], ["explain"], ["settle"], ["elsewhere"], *(["write", "--to", str(it)] for it in target_lexicon._dialects.WRITTEN)]
+        calls = [["facts"], ["explain"], ["settle"], *(["write", "--to", str(it)] for it in target_lexicon._dialects.WRITTEN)]
         calls = [(words, targets) for words in calls] + [(["read"], targets + names)]
         calls += [([*words, "--libc", "musl"], targets + names) for words in (["write", "--to", "debian"], ["read"])]
         calls += [(["read", "--from", str(it)], names) for it in target_lexicon._dialects.READ]

@@ -115,7 +115,7 @@ def _lines(command: str, target: str, answer: Answer) -> str:
     if command not in ("facts", "elsewhere"):
         return "".join(answer.values())
     width = max(map(len, answer))
-    words = {True: "yes", False: "no", None: "-"}
+    words = {True: "yes", False: "no", None: "-  no answer" if command == "facts" else "-"}
     lines = [f"  {name:{width}}  {words[it] if it is None or isinstance(it, bool) else it}" for name, it in answer.items()]
     return "\n".join([target, *lines])
 

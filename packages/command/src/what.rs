@@ -1,0 +1,164 @@
+//! What a name of any tool means, by which tools, and what every tool calls it.
+use crate::answers::canonical;
+use crate::arguments::written;
+use crate::input::{Place, Target};
+use crate::json::{Json, Object};
+use crate::refusal::Refusal;
+use std::io::{self, Write};
+use target_lexicon::tool_names::{complete, read, Dialect, LinuxLibc, Name, NameError, WriteError};
+use target_lexicon::TripleRef;
+
+/// What stands around the names of a list: in YAML, JSON, or a line of words with commas.
+const AROUND: &[char] = &[' ', '\t', ',', '"', '\'', '[', ']'];
+
+/// The names that a text has: between commas, and without what stands around the names of a list. A text without a name is one.
+pub fn names_in(target: Target<'_>) -> impl Iterator<Item = Target<'_>> {
+    let whole = target.text;
+    let names = whole.split(',').map(|part| {
+        let part = part.trim_matches(AROUND);
+        part.strip_prefix("- ").unwrap_or(part).trim_matches(AROUND)
+    });
+    let mut names: Vec<&str> = names.filter(|name| !name.is_empty()).collect();
+    if names.is_empty() {
+        names.push(whole);
+    }
+    names.into_iter().map(move |text| {
+        let before = &whole[..text.as_ptr() as usize - whole.as_ptr() as usize];
+        let place = match target.place {
+            Place::Line {
+                file,
+                number,
+                indent,
+            } => Place::Line {
+                file,
+                number,
+                indent: indent + before.chars().count(),
+            },
+            place => place,
+        };
+        Target { text, place }
+    })
+}
+
+/// What a name means: each triple, with the tools that mean it; and the reason of each tool that has the name for no triple.
+pub struct What<'a> {
+    meanings: Vec<(TripleRef<'a>, Vec<&'static str>)>,
+    without_triple: Vec<(&'static str, &'static str)>,
+    libc: Option<LinuxLibc>,
+}
+
+impl<'a> What<'a> {
+    pub fn of(text: &'a str, libc: Option<LinuxLibc>) -> Result<Self, Refusal<'a>> {
+        let mut what = What {
+            meanings: Vec::new(),
+            without_triple: Vec::new(),
+            libc,
+        };
+        for dialect in Dialect::ALL {
+            match dialect.read(text) {
+                Ok(triple) => what.add(triple, dialect.name()),
+                Err(NameError::WithoutTriple(why)) => {
+                    what.without_triple.push((dialect.name(), why))
+                }
+                Err(NameError::Unknown) => {}
+            }
+        }
+        // One word is spelled like a triple too, but of a name that some tool has nobody means that.
+        let has_name = !what.meanings.is_empty() || !what.without_triple.is_empty();
+        if text.contains('-') || !has_name {
+            match (TripleRef::from_str(text), read(text)) {
+                (Ok(triple), _) => what.add(triple, "triple"),
+                (_, Ok(triple)) => what.add(triple, "spelling"),
+                _ if has_name => {}
+                _ => return Err(Refusal::unknown_to_all(text)),
+            }
+        }
+        Ok(what)
+    }
+
+    fn add(&mut self, triple: TripleRef<'a>, tool: &'static str) {
+        let triple = canonical(match self.libc {
+            Some(libc) => complete(&triple, libc),
+            None => triple,
+        });
+        match self.meanings.iter_mut().find(|(it, _)| *it == triple) {
+            Some((_, tools)) => tools.push(tool),
+            None => self.meanings.push((triple, vec![tool])),
+        }
+    }
+
+    /// For each meaning a line with the tools that mean it, a line for each tool that has a name for it, and a line for each reason
+    /// why others have none.
+    pub fn write(&self, out: &mut dyn Write, text: &str) -> io::Result<()> {
+        writeln!(out, "{text}")?;
+        for (triple, tools) in &self.meanings {
+            writeln!(out, "  is {triple}, as {}", tools.join(", "))?;
+            let mut unnamed: Vec<(String, Vec<&str>)> = Vec::new();
+            for dialect in written() {
+                match dialect.write_with(triple, self.libc) {
+                    Ok(name) => writeln!(out, "    {dialect:8}{name}")?,
+                    Err(error) => {
+                        let (why, tool) = (reason(error), dialect.name());
+                        match unnamed.iter_mut().find(|(it, _)| *it == why) {
+                            Some((_, tools)) => tools.push(tool),
+                            None => unnamed.push((why, vec![tool])),
+                        }
+                    }
+                }
+            }
+            for (why, tools) in unnamed {
+                writeln!(out, "    -       {}: {why}", tools.join(", "))?;
+            }
+        }
+        self.without_triple.iter().try_for_each(|(tool, why)| {
+            writeln!(out, "  is a name of {tool} without a triple: {why}")
+        })
+    }
+
+    pub fn members(&self) -> Object {
+        let strings =
+            |tools: &[&'static str]| Json::List(tools.iter().map(|it| Json::from(*it)).collect());
+        let meaning = |(triple, tools): &(TripleRef<'_>, Vec<&'static str>)| {
+            let names = written().map(|it| (it.name(), it.write_with(triple, self.libc)));
+            let names: Vec<(&'static str, Result<Name, WriteError>)> = names.collect();
+            let name = |(tool, found): &(&'static str, Result<Name, WriteError>)| {
+                let name = found.as_ref().ok().map(|name| name.as_str().to_string());
+                (*tool, name.into())
+            };
+            let why = |(tool, found): &(&'static str, Result<Name, WriteError>)| {
+                Some((*tool, reason(*found.as_ref().err()?).into()))
+            };
+            Json::Object(vec![
+                ("canonical", triple.to_string().into()),
+                ("tools", strings(tools)),
+                ("names", Json::Object(names.iter().map(name).collect())),
+                (
+                    "reasons",
+                    Json::Object(names.iter().filter_map(why).collect()),
+                ),
+            ])
+        };
+        let without = self.without_triple.iter();
+        vec![
+            (
+                "meanings",
+                Json::List(self.meanings.iter().map(meaning).collect()),
+            ),
+            (
+                "without_triple",
+                Json::Object(without.map(|(tool, why)| (*tool, (*why).into())).collect()),
+            ),
+        ]
+    }
+}
+
+/// Why a tool has no name for a triple, with the option that would help.
+fn reason(error: WriteError) -> String {
+    match error {
+        WriteError::NeedsCLibrary => {
+            "it depends on the C library: use `--libc glibc` or `--libc musl`".into()
+        }
+        WriteError::NoName => "no name".into(),
+        other => other.to_string(),
+    }
+}
