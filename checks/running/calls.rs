@@ -196,10 +196,12 @@ pub fn relations(r: &mut Report, string: &str) {
         let refusal = s::refusal_with(con(s::Option__Some, &[V::C(s::Field__Architecture, &[])]), library::seq(&[]));
         r.holds("IsRefusedAs of what is read", !s::IsRefusedAs(x, refusal).yes(), &string);
         if let V::C(s::Option__None, _) = s::special_values(x) {
-            let sources = s::taken_sources(V::C(s::SourceValue__Implied, &[]), s::placed_from(V::N(0), s::parts_of(x)));
+            let (first, unfilled) = (con(s::Option__Some, &[V::C(s::Field__Architecture, &[])]), s::same_sources(V::C(s::SourceValue__NotGiven, &[])));
+            let parts = s::plain_parts(s::placed_from(V::N(0), s::parts_of(x)));
+            let sources = s::resumed_sources(V::C(s::SourceValue__Implied, &[]), first, unfilled, parts);
             r.holds("AreSourcesOf", s::AreSourcesOf(x, sources).yes(), &string);
             let answered = format!("{:?}", TripleRef::explain(string).sources).replace("Part(", "FromPart(");
-            r.same("taken_sources", sources, &format_args!("{answered}"), &string);
+            r.same("resumed_sources", sources, &format_args!("{answered}"), &string);
         }
     } else {
         r.holds("IsRefusedAs", s::IsRefusedAs(x, it[0]).yes(), &string);
