@@ -193,7 +193,7 @@ impl Run {
             return help.clone();
         }
         let help = Help {
-            suggestion: refusal.suggestion(),
+            suggestion: refusal.suggestion(target.text),
             note: self.note(target),
         };
         if self.helps.len() < REMEMBERED

@@ -199,10 +199,10 @@ fn key_of(field: Field) -> Option<&'static str> {
 }
 
 impl Refusal<'_> {
-    /// What is suggested.
-    pub fn suggestion(&self) -> Option<String> {
+    /// What is suggested for a part of this target.
+    pub fn suggestion(&self, target: &str) -> Option<String> {
         let found = match &self.names {
-            Names::OfParts(refusal) => refusal.suggestion(),
+            Names::OfParts(refusal) => refusal.suggestion_in(target),
             Names::OfVendors(vendor) => tool_names::suggestion(Field::Vendor, vendor),
             Names::OfAll(name) => {
                 let mut names = Dialect::ALL.iter().filter_map(|it| it.suggestion(name));

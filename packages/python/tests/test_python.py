@@ -224,7 +224,8 @@ class Fields(unittest.TestCase):
     def test_suggestions(self):
         for text, field, name in (("x86_64-pc-linx", "operating_system", "linux"), ("arm64e-apple-ios", "architecture", None), ("arm64-apple-iso17", "operating_system", "ios17"),
                                   ("arm64-apple-macos14.2", "operating_system", "macosx14.2"), ("x86_64-pc-linux5.10", "operating_system", "linux"),
-                                  ("amd64-linux", "architecture", "x86_64"), ("x86_64-pc-linux-gnuabi", "environment", "gnueabi"),
+                                  ("amd64-linux", "architecture", "x86_64"), ("x86_64-pc-linux-gnuu", "environment", "gnu"), ("armv7-linux-gnueabihff", "environment", "gnueabihf"),
+                                  ("x86_64-linux-gnueabihff", "environment", None),
                                   ("x86_64-pc-linux-gnu-mahco", "binary_format", "macho"), ("x86_64-linux-elf-gnu", None, None)):
             with self.assertRaises(ParseError) as caught:
                 Triple(text)

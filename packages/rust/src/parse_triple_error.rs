@@ -180,7 +180,7 @@ impl ParseTripleError {
         self.expected
     }
 
-    /// The name that was perhaps meant, as [`Refusal::suggestion`] says.
+    /// The name that was perhaps meant, as [`Refusal::suggestion_in`] says.
     ///
     /// # Examples
     ///
@@ -191,7 +191,7 @@ impl ParseTripleError {
     #[must_use]
     #[inline]
     pub fn suggestion(&self) -> Option<Suggestion<'_>> {
-        self.refusal().suggestion()
+        self.refusal().suggestion_in(&self.text)
     }
 
     /// The refusal, which borrows from the string of the error.
@@ -231,7 +231,7 @@ impl fmt::Display for ParseTripleError {
         // An empty part has a caret too.
         f.write_char('^')?;
         part.chars().skip(1).try_for_each(|_| f.write_char('^'))?;
-        match refusal.suggestion() {
+        match refusal.suggestion_in(&self.text) {
             Some(name) => write!(f, " did you mean `{name}`?"),
             None => Ok(()),
         }

@@ -22,7 +22,8 @@ impl Field {
 impl<'a> Refusal<'a> {
     /// The name that was perhaps meant. If other tools spell a known name as the refused part, it is that name. Otherwise it
     /// is the nearest one of the expected field or of a later one, if the part may be a misspelling of it. It never changes
-    /// the family of the architecture or a digit, and a version stays where the system may have it.
+    /// the machine, its width and byte order, how floating-point arguments are passed, or a digit; a version stays where the
+    /// system may have it. An environment of certain machines is suggested by [`suggestion_in`](Refusal::suggestion_in).
     ///
     /// # Examples
     ///
@@ -39,6 +40,28 @@ impl<'a> Refusal<'a> {
     #[inline]
     pub fn suggestion(&self) -> Option<Suggestion<'a>> {
         tool_names::suggestion(self.expected?, self.part.text)
+    }
+
+    /// The name that was perhaps meant in this string, which has the refused part: as [`suggestion`](Refusal::suggestion), and it
+    /// may be an environment of the string's architecture too.
+    ///
+    /// # Examples
+    ///
+    /// ```
+    /// use target_lexicon::TripleRef;
+    ///
+    /// let suggested = |text: &str| {
+    ///     let refusal = TripleRef::from_str(text).unwrap_err();
+    ///     refusal.suggestion_in(text).map(|it| it.names)
+    /// };
+    /// assert_eq!(suggested("armv7-unknown-linux-gnueabihff"), Some("gnueabihf"));
+    /// assert_eq!(suggested("x86_64-unknown-linux-gnueabihff"), None);
+    /// ```
+    #[must_use]
+    #[inline]
+    pub fn suggestion_in(&self, text: &str) -> Option<Suggestion<'a>> {
+        let machine = tool_names::architecture_in(text);
+        tool_names::suggestion_on(machine, self.expected?, self.part.text)
     }
 }
 

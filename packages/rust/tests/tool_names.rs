@@ -233,7 +233,7 @@ linux5.10=linux
 Linux5.10=linux
 linx5.10=
 windows10=windows
-windows.win10=windows
+windows.win10=
 haiku1=haiku
 freebsd13.2=freebsd
 freebsd13x=freebsd
@@ -264,7 +264,7 @@ X86_64=x86_64
 ARM64=arm64
 mips32el=
 iso17=
-arm6j=armv6j
+arm6j=
 i368=i386
 amd64=x86_64
 wasm=
@@ -279,7 +279,13 @@ r600=
 s390=
 spir64=
 spirv64=
-z8k=";
+z8k=
+amr64=
+powerpcle=
+mipsl=
+ppc64el=powerpc64le
+x8664=x86_64
+mipse=";
 
 const VENDORS: &str = "\
 linxu=linux
@@ -294,7 +300,7 @@ w64=pc";
 const ENVIRONMENTS: &str = "\
 android21=android
 mingw32=
-gnuabi=gnueabi
+gnuabi=
 musl=musl
 msul=musl
 glibc=
@@ -303,7 +309,10 @@ iso17=
 macos14=
 linux5.10=
 ela=
-efl=elf";
+efl=elf
+gnueabihff=
+gnuu=gnu
+gnux3=";
 
 const BINARY_FORMATS: &str = "\
 mach0=
@@ -327,6 +336,88 @@ fn names_are_suggested() {
             assert_eq!(suggestion(field, name).unwrap(), *name);
         }
     }
+}
+
+#[test]
+fn an_environment_is_suggested_for_its_machines() {
+    for (text, name) in [
+        ("armv7-unknown-linux-gnueabihff", Some("gnueabihf")),
+        ("armv7-unknown-linux-gnueabii", None),
+        ("x86_64-linux-gnueabihff", None),
+        ("riscv64-linux-gnueabii", None),
+        ("mips64el-unknown-linux-gnuabii64", Some("gnuabi64")),
+        ("arm64-unknown-linux-gnuu", Some("gnu")),
+    ] {
+        let error = TripleRef::parse(text).unwrap_err();
+        assert_eq!(error.suggestion().map(|it| it.names), name, "{text}");
+    }
+}
+
+/// Edits of one letter.
+fn edits(name: &str) -> Vec<String> {
+    let letters = "abcdefghijklmnopqrstuvwxyz0123456789_";
+    let cuts = (0..=name.len()).map(|at| name.split_at(at));
+    let changed = cuts.flat_map(|(before, after)| {
+        let rest = after.get(1..);
+        let added = letters.chars().map(move |c| format!("{before}{c}{after}"));
+        let replaced = letters
+            .chars()
+            .filter_map(move |c| Some(format!("{before}{c}{}", rest?)));
+        added
+            .chain(replaced)
+            .chain(rest.map(|rest| format!("{before}{rest}")))
+    });
+    changed.collect()
+}
+
+/// Each suggestion for an edit of one letter of a known name, and for some of two, has a place. `checks/compare edits` asks for
+/// more, and that suggestions keep the machine.
+#[test]
+fn suggestions_have_a_place() {
+    let start = |field: Field| {
+        [
+            "",
+            "armv7-",
+            "armv7-unknown-",
+            "armv7-unknown-linux-",
+            "armv7-unknown-linux-gnu-",
+        ][field as usize]
+    };
+    let mut count = 0;
+    let mut check = |field, part: &str| {
+        let text = format!("{}{part}", start(field));
+        let Err(refusal) = TripleRef::from_str(&text) else {
+            return;
+        };
+        if let Some(name) = refusal.suggestion_in(&text) {
+            let suggested = format!(
+                "{}{name}{}",
+                &text[..refusal.part.start],
+                &text[refusal.range().end..]
+            );
+            assert!(TripleRef::from_str(&suggested).is_ok(), "{text}: {name}");
+            count += 1;
+        }
+    };
+    for field in [
+        Field::Architecture,
+        Field::OperatingSystem,
+        Field::Environment,
+        Field::BinaryFormat,
+    ] {
+        for name in field.names() {
+            for (at, once) in edits(name).iter().enumerate() {
+                check(field, once);
+                if at % 211 == 0 {
+                    edits(once)
+                        .iter()
+                        .step_by(11)
+                        .for_each(|twice| check(field, twice));
+                }
+            }
+        }
+    }
+    assert!(count > 10_000, "{count}");
 }
 
 #[test]

@@ -1,7 +1,10 @@
 //! The modes of the program `triples` over the Rust crate, for tests that compare with it; the mode `cfg`, which writes
-//! rustc's options for each line, and the mode `driver`, which writes what a compiler's driver asks. It isn't installed.
+//! rustc's options for each line, the mode `driver`, which writes what a compiler's driver asks, and the mode `edits`, which asks what
+//! is suggested for edits of names. It isn't installed.
 #![forbid(unsafe_code)]
 
+#[path = "../../../../checks/comparisons/edits.rs"]
+mod edits;
 #[path = "../../../../checks/comparisons/lines.rs"]
 mod lines;
 #[allow(dead_code)] // its main
@@ -66,6 +69,11 @@ fn main() -> io::Result<ExitCode> {
         }
         Some("driver") => {
             each(driver, "")?;
+            return Ok(ExitCode::SUCCESS);
+        }
+        Some("edits") => {
+            let step = std::env::args().nth(2).and_then(|it| it.parse().ok());
+            edits::check(&io::read_to_string(io::stdin())?, step.unwrap_or(1));
             return Ok(ExitCode::SUCCESS);
         }
         _ => {

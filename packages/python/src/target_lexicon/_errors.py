@@ -86,7 +86,10 @@ class ParseError(ValueError):
         if self._number:
             return _library.name_suggestion(self._number, self.text.encode())
         status = self._status
-        return None if status == _LONE_SURROGATE else _library.suggestion(status, self.part.encode())
+        if status == _LONE_SURROGATE:
+            return None
+        before, part, after = (it.encode(errors="replace") for it in (self.text[:self.start], self.part, self.text[self.end:]))
+        return _library.suggestion(status, before + part + after, len(before), len(before + part))
 
     @property
     def _status(self) -> int:

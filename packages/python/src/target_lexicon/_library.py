@@ -255,9 +255,9 @@ def error_line(status: int, part: bytes) -> str:
     return text_of(_error_line, part, len(part), ErrorStruct(status, 0, len(part))).decode()
 
 
-def suggestion(status: int, part: bytes) -> Optional[str]:
-    """What may have been meant by a part that is refused with this status."""
-    return _suggestion_of(_suggestion, part, len(part), ErrorStruct(status, 0, len(part)))
+def suggestion(status: int, text: bytes, start: int, end: int) -> Optional[str]:
+    """What may have been meant by the part of a text that is refused with this status."""
+    return _suggestion_of(_suggestion, text, len(text), ErrorStruct(status, start, end))
 
 
 def vendor_suggestion(triple: TripleStruct) -> Optional[str]:

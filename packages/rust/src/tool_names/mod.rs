@@ -4,7 +4,10 @@
 //! What other tools' names mean is proved. Suggestions, rustc's cfg options and what a compiler's driver asks are plain Rust,
 //! compared with those tools.
 #[cfg(feature = "tool_names")]
+mod dialect_suggestions;
+#[cfg(feature = "tool_names")]
 mod driver;
+mod misspellings;
 #[cfg(feature = "tool_names")]
 mod rustc_cfg;
 mod suggestions;
@@ -20,4 +23,5 @@ pub use crate::proved::tool_names::{
 pub use driver::{CLibrary, FloatAbi, TypeLayout};
 #[cfg(feature = "tool_names")]
 pub use rustc_cfg::{is_unix, RustcCfg};
+pub(crate) use suggestions::{architecture_in, suggestion_on};
 pub use suggestions::{suggestion, Suggestion};
