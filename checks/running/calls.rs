@@ -7,7 +7,7 @@ use crate::values::{con, eq, function, library, text as v, V};
 use target_lexicon::tool_names::{self as tools, Dialect, LinuxLibc};
 use target_lexicon::{
     Aarch64Architecture, Architecture, ArmArchitecture, BinaryFormat, CleverArchitecture, Environment, Mips32Architecture, Mips64Architecture,
-    OperatingSystem, Riscv32Architecture, Riscv64Architecture, Triple, TripleRef, VendorRef, X86_32Architecture, Z80Architecture,
+    OperatingSystem, Riscv32Architecture, Riscv64Architecture, Source, Triple, TripleRef, VendorRef, X86_32Architecture, Z80Architecture,
 };
 
 /// `answers!(report, input, (arguments): definition = call; ..)`
@@ -195,13 +195,19 @@ pub fn relations(r: &mut Report, string: &str) {
         }
         let refusal = s::refusal_with(con(s::Option__Some, &[V::C(s::Field__Architecture, &[])]), library::seq(&[]));
         r.holds("IsRefusedAs of what is read", !s::IsRefusedAs(x, refusal).yes(), &string);
+        let sources = TripleRef::explain(string).sources;
+        let found = [sources.architecture, sources.vendor, sources.operating_system, sources.environment, sources.binary_format].map(|source| match source {
+            Source::Part(part) => con(s::SourceValue__FromPart, &[s::part_from(V::N(part.start as u64), v(part.text))]),
+            Source::NotGiven => V::C(s::SourceValue__NotGiven, &[]),
+            Source::Implied => V::C(s::SourceValue__Implied, &[]),
+        });
+        r.holds("AreSourcesOf", s::AreSourcesOf(x, s::source_values(found[0], found[1], found[2], found[3], found[4])).yes(), &string);
+        r.holds("AreSourcesOf of others", !s::AreSourcesOf(x, s::source_values(found[0], found[1], found[2], found[4], found[3])).yes() || eq(found[3], found[4]), &string);
         if let V::C(s::Option__None, _) = s::special_values(x) {
             let (first, unfilled) = (con(s::Option__Some, &[V::C(s::Field__Architecture, &[])]), s::same_sources(V::C(s::SourceValue__NotGiven, &[])));
             let parts = s::plain_parts(s::placed_from(V::N(0), s::parts_of(x)));
-            let sources = s::resumed_sources(V::C(s::SourceValue__Implied, &[]), first, unfilled, parts);
-            r.holds("AreSourcesOf", s::AreSourcesOf(x, sources).yes(), &string);
-            let answered = format!("{:?}", TripleRef::explain(string).sources).replace("Part(", "FromPart(");
-            r.same("resumed_sources", sources, &format_args!("{answered}"), &string);
+            let answered = format!("{sources:?}").replace("Part(", "FromPart(");
+            r.same("resumed_sources", s::resumed_sources(V::C(s::SourceValue__Implied, &[]), first, unfilled, parts), &format_args!("{answered}"), &string);
         }
     } else {
         r.holds("IsRefusedAs", s::IsRefusedAs(x, it[0]).yes(), &string);

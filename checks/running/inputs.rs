@@ -1,7 +1,7 @@
 //! What is tried. Nothing else of this check is chosen by hand.
 use crate::report::without_names_of_structs;
 use crate::spec as s;
-use crate::values::{apply, con, keep, shown, text as v, V};
+use crate::values::{apply, con, eq, keep, library, shown, text as v, with, N, V};
 use std::fmt::Debug;
 use target_lexicon::tool_names::{Dialect, LinuxLibc};
 use target_lexicon::{Architecture, BinaryFormat, Environment, OperatingSystem, TripleRef, VendorRef};
@@ -19,6 +19,18 @@ impl Chosen {
     pub fn of(self, count: usize) -> impl Iterator<Item = usize> {
         (self.shard * self.step..count).step_by(self.of * self.step)
     }
+}
+
+fn is_prime(n: usize) -> bool {
+    n > 1 && (2..).take_while(|it| it * it <= n).all(|it| n % it > 0)
+}
+
+/// The first prime from a number on; and the last up to it, or 1.
+pub fn prime_from(n: usize) -> usize {
+    (n..).find(|it| is_prime(*it)).unwrap()
+}
+pub fn prime_before(n: usize) -> usize {
+    (2..=n).rev().find(|it| is_prime(*it)).unwrap_or(1)
 }
 
 // ---- values
@@ -77,23 +89,40 @@ pub fn fields() -> Fields {
     }
 }
 
-/// All triples of these values.
-pub fn triples(chosen: Chosen, mut each: impl FnMut(V, TripleRef<'static>)) {
+/// The values of which families, special strings and rules of printing speak, and one of each other kind.
+pub fn near_families() -> Fields {
+    fn only<T: Debug>(values: Vec<(V, T)>, wanted: &str) -> Vec<(V, T)> {
+        values.into_iter().filter(|it| wanted.split(' ').any(|name| name == shown(it.0))).collect()
+    }
     let all = fields();
-    let counts = [all.architectures.len(), all.vendors.len(), all.systems.len(), all.environments.len(), all.formats.len()];
-    for i in chosen.of(counts.iter().product()) {
+    Fields {
+        architectures: only(all.architectures, "Arm(Armv6k) Riscv32(Riscv32imc) Clever(Clever) Wasm32 X86_64"),
+        vendors: only(all.vendors, "Known(Unknown) Known(Nintendo) Known(Espressif) Custom(\"esp\") Custom(\"No-1\")"),
+        systems: only(all.systems, "Unknown None_ Horizon Espidf Linux Cygwin"),
+        environments: only(all.environments, "Unknown Newlib None Gnu LinuxKernel"),
+        formats: all.formats,
+    }
+}
+
+impl Fields {
+    /// How many triples there are of these values.
+    pub fn count(&self) -> usize {
+        self.architectures.len() * self.vendors.len() * self.systems.len() * self.environments.len() * self.formats.len()
+    }
+
+    /// One of these triples.
+    pub fn triple(&self, i: usize) -> (V, TripleRef<'static>) {
         let mut rest = i;
-        let mut digit = |count: usize| {
-            let digit = rest % count;
+        let mut next = |count: usize| {
+            let index = rest % count;
             rest /= count;
-            digit
+            index
         };
-        let (b, e, o, w, a) = (digit(counts[4]), digit(counts[3]), digit(counts[2]), digit(counts[1]), digit(counts[0]));
-        let (a, w, o, e, b) = (&all.architectures[a], &all.vendors[w], &all.systems[o], &all.environments[e], &all.formats[b]);
-        each(
-            s::values(a.0, w.0, o.0, e.0, b.0),
-            TripleRef { architecture: a.1, vendor: w.1, operating_system: o.1, environment: e.1, binary_format: b.1 },
-        );
+        let (b, e) = (&self.formats[next(self.formats.len())], &self.environments[next(self.environments.len())]);
+        let (o, w) = (&self.systems[next(self.systems.len())], &self.vendors[next(self.vendors.len())]);
+        let a = &self.architectures[next(self.architectures.len())];
+        let triple = TripleRef { architecture: a.1, vendor: w.1, operating_system: o.1, environment: e.1, binary_format: b.1 };
+        (s::values(a.0, w.0, o.0, e.0, b.0), triple)
     }
 }
 
@@ -168,44 +197,50 @@ impl Strings {
         Strings { words, firsts: split(firsts).collect(), together, architectures, random }
     }
 
-    pub fn each(&self, chosen: Chosen, mut each: impl FnMut(&str)) {
-        let (words, together) = (&self.words, &self.together);
-        for count in 1..=3 {
-            product(&vec![words; count], chosen, &mut each);
-        }
-        for count in 3..=4 {
-            let mut choices = vec![&self.firsts];
-            choices.extend(vec![together; count]);
-            product(&choices, chosen, &mut each);
-        }
-        for i in chosen.of(self.random) {
-            let mut random = Random::new(i);
-            let mut string = self.architectures[random.below(self.architectures.len())].clone();
-            for _ in 0..1 + random.below(6) {
-                string += "-";
-                string += &words[random.below(words.len())];
+    fn lists(&self) -> Vec<Vec<&Vec<String>>> {
+        let words = (1..=3).map(|count| vec![&self.words; count]);
+        let together = (3..=4).map(|count| [vec![&self.firsts], vec![&self.together; count]].concat());
+        words.chain(together).collect()
+    }
+
+    pub fn count(&self) -> usize {
+        self.lists().iter().map(|lists| product(lists)).sum::<usize>() + self.random
+    }
+
+    /// One of them.
+    pub fn string(&self, mut i: usize) -> String {
+        for lists in self.lists() {
+            if i < product(&lists) {
+                return joined(&lists, i);
             }
-            random.edit(&mut string);
-            each(&string);
+            i -= product(&lists);
         }
+        let mut random = Random::new(i);
+        let mut string = self.architectures[random.below(self.architectures.len())].clone();
+        for _ in 0..1 + random.below(6) {
+            string += "-";
+            string += &self.words[random.below(self.words.len())];
+        }
+        random.edit(&mut string);
+        string
     }
 }
 
-/// Each string of a word of each list, with dashes between them.
-fn product(choices: &[&Vec<String>], chosen: Chosen, each: &mut impl FnMut(&str)) {
+fn product(lists: &[&Vec<String>]) -> usize {
+    lists.iter().map(|it| it.len()).product()
+}
+
+/// A word of each list, with dashes between them.
+fn joined(lists: &[&Vec<String>], mut i: usize) -> String {
     let mut string = String::new();
-    for i in chosen.of(choices.iter().map(|it| it.len()).product()) {
-        string.clear();
-        let mut rest = i;
-        for (place, words) in choices.iter().enumerate() {
-            if place > 0 {
-                string.push('-');
-            }
-            string.push_str(&words[rest % words.len()]);
-            rest /= words.len();
+    for (place, words) in lists.iter().enumerate() {
+        if place > 0 {
+            string.push('-');
         }
-        each(&string);
+        string.push_str(&words[i % words.len()]);
+        i /= words.len();
     }
+    string
 }
 
 /// Numbers that are the same in each run.
@@ -272,4 +307,20 @@ pub fn names() -> Vec<String> {
         names.push(name);
     }
     unique(names.into_iter())
+}
+
+/// The triples that names of other tools mean, also with a version if they can have one, and with a vendor.
+pub fn meanings() -> Vec<V> {
+    let version = || library::seq(&[N(13), N(4)]);
+    let rows = s::dialects().list().iter().flat_map(|it| s::rows_of(*it).list());
+    let meant = unique(rows.map(|row| s::get_meaning(*row).string())).into_iter().filter_map(|meaning| match s::reading(v(&meaning)) {
+        V::C(s::Result__Ok, it) => Some(it[0]),
+        _ => None,
+    });
+    let all = meant.flat_map(|t| {
+        let versioned = with(t, &[("operating_system", s::system_with(version(), s::get_operating_system(t)))]);
+        let custom = with(t, &[("vendor", con(s::VendorValue__Custom, &[v("esp")]))]);
+        if eq(t, versioned) { vec![t, custom] } else { vec![t, versioned, custom] }
+    });
+    keep(|| library::seq(&all.collect::<Vec<_>>())).list().to_vec()
 }

@@ -28,9 +28,6 @@ nat_eq : ℕ → ℕ → Bool
 nat_lt : ℕ → ℕ → Bool
 nat_le : ℕ → ℕ → Bool
 
--- the smaller of two
-min : ℕ → ℕ → ℕ
-
 -- how a number compares with another
 nat_cmp : ℕ → ℕ → Ordering
 nat_cmp a b = if nat_lt a b then Less else if a == b then Equal else Greater

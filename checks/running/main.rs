@@ -4,6 +4,7 @@
 mod ask;
 mod calls;
 mod inputs;
+mod laws;
 mod report;
 #[allow(warnings)]
 mod spec {
@@ -11,53 +12,53 @@ mod spec {
 }
 mod values;
 
-use inputs::{Chosen, Strings};
+use inputs::{Chosen, Fields, Strings};
 use report::Report;
-use values::forget;
+use target_lexicon::TripleRef;
+use values::{forget, V};
 
 /// The cases of a part. What a case took in memory is given back after it.
 fn run(part: &str, chosen: Chosen, r: &mut Report) {
     let (dialects, libraries) = (inputs::dialects(), inputs::c_libraries());
-    let each_string = |strings: Strings, r: &mut Report, call: fn(&mut Report, &str)| {
-        strings.each(chosen, |string| {
-            call(r, string);
+    let strings = |strings: Strings, r: &mut Report, call: fn(&mut Report, &str)| {
+        for i in chosen.of(strings.count()) {
+            call(r, &strings.string(i));
             forget();
-        });
+        }
+    };
+    let triples = |fields: Fields, r: &mut Report, call: &dyn Fn(&mut Report, V, TripleRef<'static>)| {
+        for i in chosen.of(fields.count()) {
+            let (t, triple) = fields.triple(i);
+            call(r, t, triple);
+            forget();
+        }
+    };
+    let words = |words: Vec<String>, r: &mut Report, call: &dyn Fn(&mut Report, &str)| {
+        for i in chosen.of(words.len()) {
+            call(r, &words[i]);
+            forget();
+        }
     };
     match part {
         "words" => {
             if chosen.shard == 0 {
                 calls::values(r);
             }
-            let words = inputs::edited_words(40);
-            for i in chosen.of(words.len()) {
-                calls::word(r, &words[i]);
-                forget();
-            }
+            words(inputs::edited_words(40), r, &calls::word);
         }
-        "strings" => each_string(Strings::parsed(), r, calls::string),
-        "owned" => each_string(Strings::parsed(), r, calls::owned),
-        "relations" => each_string(Strings::parsed(), r, calls::relations),
-        "spellings" => each_string(Strings::spelled(), r, calls::spelling),
-        "triples" => inputs::triples(chosen, |t, triple| {
+        "strings" => strings(Strings::parsed(), r, calls::string),
+        "owned" => strings(Strings::parsed(), r, calls::owned),
+        "relations" => strings(Strings::parsed(), r, calls::relations),
+        "spellings" => strings(Strings::spelled(), r, calls::spelling),
+        "families" => triples(inputs::near_families(), r, &|r, t, triple| {
             calls::triple(r, t, triple);
-            forget();
-        }),
-        "more" => inputs::triples(chosen, |t, triple| {
             calls::more_of_triple(r, t, triple);
-            forget();
         }),
-        "written" => inputs::triples(chosen, |t, triple| {
-            calls::written(r, t, triple, &dialects, &libraries);
-            forget();
-        }),
-        "names" => {
-            let names = inputs::names();
-            for i in chosen.of(names.len()) {
-                calls::name(r, &names[i], &dialects, &libraries);
-                forget();
-            }
-        }
+        "triples" => triples(inputs::fields(), r, &calls::triple),
+        "more" => triples(inputs::fields(), r, &calls::more_of_triple),
+        "written" => triples(inputs::fields(), r, &|r, t, triple| calls::written(r, t, triple, &dialects, &libraries)),
+        "names" => words(inputs::names(), r, &|r, name| calls::name(r, name, &dialects, &libraries)),
+        "laws" => laws::run(r, Chosen { step: 1, ..chosen }, chosen.step),
         _ => panic!("no part {part}"),
     }
 }

@@ -5,7 +5,9 @@ of its arguments, and a proposition a test, whose variables range over the domai
 library are those of library.antt; what has no clauses there is a function of values.rs. The tables that definitions cite from the
 code are read from the proved source. What isn't understood is an error that names it.
 
-A definition whose type is a proposition is translated only if a Rust file of this folder, or another translated one, names it.
+A proposition is translated if a Rust file of this folder, or another translated one, names it. One without arguments is a law: a
+function of its variables, except for those that an equation or a relation before the arrow gives (`solution`). Each condition that a
+law ends in is a claim: laws.rs looks for a case in which the law is false if the claim is taken to be false.
 """
 import functools
 import pathlib
@@ -16,14 +18,26 @@ ROOT = HERE.parents[1]
 CRATES = ["lexicon_fields", "target_lexicon", "tool_names"]
 LIBRARY = ("library",)
 
-# ---- two exceptions, to be fast: where the second argument is computed only if it is needed, and what is kept in a table
-LAZY, KEPT = {"option_or"}, {"edit_distance"}
+# One exception, to be fast: the second argument is computed only if it is needed.
+LAZY = {"option_or"}
 
-# What a variable of a proposition ranges over. The fields of a placement increase, so no other list of fields matters.
+# The laws that aren't run, and why.
+NOT_RUN = {
+    "ResultsAreComputed": "it is of errors of the code, one of which is a lack of memory",
+    "RefusalsAreAtTheRefusedName": "it cites a field of a proof",
+    "RoundTripsAreKnown": "each of its fields is a law that is run",
+    "Text": "it is a type", "FieldValues": "it is a type",
+}
+# The function that gives the last argument of a relation: the constructor of its result, with that argument.
+GIVEN_BY = {"ReadsAs": ("reading", "Result__Ok"), "IsRefusedAs": ("reading", "Result__Err")}
+# What a variable of a proposition ranges over, where no condition gives its values. The fields of a placement increase, so no other list
+# of fields matters.
 DOMAINS = {"ℕ": "numbers()", "Field": "fields()", "List Field": "field_lists()", "List ( List ℕ )": "library::seq(&[parts_of(text_)])"}
 
 LEVELS = [["→", "↔"], ["⊎"], ["×"], ["≡", "≢", "<", "≤"], ["||"], ["&&"], ["=="], ["∷", "++"], ["+", "-"], ["*"], ["^"]]
 TO_THE_LEFT = ("==", "+", "-", "*", "≡", "≢", "<", "≤")
+# What both sides of an equivalence are tried with, besides what makes one of them true.
+OTHERS = {"Values": "some_values()", "Refusal": "some_refusals()"}
 TESTS = {"→": "!{}.yes() || {}.yes()", "↔": "{}.yes() == {}.yes()", "⊎": "{}.yes() || {}.yes()", "×": "{}.yes() && {}.yes()",
          "||": "{}.yes() || {}.yes()", "&&": "{}.yes() && {}.yes()", "≡": "eq({}, {})", "≢": "!eq({}, {})",
          "<": "{}.number() < {}.number()", "≤": "{}.number() <= {}.number()"}
@@ -167,7 +181,8 @@ class Definition:
     def __init__(self, module, name, type, local_to=None):
         self.module, self.name, self.type, self.chunks = module, name, type, []
         self.locals = local_to.locals if local_to else {}
-        self.is_proposition = type.rstrip().endswith("Type 0")
+        self.is_proposition, self.laws = type.rstrip().endswith("Type 0"), []
+        self.is_record = False
 
     @property
     def title(self):
@@ -230,8 +245,10 @@ class Module:
             is_variable = " ".join(TOKEN.findall(type)) in DOMAINS
             test = f"({name} : {type}) × {test}" if is_variable else f"({type}) × ({test})"
         names = " ".join(re.findall(r"\(([\w ]+) :", it[2]))
-        self.definitions[it[1]] = Definition(self, it[1], "Type 0")
-        self.definitions[it[1]].chunks.append(f"{it[1]} {names} = {test}")
+        definition = self.definitions[it[1]] = Definition(self, it[1], "Type 0")
+        definition.chunks.append(f"{it[1]} {names} = {test}")
+        definition.is_record = True
+        definition.laws = [(f".{name}", type) for name, type in fields]
 
     def read_type(self, it):
         self.definitions[it[1]] = Definition(self, it[1], it[2])
@@ -329,8 +346,9 @@ class Rust:
     def __init__(self, root=ROOT):
         self.root, self.names = root, Names(root)
         self.constructors, self.arity, self.shapes, self.fields, self.wholes = {}, {}, {}, {"now"}, {}
-        self.functions, self.of, self.constants, self.fresh, self.cited, self.failed = [], {}, 3, 0, {}, []
+        self.functions, self.of, self.constants, self.fresh, self.cited, self.failed = [], {}, 5, 0, {}, []  # values.rs has the first 5 constants
         self.todo, self.definition = [], None
+        self.laws, self.law_definitions, self.claims, self.claims_of, self.others = [], set(), [], {}, ""
 
     def translate(self, cited):
         """All definitions, and the propositions with these names and what they need."""
@@ -347,9 +365,18 @@ class Rust:
         wanted += [it for it in self.own if it.is_proposition and it.name in cited]
         for definition in wanted:
             self.name_of(definition)
+        for definition in self.own:
+            if definition.is_proposition and definition.chunks and definition.name not in NOT_RUN and self.has_no_arguments(definition):
+                self.todo.append(definition)
+                for field, text in definition.laws or [("", definition.chunks[0].partition("=")[2])]:
+                    self.law(definition, field, text)
         for definition in self.todo:  # it grows
-            self.function(definition)
+            if definition not in self.law_definitions:
+                self.function(definition)
         return self
+
+    def has_no_arguments(self, definition):
+        return re.match(rf"{definition.name}\s*=", definition.chunks[0]) is not None
 
     def count_arguments(self, definition, expression):
         """A constructor has as many arguments as it gets somewhere."""
@@ -382,6 +409,8 @@ class Rust:
             if not definition.chunks:
                 raise Untranslated("it has no clause")
             first = definition.clauses[0]
+            if definition.is_record:
+                first = (first[0], self.claimed(first[1], definition))
             parameters = [f"a{i}" for i in range(len(first[0]))]
             if len(definition.clauses) == 1 and all(self.is_variable(it) and it[1] != "_" for it in first[0]):
                 parameters = [self.local(it[1]) for it in first[0]]
@@ -392,8 +421,6 @@ class Rust:
         except Untranslated as problem:
             self.failed.append((definition, str(problem)))
             code = f'stuck("{name}")'
-        if definition.name in KEPT:
-            code = f"remember(&[{', '.join(parameters)}], || {code})"
         place = self.todo.index(definition)
         self.functions.append(f"pub fn {name}({', '.join(it + ': V' for it in parameters)}) -> V {{\n    reached({place});\n    {code}\n}}\n")
 
@@ -520,12 +547,142 @@ class Rust:
         return f"truth({TESTS[it[1]].format(a, b)})" if it[1] in TESTS else f"library::{OPERATORS[it[1]]}({a}, {b})", closed
 
     def any_code(self, it, scope):
-        if it[2] not in DOMAINS:
+        self.others = OTHERS.get(it[2], "L(&[])")
+        domain = self.solution(it[1], it[3], scope) or DOMAINS.get(it[2])
+        if not domain:
             raise Untranslated(f"no domain of {it[2]}")
         test, _ = self.expression(("lam", it[1], it[3]), scope)
-        return f"{it[0]}({DOMAINS[it[2]]}, {test})", NO
+        return f"{it[0]}({domain}, {test})", NO
 
     all_code = any_code
+
+    def claim_code(self, it, scope):
+        return f"claim({it[1]}, {str(it[2]).lower()}, || {self.expression(it[3], scope)[0]})", NO
+
+    # ---- laws
+
+    def law(self, definition, field, text):
+        """A law becomes a function of its variables, but for those that are given by the others."""
+        self.definition = definition
+        self.law_definitions.add(definition)
+        try:
+            parser = Parser(text)
+            body, variables = parser.expression(), []
+            if parser.peek():
+                raise Untranslated(f"{parser.peek()!r} is left")
+            while body[0] == "all":
+                variables.append(body[1:3])
+                body = body[3]
+            scope, free, given = {}, [], []
+            for name, type in variables:
+                self.others = OTHERS.get(type, "L(&[])")
+                domain = self.solution(name, body, scope)
+                scope[name] = self.local(name)
+                given.append((name, type, domain))
+            free = [(name, type) for name, type, domain in given if not domain]
+            claims = self.claims_of.setdefault(f"{definition.title}{field}", [])
+            code = self.once(*self.expression(self.claimed(body, definition, claims), scope))
+            for name, _, domain in reversed(given):
+                code = f"all({domain}, function(move |{self.local(name)}| {code}))" if domain else code
+        except Untranslated as problem:
+            self.failed.append((definition, str(problem)))
+            return
+        lets = "".join(f"let {self.local(name)} = a[{i}]; " for i, (name, _) in enumerate(free))
+        self.laws.append((f"{definition.title}{field}", free, f"|a| {{ reached({self.todo.index(definition)}); {lets}{code} }}"))
+
+    def claimed(self, it, definition, claims=None):
+        """A proposition in which the conditions that it ends in are claims. Those of a record that it cites are the record's. Each side of
+        an equivalence is a claim two times: it is taken to be false, and to be true."""
+        claims = self.claims_of.setdefault(definition.title, []) if claims is None else claims
+        if it[0] in ("all", "any"):
+            return (*it[:3], self.claimed(it[3], definition, claims))
+        if it[0] == "op" and it[1] in ("→", "×", "⊎", "↔"):
+            left, right = it[2] if it[1] == "→" else self.claimed(it[2], definition, claims), self.claimed(it[3], definition, claims)
+            if it[1] == "↔":
+                left, right = self.claim(left, True, definition, claims), self.claim(right, True, definition, claims)
+            return (*it[:2], left, right)
+        if it in (("var", "⊤"), ("var", "⊥")):
+            return it
+        kind, what = self.names.resolve(definition, it[1]) if it[0] == "app" and it[1][0] == "var" else ("", "")
+        if kind == "definition" and what.is_record and what.name not in GIVEN_BY:
+            claims.append(what.title)
+            return it
+        return self.claim(it, False, definition, claims)
+
+    def claim(self, it, value, definition, claims):
+        self.claims.append(definition.title)
+        claims.append(len(self.claims) - 1)
+        return ("claim", len(self.claims) - 1, value, it)
+
+    def solution(self, name, body, scope, names=None, depth=0):
+        """The code of the values of a variable with which the conditions of a proposition can be true, if one of them gives these."""
+        names = names or {name}
+        if body[0] == "claim":
+            return self.solution(name, body[3], scope, names, depth)
+        if body[0] in ("all", "any"):
+            return self.solution(name, body[3], {it: code for it, code in scope.items() if it != body[1]}, names, depth)
+        if body[0] == "op" and body[1] == "↔":
+            found = self.solution(name, body[2], scope, names, depth) or self.solution(name, body[3], scope, names, depth)
+            return found and f"with_others({found}, {self.others})"
+        if body[0] == "op" and body[1] in ("→", "×"):
+            left = self.solution(name, body[2], scope, names, depth)
+            return left or self.solution(name, body[3], scope, names, depth)
+        if body[0] == "op" and body[1] == "≡":
+            for pattern, other in (body[2:], body[3:1:-1]):
+                found = self.solved(names, pattern, other, scope)
+                if found:
+                    return found
+        if body[0] == "app" and body[1][0] == "var":
+            kind, what = self.names.resolve(self.definition, body[1])
+            if kind == "definition" and what.name in GIVEN_BY and body[2][-1] in [("var", it) for it in names] and self.known(body[2][:-1], scope):
+                function, constructor = GIVEN_BY[what.name]
+                given = self.name_of(self.exported_by(what, function))
+                return f"arguments(&[{self.constructor(constructor)}], {given}({self.all(body[2][:-1], scope)[0][0]}))"
+            if kind == "definition" and what.is_record and depth < 2:
+                return self.solution_of(what, body[2], names, scope, depth)
+        return None
+
+    def solution_of(self, record, arguments, names, scope, depth):
+        """The same, by what a record says of its parameters."""
+        parameters, body = record.clauses[0]
+        inner, renamed = {}, set()
+        for parameter, argument in zip(parameters, arguments):
+            if argument in [("var", it) for it in names]:
+                renamed.add(parameter[1])
+            elif self.known([argument], scope):
+                inner[parameter[1]] = self.once(*self.expression(argument, scope))
+        self.definition, outer = record, self.definition
+        try:
+            return self.solution("", body, inner, renamed, depth + 1) if renamed else None
+        finally:
+            self.definition = outer
+
+    def exported_by(self, definition, name):
+        """A definition of the crate of another one."""
+        return next(it for it in self.own if it.name == name and it.module.path[1] == definition.module.path[1])
+
+    def known(self, expressions, scope):
+        """Whether all variables are in scope: what else has a name is no variable."""
+        bound = {it for it in variables(expressions) if it not in scope and self.names.exported(self.definition.module, it)[0] == "unknown"}
+        return not bound - {"⊤", "⊥"}
+
+    def solved(self, names, pattern, other, scope):
+        """What a variable is by an equation: it, or an argument of a constructor, or an index, is on one side of it."""
+        if not self.known([other], scope) or variables(other) & names:
+            return None
+        code = self.once(*self.expression(other, scope))
+        is_it = [("var", it) for it in names]
+        if pattern in is_it:
+            return f"library::seq(&[{code}])"
+        constructors, inner = [], pattern
+        while inner[0] == "app" and len(inner[2]) == 1 and inner[1][0] == "var" and self.names.resolve(self.definition, inner[1])[0] == "constructor":
+            constructors.append(self.constructor(self.names.resolve(self.definition, inner[1])[1]))
+            inner = inner[2][0]
+        if constructors and inner in is_it:
+            return f"arguments(&[{', '.join(constructors)}], {code})"
+        if pattern[0] == "app" and pattern[1] == ("var", "slice_get") and pattern[2][1] in is_it and self.known([pattern[2][0]], scope):
+            return f"indexes({self.once(*self.expression(pattern[2][0], scope))})"
+        return None
 
     def applied(self, head, arguments, scope):
         kind, what = "", ""
@@ -592,11 +749,23 @@ class Rust:
             out.append(f'pub fn get_{field}(v: V) -> V {{ match v {{ {arms}_ => stuck("{field}") }} }}\n')
         out.append("/// The definitions of values, the types of their arguments, and the functions.\n"
                    f"pub static ASKED: &[(&str, &[&str], fn(&[V]) -> V)] = &[{', '.join(self.asked())}];\n")
+        out.append("/// The laws, and what their variables are.\npub static LAWS: &[(&str, &[(&str, &str)], fn(&[V]) -> V, &[usize])] = &[\n")
+        for title, free, code in self.laws:
+            variables_ = ", ".join(f'("{name}", "{type}")' for name, type in free)
+            out.append(f'    ("{title}", &[{variables_}], {code}, &{sorted(set(self.all_claims(title)))}),\n')
+        out.append("];\n")
+        rows = ", ".join(f'"{it}"' for it in self.claims)
+        out.append(f"pub static CLAIMS: [&str; {len(self.claims)}] = [{rows}];\n")
         titles = ", ".join(f'"{it.title}"' for it in self.todo)
         out.append(f"pub static TITLES: [&str; {len(self.todo)}] = [{titles}];\n")
         out.append(f"pub static mut REACHED: [bool; {len(self.todo)}] = [false; {len(self.todo)}];\n")
         out.append(f"pub static mut ONCE: [Option<V>; {self.constants}] = [None; {self.constants}];\n")
         return "".join(out)
+
+    def all_claims(self, title):
+        """The claims of a law, and those of the records that it cites."""
+        for it in self.claims_of.get(title, []):
+            yield from [it] if isinstance(it, int) else self.all_claims(it)
 
     def asked(self):
         for it in self.todo:

@@ -3,7 +3,7 @@
 //! There is one thread. A value may be copied freely: it lives until `forget`, or for ever if it was made inside `once` or `keep`.
 #![allow(static_mut_refs)]
 use crate::spec::{Bool__false, Bool__true, Option__None, ONCE, REACHED, TAGS};
-use std::{alloc::Layout, collections::HashMap};
+use std::alloc::Layout;
 
 /// A number, a constructor or record with its arguments, a list, or a function.
 #[derive(Clone, Copy)]
@@ -21,14 +21,10 @@ const ROOM: usize = 256 << 20;
 static mut BASE: *mut u8 = std::ptr::null_mut();
 static mut USED: usize = 0;
 static mut FOR_EVER: usize = 0;
-static mut TABLE: Option<HashMap<String, V>> = None;
 
 /// Gives the memory of a case back.
 pub fn forget() {
-    unsafe {
-        USED = 0;
-        TABLE = None;
-    }
+    unsafe { USED = 0 }
 }
 
 fn room(bytes: usize) -> *mut u8 {
@@ -77,15 +73,14 @@ pub fn once(i: usize, f: impl FnOnce() -> V) -> V {
     }
 }
 
-/// What was computed in this case is kept by its arguments.
-pub fn remember(arguments: &[V], f: impl FnOnce() -> V) -> V {
-    let key = arguments.iter().map(|a| shown(*a) + ",").collect::<String>();
-    if let Some(v) = unsafe { TABLE.get_or_insert_with(HashMap::new).get(&key) } {
-        return *v;
-    }
-    let v = f();
-    unsafe { TABLE.get_or_insert_with(HashMap::new).insert(key, v) };
-    v
+// ---- claims of laws
+
+/// The claim that is taken to be otherwise.
+pub static mut FORCED: usize = usize::MAX;
+
+/// Whether a condition holds; a claim that is forced has this value instead.
+pub fn claim(i: usize, value: bool, f: impl FnOnce() -> V) -> V {
+    if i == unsafe { FORCED } { truth(value) } else { f() }
 }
 
 /// A definition was reached.
@@ -221,6 +216,33 @@ pub fn any(domain: V, test: V) -> V {
 pub fn all(domain: V, test: V) -> V {
     truth(domain.list().iter().all(|it| apply(test, *it).yes()))
 }
+/// The arguments of nested constructors, of one each, in a value: one or none.
+pub fn arguments(constructors: &[u32], v: V) -> V {
+    match (constructors, v) {
+        ([], _) => library::seq(&[v]),
+        ([tag, rest @ ..], C(of, [it])) if *tag == of => arguments(rest, *it),
+        _ => L(&[]),
+    }
+}
+pub fn indexes(xs: V) -> V {
+    L(filled(xs.list().len(), |i| N(i as u64)))
+}
+/// These records and others, and these with each field of the first other one.
+pub fn with_others(found: V, others: V) -> V {
+    let mut all = [found.list(), others.list()].concat();
+    for record in found.list() {
+        let C(tag, _) = record else { continue };
+        all.extend(TAGS[*tag as usize].2.iter().filter_map(|name| others.list().first().map(|it| with(*record, &[(name, it.field(name))]))));
+    }
+    library::seq(&all)
+}
+pub fn some_values() -> V {
+    once(3, || library::seq(&[crate::spec::nintendo_3ds(), crate::spec::unknown_values()]))
+}
+pub fn some_refusals() -> V {
+    use crate::spec::*;
+    once(4, || library::seq(&[refusal_with(con(Option__Some, &[C(Field__Environment, &[])]), text("foo")), refusal_with(C(Option__None, &[]), text("foo"))]))
+}
 /// Numbers of parts.
 pub fn numbers() -> V {
     once(0, || L(filled(9, |i| N(i as u64))))
@@ -254,9 +276,6 @@ pub mod library {
     }
     pub fn suc(a: V) -> V {
         add(a, N(1))
-    }
-    pub fn min(a: V, b: V) -> V {
-        N(a.number().min(b.number()))
     }
     pub fn nat_eq(a: V, b: V) -> V {
         truth(a.number() == b.number())
