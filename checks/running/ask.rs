@@ -1,6 +1,6 @@
 //! What a definition says of a value: `ask DEFINITION WORD..`, with a word for each argument.
-use crate::spec::{self as s, ASKED};
-use crate::values::{con, eq, named, shown, text, with, N, V};
+use definitions::spec::{self as s, ASKED};
+use definitions::values::{con, eq, named, shown, text, with, N, V};
 
 /// The answer, or why there is none.
 pub fn answer(words: &[String]) -> Result<String, String> {

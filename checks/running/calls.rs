@@ -2,8 +2,8 @@
 //! the two sides; where it shows otherwise than the definition, the words are replaced here.
 use crate::inputs;
 use crate::report::Report;
-use crate::spec as s;
-use crate::values::{con, eq, function, library, text as v, V};
+use definitions::spec as s;
+use definitions::values::{con, eq, function, library, text as v, V};
 use target_lexicon::tool_names::{self as tools, Dialect, LinuxLibc};
 use target_lexicon::{
     Aarch64Architecture, Architecture, ArmArchitecture, BinaryFormat, CleverArchitecture, Environment, Mips32Architecture, Mips64Architecture,
@@ -190,7 +190,7 @@ pub fn relations(r: &mut Report, string: &str) {
     if tag == s::Result__Ok {
         r.holds("ReadsAs", s::ReadsAs(x, it[0]).yes(), &string);
         for field in ["architecture", "vendor", "operating_system", "environment", "binary_format"] {
-            let other = crate::values::with(it[0], &[(field, s::nintendo_3ds().field(field))]);
+            let other = definitions::values::with(it[0], &[(field, s::nintendo_3ds().field(field))]);
             r.holds("ReadsAs of a neighbour", s::ReadsAs(x, other).yes() == eq(other, it[0]), &string);
         }
         let refusal = s::refusal_with(con(s::Option__Some, &[V::C(s::Field__Architecture, &[])]), library::seq(&[]));
@@ -211,8 +211,8 @@ pub fn relations(r: &mut Report, string: &str) {
         }
     } else {
         r.holds("IsRefusedAs", s::IsRefusedAs(x, it[0]).yes(), &string);
-        for other in crate::values::fields().list() {
-            let other = crate::values::with(it[0], &[("expected", con(s::Option__Some, &[*other]))]);
+        for other in definitions::values::fields().list() {
+            let other = definitions::values::with(it[0], &[("expected", con(s::Option__Some, &[*other]))]);
             r.holds("IsRefusedAs of a neighbour", s::IsRefusedAs(x, other).yes() == eq(other, it[0]), &string);
         }
         r.holds("ReadsAs of what is refused", !s::ReadsAs(x, s::unknown_values()).yes(), &string);

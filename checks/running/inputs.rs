@@ -1,7 +1,7 @@
 //! What is tried. Nothing else of this check is chosen by hand.
 use crate::report::without_names_of_structs;
-use crate::spec as s;
-use crate::values::{apply, con, eq, keep, library, shown, text as v, with, N, V};
+use definitions::spec as s;
+use definitions::values::{apply, con, eq, keep, library, shown, text as v, with, N, V};
 use std::fmt::Debug;
 use target_lexicon::tool_names::{Dialect, LinuxLibc};
 use target_lexicon::{Architecture, BinaryFormat, Environment, OperatingSystem, TripleRef, VendorRef};

@@ -2,8 +2,8 @@
 //! otherwise.
 use crate::inputs::{self, Chosen, Strings};
 use crate::report::Report;
-use crate::spec::{self as s, LAWS};
-use crate::values::{forget, keep, library, named, text, with, FORCED, N, V};
+use definitions::spec::{self as s, LAWS};
+use definitions::values::{forget, keep, library, named, text, with, FORCED, N, V};
 
 /// How many cases of a law there are, and one of them.
 type Cases = (usize, Box<dyn Fn(usize) -> Vec<V>>);
@@ -111,7 +111,7 @@ pub fn run(r: &mut Report, chosen: Chosen, at_least: usize) {
         let mut open: Vec<usize> = claims.to_vec();
         for i in (Chosen { step, ..chosen }).of(count) {
             let values = case(i);
-            let shown = || values.iter().map(|it| crate::values::shown(*it)).collect::<Vec<_>>().join(", ");
+            let shown = || values.iter().map(|it| definitions::values::shown(*it)).collect::<Vec<_>>().join(", ");
             let holds = law(&values).yes();
             r.holds(title, holds, &format_args!("{}", if holds { String::new() } else { shown() }));
             open.retain(|claim| {

@@ -6,16 +6,11 @@ mod calls;
 mod inputs;
 mod laws;
 mod report;
-#[allow(warnings)]
-mod spec {
-    include!(concat!(env!("CARGO_MANIFEST_DIR"), "/spec.rs"));
-}
-mod values;
 
+use definitions::{spec, values::{forget, V}};
 use inputs::{Chosen, Fields, Strings};
 use report::Report;
 use target_lexicon::TripleRef;
-use values::{forget, V};
 
 /// The cases of a part. What a case took in memory is given back after it.
 fn run(part: &str, chosen: Chosen, r: &mut Report) {

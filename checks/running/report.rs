@@ -1,5 +1,5 @@
 //! What was compared, and what differed.
-use crate::values::{show, V};
+use definitions::values::{show, V};
 use std::fmt::{Debug, Write};
 
 /// How many differences of a kind are printed.
