@@ -22,17 +22,15 @@ import threading
 import time
 
 # Debian's packages of the tools: commands, modules of Debian's Python, and paths.
-PACKAGES = {it: it for it in "git clang valgrind cmake pkg-config mypy pypy3 shellcheck pyflakes3 chromium npm esbuild lintian rpm makepkg".split()} | {
+MODULES = {it: f"python3-{it}" for it in "hypothesis pip venv hatchling build installer pandas distributed packaging selenium".split()} | {"ensurepip": "python3-venv"}
+PACKAGES = {it: it for it in "git clang valgrind cmake pkg-config mypy pypy3 shellcheck pyflakes3 chromium npm esbuild lintian rpm makepkg".split()} | MODULES | {
     "cargo": "cargo-web", "rustc": "rustc-web", "rustfmt": "rustfmt-web", "cargo-clippy": "rust-web-clippy", "cc": "gcc", "c++": "g++", "nm": "binutils",
-    "man": "man-db", "cram3": "python3-cram", "hypothesis": "python3-hypothesis", "pip": "python3-pip", "ensurepip": "python3-venv", "venv": "python3-venv",
-    "hatchling": "python3-hatchling", "build": "python3-build", "installer": "python3-installer", "pandas": "python3-pandas",
-    "distributed": "python3-distributed", "packaging": "python3-packaging", "selenium": "python3-selenium", "chromedriver": "chromium-driver",
-    "node": "nodejs", "tsc": "node-typescript", "dpkg-buildpackage": "dpkg-dev", "dh": "debhelper", "dh_python3": "dh-python", "llvm-config": "llvm-dev",
-    "go": "golang-go", "/usr/share/gocode/src/github.com/containerd/containerd/platforms": "golang-github-containerd-containerd-dev",
-    "nix-instantiate": "nix-bin", "/usr/share/misc/config.sub": "autotools-dev", "/usr/share/doc/nodejs/api/process.md*": "nodejs-doc",
-    "/usr/share/cargo/registry/clap-4.0.32": "librust-clap-4-dev", "/usr/share/cargo/registry/clap_complete-4.0.7": "librust-clap-complete-dev",
-    "/usr/share/cargo/registry/serde_json-1.0.87": "librust-serde-json-dev", "/usr/share/cargo/registry/cfg-expr-0.10.3": "librust-cfg-expr-dev",
-    "/usr/share/cargo/registry/cc-1*": "librust-cc-dev",
+    "man": "man-db", "cram3": "python3-cram", "chromedriver": "chromium-driver", "node": "nodejs", "tsc": "node-typescript", "dpkg-buildpackage": "dpkg-dev",
+    "dh": "debhelper", "dh_python3": "dh-python", "llvm-config": "llvm-dev", "go": "golang-go", "nix-instantiate": "nix-bin",
+    "/usr/share/gocode/src/github.com/containerd/containerd/platforms": "golang-github-containerd-containerd-dev",
+    "/usr/share/misc/config.sub": "autotools-dev", "/usr/share/doc/nodejs/api/process.md*": "nodejs-doc",
+    **{f"/usr/share/cargo/registry/{crate}": f"librust-{package}-dev" for crate, package in (
+        ("clap-4.0.32", "clap-4"), ("clap_complete-4.0.7", "clap-complete"), ("serde_json-1.0.87", "serde-json"), ("cfg-expr-0.10.3", "cfg-expr"), ("cc-1*", "cc"))},
 }
 GROUPS = {"kit": ["rt"], "browser": ["chromium", "chromedriver", "selenium"]}
 
@@ -79,7 +77,6 @@ LAST = [
     ("the mode json: the proved program answers as Rust's serde_json does", "/usr/bin/python3 checks/compare json --inputs 200 --of proved cargo",
      "rt cargo hypothesis"),
 ]
-GIGABYTES_FOR_A_PROOF = 5
 
 running, passed, left_out, failed = set(), [], [], []
 lock = threading.Lock()
@@ -95,7 +92,7 @@ def has(tool):
     """Whether there is a command, a module or a path, or for `wasm32` rustc's `std`."""
     if tool == "wasm32":
         command = f'ls "$(PATH={WASM}/bin:$PATH rustc --print target-libdir --target wasm32-unknown-unknown)"/libcore-*.rlib'
-    elif PACKAGES.get(tool, "").startswith("python3-") and tool != "cram3":
+    elif tool in MODULES:
         command = f"/usr/bin/python3 -c 'import {tool}'"
     else:
         return bool(glob.glob(tool) if tool.startswith("/") else shutil.which(tool))
@@ -195,8 +192,8 @@ def main():
     environment = {**os.environ, "BUILT": BUILT, "PYTHONDONTWRITEBYTECODE": "1", "WITHOUT": " ".join(sorted(WITHOUT))}
     with open("/proc/meminfo", encoding="utf-8") as file:
         memory = next(int(line.split()[1]) // 1000000 for line in file if line.startswith("MemAvailable"))
-    if memory >= GIGABYTES_FOR_A_PROOF * os.cpu_count():
-        # rt expects a proof to take some 10 GB, and would leave processors idle.
+    if memory >= 5 * os.cpu_count():
+        # rt expects a proof to take 10 GB instead of 5, and would leave processors idle.
         environment["RT_JOBS"] = str(os.cpu_count())
     os.makedirs(f"{BUILT}/bin")
     install(environment)
