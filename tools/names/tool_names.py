@@ -153,7 +153,7 @@ def lists_of_languages(dialects, others):
         "the dialects for C": [f"LEXICON_DIALECT_{it.constant} = {number}, /* {it.about.rstrip('.').replace('`', '')} */" for number, it in enumerate(dialects, 1)],
         "the last dialect": [f"enum {{ LAST_DIALECT = {len(dialects)} }};"],
         "the dialects for C++": [f"{it.variant} = LEXICON_DIALECT_{it.constant}," for it in dialects],
-        "the dialects' names for C++": [f'constexpr const char* names[] = {{"", {names}}};'],
+        "the dialects' names for C": [f"{names},"],
         "the dialects for Rust": ["pub const ALL: &'static [Dialect] = &[", *(f"    Dialect::{it.variant}," for it in dialects), "];"],
         "the dialects that are only read": ["fn is_only_read(dialect: Dialect) -> bool {",
                                             f"    matches!(dialect, {' | '.join(f'Dialect::{it.variant}' for it in dialects if not it.is_written)})", "}"],

@@ -12,8 +12,8 @@
 // an answer. Nothing here throws an exception of its own.
 //
 // SPDX-License-Identifier: Apache-2.0 WITH LLVM-exception
-#ifndef LEXICON_HPP
-#define LEXICON_HPP
+#ifndef TARGET_LEXICON_VERIFIED_HPP
+#define TARGET_LEXICON_VERIFIED_HPP
 
 #include <algorithm>
 #include <cstddef>
@@ -167,9 +167,10 @@ template <> struct FieldOf<OperatingSystem> { static constexpr Field field = Fie
 template <> struct FieldOf<Environment> { static constexpr Field field = Field::Environment; };
 template <> struct FieldOf<BinaryFormat> { static constexpr Field field = Field::BinaryFormat; };
 
-// The name of a number, empty for a number that has none.
-template <std::size_t Size> constexpr std::string_view name_at(const char* const (&names)[Size], std::size_t number) {
-  return number < Size ? names[number] : "";
+// The name that a call of target_lexicon.h gives a value, empty for a number that has none.
+template <class Value> std::string_view name_of(const char* (*call)(std::uint32_t), Value value) {
+  const char* found = call(static_cast<std::uint32_t>(value));
+  return found ? std::string_view(found) : std::string_view();
 }
 
 template <class Value> std::optional<Value> answer(std::uint8_t number) {
@@ -203,44 +204,21 @@ template <class Value> std::optional<Value> value_of(std::string_view text) {
   return static_cast<Value>(number);
 }
 
-inline std::string_view name(Field field) {
-  constexpr const char* names[] = {"architecture", "vendor", "operating system", "environment", "binary format"};
-  return detail::name_at(names, static_cast<std::size_t>(field));
-}
-inline std::string_view name(Dialect value) {
-  // written by tools/names/write: the dialects' names for C++
-  constexpr const char* names[] = {"", "debian", "go", "oci", "node", "gnu", "python", "rust", "uname", "rpm", "apk", "pacman", "dotnet", "conda", "zig", "nix"};
-  // end of what is written
-  return detail::name_at(names, static_cast<std::size_t>(value));
-}
-inline std::string_view name(Endianness value) {
-  constexpr const char* names[] = {"", "little", "big"};
-  return detail::name_at(names, static_cast<std::size_t>(value));
-}
-inline std::string_view name(CallingConvention value) {
-  constexpr const char* names[] = {"", "SystemV", "WasmBasicCAbi", "WindowsFastcall", "AppleAarch64"};
-  return detail::name_at(names, static_cast<std::size_t>(value));
-}
-inline std::string_view name(LinuxLibc value) {
-  constexpr const char* names[] = {"", "glibc", "musl"};
-  return detail::name_at(names, static_cast<std::size_t>(value));
-}
-inline std::string_view name(Origin value) {
-  constexpr const char* names[] = {"not given", "given", "implied", "alias"};
-  return detail::name_at(names, static_cast<std::size_t>(value));
-}
-inline std::string_view name(DataModel value) {
-  constexpr const char* names[] = {"", "LP32", "ILP32", "LLP64", "LP64", "ILP64"};
-  return detail::name_at(names, static_cast<std::size_t>(value));
-}
+inline std::string_view name(Field value) { return detail::name_of(lexicon_field_name, value); }
+inline std::string_view name(Family value) { return detail::name_of(lexicon_family_name, value); }
+inline std::string_view name(Dialect value) { return detail::name_of(lexicon_dialect_name, value); }
+inline std::string_view name(Endianness value) { return detail::name_of(lexicon_endianness_name, value); }
+inline std::string_view name(CallingConvention value) { return detail::name_of(lexicon_calling_convention_name, value); }
+inline std::string_view name(LinuxLibc value) { return detail::name_of(lexicon_linux_libc_name, value); }
+inline std::string_view name(Origin value) { return detail::name_of(lexicon_origin_name, value); }
+inline std::string_view name(DataModel value) { return detail::name_of(lexicon_data_model_name, value); }
+inline std::string_view name(CLibrary value) { return detail::name_of(lexicon_c_library_name, value); }
+inline std::string_view name(FloatAbi value) { return detail::name_of(lexicon_float_abi_name, value); }
 
-inline std::string_view name(CLibrary value) {
-  constexpr const char* names[] = {"", "bionic", "glibc", "mingw", "msvc", "musl", "newlib", "relibc", "system", "uclibc"};
-  return detail::name_at(names, static_cast<std::size_t>(value));
-}
-inline std::string_view name(FloatAbi value) {
-  constexpr const char* names[] = {"", "soft", "hard"};
-  return detail::name_at(names, static_cast<std::size_t>(value));
+// The dialect of a name, such as "go".
+inline std::optional<Dialect> dialect_named(std::string_view text) {
+  auto found = lexicon_dialect_named(std::string(text).c_str());
+  return found == LEXICON_DIALECT_NONE ? std::nullopt : std::make_optional(static_cast<Dialect>(found));
 }
 
 // Each value is written by its name.
@@ -261,8 +239,12 @@ struct Version {
   friend bool operator==(Version a, Version b) { return std::tie(a.major, a.minor, a.patch) == std::tie(b.major, b.minor, b.patch); }
   friend bool operator!=(Version a, Version b) { return !(a == b); }
   friend bool operator<(Version a, Version b) { return std::tie(a.major, a.minor, a.patch) < std::tie(b.major, b.minor, b.patch); }
+  friend bool operator>(Version a, Version b) { return b < a; }
+  friend bool operator<=(Version a, Version b) { return !(b < a); }
+  friend bool operator>=(Version a, Version b) { return !(a < b); }
+  // In decimal, whatever the stream's flags are.
   friend std::ostream& operator<<(std::ostream& out, Version it) {
-    return out << it.major << '.' << unsigned(it.minor) << '.' << unsigned(it.patch);
+    return out << std::to_string(it.major) + '.' + std::to_string(it.minor) + '.' + std::to_string(it.patch);
   }
 };
 
@@ -360,13 +342,11 @@ class Triple {
   }
 
   // The triple that a string parses as. If it is refused, `error` says why.
-  static std::optional<Triple> parse(std::string_view text, ParseError* error = nullptr) {
-    lexicon_triple triple;
-    lexicon_error found;
-    lexicon_status status = lexicon_parse(text.data(), text.size(), &triple, &found);
-    if (status == LEXICON_OK) return Triple(triple);
-    if (error) *error = error_of(text, found);
-    return std::nullopt;
+  static std::optional<Triple> parse(std::string_view text, ParseError* error = nullptr) { return parsed(lexicon_parse, text, error); }
+
+  // Likewise, and also refused is a custom vendor where the system is unknown, as in x86_64-linx.
+  static std::optional<Triple> parse_strict(std::string_view text, ParseError* error = nullptr) {
+    return parsed(lexicon_parse_strict, text, error);
   }
 
   // What `parse` gives, and from where each field comes.
@@ -538,6 +518,14 @@ class Triple {
   lexicon_triple_facts formats() const { return facts_up_to(offsetof(lexicon_triple_facts, c_library)); }
   static std::optional<TypeLayout> layout(unsigned size, unsigned alignment) {
     return size == 0 ? std::nullopt : std::make_optional(TypeLayout{size, alignment});
+  }
+
+  template <class Call> static std::optional<Triple> parsed(Call call, std::string_view text, ParseError* error) {
+    lexicon_triple triple;
+    lexicon_error found;
+    if (call(text.data(), text.size(), &triple, &found) == LEXICON_OK) return Triple(triple);
+    if (error) *error = error_of(text, found);
+    return std::nullopt;
   }
 
   // The triple of a struct that is one. What isn't read of it may have any value.

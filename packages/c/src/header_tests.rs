@@ -54,20 +54,21 @@ fn the_enumerators_are_the_values() {
 
 #[test]
 fn the_dialects_are_those_of_the_library() {
-    let (found, cpp_found) = (enumerators(HEADER, "LEXICON_DIALECT_"), cpp_names("Dialect"));
-    let names: Vec<_> = (0..).map_while(dialect_at).map(|it| it.map_or("none", |it| it.name())).collect();
-    assert_eq!(found.len(), names.len());
-    assert_eq!(cpp_found[1..], names[1..]);
-    for (number, name) in (0..).zip(names) {
+    let found = enumerators(HEADER, "LEXICON_DIALECT_");
+    let dialects: Vec<_> = (0..).map_while(dialect_at).map(|it| it.map_or("none", |it| it.name())).collect();
+    assert_eq!(found.len(), dialects.len());
+    assert_eq!(names("LEXICON_DIALECT_")[1..], dialects[1..]);
+    for (number, name) in (0..).zip(dialects) {
         assert_eq!(found[&number], name.to_uppercase());
     }
 }
 
-/// The names of the values of a type in target_lexicon.hpp, by number.
-fn cpp_names(of: &str) -> Vec<&'static str> {
-    let (_, after) = CPP_HEADER.split_once(&format!("name({of} value)")).expect(of);
-    let listed = after.split_once("};").expect("an end").0;
-    listed.split('"').skip(1).step_by(2).collect()
+/// The names of the enumerators with a prefix, by number, as the header's call of their names has them; that of 0 is empty where it
+/// is no answer.
+fn names(prefix: &str) -> Vec<&'static str> {
+    let (_, after) = HEADER.split_once(&format!("LEXICON_NAMES({}name,", prefix.to_lowercase())).expect(prefix);
+    let listed = after.split_once(")\n").expect("an end").0;
+    listed.split(',').filter_map(|it| it.split('"').nth(1).or_else(|| it.contains("NULL").then_some(""))).collect()
 }
 
 /// A triple of an architecture and a system, as C has it.
@@ -104,9 +105,9 @@ fn the_families_are_the_values() {
     assert_eq!(found.len(), cpp_found.len());
 }
 
-/// The names of the values of a type by number, which target_lexicon.h and target_lexicon.hpp have alike; that of 0 is empty.
-fn names_of_answers(prefix: &str, of: &str) -> Vec<&'static str> {
-    let (found, names) = (enumerators(HEADER, prefix), cpp_names(of));
+/// The names of the values of a type by number, which its enumerators have too; that of 0 is empty.
+fn names_of_answers(prefix: &str) -> Vec<&'static str> {
+    let (found, names) = (enumerators(HEADER, prefix), names(prefix));
     let expected = names.iter().map(|name| if name.is_empty() { "NONE".into() } else { name.to_uppercase() });
     assert_eq!(found.values().map(|name| name.replace('_', "")).collect::<Vec<_>>(), expected.collect::<Vec<_>>());
     assert!(found.keys().copied().eq(0..names.len() as u32));
@@ -115,8 +116,8 @@ fn names_of_answers(prefix: &str, of: &str) -> Vec<&'static str> {
 
 #[test]
 fn the_conventions_and_models_are_those_of_the_queries() {
-    let conventions = names_of_answers("LEXICON_CALLING_CONVENTION_", "CallingConvention");
-    let models = names_of_answers("LEXICON_DATA_MODEL_", "DataModel");
+    let conventions = names_of_answers("LEXICON_CALLING_CONVENTION_");
+    let models = names_of_answers("LEXICON_DATA_MODEL_");
     for (number, architecture) in (0..).map_while(|it| Some((it, architecture_at(it)?))) {
         for (system_number, operating_system) in (0..).map_while(|it| Some((it, operating_system_at(it, None)?))) {
             let triple = TripleRef { architecture, operating_system, ..TripleRef::unknown() };
@@ -130,9 +131,9 @@ fn the_conventions_and_models_are_those_of_the_queries() {
 
 #[test]
 fn the_answers_for_a_driver_are_those_of_the_library() {
-    let libraries = names_of_answers("LEXICON_C_LIBRARY_", "CLibrary");
-    let floats = names_of_answers("LEXICON_FLOAT_ABI_", "FloatAbi");
-    let said = names_of_answers("LEXICON_LINUX_LIBC_", "LinuxLibc");
+    let libraries = names_of_answers("LEXICON_C_LIBRARY_");
+    let floats = names_of_answers("LEXICON_FLOAT_ABI_");
+    let said = names_of_answers("LEXICON_LINUX_LIBC_");
     let mut seen = [false; 10];
     for system in 0.. {
         let Some(operating_system) = operating_system_at(system, None) else { break };
@@ -182,6 +183,7 @@ fn the_statuses_are_those_of_the_calls() {
 fn the_pointers_that_may_not_be_null_are_marked() {
     let (_, prototypes) = HEADER.split_once("#define LEXICON_MAX_GROWTH").expect("the calls");
     let (prototypes, inline) = prototypes.split_once("/* The calls above for a string").expect("those without a size");
+    let (inline, _) = inline.split_once("/* The name of an enumerator").expect("the names");
     // Each call that takes a string's size has one without, where the string may not be null either.
     let sizes = ["size_t text_size", "size_t name_size"].map(|it| prototypes.matches(it).count());
     let count_of = |what| inline.matches(what).count();

@@ -1,4 +1,5 @@
 /* Makes each call of the library, and compares its status and what it writes with what is expected. Valid as C and as C++. */
+#define LEXICON_H /* the guard of another header */
 #include <stdio.h>
 #include <string.h>
 
@@ -476,6 +477,30 @@ static void try_names(void) {
   expect(strcmp(lexicon_name(LEXICON_FIELD_OPERATING_SYSTEM, LEXICON_OPERATING_SYSTEM_IOS), "ios") == 0, "name", "ios");
   expect(lexicon_name(LEXICON_FIELD_VENDOR, LEXICON_VENDOR_CUSTOM) == NULL && lexicon_name(5, 0) == NULL, "no name", "");
   expect(lexicon_name(LEXICON_FIELD_ARCHITECTURE, 256) == NULL && lexicon_name(LEXICON_FIELD_ARCHITECTURE, ~0u) == NULL, "no name", "");
+  struct lexicon_error strict;
+  struct lexicon_triple accepted;
+  const char *(*const names[])(uint32_t) = {lexicon_status_name, lexicon_field_name, lexicon_family_name, lexicon_dialect_name, lexicon_linux_libc_name,
+      lexicon_origin_name, lexicon_endianness_name, lexicon_calling_convention_name, lexicon_data_model_name, lexicon_c_library_name, lexicon_float_abi_name};
+  uint32_t dialects = 0;
+  while (lexicon_read(dialects + 1, "", 0, &accepted, NULL) != LEXICON_NO_SUCH_DIALECT) dialects++;
+  const uint32_t last[] = {LEXICON_NO_SUGGESTION, LEXICON_FIELD_BINARY_FORMAT, LEXICON_FAMILY_Z80, dialects, LEXICON_LINUX_LIBC_MUSL,
+      LEXICON_ORIGIN_ALIAS, LEXICON_ENDIANNESS_BIG, LEXICON_CALLING_CONVENTION_APPLE_AARCH64, LEXICON_DATA_MODEL_ILP64, LEXICON_C_LIBRARY_UCLIBC, LEXICON_FLOAT_ABI_HARD};
+  for (size_t i = 0; i < sizeof names / sizeof *names; i++) {
+    for (uint32_t number = 1; number <= last[i]; number++) expect(names[i](number) && *names[i](number), "the enumerator has a name", "");
+    expect(names[i](last[i] + 1) == NULL && names[i](~0u) == NULL, "no other number has one", "");
+  }
+  expect(strcmp(lexicon_family_name(LEXICON_FAMILY_ARM), "arm") == 0 && strcmp(lexicon_c_library_name(LEXICON_C_LIBRARY_MUSL), "musl") == 0 &&
+         strcmp(lexicon_status_name(LEXICON_NOT_UTF8), "not UTF-8") == 0 && lexicon_endianness_name(LEXICON_ENDIANNESS_NONE) == NULL, "names", "");
+  for (uint32_t number = 1; number <= dialects; number++)
+    expect((uint32_t)lexicon_dialect_named(lexicon_dialect_name(number)) == number, "the dialect of a name", lexicon_dialect_name(number));
+  expect(lexicon_dialect_named("podman") == LEXICON_DIALECT_NONE && lexicon_dialect_named("") == LEXICON_DIALECT_NONE, "no dialect", "podman");
+  fill(&accepted, sizeof accepted);
+  expect(lexicon_parse_strict("x86_64-linx", 11, &accepted, &strict) == LEXICON_UNRECOGNIZED_VENDOR && is_filled(&accepted, sizeof accepted) &&
+         strict.status == LEXICON_UNRECOGNIZED_VENDOR && strict.start == 7 && strict.end == 11, "strict", "x86_64-linx");
+  expect(lexicon_parse_strict("x86_64-linx", 11, &accepted, NULL) == LEXICON_UNRECOGNIZED_VENDOR, "strict, without an error", "x86_64-linx");
+  expect(lexicon_parse_strict("x86_64-acme-linux", 17, &accepted, &strict) == LEXICON_OK && accepted.vendor == LEXICON_VENDOR_CUSTOM, "strict", "x86_64-acme-linux");
+  expect(lexicon_parse_strict("avr", 3, &accepted, &strict) == LEXICON_OK, "strict", "avr");
+  expect(lexicon_parse_strict("foo", 3, &accepted, &strict) == LEXICON_UNRECOGNIZED_ARCHITECTURE && strict.end == 3, "strict", "foo");
   struct lexicon_triple known = triple_of("x86_64-pc-linux"), custom = triple_of("x86_64-iso17.2"), far = triple_of("x86_64-customvendor");
   try_text(vendor_suggestion, &custom, "ios17.2", false);
   expect(lexicon_vendor_suggestion(&known, NULL, 0, NULL) == LEXICON_NO_SUGGESTION, "nothing else is meant", "pc");

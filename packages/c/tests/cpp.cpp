@@ -1,4 +1,6 @@
 // Makes each call of target_lexicon.hpp, and compares what it gives with what is expected.
+#define LEXICON_H  // the guards of other headers
+#define LEXICON_HPP
 #include <iostream>
 #include <map>
 #include <sstream>
@@ -32,6 +34,13 @@ static void try_triple() {
   EXPECT(ios.architecture() == Architecture::Aarch64 && ios.vendor() == Vendor::Apple && ios.operating_system() == OperatingSystem::IOS);
   EXPECT(ios.environment() == Environment::Unknown && ios.binary_format() == BinaryFormat::Macho);
   EXPECT((ios.version() == Version{17, 2, 0}) && shown(*ios.version()) == "17.2.0" && (Version{17, 1, 9} < *ios.version()));
+  Version seven{17, 2, 7}, eight{17, 2, 8}, next{18};
+  EXPECT(seven < eight && eight > seven && seven <= eight && eight >= seven && eight <= next && next >= eight && seven <= seven && seven >= seven);
+  EXPECT(!(eight < seven) && !(seven > eight) && !(next <= eight) && !(eight >= next) && !(seven < seven) && !(seven > seven));
+  EXPECT(ios.version() < next && !(ios.version() < Version{17, 2}) && parsed("arm64-apple-ios").version() < Version{1});
+  std::ostringstream in_hex;
+  in_hex << std::hex << std::showbase << *ios.version() << ' ' << ios.family() << ' ' << 255;
+  EXPECT(in_hex.str() == "17.2.0 aarch64 0xff");
   EXPECT(ios.endianness() == Endianness::Little && ios.pointer_width() == 64u && ios.data_model() == DataModel::LP64);
   EXPECT(ios.default_calling_convention() == CallingConvention::AppleAarch64 && ios.implied_format() == BinaryFormat::Macho);
   EXPECT(ios.short_size() == 2u && ios.int_size() == 4u && ios.long_size() == 8u && ios.long_long_size() == 8u);
@@ -201,9 +210,13 @@ static void try_errors() {
 }
 
 static void try_names() {
+  ParseError error;
   EXPECT(name(Architecture::X86_64) == "x86_64" && name(Vendor::Custom).empty() && shown(OperatingSystem::None_) == "none");
   EXPECT(shown(Environment::Gnu) == "gnu" && shown(BinaryFormat::Macho) == "macho" && shown(Vendor::Pc) == "pc");
   EXPECT(shown(Endianness::Big) == "big" && shown(CallingConvention::SystemV) == "SystemV" && shown(DataModel::LLP64) == "LLP64");
+  EXPECT(shown(Family::X86_32) == "x86_32" && name(Family::Z80) == "z80" && dialect_named("go") == Dialect::Go && !dialect_named("podman"));
+  EXPECT(Triple::parse("x86_64-linx") && !Triple::parse_strict("x86_64-linx", &error) && error.part == "linx" && error.suggestion == "linux");
+  EXPECT(Triple::parse_strict("x86_64-acme-linux") == Triple::parse("x86_64-acme-linux") && !Triple::parse_strict("x86_64-linx") && !Triple::parse_strict("foo", &error) && error.part == "foo");
   EXPECT(value_of<Architecture>("arm64") == Architecture::Aarch64 && !value_of<Environment>("linux"));
   EXPECT(value_of<Vendor>("acme") == Vendor::Custom && value_of<OperatingSystem>("ios17") == OperatingSystem::IOS);
   EXPECT(version().substr(0, 5) == LEXICON_VERSION);
