@@ -187,10 +187,18 @@ class Fields(unittest.TestCase):
 
     def test_wrong_fields(self):
         triple = Triple("x86_64-unknown-linux-gnu")
-        for name, value in [("architecture", "x86_64"), ("architecture", Vendor.UNKNOWN), ("vendor", "acme"), ("vendor", None),
-                            ("operating_system", None), ("environment", 3), ("environment", Environment), ("binary_format", "elf")]:
+        for name, value in [("architecture", Vendor.UNKNOWN), ("vendor", OperatingSystem.UNKNOWN), ("vendor", None),
+                            ("operating_system", None), ("environment", 3), ("environment", Environment), ("binary_format", b"elf")]:
             with self.assertRaisesRegex(TypeError, f"{name} must be of type"):
                 triple.replace(**{name: value})
+        # A field may be its name, and nothing that isn't one.
+        for name, value, text in [("architecture", "avr", "avr-unknown-linux-gnu"), ("vendor", "acme", "x86_64-acme-linux-gnu"), ("vendor", "pc", "x86_64-pc-linux-gnu"),
+                                  ("operating_system", "windows", "x86_64-unknown-windows-gnu"), ("environment", "musl", "x86_64-unknown-linux-musl"),
+                                  ("binary_format", "coff", "x86_64-unknown-linux-gnu-coff")]:
+            self.assertEqual(str(triple.replace(**{name: value})), text)
+            self.assertEqual(triple.replace(**{name: value}), Triple(text))
+            self.assertRaises(ValueError, triple.replace, **{name: "No"})
+        self.assertRaisesRegex(ValueError, "^no environment has the name 'muslx'$", triple.replace, environment="muslx")
         with self.assertRaisesRegex(ValueError, "the operating system linux has no version"):
             triple.replace(version=(1,))
         darwin = Triple("x86_64-apple-darwin")
@@ -269,7 +277,10 @@ class Fields(unittest.TestCase):
 
 class Texts(unittest.TestCase):
     def test_wrong_types(self):
-        for value in None, 3, b"x86_64", bytearray(b"x86_64"), ["x86_64"], Triple("x86_64"), object():
+        triple = Triple("x86_64-acme-linux")
+        self.assertIs(Triple(triple), triple)
+        self.assertRaises(TypeError, target_lexicon.explain, triple)
+        for value in None, 3, b"x86_64", bytearray(b"x86_64"), ["x86_64"], object():
             for call in Triple, Triple.parse, target_lexicon.explain:
                 with self.assertRaisesRegex(TypeError, f"must be a str, not {type(value).__name__}"):
                     call(value)

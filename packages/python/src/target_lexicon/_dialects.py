@@ -87,5 +87,8 @@ def _number(value: str, of: Type[NamedValue], what: str) -> int:
         raise TypeError(f"the {what} must be of type {of.__name__} or str, not {type(value).__name__}")
     names = list(of)
     if value not in names:
-        raise ValueError(f"the {what} must be one of {', '.join(names)}, not {value}")
+        word = value.lower()
+        near = [it for it in names if word.startswith(it)] or [it for it in names if sorted(it) == sorted(word)]
+        meant = f"; did you mean {near[0]}?" if near else ""
+        raise ValueError(f"the {what} must be one of {', '.join(names)}, not {value}{meant}")
     return names.index(of(value)) + 1

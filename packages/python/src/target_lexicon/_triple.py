@@ -12,7 +12,7 @@ from ._dialects import NO_DIALECT, Dialect, DialectName, LinuxLibc, LinuxLibcNam
 from ._errors import FIELDS, encoded, refusal
 from ._facts import CallingConvention, CLibrary, DataModel, Endianness, FloatAbi
 from ._fields import CustomVendor
-from ._named import members
+from ._named import NamedValue, members
 from ._values import Architecture, BinaryFormat, Environment, Family, OperatingSystem, Vendor
 
 if TYPE_CHECKING:
@@ -63,7 +63,7 @@ class Triple:
     >>> str(triple), triple.architecture, triple.version, triple.pointer_width
     ('aarch64-apple-macosx13.2.0', Architecture.AARCH64, (13, 2, 0), 64)
 
-    A string that is refused raises a `ParseError`, anything but a `str` a `TypeError`. A triple is immutable and
+    A string that is refused raises a `ParseError`, anything but a `str` or a triple a `TypeError`. A triple is immutable and
     hashable. Triples are equal by the values of their fields, and ordered by their printed strings, then by the fields;
     in strings, ios17 comes before ios9. No class derives from this one.
     """
@@ -79,7 +79,9 @@ class Triple:
     _hash: int
     __match_args__ = ("architecture", "vendor", "operating_system", "environment", "binary_format", "version")
 
-    def __new__(cls, text: str) -> Triple:
+    def __new__(cls, text: Union[str, Triple]) -> Triple:
+        if isinstance(text, Triple):
+            return text
         utf8 = text.encode() if type(text) is str and text.isascii() else encoded(text, "the text of a triple")
         struct, error = _library.TripleStruct(), _library.ErrorStruct()
         if _library.parse(utf8, len(utf8), struct, error):
@@ -95,7 +97,7 @@ class Triple:
         raise TypeError("Triple is final: no class derives from it")
 
     @classmethod
-    def parse(cls, text: str) -> Triple:
+    def parse(cls, text: Union[str, Triple]) -> Triple:
         """The same as `Triple(text)`."""
         return cls(text)
 
@@ -126,23 +128,27 @@ class Triple:
     @classmethod
     def from_fields(
         cls,
-        architecture: Architecture = Architecture.UNKNOWN,
-        vendor: Union[Vendor, CustomVendor] = Vendor.UNKNOWN,
-        operating_system: OperatingSystem = OperatingSystem.UNKNOWN,
-        environment: Environment = Environment.UNKNOWN,
-        binary_format: Optional[BinaryFormat] = None,
+        architecture: Union[Architecture, str] = Architecture.UNKNOWN,
+        vendor: Union[Vendor, CustomVendor, str] = Vendor.UNKNOWN,
+        operating_system: Union[OperatingSystem, str] = OperatingSystem.UNKNOWN,
+        environment: Union[Environment, str] = Environment.UNKNOWN,
+        binary_format: Union[BinaryFormat, str, None] = None,
         version: Optional[Sequence[int]] = None,
     ) -> Triple:
-        """The triple with these fields. The binary format None is the one that the other fields imply.
+        """The triple with these fields, as members or by their names. The binary format None is the one that the other fields imply.
 
         >>> Triple.from_fields(Architecture.X86_64, operating_system=OperatingSystem.DARWIN, version=[23, 6])
         Triple('x86_64-unknown-darwin23.6.0')
 
         A version is a tuple or list of one to three numbers. A system that has no version raises a ValueError if there is one.
         """
+        if not isinstance(vendor, (Vendor, CustomVendor)):
+            if not isinstance(vendor, str) or isinstance(vendor, NamedValue):
+                raise TypeError(f"vendor must be of type Vendor, CustomVendor or str, not {type(vendor).__name__}")
+            vendor = Vendor.parse(vendor)
         struct = _library.TripleStruct(
             _number(architecture, Architecture, "architecture"),
-            _number(vendor, (Vendor, CustomVendor), "vendor"),
+            vendor.number,
             _number(operating_system, OperatingSystem, "operating_system"),
             _number(environment, Environment, "environment"),
         )
@@ -435,22 +441,22 @@ class Triple:
     def replace(
         self,
         *,
-        architecture: Union[Architecture, Keep] = _KEEP,
-        vendor: Union[Vendor, CustomVendor, Keep] = _KEEP,
-        operating_system: Union[OperatingSystem, Keep] = _KEEP,
-        environment: Union[Environment, Keep] = _KEEP,
-        binary_format: Union[BinaryFormat, Keep, None] = _KEEP,
+        architecture: Union[Architecture, str, Keep] = _KEEP,
+        vendor: Union[Vendor, CustomVendor, str, Keep] = _KEEP,
+        operating_system: Union[OperatingSystem, str, Keep] = _KEEP,
+        environment: Union[Environment, str, Keep] = _KEEP,
+        binary_format: Union[BinaryFormat, str, Keep, None] = _KEEP,
         version: Union[Sequence[int], Keep, None] = _KEEP,
     ) -> Triple:
         """The triple with other values in the fields that are given.
 
         A binary format that the fields imply becomes the one that the new ones imply; another one stays, unless it is
         given. None is the implied one. A new operating system has no version, unless that is given. An environment is one
-        value, so `MUSL` instead of `GNUEABIHF` loses the hard floats; `MUSLEABIHF` keeps them.
+        value, so `MUSL` instead of `GNUEABIHF` loses the hard floats; `MUSLEABIHF` keeps them. A field is a member or its name.
 
         >>> linux = Triple("x86_64-unknown-linux-gnu")
-        >>> linux.replace(environment=Environment.MUSL)
-        Triple('x86_64-unknown-linux-musl')
+        >>> linux.replace(environment=Environment.MUSL), linux.replace(environment="musl")
+        (Triple('x86_64-unknown-linux-musl'), Triple('x86_64-unknown-linux-musl'))
         >>> linux.replace(operating_system=OperatingSystem.WINDOWS)
         Triple('x86_64-unknown-windows-gnu')
         """
@@ -588,13 +594,16 @@ def _triple_from_fields(*fields: Any) -> Triple:
     return Triple.from_fields(*fields)
 
 
-def _number(value: Any, of: Union[Type[Any], Tuple[Type[Any], ...]], name: str) -> int:
-    """The number of a value of one of these types; anything else is a TypeError."""
-    if not isinstance(value, of):
-        names = " or ".join(it.__name__ for it in (of if isinstance(of, tuple) else (of,)))
-        raise TypeError(f"{name} must be of type {names}, not {type(value).__name__}")
-    number: int = value.number
-    return number
+def _number(value: Any, of: Type[NamedValue], name: str) -> int:
+    """The number of a value of this type, or of the one that has this name; anything else is a TypeError."""
+    if isinstance(value, of):
+        return value.number
+    if not isinstance(value, str) or isinstance(value, NamedValue):
+        raise TypeError(f"{name} must be of type {of.__name__} or str, not {type(value).__name__}")
+    try:
+        return of(value).number
+    except ValueError:
+        raise ValueError(f"no {name} has the name {value!r}") from None
 
 
 def _full_version(version: Optional[Sequence[int]]) -> Optional[Version]:
