@@ -43,7 +43,10 @@ const cell = (label, ...inside) => {
   return element("td", { role: "cell", "data-label": label }, value);
 };
 
-const linesOf = (text) => text.split("\n").map((line) => line.trim()).filter((line) => line !== "");
+/** The targets in a text: one a line, or as lists have them, with commas, quotes, brackets, or a dash before each. */
+const linesOf = (text) => text.split(/[\n,]/).map(bare).filter((line) => line !== "");
+const AROUND = /^[\s"'[\]]+|[\s"'[\]]+$/g;
+const bare = (item) => item.replace(AROUND, "").replace(/^- /, "").replace(AROUND, "");
 
 // ---- rows
 
@@ -210,11 +213,11 @@ const rowsInSight = () => [...table.querySelectorAll("tbody > tr")].filter((row)
 
 /** Replaces the target in the text field, and shows it. The focus goes to the next mistake, or if there is none to the row of the target. */
 async function replaceTarget(text, fixed) {
-  const lines = field.value.split("\n"), at = lines.findIndex((line) => line.trim() === text);
+  const items = field.value.split(/([\n,])/), at = items.findIndex((item) => bare(item) === text);
   if (at < 0) return;
   const place = rowsInSight().findIndex((row) => row.target === text);
-  lines[at] = lines[at].replace(text, () => fixed);
-  field.value = lines.join("\n");
+  items[at] = items[at].replace(text, () => fixed);
+  field.value = items.join("");
   await show();
   const rows = rowsInSight(), next = rows[Math.min(place, rows.length - 1)];
   const head = (next && next.kind !== "other" ? next : rows.find((row) => row.target === fixed))?.firstChild;
@@ -318,7 +321,7 @@ async function show() {
     const more = ["suspicious", "duplicate"].filter((kind) => counts[kind]).map((kind) => `, ${chipOf(kind).textContent}`).join("");
     say(`${chipOf("all").textContent}: ${countOf(lines.length - counts.refused)} parsed, ${chipOf("refused").textContent}${more}.`, true);
   } else {
-    say("No targets. Paste some above, one a line, such as what `rustc --print target-list` writes.");
+    say("No targets. Paste some above, one a line or as a list, such as what `rustc --print target-list` writes.");
   }
   showLink(lines);
 }

@@ -256,6 +256,8 @@ export class Triple {
    * API level. `manylinux_2_17_x86_64` has the version `{ major: 2, minor: 17 }`.
    */
   nameIn(dialect: Dialect, version?: GivenVersion): string | null;
+  /** The names in all dialects, with null for those that have none. */
+  names(): Record<(typeof DIALECTS)[number], string | null>;
   /** The triple with the usual environment of a C library, if it is of Linux and states none; any other one as it is. */
   complete(libc: LinuxLibc): Triple;
   /** The canonical form: two canonical triples with the same printed string are equal, so the string is a key. */
@@ -276,6 +278,12 @@ export class Triple {
  * latter to one of the former, say `libc`. Throws a ParseError if the name isn't read, or what it means has no name.
  */
 export function translate(name: string, from: Dialect | null, to: Dialect, libc?: LinuxLibc | null): string;
+
+/**
+ * The canonical string of each target, or null for one that is refused. It is one call of the module for all targets, so that a long list
+ * takes a fraction of the time of a loop over `Triple.parse`.
+ */
+export function settleAll(targets: Iterable<string>): (string | null)[];
 
 /**
  * What `Triple.read`, without a dialect, reads as other names in a string. A version that is dropped is such a part: `freebsd13.2` is

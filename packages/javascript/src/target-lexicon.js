@@ -41,6 +41,7 @@ const RANGE = ERROR + 4; // that of an error, or of a change
 const PAGE = 65536;
 const SHORT = 64; // up to here a loop over ASCII is faster than the encoder and the decoder
 const ROOM = 128; // the first try for a string that the module writes, beside a custom vendor
+const GROWTH = 22; // how many bytes longer than a string its canonical form is at most
 const LARGE = 1 << 26; // a memory that a long string made larger than this is given back
 
 const encoder = new TextEncoder();
@@ -280,6 +281,9 @@ function givenValues(values) {
   return Object.fromEntries(Object.entries(values).filter(([, value]) => value !== undefined));
 }
 
+/** The method that Node asks how a value is shown. */
+const INSPECT = Symbol.for("nodejs.util.inspect.custom");
+
 function tripleOf(value) {
   if (!(value instanceof Triple)) throw new TypeError("only a Triple can be compared with a Triple");
   return value;
@@ -303,6 +307,12 @@ export class ParseError extends Error {
     this.needsLibc = status === NEEDS_C_LIBRARY;
     this.#status = status;
     this.#range = range;
+    if (!Error.captureStackTrace) return;
+    // What Node shows of an error that nobody catches: the report, and where it was thrown. It is made when somebody asks.
+    const thrown = {};
+    Error.captureStackTrace(thrown, ParseError);
+    const stack = () => `${this.name}: ${this.report}${thrown.stack.slice(thrown.stack.indexOf("\n"))}`;
+    Object.defineProperty(this, "stack", { get: stack, configurable: true });
   }
 
   /** The message, the string below it, and carets below the refused part, with the suggestion or the reason. */
@@ -434,6 +444,16 @@ export class Triple {
     return this.toString();
   }
 
+  /** What `console.log` of Node shows: the call that makes the triple, on one line. */
+  [INSPECT]() {
+    return this.comesBack() ? `Triple.parse(${JSON.stringify(this.toString())})` : `Triple.of(${JSON.stringify({ ...this, numbers: undefined, hasCustomVendor: undefined })})`;
+  }
+
+  /** The names in all dialects, with null for those that have none. */
+  names() {
+    return Object.fromEntries(DIALECTS.map((dialect) => [dialect, this.nameIn(dialect)]));
+  }
+
   /** The name in a dialect, which may have to state a version such as `{ major: 2, minor: 17 }`, or null if it has none. */
   nameIn(dialect, version) {
     const it = instance(), number = dialectOf(dialect), { start, used } = it.triple(this);
@@ -524,6 +544,19 @@ export function translate(name, from, to, libc = null) {
   const status = it.call("translate", source, ...given, number, target, out, ROOM, it.base + LENGTH, it.base + ERROR);
   if (status === OK) return it.read(out, it.number(LENGTH));
   throw isRefusal(status) ? errorAt(it, status, name, given, source) : failure(status);
+}
+
+/** The canonical string of each target, or null for one that is refused: one call for all of them, which takes less time than a loop. */
+export function settleAll(targets) {
+  if (typeof targets === "string" || typeof targets?.[Symbol.iterator] !== "function") throw new TypeError("the targets are an iterable of strings");
+  const lines = Array.from(targets, stringOf);
+  if (lines.length === 0) return [];
+  const text = lines.map((it) => (it.includes("\n") ? "" : it)).join("\n") + "\n";
+  const it = instance(), given = it.text(text), size = given[1] + GROWTH * lines.length + 1;
+  it.hold(given[1] + size);
+  const out = it.base + TEXTS + given[1], status = it.call("settle_lines", ...given, out, size, it.base + LENGTH);
+  if (status !== OK) throw failure(status);
+  return it.read(out, it.number(LENGTH)).split("\n", lines.length).map((line) => line || null);
 }
 
 /** What `Triple.read`, without a dialect, reads as other names in a string, such as a version that is dropped. */

@@ -5,7 +5,7 @@ import { pathToFileURL } from "node:url";
 
 const [script, file] = process.argv.slice(2);
 const all = await import(pathToFileURL(script));
-const { DIALECTS, FAMILIES, FIELDS, ParseError, Triple, changes, host, load, namesOf, numberOf, translate, version } = all;
+const { DIALECTS, FAMILIES, FIELDS, ParseError, Triple, changes, host, load, namesOf, numberOf, settleAll, translate, version } = all;
 const fields = (it) => FIELDS.map((field) => it[field]).join(" ");
 const refusal = (text, call = Triple.parse) => {
   try {
@@ -205,6 +205,45 @@ const tests = {
     assert.deepEqual(changes(`arm64-apple-macos${version}`).map((it) => it.names), [`macosx${version}`]);
     assert.deepEqual([changes("x86_64-unknown-linux-gnu"), changes("")], [[], []]);
     assert.throws(() => changes(null), TypeError);
+  },
+  "many targets are one call": () => {
+    const targets = ["arm64-linux-gnu", "x86_64-pc-linx", "", "x86_64-linux\n", "x86_64-\udc00-linux", "x86_64-\u{1f600}", `arm64-${"a".repeat(500)}-linux`, "arm64-linux\r", "avr"];
+    const alone = (it) => {
+      try {
+        return Triple.parse(it).canonical;
+      } catch (error) {
+        return null;
+      }
+    };
+    assert.deepEqual(settleAll(targets), targets.map(alone));
+    assert.deepEqual([settleAll([]), settleAll([""]), settleAll(new Set(["avr"]))], [[], [null], ["avr-unknown-unknown"]]);
+    const many = Array.from({ length: 50000 }, (_, at) => `arm64-apple-ios${at % 250}.${at % 199}`);
+    const begin = performance.now(), answers = settleAll(many), middle = performance.now();
+    assert.deepEqual(answers, many.map(alone));
+    assert(middle - begin < performance.now() - middle, "a loop is faster");
+    for (const wrong of [[1], ["avr", null], 7, null, "avr"]) assert.throws(() => settleAll(wrong), TypeError);
+  },
+  "names in all dialects": () => {
+    const it = Triple.parse("aarch64-unknown-linux-gnu"), names = it.names();
+    assert.deepEqual(Object.keys(names), [...DIALECTS]);
+    for (const dialect of DIALECTS) assert.equal(names[dialect], it.nameIn(dialect));
+    assert.deepEqual([names.debian, names.uname], ["arm64", null]);
+  },
+  "Node shows a triple on one line, and the carets of an error": async () => {
+    const { inspect } = await import("node:util");
+    assert.equal(inspect(Triple.parse("arm64-apple-ios17")), 'Triple.parse("aarch64-apple-ios17.0.0")');
+    assert.equal(inspect([Triple.parse("avr")]), '[ Triple.parse("avr-unknown-unknown") ]');
+    const odd = Triple.parse("clever-unknown-unknown-none"), shown = inspect(odd);
+    assert.match(shown, /^Triple\.of\(\{.*\}\)$/);
+    assert(Triple.of(JSON.parse(shown.slice(10, -1))).equals(odd));
+    const error = refusal("x86_64-pc-linx"), lines = inspect(error).split("\n");
+    assert.deepEqual(lines.slice(0, 3), ["ParseError: Unrecognized operating system: linx", "  x86_64-pc-linx", "            ^^^^ did you mean `linux`?"]);
+    assert.match(lines[3], /^ +at /);
+    const { spawnSync } = await import("node:child_process");
+    const program = `const { load, Triple } = await import(${JSON.stringify(String(pathToFileURL(script)))});
+      await load((await import("node:fs")).readFileSync(${JSON.stringify(file)})); Triple.parse("x86_64-pc-linx");`;
+    const ran = spawnSync(globalThis.process.execPath, ["--input-type=module", "--eval", program], { encoding: "utf8" });
+    assert.match(ran.stderr, /\n            \^\^\^\^ did you mean `linux`\?\n +at /);
   },
   "only strings are parsed": () => {
     for (const it of [undefined, null, 7, ["x86_64"], new String("x86_64")]) {

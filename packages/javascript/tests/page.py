@@ -148,6 +148,22 @@ def escapes_and_shortens(page):
     holds(tallest < 300, f"a row is {tallest} pixels high")
 
 
+def takes_lists(page):
+    """A list is pasted as people have it, and a mistake in it is mended in its place."""
+    page.size(1280, 900)
+    for text in ("- arm64-linux-gnu\n- \"x86_64-pc-linx\"\n- avr", "[\"arm64-linux-gnu\", 'x86_64-pc-linx', avr]", "arm64-linux-gnu,x86_64-pc-linx,avr"):
+        page.run("document.getElementById('targets').focus()")
+        page.control("a")
+        page.keys(Keys.DELETE)
+        page.until(f"{STATUS}.startsWith('No targets. Paste')")
+        page.paste(text)
+        page.until(f"{STATUS}.startsWith('3 targets: 2 parsed, 1 refused')")
+        same(page.run(ROWS + ".map((row) => row.target)"), ["x86_64-pc-linx", "arm64-linux-gnu", "avr"])
+        page.run("document.querySelector('.refused .offer').click()")
+        page.until(f"{STATUS}.startsWith('3 targets: 3 parsed')")
+        same(page.run("document.getElementById('targets').value"), text.replace("x86_64-pc-linx", "x86_64-pc-linux"))
+
+
 def refuses_and_suggests(page):
     page.size(1280, 900)
     typed(page, "x86_64-pc-windws-msvc\nx86_64--linux\nx86_64-<b>-linux\nx86_64-pc-\u4e2d\u6587\namd64-linux\nx86_64-linx-gnu")
@@ -330,7 +346,7 @@ def folds_on_a_phone(page):
 def says_what_to_paste(page):
     typed(page, "")
     same(page.run("document.getElementById('table').hidden"), True)
-    same(page.run(STATUS), "No targets. Paste some above, one a line, such as what `rustc --print target-list` writes.")
+    same(page.run(STATUS), "No targets. Paste some above, one a line or as a list, such as what `rustc --print target-list` writes.")
 
 
 def complete_roles(page):
@@ -366,7 +382,7 @@ def is_accessible(page):
 
 
 def has_a_link(page):
-    lines = ["x86_64-unknown-linux-gnu", "arm64-apple,ios", "x86_64-\u4e2d&#%-b"]
+    lines = ["x86_64-unknown-linux-gnu", "arm64-apple;ios", "x86_64-\u4e2d&#%-b"]
     typed(page, "\n".join(lines))
     link = page.run("document.getElementById('link').href")
     same(urllib.parse.unquote(link.split("#")[1].split(",")[1]), lines[1])
@@ -379,9 +395,9 @@ def has_a_link(page):
 
 
 def opens_a_link(url):
-    with Page(f"{url}/#wasm32-wasi,x86_64-pc%2Clinux") as page:
+    with Page(f"{url}/#wasm32-wasi,x86_64-pc%3Blinux") as page:
         loaded(page)
-        same(page.run("document.getElementById('targets').value"), "wasm32-wasi\nx86_64-pc,linux")
+        same(page.run("document.getElementById('targets').value"), "wasm32-wasi\nx86_64-pc;linux")
         same(page.run(STATUS), "2 targets: 1 parsed, 1 refused.")
 
 
@@ -422,7 +438,7 @@ def stays_responsive(page):
 
 def page_tests(url, program):
     """The name of each test of the page at a URL, and the test; `program` is the command `target-lexicon`."""
-    tests = [asks_for_two_files, forbids_what_it_does_not_need, shows_fields, shows_special_strings_and_formats, escapes_and_shortens,
+    tests = [asks_for_two_files, forbids_what_it_does_not_need, shows_fields, shows_special_strings_and_formats, escapes_and_shortens, takes_lists,
              refuses_and_suggests,
              mistakes_come_first, has_a_head_that_stays, is_typed_in_a_column_of_60, is_cleared, links_to_pages,
              names_other_tools, says_what_other_tools_mean, is_a_card, breaks_no_name, folds_on_a_phone,

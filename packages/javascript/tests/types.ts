@@ -1,5 +1,5 @@
 // For `tsc --strict`: each line after `@ts-expect-error` is an error, and no other one is.
-import { DIALECTS, FAMILIES, FIELDS, ParseError, Triple, changes, host, load, namesOf, numberOf, translate, version } from "target-lexicon";
+import { DIALECTS, FAMILIES, FIELDS, ParseError, Triple, changes, host, load, namesOf, numberOf, settleAll, translate, version } from "target-lexicon";
 import type {
   Architecture, BinaryFormat, Change, Dialect, Environment, Explained, Explanation, Facts, Family, Field, Given, GivenVersion, KnownVendor, OperatingSystem, Values, Vendor, Version,
 } from "target-lexicon";
@@ -57,13 +57,13 @@ const members: {
   [Name in keyof Triple]: Same<Triple[Name], {
     architecture: Architecture; vendor: Values["vendor"]; operatingSystem: OperatingSystem; environment: Environment; binaryFormat: BinaryFormat;
     version: Version | null; hasCustomVendor: boolean; numbers: Readonly<Record<Field, number>>; with: (values: Given) => Triple;
-    toString: () => string; toJSON: () => string; nameIn: (dialect: Dialect, version?: GivenVersion) => string | null; settle: () => Triple; comesBack: () => boolean;
+    toString: () => string; toJSON: () => string; nameIn: (dialect: Dialect, version?: GivenVersion) => string | null; names: () => Record<(typeof DIALECTS)[number], string | null>; settle: () => Triple; comesBack: () => boolean;
     equals: (other: Triple) => boolean; sameTarget: (other: Triple) => boolean; facts: () => Facts;
     canonical: string; complete: (libc: "glibc" | "musl") => Triple;
   }[Name]>
 } = {
   architecture: true, vendor: true, operatingSystem: true, environment: true, binaryFormat: true, version: true, hasCustomVendor: true,
-  numbers: true, with: true, toString: true, toJSON: true, nameIn: true, settle: true, comesBack: true, equals: true, sameTarget: true, facts: true,
+  numbers: true, with: true, toString: true, toJSON: true, nameIn: true, names: true, settle: true, comesBack: true, equals: true, sameTarget: true, facts: true,
   canonical: true, complete: true,
 };
 const errors: {
@@ -85,8 +85,8 @@ const calls: [
   Same<typeof host, () => Triple>, Same<typeof version, () => string>, Same<typeof numberOf, (field: Field, text: string) => number | null>,
   Same<typeof load, (module: ArrayBuffer | ArrayBufferView | WebAssembly.Module) => Promise<void>>, Same<typeof FAMILIES, readonly Family[]>,
   Same<typeof translate, (name: string, from: Dialect | null, to: Dialect, libc?: "glibc" | "musl" | null) => string>,
-  Same<typeof changes, (text: string) => Change[]>,
-] = [true, true, true, true, true, true, true, true, true, true, true];
+  Same<typeof changes, (text: string) => Change[]>, Same<typeof settleAll, (targets: Iterable<string>) => (string | null)[]>,
+] = [true, true, true, true, true, true, true, true, true, true, true, true];
 
 function text(explanation: Explanation): string {
   if (explanation.error) return explanation.error.report;
