@@ -65,26 +65,28 @@ extern "C" {
 
 enum lexicon_status {
   LEXICON_OK = 0,
-  LEXICON_UNRECOGNIZED_ARCHITECTURE = 1,     /* the string is refused: the first part is no architecture */
-  LEXICON_UNRECOGNIZED_VENDOR = 2,           /* the part after the architecture is nothing that may follow it */
+  /* written by tools/names/write: the statuses for C */
+  LEXICON_UNRECOGNIZED_ARCHITECTURE = 1, /* the string is refused: the first part is no architecture */
+  LEXICON_UNRECOGNIZED_VENDOR = 2, /* the part after the architecture is nothing that may follow it */
   LEXICON_UNRECOGNIZED_OPERATING_SYSTEM = 3, /* likewise after the vendor */
-  LEXICON_UNRECOGNIZED_ENVIRONMENT = 4,      /* likewise after the operating system */
-  LEXICON_UNRECOGNIZED_BINARY_FORMAT = 5,    /* likewise after the environment */
-  LEXICON_UNRECOGNIZED_FIELD = 6,            /* a part after the binary format */
-  LEXICON_NOT_UTF8 = 7,
-  LEXICON_TOO_SMALL = 8,      /* the buffer; it needs the size *length + 1 */
-  LEXICON_NO_SUCH_FIELD = 9,  /* the number of a field is above 4 */
+  LEXICON_UNRECOGNIZED_ENVIRONMENT = 4, /* likewise after the operating system */
+  LEXICON_UNRECOGNIZED_BINARY_FORMAT = 5, /* likewise after the environment */
+  LEXICON_UNRECOGNIZED_FIELD = 6, /* a part after the binary format */
+  LEXICON_NOT_UTF8 = 7, /* the string isn't UTF-8 */
+  LEXICON_TOO_SMALL = 8, /* the buffer; it needs the size *length + 1 */
+  LEXICON_NO_SUCH_FIELD = 9, /* the number of a field is above 4 */
   LEXICON_NO_SUCH_VALUE = 10, /* a number names no value; also a version of a system that has none */
-  LEXICON_NO_SUCH_VENDOR = 11,      /* a custom vendor that no string parses as */
-  LEXICON_UNKNOWN_NAME = 12,        /* the dialect has no such name */
+  LEXICON_NO_SUCH_VENDOR = 11, /* a custom vendor that no string parses as */
+  LEXICON_UNKNOWN_NAME = 12, /* the dialect has no such name */
   LEXICON_NAME_WITHOUT_TRIPLE = 13, /* the dialect has the name, but no triple means the same; lexicon_reason says why */
   LEXICON_TRIPLE_WITHOUT_NAME = 14, /* the dialect has no name for the triple */
-  LEXICON_NO_SUCH_DIALECT = 15,     /* the number of a dialect names none; where a name is written, also 0 */
-  LEXICON_TOO_LARGE = 16,           /* a size is above PTRDIFF_MAX; that of a custom vendor gives LEXICON_NO_SUCH_VENDOR */
-  LEXICON_NEEDS_C_LIBRARY = 17,     /* the dialect has a name for it with glibc or musl, and none is said */
-  LEXICON_NO_SUCH_C_LIBRARY = 18,   /* the number of a C library of Linux is above 2; for lexicon_complete also 0 */
-  LEXICON_NO_SUCH_CHANGE = 19,      /* the string has no change with this number */
-  LEXICON_NO_SUGGESTION = 20        /* nothing else may have been meant */
+  LEXICON_NO_SUCH_DIALECT = 15, /* the number of a dialect names none; where a name is written, also 0 */
+  LEXICON_TOO_LARGE = 16, /* a size is above PTRDIFF_MAX; that of a custom vendor gives LEXICON_NO_SUCH_VENDOR */
+  LEXICON_NEEDS_C_LIBRARY = 17, /* the dialect has a name for it with glibc or musl, and none is said */
+  LEXICON_NO_SUCH_C_LIBRARY = 18, /* the number of a C library of Linux is above 2; for lexicon_complete also 0 */
+  LEXICON_NO_SUCH_CHANGE = 19, /* the string has no change with this number */
+  LEXICON_NO_SUGGESTION = 20, /* nothing else may have been meant */
+  /* end of what is written */
 };
 
 /* A tool, or a group of tools, that names targets in its own way. */
@@ -110,7 +112,13 @@ enum lexicon_dialect {
 };
 
 /* A C library of Linux, which the caller says where a name doesn't state it. */
-enum lexicon_linux_libc { LEXICON_LINUX_LIBC_NONE = 0, LEXICON_LINUX_LIBC_GLIBC = 1, LEXICON_LINUX_LIBC_MUSL = 2 };
+enum lexicon_linux_libc {
+  LEXICON_LINUX_LIBC_NONE = 0,
+  /* written by tools/names/write: the answers of linux_libc for C */
+  LEXICON_LINUX_LIBC_GLIBC = 1,
+  LEXICON_LINUX_LIBC_MUSL = 2,
+  /* end of what is written */
+};
 
 enum lexicon_field {
   LEXICON_FIELD_ARCHITECTURE = 0,
@@ -394,38 +402,56 @@ enum lexicon_family {
 };
 
 /* Other answers of the facts. 0 is no answer. */
-enum lexicon_endianness { LEXICON_ENDIANNESS_NONE = 0, LEXICON_ENDIANNESS_LITTLE = 1, LEXICON_ENDIANNESS_BIG = 2 };
+enum lexicon_endianness {
+  LEXICON_ENDIANNESS_NONE = 0,
+  /* written by tools/names/write: the answers of endianness for C */
+  LEXICON_ENDIANNESS_LITTLE = 1,
+  LEXICON_ENDIANNESS_BIG = 2,
+  /* end of what is written */
+};
 enum lexicon_calling_convention {
   LEXICON_CALLING_CONVENTION_NONE = 0,
+  /* written by tools/names/write: the answers of calling_convention for C */
   LEXICON_CALLING_CONVENTION_SYSTEM_V = 1,
   LEXICON_CALLING_CONVENTION_WASM_BASIC_C_ABI = 2,
   LEXICON_CALLING_CONVENTION_WINDOWS_FASTCALL = 3,
-  LEXICON_CALLING_CONVENTION_APPLE_AARCH64 = 4
+  LEXICON_CALLING_CONVENTION_APPLE_AARCH64 = 4,
+  /* end of what is written */
 };
 enum lexicon_data_model {
   LEXICON_DATA_MODEL_NONE = 0,
+  /* written by tools/names/write: the answers of data_model for C */
   LEXICON_DATA_MODEL_LP32 = 1,
   LEXICON_DATA_MODEL_ILP32 = 2,
   LEXICON_DATA_MODEL_LLP64 = 3,
   LEXICON_DATA_MODEL_LP64 = 4,
-  LEXICON_DATA_MODEL_ILP64 = 5
+  LEXICON_DATA_MODEL_ILP64 = 5,
+  /* end of what is written */
 };
 /* The C library that a triple states, by its environment or by a system that has only one. */
 enum lexicon_c_library {
   LEXICON_C_LIBRARY_NONE = 0,
+  /* written by tools/names/write: the answers of c_library for C */
   LEXICON_C_LIBRARY_BIONIC = 1, /* Android's */
-  LEXICON_C_LIBRARY_GLIBC = 2,  /* the GNU C library */
-  LEXICON_C_LIBRARY_MINGW = 3,  /* MinGW, over a library of Windows */
-  LEXICON_C_LIBRARY_MSVC = 4,   /* Microsoft's Visual C++ */
-  LEXICON_C_LIBRARY_MUSL = 5,
-  LEXICON_C_LIBRARY_NEWLIB = 6, /* of embedded systems */
-  LEXICON_C_LIBRARY_RELIBC = 7, /* that of Redox */
-  LEXICON_C_LIBRARY_SYSTEM = 8, /* the system's own, which no other system has */
-  LEXICON_C_LIBRARY_UCLIBC = 9
+  LEXICON_C_LIBRARY_GLIBC = 2, /* The GNU C library */
+  LEXICON_C_LIBRARY_MINGW = 3, /* MinGW, over a library of Windows */
+  LEXICON_C_LIBRARY_MSVC = 4, /* Microsoft's Visual C++ */
+  LEXICON_C_LIBRARY_MUSL = 5, /* musl */
+  LEXICON_C_LIBRARY_NEWLIB = 6, /* Newlib, of embedded systems */
+  LEXICON_C_LIBRARY_RELIBC = 7, /* That of Redox */
+  LEXICON_C_LIBRARY_SYSTEM = 8, /* The system's own, which no other system has */
+  LEXICON_C_LIBRARY_UCLIBC = 9, /* uClibc */
+  /* end of what is written */
 };
 /* How floating-point arguments are passed: in integer registers, or in floating-point registers. There is an answer for 32-bit Arm,
    by its environment or system, and where a triple says `softfloat`; elsewhere the ABI depends on more than the triple. */
-enum lexicon_float_abi { LEXICON_FLOAT_ABI_NONE = 0, LEXICON_FLOAT_ABI_SOFT = 1, LEXICON_FLOAT_ABI_HARD = 2 };
+enum lexicon_float_abi {
+  LEXICON_FLOAT_ABI_NONE = 0,
+  /* written by tools/names/write: the answers of float_abi for C */
+  LEXICON_FLOAT_ABI_SOFT = 1, /* In integer registers. The processor may have floating-point registers */
+  LEXICON_FLOAT_ABI_HARD = 2, /* In floating-point registers */
+  /* end of what is written */
+};
 
 struct lexicon_triple {
   uint16_t architecture;     /* enum lexicon_architecture */

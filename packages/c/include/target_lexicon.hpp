@@ -119,23 +119,33 @@ enum class Dialect : std::uint8_t {
   // end of what is written
 };
 
-enum class Endianness : std::uint8_t { Little = LEXICON_ENDIANNESS_LITTLE, Big = LEXICON_ENDIANNESS_BIG };
+enum class Endianness : std::uint8_t {
+  // written by tools/names/write: the answers of endianness for C++
+  Little = LEXICON_ENDIANNESS_LITTLE,
+  Big = LEXICON_ENDIANNESS_BIG,
+  // end of what is written
+};
 enum class CallingConvention : std::uint8_t {
+  // written by tools/names/write: the answers of calling_convention for C++
   SystemV = LEXICON_CALLING_CONVENTION_SYSTEM_V,
   WasmBasicCAbi = LEXICON_CALLING_CONVENTION_WASM_BASIC_C_ABI,
   WindowsFastcall = LEXICON_CALLING_CONVENTION_WINDOWS_FASTCALL,
-  AppleAarch64 = LEXICON_CALLING_CONVENTION_APPLE_AARCH64
+  AppleAarch64 = LEXICON_CALLING_CONVENTION_APPLE_AARCH64,
+  // end of what is written
 };
 enum class DataModel : std::uint8_t {
+  // written by tools/names/write: the answers of data_model for C++
   LP32 = LEXICON_DATA_MODEL_LP32,
   ILP32 = LEXICON_DATA_MODEL_ILP32,
   LLP64 = LEXICON_DATA_MODEL_LLP64,
   LP64 = LEXICON_DATA_MODEL_LP64,
-  ILP64 = LEXICON_DATA_MODEL_ILP64
+  ILP64 = LEXICON_DATA_MODEL_ILP64,
+  // end of what is written
 };
 
 // The C library that a triple states. System is the system's own, which no other system has.
 enum class CLibrary : std::uint8_t {
+  // written by tools/names/write: the answers of c_library for C++
   Bionic = LEXICON_C_LIBRARY_BIONIC,
   Glibc = LEXICON_C_LIBRARY_GLIBC,
   Mingw = LEXICON_C_LIBRARY_MINGW,
@@ -144,13 +154,24 @@ enum class CLibrary : std::uint8_t {
   Newlib = LEXICON_C_LIBRARY_NEWLIB,
   Relibc = LEXICON_C_LIBRARY_RELIBC,
   System = LEXICON_C_LIBRARY_SYSTEM,
-  Uclibc = LEXICON_C_LIBRARY_UCLIBC
+  Uclibc = LEXICON_C_LIBRARY_UCLIBC,
+  // end of what is written
 };
 // How floating-point arguments are passed: in integer registers, or in floating-point registers.
-enum class FloatAbi : std::uint8_t { Soft = LEXICON_FLOAT_ABI_SOFT, Hard = LEXICON_FLOAT_ABI_HARD };
+enum class FloatAbi : std::uint8_t {
+  // written by tools/names/write: the answers of float_abi for C++
+  Soft = LEXICON_FLOAT_ABI_SOFT,
+  Hard = LEXICON_FLOAT_ABI_HARD,
+  // end of what is written
+};
 
 // A C library of Linux, which the caller says where a name doesn't state it.
-enum class LinuxLibc : std::uint8_t { Glibc = LEXICON_LINUX_LIBC_GLIBC, Musl = LEXICON_LINUX_LIBC_MUSL };
+enum class LinuxLibc : std::uint8_t {
+  // written by tools/names/write: the answers of linux_libc for C++
+  Glibc = LEXICON_LINUX_LIBC_GLIBC,
+  Musl = LEXICON_LINUX_LIBC_MUSL,
+  // end of what is written
+};
 
 // Where the value of a field comes from: nowhere, so that it is unknown; a part of the string; or the other fields.
 enum class Origin : std::uint8_t {

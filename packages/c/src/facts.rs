@@ -62,7 +62,7 @@ pub struct LayoutNumbers {
 #[repr(C)]
 #[derive(Clone, Copy)]
 pub struct DriverFacts {
-    /// The C library: 1 is Bionic, 2 glibc, 3 MinGW, 4 Visual C++, 5 musl, 6 Newlib, 7 relibc, 8 the system's own, 9 uClibc.
+    /// The C library.
     pub c_library: u8,
     /// How floating-point arguments are passed: 1 is in integer registers, 2 in floating-point registers.
     pub float_abi: u8,

@@ -44,6 +44,7 @@ use values::{c_library_at, dialect_at, field_at, name_at, number_in, CUSTOM_VEND
 pub type Status = u32;
 
 const OK: Status = 0;
+// written by tools/names/write: the statuses for the library
 const NOT_UTF8: Status = 7;
 const TOO_SMALL: Status = 8;
 const NO_SUCH_FIELD: Status = 9;
@@ -58,6 +59,7 @@ const NEEDS_C_LIBRARY: Status = 17;
 const NO_SUCH_C_LIBRARY: Status = 18;
 const NO_SUCH_CHANGE: Status = 19;
 const NO_SUGGESTION: Status = 20;
+// end of what is written
 
 /// The greatest size of anything in memory, `PTRDIFF_MAX`. Rust has no slice that is larger.
 const MAX_SIZE: usize = isize::MAX as usize;

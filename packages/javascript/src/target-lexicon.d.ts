@@ -140,13 +140,29 @@ export type Explanation = {
   suggestion: string | null;
 } & ({ triple: Triple; error: null } | { triple: null; error: ParseError });
 
+// written by tools/names/write: the answers of endianness for TypeScript
+export type Endianness = "little" | "big";
+// end of what is written
+// written by tools/names/write: the answers of calling_convention for TypeScript
+export type CallingConvention = "SystemV" | "WasmBasicCAbi" | "WindowsFastcall" | "AppleAarch64";
+// end of what is written
+// written by tools/names/write: the answers of data_model for TypeScript
+export type DataModel = "LP32" | "ILP32" | "LLP64" | "LP64" | "ILP64";
+// end of what is written
+// written by tools/names/write: the answers of c_library for TypeScript
+export type CLibrary = "bionic" | "glibc" | "mingw" | "msvc" | "musl" | "newlib" | "relibc" | "system" | "uclibc";
+// end of what is written
+// written by tools/names/write: the answers of float_abi for TypeScript
+export type FloatAbi = "soft" | "hard";
+// end of what is written
+
 /** What a compiler asks of a triple; null where there is no answer. */
 export interface Facts {
-  endianness: "little" | "big" | null;
+  endianness: Endianness | null;
   /** In bits. It may be known where there is no data model. */
   pointerWidth: 16 | 32 | 64 | null;
-  defaultCallingConvention: "SystemV" | "WasmBasicCAbi" | "WindowsFastcall" | "AppleAarch64" | null;
-  dataModel: "LP32" | "ILP32" | "LLP64" | "LP64" | "ILP64" | null;
+  defaultCallingConvention: CallingConvention | null;
+  dataModel: DataModel | null;
   /** The sizes of C's types, in bytes, by the data model. */
   shortSize: number | null;
   intSize: number | null;
@@ -166,9 +182,9 @@ export interface Facts {
   isLikeDarwin: boolean;
   hasCustomVendor: boolean;
   /** The C library that the triple states; `system` is one that no other system has. */
-  cLibrary: "bionic" | "glibc" | "mingw" | "msvc" | "musl" | "newlib" | "relibc" | "system" | "uclibc" | null;
+  cLibrary: CLibrary | null;
   /** How floating-point arguments are passed: in integer registers, or in floating-point registers. */
-  floatAbi: "soft" | "hard" | null;
+  floatAbi: FloatAbi | null;
   /** Whether rustc counts the system to its family `unix`. */
   isUnix: boolean;
   /** The layouts of C's `long double` and `wchar_t`, in bytes. */

@@ -21,16 +21,22 @@ export const FAMILIES = Object.freeze([
 export const DIALECTS = Object.freeze(["debian", "go", "oci", "node", "gnu", "python", "rust", "uname", "rpm", "apk", "pacman", "dotnet", "conda", "zig", "nix"]);
 // end of what is written
 
-const OK = 0, REFUSED = 6, TOO_SMALL = 8, NO_SUCH_VALUE = 10, NO_SUCH_VENDOR = 11;
-const UNKNOWN_NAME = 12, NAME_WITHOUT_TRIPLE = 13, TRIPLE_WITHOUT_NAME = 14, NEEDS_C_LIBRARY = 17, NO_SUCH_CHANGE = 19, NO_SUGGESTION = 20;
+const OK = 0;
+// written by tools/names/write: the statuses for JavaScript
+const UNRECOGNIZED_FIELD = 6, NOT_UTF8 = 7, TOO_SMALL = 8, NO_SUCH_FIELD = 9, NO_SUCH_VALUE = 10, NO_SUCH_VENDOR = 11, UNKNOWN_NAME = 12;
+const NAME_WITHOUT_TRIPLE = 13, TRIPLE_WITHOUT_NAME = 14, NO_SUCH_DIALECT = 15, TOO_LARGE = 16, NEEDS_C_LIBRARY = 17, NO_SUCH_C_LIBRARY = 18, NO_SUCH_CHANGE = 19, NO_SUGGESTION = 20;
+// end of what is written
+const REFUSED = UNRECOGNIZED_FIELD; // the last status of a refused string
 const CUSTOM = 255; // the number of every vendor that has none of its own
 const ORIGINS = ["not given", "given", "implied", "alias"]; // where a value comes from, by the numbers
+// written by tools/names/write: the answers for JavaScript
 const ENDIANNESS = [null, "little", "big"];
 const CONVENTIONS = [null, "SystemV", "WasmBasicCAbi", "WindowsFastcall", "AppleAarch64"];
 const MODELS = [null, "LP32", "ILP32", "LLP64", "LP64", "ILP64"];
 const C_LIBRARIES = [null, "bionic", "glibc", "mingw", "msvc", "musl", "newlib", "relibc", "system", "uclibc"];
 const FLOAT_ABIS = [null, "soft", "hard"];
-const LINUX_LIBCS = [null, "glibc", "musl"]; // those of Linux, which the caller says
+const LINUX_LIBCS = [null, "glibc", "musl"];
+// end of what is written
 
 // Where the structs of target_lexicon.h are, after the module's own data, with pointers and sizes of 32 bits. Strings and buffers
 // follow them. In a triple the numbers are at 0 (16 bits), 2, 3, 4, 5, 6, 7, 8 (8 bits each) and 10 (16 bits); the string of a

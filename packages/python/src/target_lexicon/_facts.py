@@ -7,32 +7,39 @@ from ._named import NamedValue
 class Endianness(NamedValue):
     """The order of bytes, with the names of `sys.byteorder`."""
 
+    # written by tools/names/write: the answers of endianness for Python
     LITTLE = "little"
     BIG = "big"
+    # end of what is written
 
 
 class CallingConvention(NamedValue):
     """The default calling convention of C. What each means depends on the architecture."""
 
+    # written by tools/names/write: the answers of calling_convention for Python
     SYSTEM_V = "SystemV"
     WASM_BASIC_C_ABI = "WasmBasicCAbi"
     WINDOWS_FASTCALL = "WindowsFastcall"
     APPLE_AARCH64 = "AppleAarch64"
+    # end of what is written
 
 
 class DataModel(NamedValue):
     """Which of the integer types of C, and pointers, have how many bits."""
 
+    # written by tools/names/write: the answers of data_model for Python
     LP32 = "LP32"
     ILP32 = "ILP32"
     LLP64 = "LLP64"
     LP64 = "LP64"
     ILP64 = "ILP64"
+    # end of what is written
 
 
 class CLibrary(NamedValue):
     """The C library that a triple states: by its environment, or by a system that has only one."""
 
+    # written by tools/names/write: the answers of c_library for Python
     #: Android's.
     BIONIC = "bionic"
     #: The GNU C library.
@@ -51,10 +58,15 @@ class CLibrary(NamedValue):
     SYSTEM = "system"
     #: uClibc.
     UCLIBC = "uclibc"
+    # end of what is written
 
 
 class FloatAbi(NamedValue):
     """How floating-point arguments are passed: in integer registers, or in floating-point registers."""
 
+    # written by tools/names/write: the answers of float_abi for Python
+    #: In integer registers. The processor may have floating-point registers.
     SOFT = "soft"
+    #: In floating-point registers.
     HARD = "hard"
+    # end of what is written

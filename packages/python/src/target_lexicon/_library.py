@@ -22,15 +22,25 @@ _PACKAGE_FILE = os.path.join(os.path.dirname(os.path.abspath(__file__)), _NAME)
 
 CUSTOM_VENDOR = 255
 
-# The statuses of `enum lexicon_status` that are looked at. From 1 to 5, a field was expected where a string is refused.
+# The statuses of `enum lexicon_status`. From 1 to 5, a field was expected where a string is refused.
 OK = 0
+# written by tools/names/write: the statuses for Python
 UNRECOGNIZED_FIELD = 6
+NOT_UTF8 = 7
 TOO_SMALL = 8
+NO_SUCH_FIELD = 9
+NO_SUCH_VALUE = 10
+NO_SUCH_VENDOR = 11
 UNKNOWN_NAME = 12
 NAME_WITHOUT_TRIPLE = 13
 TRIPLE_WITHOUT_NAME = 14
+NO_SUCH_DIALECT = 15
+TOO_LARGE = 16
 NEEDS_C_LIBRARY = 17
+NO_SUCH_C_LIBRARY = 18
+NO_SUCH_CHANGE = 19
 NO_SUGGESTION = 20
+# end of what is written
 
 
 class TripleStruct(Structure):

@@ -35,7 +35,14 @@ impl Dialect {
         let stated = Stated::of(name);
         if let Some(word) = &stated.machine {
             let mut others = read.clone().filter(|row| word.is_in(name, row));
-            if let Some(row) = others.find(|row| stated.allows(row)) {
+            // A machine of Arm's says nothing of floating-point arguments by itself.
+            let says_no_more = |row: &Row| match word.architecture {
+                Architecture::Arm(_) => {
+                    Said::of(row).map_or(false, |it| it.floats == stated.floats)
+                }
+                _ => true,
+            };
+            if let Some(row) = others.find(|row| stated.allows(row) && says_no_more(row)) {
                 return Some(row.0);
             }
         }

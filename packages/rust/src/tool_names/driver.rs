@@ -17,6 +17,7 @@ use core::fmt;
 #[cfg_attr(not(lexicon_internal), non_exhaustive)]
 #[derive(Clone, Copy, Debug, PartialEq, Eq, Hash)]
 pub enum CLibrary {
+    // written by tools/names/write: the C libraries
     /// Android's.
     Bionic,
     /// The GNU C library.
@@ -35,6 +36,7 @@ pub enum CLibrary {
     System,
     /// uClibc.
     Uclibc,
+    // end of what is written
 }
 
 /// How floating-point arguments are passed.
@@ -127,6 +129,7 @@ impl CLibrary {
     #[must_use]
     pub const fn name(self) -> &'static str {
         match self {
+            // written by tools/names/write: the names of C libraries
             CLibrary::Bionic => "bionic",
             CLibrary::Glibc => "glibc",
             CLibrary::Mingw => "mingw",
@@ -136,6 +139,7 @@ impl CLibrary {
             CLibrary::Relibc => "relibc",
             CLibrary::System => "system",
             CLibrary::Uclibc => "uclibc",
+            // end of what is written
         }
     }
 }

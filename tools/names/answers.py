@@ -1,0 +1,65 @@
+"""The lists of what the library for C answers by numbers, from tools/names/answers.tsv, in each language."""
+import re
+from dataclasses import dataclass
+
+PATH = "tools/names/answers.tsv"
+ENUMS = {"endianness": "Endianness", "calling_convention": "CallingConvention", "data_model": "DataModel", "c_library": "CLibrary",
+         "float_abi": "FloatAbi", "linux_libc": "LinuxLibc"}
+JAVASCRIPT = {"endianness": "ENDIANNESS", "calling_convention": "CONVENTIONS", "data_model": "MODELS", "c_library": "C_LIBRARIES",
+              "float_abi": "FLOAT_ABIS", "linux_libc": "LINUX_LIBCS"}
+
+
+@dataclass
+class Answer:
+    variant: str
+    number: int
+    name: str
+    about: str
+
+    @property
+    def constant(self):
+        return re.sub(r"(?<=[a-z0-9])(?=[A-Z])|(?<=[A-Z])(?=[A-Z][a-z])", "_", self.variant).upper()
+
+
+def answers_of(text, wrong):
+    """The answers of each kind."""
+    found = {}
+    for number, line in enumerate(text.splitlines(), 1):
+        if line.startswith("#"):
+            continue
+        kind, variant, value, name, *about = line.split("\t")
+        answers = found.setdefault(kind, [])
+        if kind not in ENUMS and kind != "status" or value != str(len(answers) + 1) or len(about) > 1:
+            wrong.append(f"answers.tsv:{number}: a kind, an answer, the next number of the kind, a name and what it is are wanted")
+            continue
+        answers.append(Answer(variant, int(value), name, *about or [""]))
+    return found
+
+
+def lists(answers):
+    statuses = answers["status"]
+    found = {
+        "the statuses for C": [f"LEXICON_{it.constant} = {it.number}, /* {it.about} */" for it in statuses],
+        "the statuses for the library": [f"const {it.constant}: Status = {it.number};" for it in statuses if it.number > 6],
+        "the statuses for Python": [f"{it.constant} = {it.number}" for it in statuses if it.number > 5],
+        "the statuses for JavaScript": [f"const {', '.join(f'{it.constant} = {it.number}' for it in part)};" for part in (statuses[5:12], statuses[12:])],
+        "the answers for JavaScript": [f"const {JAVASCRIPT[kind]} = [null, {', '.join(quoted(kind, answers))}];" for kind in ENUMS],
+        "the C libraries": [line for it in answers["c_library"] for line in (f"/// {it.about}", f"{it.variant},")],
+        "the names of C libraries": [f'CLibrary::{it.variant} => "{it.name}",' for it in answers["c_library"]],
+    }
+    for kind, of in ENUMS.items():
+        prefix = f"LEXICON_{kind.upper()}_"
+        comments = [f" /* {it.about.rstrip('.')} */" * bool(it.about) for it in answers[kind]]
+        found |= {
+            f"the answers of {kind} for C": [f"{prefix}{it.constant} = {it.number},{comment}" for it, comment in zip(answers[kind], comments)],
+            f"the answers of {kind} for C++": [f"{it.variant} = {prefix}{it.constant}," for it in answers[kind]],
+        }
+        if kind != "linux_libc":
+            about = [[f"#: {it.about}"] * bool(it.about) for it in answers[kind]]
+            found[f"the answers of {kind} for Python"] = [line for it, lines in zip(answers[kind], about) for line in (*lines, f'{it.constant} = "{it.name}"')]
+            found[f"the answers of {kind} for TypeScript"] = [f"export type {of} = {' | '.join(quoted(kind, answers))};"]
+    return found
+
+
+def quoted(kind, answers):
+    return [f'"{it.name}"' for it in answers[kind]]
