@@ -1,7 +1,9 @@
 //! Conversions. Those into a [`Triple`] or a [`Vendor`] copy the string of a custom vendor, and so allocate. No other one does.
 use core::str::FromStr;
 
-use crate::{DeploymentTarget, KnownVendor, ParseTripleError, Triple, TripleRef, Vendor, VendorRef};
+use crate::{
+    DeploymentTarget, KnownVendor, ParseTripleError, Triple, TripleRef, Vendor, VendorRef,
+};
 
 impl<'a> From<&'a Triple> for TripleRef<'a> {
     /// The same as [`Triple::as_triple_ref`], which allocates nothing.

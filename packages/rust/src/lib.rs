@@ -52,6 +52,8 @@ extern crate alloc;
 #[cfg(all(feature = "std", not(core_error)))]
 extern crate std;
 
+#[cfg(feature = "tool_names")]
+mod answers;
 mod canonical;
 mod compat;
 mod conversions;
@@ -69,8 +71,6 @@ mod proved;
 /// The proved crates, for the package of the folder `internal`.
 #[cfg(lexicon_internal)]
 pub mod proved;
-#[cfg(feature = "tool_names")]
-mod rustc_cfg;
 #[cfg(feature = "serde_support")]
 mod serde;
 mod suggestion;

@@ -88,27 +88,52 @@ impl<'a> RustcCfg<'a> {
     }
 }
 
+impl<'a> RustcCfg<'a> {
+    /// Each option that is set, in the order of `rustc --print cfg`: its name, and its value if it has one.
+    ///
+    /// # Examples
+    ///
+    /// ```
+    /// use target_lexicon::triple;
+    ///
+    /// let triple = triple!("aarch64-apple-darwin");
+    /// let cfg = triple.rustc_cfg();
+    /// assert!(cfg.options().any(|it| it == ("target_os", Some("macos"))));
+    /// assert!(cfg.options().any(|it| it == ("unix", None)));
+    /// ```
+    pub fn options(&self) -> impl Iterator<Item = (&'static str, Option<&'a str>)> {
+        let families = self.target_family;
+        let one = |name, value| core::iter::once((name, Some(value)));
+        one("target_abi", self.target_abi as &'a str)
+            .chain(one("target_arch", self.target_arch))
+            .chain(
+                self.target_endian
+                    .map(|it| ("target_endian", Some(it.name()))),
+            )
+            .chain(one("target_env", self.target_env))
+            .chain(families.iter().map(|it| ("target_family", Some(*it))))
+            .chain(one("target_os", self.target_os))
+            .chain(
+                self.target_pointer_width
+                    .map(|it| ("target_pointer_width", Some(it.name()))),
+            )
+            .chain(one("target_vendor", self.target_vendor))
+            // These families are options themselves.
+            .chain(
+                families
+                    .iter()
+                    .filter(|it| **it != "wasm")
+                    .map(|it| (*it, None)),
+            )
+    }
+}
+
 impl fmt::Display for RustcCfg<'_> {
     fn fmt(&self, f: &mut fmt::Formatter<'_>) -> fmt::Result {
-        writeln!(f, "target_abi=\"{}\"", self.target_abi)?;
-        writeln!(f, "target_arch=\"{}\"", self.target_arch)?;
-        if let Some(order) = self.target_endian {
-            writeln!(f, "target_endian=\"{order}\"")?;
-        }
-        writeln!(f, "target_env=\"{}\"", self.target_env)?;
-        for family in self.target_family {
-            writeln!(f, "target_family=\"{family}\"")?;
-        }
-        writeln!(f, "target_os=\"{}\"", self.target_os)?;
-        if let Some(width) = self.target_pointer_width {
-            writeln!(f, "target_pointer_width=\"{width}\"")?;
-        }
-        writeln!(f, "target_vendor=\"{}\"", self.target_vendor)?;
-        // These families are options themselves.
-        for family in self.target_family.iter().filter(|it| **it != "wasm") {
-            writeln!(f, "{family}")?;
-        }
-        Ok(())
+        self.options().try_for_each(|option| match option {
+            (name, Some(value)) => writeln!(f, "{name}=\"{value}\""),
+            (name, None) => writeln!(f, "{name}"),
+        })
     }
 }
 
