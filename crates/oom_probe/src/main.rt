@@ -9,7 +9,7 @@ use std::alloc::Global;
 use std::fmt::Debug;
 use target_lexicon::{
     CustomVendor, DefaultToHost, DefaultToUnknown, DeploymentTarget, OperatingSystem, ParseError,
-    Triple, TripleRef, Vendor, list_from_json, list_to_json,
+    Triple, TripleRef, Vendor, list_from_json, list_to_json, round,
 };
 
 /// What the line of a call that should allocate nothing begins with.
@@ -91,6 +91,9 @@ fn report_owned(rt: &impl Print, alloc: Global, text: &str, memory: &str) -> Opt
     check_source(rt, is_same(&triple));
     begin(rt, "", "Triple::to_text", text);
     let _ = end(rt, triple.to_text(alloc));
+    check_source(rt, is_same(&triple));
+    begin(rt, "", "round", text);
+    let _ = end(rt, round(alloc, &triple));
     check_source(rt, is_same(&triple));
     begin(rt, "", "Triple::to_upstream_text", text);
     let _ = end(rt, triple.to_upstream_text(alloc));
