@@ -72,8 +72,8 @@ LAST = [
     ("links, names, samples, counts and versions of the pages, and the pictures", "checks/pages", "cargo cc"),
     ("the program `triples` and the command `target-lexicon`: stored rows, unusual streams, large inputs, samples of the pages", "checks/rows/run", "cargo cram3"),
     ("each allocation fails in turn", "checks/fail_allocations", "rt cc"),
-    ("names, rules and tables are upstream's, by its kept answers; what other tools say of names and targets",
-     "checks/compare answers && checks/compare elsewhere && checks/compare llvm", "cargo cc"),
+    ("names, rules and tables are upstream's, by its kept answers; what other tools say of names and targets; suggestions keep the machine",
+     "checks/compare answers && checks/compare elsewhere && checks/compare llvm && checks/compare edits", "cargo cc"),
     ("the mode json: the proved program answers as Rust's serde_json does", "/usr/bin/python3 checks/compare json --inputs 200 --of proved cargo",
      "rt cargo hypothesis"),
 ]

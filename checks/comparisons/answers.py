@@ -27,7 +27,7 @@ import upstream
 from comparisons import lines
 
 PATH, PACKAGE, OURS = (f"{built.ROOT}/{path}" for path in ("checks/upstream.tsv", "checks/answers", "packages/rust/patch"))
-HEAD = """# Answers of upstream's crate, target-lexicon 0.13.5. checks/comparisons/answers.py says what each line is.
+HEAD = """# @generated: answers of upstream's crate, target-lexicon 0.13.5. checks/comparisons/answers.py says what each line is.
 # `checks/compare answers --write` writes them, and `checks/compare answers` compares them with the answers of this repository.
 """
 QUESTIONS = ("pointer_width", "calling_convention", "data_model", "implied_format", "printed", "printed_formats")

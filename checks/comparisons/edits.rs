@@ -128,7 +128,7 @@ pub fn check(input: &str, step: usize) {
                 made += 1;
                 count += 1;
                 ask(&once);
-                if step > 1 && count % 97 > 0 {
+                if step > 1 && count % 197 > 0 {
                     return;
                 }
                 edits(&once, &letters, &mut |twice| {
