@@ -140,20 +140,10 @@ list_any : {A : Type 0} → (A → Bool) → List A → Bool
 list_any test [] = false
 list_any test (x ∷ xs) = test x || list_any test xs
 
--- how many items at the beginning pass a test, and these
+-- how many items at the beginning pass a test
 prefix_len : {A : Type 0} → (A → Bool) → List A → ℕ
 prefix_len test [] = 0
 prefix_len test (x ∷ xs) = if test x then 1 + prefix_len test xs else 0
-
-take_while : {A : Type 0} → (A → Bool) → List A → List A
-take_while test xs = take (prefix_len test xs) xs
-
--- how many items are before the first that passes a test, and these
-position_or_len : {A : Type 0} → (A → Bool) → List A → ℕ
-position_or_len test xs = prefix_len (λ x. not (test x)) xs
-
-before_first : {A : Type 0} → (A → Bool) → List A → List A
-before_first test xs = take (position_or_len test xs) xs
 
 -- the item at an index, if the list goes so far; or another one
 slice_get : {A : Type 0} → List A → ℕ → Option A
@@ -163,10 +153,6 @@ slice_get (x ∷ xs) (suc i) = slice_get xs i
 
 slice_index_or : {A : Type 0} → List A → ℕ → A → A
 slice_index_or xs i other = unwrap_or (slice_get xs i) other
-
--- the number at an index, or 0
-slice_index : List ℕ → ℕ → ℕ
-slice_index xs i = slice_index_or xs i 0
 
 -- the items from one index to before another
 slice_range : {A : Type 0} → List A → ℕ → ℕ → List A
@@ -222,9 +208,6 @@ str_to_ascii_lowercase : List ℕ → List ℕ
 str_to_ascii_lowercase text = map to_ascii_lowercase text
 
 -- the same but for capitals
-eq_ignore_ascii_case : ℕ → ℕ → Bool
-eq_ignore_ascii_case a b = to_ascii_lowercase a == to_ascii_lowercase b
-
 str_eq_ignore_ascii_case : List ℕ → List ℕ → Bool
 str_eq_ignore_ascii_case a b = bytes_eq (str_to_ascii_lowercase a) (str_to_ascii_lowercase b)
 

@@ -5,6 +5,7 @@ mod ask;
 mod calls;
 mod inputs;
 mod laws;
+mod library;
 mod report;
 
 use definitions::{spec, values::{forget, V}};
@@ -53,6 +54,7 @@ fn run(part: &str, chosen: Chosen, r: &mut Report) {
         "more" => triples(inputs::fields(), r, &calls::more_of_triple),
         "written" => triples(inputs::fields(), r, &|r, t, triple| calls::written(r, t, triple, &dialects, &libraries)),
         "names" => words(inputs::names(), r, &|r, name| calls::name(r, name, &dialects, &libraries)),
+        "library" => library::run(r),
         "laws" => laws::run(r, Chosen { step: 1, ..chosen }, chosen.step),
         _ => panic!("no part {part}"),
     }

@@ -16,7 +16,7 @@ import re
 HERE = pathlib.Path(__file__).resolve().parent
 ROOT = HERE.parents[1]
 CRATES = ["lexicon_fields", "target_lexicon", "tool_names"]
-LIBRARY = ("library",)
+LIBRARY, KIT = ("library",), ("kit",)
 
 # One exception, to be fast: the second argument is computed only if it is needed.
 LAZY = {"option_or"}
@@ -34,14 +34,14 @@ GIVEN_BY = {"ReadsAs": ("reading", "Result__Ok"), "IsRefusedAs": ("reading", "Re
 # of fields matters.
 DOMAINS = {"ℕ": "numbers()", "Field": "fields()", "List Field": "field_lists()", "List ( List ℕ )": "library::seq(&[parts_of(text_)])"}
 
-LEVELS = [["→", "↔"], ["⊎"], ["×"], ["≡", "≢", "<", "≤"], ["||"], ["&&"], ["=="], ["∷", "++"], ["+", "-"], ["*"], ["^"]]
-TO_THE_LEFT = ("==", "+", "-", "*", "≡", "≢", "<", "≤")
+LEVELS = [["→", "↔"], ["⊎"], ["×"], ["≡", "≢", "<", "≤"], ["||"], ["&&"], ["=="], ["∷", "++"], ["+", "-"], ["*", "/", "%"], ["^"]]
+TO_THE_LEFT = ("==", "+", "-", "*", "/", "%", "≡", "≢", "<", "≤")
 # What both sides of an equivalence are tried with, besides what makes one of them true.
 OTHERS = {"Values": "some_values()", "Refusal": "some_refusals()"}
 TESTS = {"→": "!{}.yes() || {}.yes()", "↔": "{}.yes() == {}.yes()", "⊎": "{}.yes() || {}.yes()", "×": "{}.yes() && {}.yes()",
          "||": "{}.yes() || {}.yes()", "&&": "{}.yes() && {}.yes()", "≡": "eq({}, {})", "≢": "!eq({}, {})",
          "<": "{}.number() < {}.number()", "≤": "{}.number() <= {}.number()"}
-OPERATORS = {"∷": "cons", "++": "append", "+": "add", "-": "sub", "*": "mul", "^": "pow", "==": "nat_eq"}
+OPERATORS = {"∷": "cons", "++": "append", "+": "add", "-": "sub", "*": "mul", "/": "div", "%": "rem", "^": "pow", "==": "nat_eq"}
 TOKEN = re.compile(r'"(?:\\.|[^"\\])*"|0x[0-9A-Fa-f_]+|\d+|[^\W\d]\w*|\[\]|\+\+|==|&&|\|\||\S')
 # Words of Rust, and names of values.rs that generated functions use.
 TAKEN = set("""abstract as async await box break const continue crate do dyn else enum extern final fn for if impl in let loop macro match
@@ -264,11 +264,31 @@ class Module:
                 self.read_clause(definition.locals[re.match(r"\w+", part)[0]], part)
 
 
+class Kit(Module):
+    """The kit's library: the first definition of each name in these files. What isn't a definition is left out."""
+
+    FILES = ["core/specs/" + name for name in ("Option", "Result", "Bool", "List", "List/Sorted", "Str", "Str/Parse", "Char", "Int", "Ordering", "Fmt")]
+    FILES += ["logic/Lib/ListN", "logic/Lib/Pointwise", "antt/port/mathlib/src/Core/Bool"]
+
+    def __init__(self, kit):
+        self.path, self.definitions, self.constructors, self.uses, self.records = KIT, {}, {}, {}, []
+        for name in self.FILES:
+            now = {}
+            text = kit.joinpath(name).with_suffix(".antt").read_text(encoding="utf-8")
+            # what is in a `module _` is indented
+            for chunk in chunks(re.sub(r"^  (?=\S)", "", text, flags=re.M) if "\nmodule _ " in text else text):
+                if it := re.match(FORMS["type"], chunk, re.S):
+                    now[it[1]] = Definition(self, it[1], it[2])
+                elif (word := re.match(r"[\w-]+", chunk)) and word[0] in now and "\n  where\n" not in chunk:
+                    now[word[0]].chunks.append(chunk)
+            self.definitions = {**{name: it for name, it in now.items() if it.chunks}, **self.definitions}
+
+
 class Names:
     """What a name is: a definition, a constructor, a constant of the code, a function of values.rs, or a module or namespace."""
 
-    def __init__(self, root=ROOT):
-        self.root = root
+    def __init__(self, root, kit):
+        self.root, self.kit = root, kit and Kit(kit)
 
     @functools.cache
     def module(self, path):
@@ -343,8 +363,8 @@ NO, YES, TRIVIALLY = range(3)  # whether an expression is closed: without variab
 class Rust:
     """The Rust source. An expression becomes its code, and whether it is closed."""
 
-    def __init__(self, root=ROOT):
-        self.root, self.names = root, Names(root)
+    def __init__(self, root=ROOT, kit=None):
+        self.root, self.names, self.compared = root, Names(root, kit), []
         self.constructors, self.arity, self.shapes, self.fields, self.wholes = {}, {}, {}, {"now"}, {}
         self.functions, self.of, self.constants, self.fresh, self.cited, self.failed = [], {}, 5, 0, {}, []  # values.rs has the first 5 constants
         self.todo, self.definition = [], None
@@ -370,6 +390,11 @@ class Rust:
                 self.todo.append(definition)
                 for field, text in definition.laws or [("", definition.chunks[0].partition("=")[2])]:
                     self.law(definition, field, text)
+        kit = self.names.kit
+        for definition in self.names.module(LIBRARY).definitions.values() if kit else []:
+            theirs = kit.definitions.get(definition.name)
+            if theirs:
+                self.compared.append((definition, self.name_of(definition) if definition.chunks else f"library::{definition.name}", self.name_of(theirs)))
         for definition in self.todo:  # it grows
             if definition not in self.law_definitions:
                 self.function(definition)
@@ -693,6 +718,8 @@ class Rust:
             if not head[2].isdigit():
                 self.fields.add(head[2])
             return self.given(f"{of}.at({head[2]})" if head[2].isdigit() else f"get_{head[2]}({of})", closed, arguments, scope)
+        if head == ("var", "zero"):
+            return "N(0)", TRIVIALLY
         if head[1] in ("⊤", "⊥", "Unit"):
             return f"truth({'false' if head[1] == '⊥' else 'true'})", TRIVIALLY
         if kind == "definition" and what.clauses:
@@ -756,11 +783,28 @@ class Rust:
         out.append("];\n")
         rows = ", ".join(f'"{it}"' for it in self.claims)
         out.append(f"pub static CLAIMS: [&str; {len(self.claims)}] = [{rows}];\n")
+        out.append("/// The definitions of the library, the types of their arguments, and the functions: ours, and the kit's.\n"
+                   "pub static LIBRARY: &[(&str, &[&str], fn(&[V]) -> V, fn(&[V]) -> V)] = &[\n")
+        for definition, ours, theirs in self.compared:
+            types = arguments_in(definition.type)
+            given = ", ".join(f"a[{i}]" for i in range(len(types)))
+            kinds = ", ".join(f'"{it}"' for it in types)
+            out.append(f'    ("{definition.name}", &[{kinds}], |a| {ours}({given}), |a| {self.curried(theirs, len(types))}),\n')
+        out.append("];\n")
         titles = ", ".join(f'"{it.title}"' for it in self.todo)
         out.append(f"pub static TITLES: [&str; {len(self.todo)}] = [{titles}];\n")
         out.append(f"pub static mut REACHED: [bool; {len(self.todo)}] = [false; {len(self.todo)}];\n")
         out.append(f"pub static mut ONCE: [Option<V>; {self.constants}] = [None; {self.constants}];\n")
         return "".join(out)
+
+    def curried(self, name, count):
+        """A function of the kit with so many arguments, of which its clauses may have fewer."""
+        definition = next(it for it in self.todo if self.of.get((it.module.path, it.name)) == name)
+        own = len(definition.clauses[0][0])
+        code = f"{name}({', '.join(f'a[{i}]' for i in range(own))})"
+        for i in range(own, count):
+            code = f"apply({code}, a[{i}])"
+        return code
 
     def all_claims(self, title):
         """The claims of a law, and those of the records that it cites."""

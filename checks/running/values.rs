@@ -271,6 +271,12 @@ pub mod library {
     pub fn mul(a: V, b: V) -> V {
         N(a.number().saturating_mul(b.number()))
     }
+    pub fn div(a: V, b: V) -> V {
+        N(a.number().checked_div(b.number()).unwrap_or(0))
+    }
+    pub fn rem(a: V, b: V) -> V {
+        N(a.number().checked_rem(b.number()).unwrap_or(0))
+    }
     pub fn pow(a: V, b: V) -> V {
         N(a.number().saturating_pow(b.number() as u32))
     }
@@ -317,7 +323,7 @@ pub mod library {
     }
     pub fn starts_with(is_equal: V, xs: V, beginning: V) -> V {
         let (xs, beginning) = (xs.list(), beginning.list());
-        truth(xs.len() >= beginning.len() && xs.iter().zip(beginning).all(|(a, b)| apply(apply(is_equal, *a), *b).yes()))
+        truth(xs.len() >= beginning.len() && beginning.iter().zip(xs).all(|(a, b)| apply(apply(is_equal, *a), *b).yes()))
     }
     pub fn slice_split(test: V, xs: V) -> V {
         seq(&xs.list().split(|x| apply(test, *x).yes()).map(|part| L(part)).collect::<Vec<_>>())

@@ -1,0 +1,82 @@
+//! Compares the definitions of library.antt with those of the kit, where it is, on all arguments of small domains.
+use crate::report::Report;
+use definitions::spec::{self as s, LIBRARY};
+use definitions::values::{con, eq, forget, function, keep, library, shown, truth, text, N, V};
+
+/// The bytes around digits, capitals and letters, and marks.
+const BYTES: [u64; 18] = [0, 1, 9, 42, 43, 45, 46, 47, 48, 57, 58, 64, 65, 90, 91, 97, 122, 123];
+
+/// Lists of up to three of these, and a few texts.
+fn lists() -> Vec<V> {
+    let of: [u64; 4] = [43, 45, 48, 97];
+    let mut all = vec![vec![]];
+    for length in 1..=3 {
+        all.extend((0..4_usize.pow(length)).map(|i| (0..length).map(|k| of[i / 4_usize.pow(k) % 4]).collect()));
+    }
+    let lists = all.into_iter().map(|it| keep(|| library::seq(&it.iter().map(|n| N(*n)).collect::<Vec<_>>())));
+    let texts = ["ios-10.3", "+65535", "AbC-xyZ", "00042", "a-b--c-"].map(|it| keep(|| text(it)));
+    lists.chain(texts).collect()
+}
+
+fn pairs(f: fn(V, V) -> V) -> V {
+    keep(|| function(move |x| function(move |y| f(x, y))))
+}
+
+fn options(values: Vec<V>) -> Vec<V> {
+    let none = V::C(s::Option__None, &[]);
+    [none].into_iter().chain(values.into_iter().map(|it| keep(|| con(s::Option__Some, &[it])))).collect()
+}
+
+/// What an argument of a type is tried with. A variable of types is a number.
+fn domain(kind: &str) -> Vec<V> {
+    let some = |x: V| con(s::Option__Some, &[x]);
+    match kind {
+        "ℕ" | "A" | "B" | "C" | "E" => BYTES.map(N).to_vec(),
+        "Bool" | "Type 0" => [true, false].map(truth).to_vec(),
+        "Ordering" => [s::Ordering__Less, s::Ordering__Equal, s::Ordering__Greater].map(|it| V::C(it, &[])).to_vec(),
+        "List ℕ" | "List A" | "List B" => lists(),
+        "List ( List ℕ )" => {
+            let few = [lists()[0], lists()[2], lists()[30], lists()[85]];
+            let mut all = vec![keep(|| library::seq(&[]))];
+            for a in few {
+                all.push(keep(|| library::seq(&[a])));
+                all.extend(few.map(|b| keep(|| library::seq(&[a, b]))));
+                all.extend(few.map(|b| keep(|| library::seq(&[b, a, few[1]]))));
+            }
+            all
+        }
+        "Result A E" => BYTES.iter().flat_map(|it| [s::Result__Ok, s::Result__Err].map(|tag| keep(|| con(tag, &[N(*it)])))).collect(),
+        "Option A" => options(BYTES.map(N).to_vec()),
+        "( A → Bool )" | "( A → Type 0 )" | "( E → Type 0 )" => vec![
+            keep(|| function(|x| truth(x.number() == 45))), keep(|| function(|x| truth(x.number() > 45))),
+            keep(|| function(|_| truth(true))), keep(|| function(|_| truth(false))),
+        ],
+        "( A → B )" => vec![keep(|| function(|x| library::add(x, N(7)))), keep(|| function(|_| N(3)))],
+        "( A → Option B )" => vec![keep(|| function(move |x| if x.number() > 45 { some(x) } else { V::C(s::Option__None, &[]) }))],
+        "( A → List B )" => vec![keep(|| function(|x| library::seq(&[x, N(1), x]))), keep(|| function(|_| library::seq(&[])))],
+        "( A → A → Bool )" | "( A → B → Type 0 )" => vec![pairs(library::nat_eq), pairs(library::nat_lt)],
+        "( A → A → Ordering )" => vec![pairs(s::nat_cmp), pairs(|a, b| s::nat_cmp(b, a)), pairs(|_, _| V::C(s::Ordering__Equal, &[]))],
+        "( B → B → C )" => vec![pairs(library::add), pairs(library::nat_lt)],
+        _ => panic!("library.rs doesn't say what an argument of the type {kind} is tried with"),
+    }
+}
+
+pub fn run(r: &mut Report) {
+    for (name, types, ours, theirs) in LIBRARY {
+        let domains: Vec<Vec<V>> = types.iter().map(|it| domain(it)).collect();
+        for i in 0..domains.iter().map(Vec::len).product() {
+            let mut rest = i;
+            let mut next = |values: &Vec<V>| {
+                let value = values[rest % values.len()];
+                rest /= values.len();
+                value
+            };
+            let arguments: Vec<V> = domains.iter().map(&mut next).collect();
+            let (a, b) = (ours(&arguments), theirs(&arguments));
+            let shown = || arguments.iter().map(|it| shown(*it)).collect::<Vec<_>>().join(" ");
+            let same = eq(a, b);
+            r.holds(name, same, &format_args!("{}", if same { String::new() } else { shown() }));
+            forget();
+        }
+    }
+}
