@@ -14,6 +14,7 @@ Debian's packages: dpkg-dev autotools-dev golang-go golang-github-containerd-con
 python3-packaging rpm nix-bin makepkg clang.
 """
 import collections
+import concurrent.futures
 import glob
 import gzip
 import os
@@ -59,11 +60,13 @@ SPELLINGS = {"amd64": "x86_64", "armel": "arm", "i486": "i386", "bpf_be": "bpfeb
              "mingw32": "windows-gnu", "mingw64": "windows-gnu", "win32": "windows-msvc", "macos": "macosx", "gnu*": "hurd-gnu",
              "netbsdelf": "netbsd", "netbsdelf*": "netbsd", "simulator": "sim", "x64": "x86_64", "ppc64el": "powerpc64le", "rs6000": "powerpc",
              "sun4v": "sparc64", "mingw32ucrt": "windows-gnu", "gnu.*": "gnu", "gnu2.*": "gnu"}
-# The machines and ends of strings that config.sub is asked for.
+# The machines and ends of strings that config.sub is asked for, and the words of systems in its own text.
 MACHINES = "x86_64 i686 aarch64 arm armv7l armv6l armeb powerpc powerpc64le ppc64le mips mips64el riscv64 riscv32 s390x sparc64 loongarch64 m68k avr".split()
 ENDS = ("", "linux", "unknown-linux", "redhat-linux", "suse-linux", "poky-linux", "buildroot-linux-gnu", "linux-gnu", "alpine-linux-musl", "linux-musl",
         "linux-uclibc", "linux-gnueabihf", "gnu", "elf", "unknown-elf", "none-elf", "none-eabi", "unknown-freebsd13.2", "unknown-netbsd", "-netbsd",
         "pc-cygwin", "w64-mingw32", "apple-darwin20")
+SYSTEM_CASES = ("# Now, validate our (potentially fixed-up) OS.", "# Now, normalize the OS")
+MAKER_CASE, PAIR_CASE = "# Manufacturers", "case $maybe_os in"
 PLATFORMS = """package main
 
 import ("bufio"; "fmt"; "os"; "github.com/containerd/containerd/platforms")
@@ -270,6 +273,7 @@ class Comparison(Report):
             self.fact("and Linux has the C library of that form", (
                 (text, form, it.environment.value, form.split("-")[-1]) for text, form in said.items()
                 if (it := self.read(text, "gnu")) and form.split("-")[-2:-1] == ["linux"]), "uclibcgnu")
+            self.check_words(sub)
         crate = glob.glob("/usr/share/cargo/registry/cc-1*/src/lib.rs")
         if self.has("librust-cc-dev", crate):
             text = upstream.read(crate[0])
@@ -279,6 +283,22 @@ class Comparison(Report):
             # NetBSD's has a version of Arm; two names have a vendor, which the shape drops.
             self.fact("the crate cc's prefixes are the names of GNU's compilers", (
                 (name, it, pairs[name]) for name, it in written.items()), "musl|powerpc64|armebv7r|armv[67]--netbsdelf|-frc-|-rumprun-")
+
+    def check_words(self, sub):
+        """What the words of config.sub's own text mean, alone after a machine, and with a version."""
+        text = upstream.read(sub)
+        words = [*dict.fromkeys(word for case in SYSTEM_CASES for word in words_of_case(text, case))]
+        of_words = {f"{machine}-{word}{version}" for machine in MACHINES for word in words for version in ("", "7.1")}
+        others = {f"{machine}-{word}" for machine in MACHINES for case in (MAKER_CASE, PAIR_CASE) for word in words_of_case(text, case)}
+        with concurrent.futures.ThreadPoolExecutor() as several:
+            texts = sorted(of_words | others)
+            forms = dict(zip(texts, several.map(lambda it: output("sh", sub, it).strip(), texts)))
+        ours, theirs = ({it: self.read(it, "gnu") for it in {*which}} for which in (texts, forms.values()))
+        # Solaris 1 is SunOS 4, SunOS 6 never came, and PikeOS has the formats of bare machines.
+        self.fact(f"a machine and one of config.sub's {len(words)} words of systems mean what its form means", (
+            (it, forms[it], ours[it], theirs[forms[it]]) for it in of_words if forms[it]), "solaris1|sunos6|pikeos")
+        self.fact("a machine and a maker or a kernel are refused, or mean what that form means", (
+            (it, forms[it], ours[it] or theirs[forms[it]], theirs[forms[it]]) for it in others if forms[it]))
 
     def check_rust(self):
         if not self.has("rustc", shutil.which("rustc")):
@@ -332,6 +352,14 @@ class Comparison(Report):
             (tag, order_and_width(it), order_and_width_of_tag(tag)) for tag, it in named.items()))
         self.fact("a tag of Linux has the machine of `uname -m`, and the C library of its word", (
             (tag, it, self.read(gnu_type(tag))) for tag, it in named.items() if "linux" in tag))
+
+
+def words_of_case(text, start):
+    """The words of the patterns of a `case` in a shell script, from this line on. A star is nothing, and a choice its first."""
+    lines = re.sub("#.*", "", text[text.index(start) + len(start):].partition("esac")[0]).replace("\\\n", " ").splitlines()
+    patterns = [line.strip()[:-1].split("|") for line in lines if line.strip().endswith(")") and not re.search(r"[(`]", line)]
+    words = [re.sub(r"\[(.).*?\]", r"\1", pattern.strip()).replace("*", "") for of_case in patterns for pattern in of_case]
+    return [*dict.fromkeys(filter(None, words))]
 
 
 def machine_of_rustc(triple):

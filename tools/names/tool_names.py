@@ -51,8 +51,10 @@ class Dialect:
 
 @dataclass
 class Elsewhere:
-    """The dialects in the order of their numbers, the rows of `first` and `later`, and why a name isn't read that is only written."""
+    """The dialects in the order of their numbers, the rows of `first` and `later`, the words of config.sub, and why a name isn't read
+    that is only written."""
     dialects: dict = field(default_factory=dict)
+    words: dict = field(default_factory=lambda: {"maker": [], "kernel": [], "system": []})
     parts: dict = field(default_factory=lambda: {"first": [], "second": [], "hard": [], "later": []})
     only_written: str = ""
 
@@ -78,6 +80,11 @@ def tables_of(text, wrong):
                 described.about, described = line[2:], None
         else:
             dialect, name, triple, ways, *note = line.split("\t")
+            if dialect in found.words:
+                if (triple, ways) != ("-", "-") or len(note) > 1 or name in found.words[dialect]:
+                    mistake("a new word of config.sub is wanted, without a triple")
+                found.words[dialect].append(name)
+                continue
             rows = found.parts.get(dialect) if dialect in found.parts else getattr(found.dialects.get(dialect), "rows", None)
             if rows is None or ways not in WAYS or len(note) > 1:
                 mistake("a dialect, a name, a triple, the ways and a note are wanted")
@@ -114,6 +121,17 @@ def spelling_rules(tables, name, lists, is_wide):
             *(f'    ({place}, "{text[:-1] if text[-1:] in FORMS else text}", {form(text)}, "{names}"),' for place, text, names in rows), "];"]
 
 
+NO_SYSTEM = "triples have no system "
+
+
+def no_system(words):
+    return [f"{NO_SYSTEM}{word}" for word in words]
+
+
+def text_array(declaration, texts):
+    return [f"{declaration}: [&str; {len(texts)}] = [", *(f'    "{text}",' for text in texts), "];"]
+
+
 def rules(it, equals):
     return [(name, equals(values[it.rules[word]])) for word, (name, values) in RULES.items()]
 
@@ -124,7 +142,14 @@ def rust_lists(tables):
     lists = {"the rules that look at more than a part": spelling_rules(tables, "WIDE_RULES", later, True),
              "the rules for the first part": spelling_rules(tables, "FIRST_RULES", ["first"], False),
              "the rules for later parts": spelling_rules(tables, "LATER_RULES", later, False)}
-    reasons = {tables.only_written} | {meaning for it in dialects for _, meaning, way in it.rows if way == "NoTriple"}
+    words = tables.words
+    systems = no_system(words["system"])
+    half = (len(systems) + 1) // 2
+    lists |= {"the start of what is said of a system": [f'pub(crate) const NO_SYSTEM: &str = "{NO_SYSTEM}";'],
+              "the makers of config.sub": text_array("pub(crate) static MAKERS", words["maker"]),
+              "the kernels of config.sub": text_array("pub(crate) static KERNELS", words["kernel"]),
+              "the systems without a triple": text_array("static SYSTEMS", systems[:half]) + [""] + text_array("static MORE_SYSTEMS", systems[half:])}
+    reasons = {tables.only_written, *systems} | {meaning for it in dialects for _, meaning, way in it.rows if way == "NoTriple"}
     return lists | {
         "the reasons for C": [rf'"{reason}\0",' for reason in sorted(reasons)],
         "the reason of names that are only written": [f'pub(crate) const ONLY_WRITTEN: &str = "{tables.only_written}";'],

@@ -7,6 +7,8 @@ use Rattle.std.proofs.lemmas.Slice.Eq.{bytes_eq-Decides}
 use Rattle.lexicon_fields.specs.{ArchitectureQueries.is_clever, Laws.HasVersionInRange, Laws.IsVersionInRange, Vendor.is_custom, Vendor.is_plain}
 use Rattle.target_lexicon.proofs.{ComputedReading.reading_computed, QueriesKept.kept, StepCases.step_cases, UniqueReading.values_unique}
 use Rattle.target_lexicon.specs.{FixedPoints.IsPlainTriple, FixedPoints.ReadTriplesArePlain, FixedPoints.RoundIsNormalStep, GreedyReading.reading, Laws.ComesBack, NormalStep.normal_step, Printing.text_of, Reading.ReadsAs, Refusal.Refusal, Values.Values}
+use Rattle.target_lexicon.specs.Placement.{parts_of}
+use Rattle.target_lexicon.specs.Values.{is_unknown_vendor}
 use Rattle.target_lexicon.specs.ValuesRef.{PlacedRefusal}
 use Rattle.target_lexicon.specs.Values.{Architecture, Environment, OperatingSystem, VendorValue, Known, Custom}
 use Rattle.target_lexicon.specs.Values.architecture
@@ -22,14 +24,14 @@ use Rattle.tool_names.specs.declared.tables.Way.{Way}
 use Rattle.tool_names.specs.declared.tables.Way.TheVariants.{Both, Read, Written, NoTriple}
 use Rattle.tool_names.specs.{Dialects.rows_of, Dialects.rules_of, Private.is_short_pattern}
 use Rattle.tool_names.specs.{Laws.IsCanonical, Laws.IsNamed, Laws.NamesAreCanonical, Laws.NamesKeepAnswers, Laws.NamesMeanTheShape, Laws.NamesMeanTheirRows, Laws.MeansTheShape, Laws.ReadsBack, Laws.NamesReadBack, Laws.NamesWithoutTripleAreRefused, Laws.OneNumberIsEnough, Laws.TagsMeanTheSame, Laws.may_be_long, Laws.may_be_short}
-use Rattle.tool_names.specs.Gnu.{as_gnu, gnu_meaning, gnu_system}
+use Rattle.tool_names.specs.Gnu.{as_gnu, gnu_meaning, gnu_system, second_system, unless_system}
 use Rattle.tool_names.specs.Spelling.{spelled_reading}
 use Rattle.tool_names.specs.{ObjectFormat.object_format, Shape.machine_by, Shape.shape, Shape.sparc_of_rustc, Shape.system_by, Shape.unversioned, Shape.with_two_numbers}
 use Rattle.std.specs.Option.{option_or}
 use Rattle.tool_names.specs.Platforms.{Words, has_words, normal_words, row_with_words, words_of}
 use Rattle.tool_names.specs.Patterns.{all_limits, are_within, filled, fits, star_count, with_star, without_star}
 use Rattle.tool_names.specs.Tables.{Row, is_read_and, is_written, row_named}
-use Rattle.tool_names.specs.ToolNames.{HasNoTriple, Unread, found_meaning, name_meaning, numbers_in, platform_row, read_or_unknown, row_meaning, shape_row, spelled_meaning, system_with, text_without_numbers, triple_name, values_or_unknown, version_of_numbers, with_numbers, without_numbers}
+use Rattle.tool_names.specs.ToolNames.{HasNoTriple, Unread, found_meaning, name_meaning, numbers_in, platform_row, read_or_unknown, row_meaning, shape_row, spelled_meaning, system_with, text_without_numbers, triple_name, values_or_unread, version_of_numbers, with_numbers, without_numbers}
 use Rattle.tool_names.proofs.Filling.{counted_fits, filled_matches, fits_are_within, fits_counted, is_own_tag, is_spaced, match_fits}
 use Rattle.tool_names.proofs.KeptFormats.{keeps_abi, kept-format}
 use Rattle.tool_names.proofs.ObjectFormats.{given_kept}
@@ -391,11 +393,16 @@ gnu-canonical round_trip u plain other =
 spelled-canonical : RoundIsNormalStep → (name : List ℕ) (t : Values) → spelled_meaning true name ≡ Ok t → IsCanonical t
 spelled-canonical round_trip name t means = by_reading (spelled_reading name) refl means
   where
-    by_clever : (u : Values) → spelled_reading name ≡ Ok u → (b : Bool) → is_clever u.architecture ≡ b → values_or_unknown (cond b None (Some (as_gnu u))) ≡ Ok t → IsCanonical t
-    by_clever u is true clever h = absurd cc
-    by_clever u is false other h = let same : as_gnu u ≡ t = cc in subst IsCanonical same (gnu-canonical round_trip u (read-sound name u is).plain other)
+    by_system : (u : Values) → spelled_reading name ≡ Ok u → is_clever u.architecture ≡ false → (o : Option (List ℕ)) → values_or_unread (unless_system o u) ≡ Ok t → IsCanonical t
+    by_system u is other (Some part) h = absurd cc
+    by_system u is other None h = let same : as_gnu u ≡ t = cc in subst IsCanonical same (gnu-canonical round_trip u (read-sound name u is).plain other)
 
-    by_reading : (r : Result Values PlacedRefusal) → spelled_reading name ≡ r → values_or_unknown (gnu_meaning r) ≡ Ok t → IsCanonical t
+    by_clever : (u : Values) → spelled_reading name ≡ Ok u → (b : Bool) → is_clever u.architecture ≡ b
+        → values_or_unread (cond b (Err None) (unless_system (second_system (not (is_unknown_vendor u.vendor)) (parts_of name)) u)) ≡ Ok t → IsCanonical t
+    by_clever u is true clever h = absurd cc
+    by_clever u is false other h = by_system u is other (second_system (not (is_unknown_vendor u.vendor)) (parts_of name)) h
+
+    by_reading : (r : Result Values PlacedRefusal) → spelled_reading name ≡ r → values_or_unread (gnu_meaning (parts_of name) r) ≡ Ok t → IsCanonical t
     by_reading (Ok u) is h = by_clever u is (is_clever u.architecture) refl h
     by_reading (Err why) is h = absurd cc
 

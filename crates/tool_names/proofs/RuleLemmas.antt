@@ -1,15 +1,18 @@
 -- The first rule that fits, in the table and in the code.
-use Rattle.std.proofs.Common.{◌≡◌, ◌∙◌, ℕ, ◌<◌, ◌+◌, List, [], ◌∷◌, ◌++◌, Option, Some, None, Bool, true, false, Bor, cond, drop, get_or, length, refl, sym, ap}
-use Rattle.std.specs.Prelude.{◌&&◌, is_some}
-use Rattle.std.specs.List.{list_all}
-use Rattle.std.proofs.lemmas.Bool.{and_parts}
+use Rattle.std.proofs.Common.{◌≡◌, ◌∙◌, ℕ, ◌<◌, ◌+◌, List, [], ◌∷◌, ◌++◌, Option, Some, None, Bool, true, false, Bor, cond, drop, get_or, length, nat_eq, refl, sym, ap, inl, inr}
+use Rattle.std.specs.Prelude.{◌&&◌, ◌==◌, is_some}
+use Rattle.std.specs.List.{list_all, onto_first}
+use Rattle.std.proofs.lemmas.Bool.{and_parts, cases_Bool, eq-eqb, eqb-true}
+use Rattle.lexicon_fields.specs.Names.{dash}
+use Rattle.target_lexicon.specs.Placement.{parts_of}
 use Rattle.std.proofs.lemmas.List.{drop_more}
 use Rattle.tool_names.specs.declared.rules.{Form.Form, Place.Place}
 use Rattle.tool_names.specs.declared.spelled.RuleNames.{RuleNames}
 use Rattle.tool_names.specs.Changes.{plain_rule}
-use Rattle.tool_names.specs.Private.{fit_of, later_rule, names_if, plain_rules, rule_names}
+use Rattle.tool_names.specs.Private.{begin_alike, fit_of, later_rule, may_fit, names_if, plain_rules, rule_names}
 use Rattle.tool_names.specs.declared.rules.Place.TheVariants as place
-use Rattle.tool_names.specs.Spelling.{Rule, Standing, first_rule, fits, has_form, is_first, is_known_at, lone_rules, may_stand, names_by, rule_at, rules_for, rules_in, wide_rules}
+use Rattle.tool_names.specs.declared.rules.Form.TheVariants as form
+use Rattle.tool_names.specs.Spelling.{Rule, Standing, are_pair, first_rule, fits, has_form, is_first, is_known_at, lone_rules, may_stand, names_by, rule_at, rules_for, rules_in, wide_rules}
 use Rattle.lexicon_fields.specs.Architecture.{architecture_of}
 use Rattle.tool_names.specs.declared.rules.TheConstants as code
 
@@ -40,6 +43,63 @@ fit-found at part others rows i d names more stands named found is =
         let first : cond (may_stand rule.place at && has_form rule.form rule.part part others) (Some rule) rest ≡ Some rule = rw (stands, has) refl in
         ap (λ ns. Some (rule, ns)) same ∙ ap (fit_of part) (sym first ∙ sym split ∙ is)
     by_form false has named = absurd cc
+
+-- a rule that doesn't fit is passed over
+pub fit-next : (at : Standing) (part : List ℕ) (others : List (List ℕ)) (rows : List CodeRule) (i : ℕ) (d : CodeRule) → i < length rows
+    → fits at part others (plain_rule (get_or rows i d)) ≡ false → first_rule (fits at part others) (plain_rules (drop (i + 1) rows)) ≡ first_rule (fits at part others) (plain_rules (drop i rows))
+fit-next at part others rows i d more unfit =
+    let rule = plain_rule (get_or rows i d) in
+    let rest = first_rule (fits at part others) (plain_rules (drop (i + 1) rows)) in
+    let split : first_rule (fits at part others) (plain_rules (drop i rows)) ≡ cond (fits at part others rule) (Some rule) rest = ap (λ rs. first_rule (fits at part others) (plain_rules rs)) (drop_more rows i d more) in
+    let skipped : cond (fits at part others rule) (Some rule) rest ≡ rest = rw unfit refl in
+    sym (split ∙ skipped)
+
+-- a rule whose text begins otherwise than the part doesn't fit
+
+unlike : (c d : ℕ) → nat_eq c d ≡ false → nat_eq d c ≡ false
+unlike c d other =
+    elim (cases_Bool (nat_eq d c)) [
+      | inl same ↦ let both : true ≡ false = sym (eq-eqb c d (sym (eqb-true d c same))) ∙ other in absurd cc
+      | inr is ↦ is
+    ]
+
+unlike-pair : (text : List (List ℕ)) (c d : ℕ) (ds : List ℕ) (others : List (List ℕ)) → nat_eq d c ≡ false → (b : Bool) → are_pair (cond b ([] ∷ text) (onto_first c text)) (d ∷ ds) others ≡ false
+unlike-pair [] c d ds others other true = refl
+unlike-pair [] c d ds others other false = refl
+unlike-pair (p ∷ ps) c d ds [] other true = refl
+unlike-pair (p ∷ ps) c d ds (next ∷ others) other true = refl
+unlike-pair (p ∷ []) c d ds others other false = refl
+unlike-pair (p ∷ (q ∷ ps)) c d ds [] other false = refl
+unlike-pair (p ∷ (q ∷ ps)) c d ds (next ∷ others) other false = rw other refl
+
+unlike-unfit : (f : Form) (text part : List ℕ) (others : List (List ℕ)) → begin_alike text part ≡ false → has_form f text part others ≡ false
+unlike-unfit f [] part others other = absurd cc
+unlike-unfit f (c ∷ cs) [] others other = absurd cc
+unlike-unfit form.Whole (c ∷ cs) (d ∷ ds) others other = rw (unlike c d other) refl
+unlike-unfit form.HardFloats (c ∷ cs) (d ∷ ds) others other = rw (unlike c d other) refl
+unlike-unfit form.Dropped (c ∷ cs) (d ∷ ds) others other = rw other refl
+unlike-unfit form.MacOs (c ∷ cs) (d ∷ ds) others other = rw other refl
+unlike-unfit form.Pair (c ∷ cs) (d ∷ ds) others other = unlike-pair (parts_of cs) c d ds others (unlike c d other) (c == dash)
+unlike-unfit form.PairWithin (c ∷ cs) (d ∷ ds) others other = rw (unlike-pair (parts_of cs) c d ds others (unlike c d other) (c == dash)) refl
+
+and_false : (b : Bool) → (b && false) ≡ false
+and_false true = refl
+and_false false = refl
+
+pub may-not-fit : (at : Standing) (part : List ℕ) (others : List (List ℕ)) (rule : Rule) → may_fit at rule part ≡ false → fits at part others rule ≡ false
+may-not-fit at part others rule not =
+    elim (cases_Bool (begin_alike rule.part part)) [
+      | inl alike ↦ let place : may_stand rule.place at ≡ false = rw alike at not in rw place refl
+      | inr other ↦ rw (unlike-unfit rule.form rule.part part others other) (and_false (may_stand rule.place at))
+    ]
+
+-- nor does a rule that gives no names
+pub nameless-unfit : (at : Standing) (part : List ℕ) (others : List (List ℕ)) (rule : Rule) → None ≡ names_if (has_form rule.form rule.part part others) (names_by rule part) → fits at part others rule ≡ false
+nameless-unfit at part others rule none =
+    elim (cases_Bool (has_form rule.form rule.part part others)) [
+      | inl has ↦ let some : None ≡ Some (names_by rule part) = rw has at none in absurd cc
+      | inr other ↦ rw other (and_false (may_stand rule.place at))
+    ]
 
 -- what passes where a rule is found
 pub found-passes : (test passes : Rule → Bool) (rules : List Rule) (rule : Rule) → list_all passes rules ≡ true → first_rule test rules ≡ Some rule → (passes rule ≡ true) × (test rule ≡ true)

@@ -1,7 +1,8 @@
 -- What parses stays: the names that the parts of a read string spell are the parts, unless its vendor is custom and
 -- spells other names.
 use Rattle.std.proofs.Common.{◌≡◌, ◌∙◌, ℕ, List, [], ◌∷◌, Option, Some, None, Result, Ok, Err, Bool, true, false, cond, refl, sym, ap, subst, inl, inr}
-use Rattle.std.specs.Prelude.{codes, is_none, is_some, option_map, ◌||◌, ◌&&◌}
+use Rattle.std.specs.Prelude.{is_none, is_some, not, option_map, ◌||◌, ◌&&◌}
+use Rattle.std.specs.List.{list_all, list_any}
 use Rattle.std.specs.Str.{bytes_eq}
 use Rattle.std.specs.Option.{option_map_or, option_or}
 use Rattle.std.proofs.lemmas.Bool.{and_parts, cases_Bool}
@@ -11,14 +12,17 @@ use Rattle.lexicon_fields.specs.declared.known_vendor.KnownVendor.{KnownVendor}
 use Rattle.lexicon_fields.specs.declared.known_vendor.KnownVendor.TheVariants.{Unknown}
 use Rattle.lexicon_fields.proofs.VendorsReadBack.{row_read, without_row_read}
 use Rattle.target_lexicon.specs.GreedyReading.{field_reading_by, final_reading, reading_from_binary_format, reading_from_environment, reading_from_operating_system, reading_from_vendor, reading_after_architecture, reading_of_parts}
-use Rattle.target_lexicon.specs.{Field.Field, ImpliedFormat.implied_format, Reading.expected_after, Refusal.Refusal, Refusal.refusal_with}
+use Rattle.target_lexicon.specs.{Field.Field, ImpliedFormat.implied_format, Placement.parts_of, Refusal.Refusal}
 use Rattle.target_lexicon.specs.Values.{Architecture, OperatingSystem, Environment, BinaryFormat, VendorValue, Known, Custom, Values, values}
 use Rattle.target_lexicon.specs.Values.operating_system
 use Rattle.target_lexicon.specs.Values.environment
 use Rattle.target_lexicon.specs.Field as field
+use Rattle.tool_names.specs.declared.rules.Form.{Form}
+use Rattle.tool_names.specs.declared.rules.Form.TheVariants as form
+use Rattle.tool_names.specs.declared.rules.Place.{Place}
 use Rattle.tool_names.specs.declared.rules.Place.TheVariants as place
-use Rattle.tool_names.specs.Spelling.{SpelledPart, goes_on, is_known_at, is_other_system, name_texts, names_of, rule_alone, spelled_from, spelled_names, spelled_parts, wide_rules, standing_at}
-use Rattle.tool_names.proofs.KnownStay.{IsNoPair, environment-known, format-known, known-alone, no-rule, system-known, vendor-known}
+use Rattle.tool_names.specs.Spelling.{Rule, SpelledPart, are_pair, goes_on, has_form, is_known_at, is_other_system, is_pair, may_stand, name_texts, names_of, rule_alone, spelled_from, spelled_names, spelled_parts, wide_rules, standing_at}
+use Rattle.tool_names.proofs.KnownStay.{IsNoPair, is_pair_that_fits, environment-known, format-known, known-alone, no-rule, system-known, vendor-known}
 
 -- a later part that has no rule by itself
 abbrev pub Stays : List ℕ → Type 0
@@ -77,158 +81,173 @@ known-no_custom part known =
 pub known-second : (part : List ℕ) → is_known_at place.AfterFirst part ≡ true → SecondStays part
 known-second part known = (known-alone place.Second part known, no_custom-stated part (known-no_custom part known))
 
--- parts that are a pair aren't read by themselves, wherever they stand
+-- parts that are a pair aren't read by themselves, wherever they stand: the first is no vendor, and the second is neither an
+-- environment nor a binary format, unless the pair has to go on
 
 err-apart : (x : Refusal) (t : Values) (r : Result Values Refusal) → r ≡ Err x → r ≡ Ok t → ⊥
 err-apart x t r err ok = let apart : Err x ≡ Ok t = sym err ∙ ok in cc
 
-module _ (read : List (List ℕ) → Result Values Refusal) (t : Values) (part next : List ℕ) where
-  not-pair : (ps : List (List ℕ)) (first second : List ℕ) → ((qs : List (List ℕ)) → read (first ∷ (second ∷ qs)) ≡ Ok t → ⊥) → read (part ∷ (next ∷ ps)) ≡ Ok t
-      → (bytes_eq part first && bytes_eq next second) ≡ false
-  not-pair ps first second refused h =
-      elim (cases_Bool (bytes_eq part first && bytes_eq next second)) [
-        | inl both ↦
-            let names = and_parts (bytes_eq part first) (bytes_eq next second) both in
-            let one : part ≡ first = (bytes_eq-Decides part first).0 names.0 in
-            let two : next ≡ second = (bytes_eq-Decides next second).0 names.1 in
-            let same : part ∷ (next ∷ ps) ≡ first ∷ (second ∷ ps) = cc in
-            absurd (refused ps (subst (λ qs. read qs ≡ Ok t) same h))
-        | inr other ↦ other
-      ]
+abbrev is_left : Bool → List ℕ → Bool
+is_left within second = within || (is_none (environment_of second) && is_none (binary_format_of second))
 
-  -- the same of a pair before a part that is no binary format
-  not-within : (ps : List (List ℕ)) (first second : List ℕ) → ((after : List ℕ) (qs : List (List ℕ)) → binary_format_of after ≡ None → read (first ∷ (second ∷ (after ∷ qs))) ≡ Ok t → ⊥)
-      → read (part ∷ (next ∷ ps)) ≡ Ok t → ((bytes_eq part first && bytes_eq next second) && goes_on (next ∷ ps)) ≡ false
-  not-within [] first second refused h = and_false (bytes_eq part first && bytes_eq next second)
-    where
-      and_false : (b : Bool) → (b && false) ≡ false
-      and_false true = refl
-      and_false false = refl
-  not-within (after ∷ qs) first second refused h =
-      elim (cases_Bool ((bytes_eq part first && bytes_eq next second) && is_none (binary_format_of after))) [
+abbrev is_unread : Bool → List (List ℕ) → Bool
+is_unread within (first ∷ (second ∷ _)) = is_none (vendor_of first) && is_left within second
+is_unread within _ = true
+
+abbrev is_within : Form → Bool
+is_within form.PairWithin = true
+is_within _ = false
+
+abbrev is_unread_rule : Rule → Bool
+is_unread_rule rule = not (is_pair rule.form) || is_unread (is_within rule.form) (parts_of rule.part)
+
+-- so it is for each pair in the table
+pairs-unread : list_all is_unread_rule wide_rules ≡ true
+unfolding wide_rules vendor_of known_vendor_of is_admitted architecture_of operating_system_of fixed_operating_system_of environment_of binary_format_of
+pairs-unread = refl
+
+abbrev RefusesPairs : (List (List ℕ) → Result Values Refusal) → Values → Type 0
+RefusesPairs read t = (within : Bool) (first second : List ℕ) (others : List (List ℕ)) → is_none (vendor_of first) ≡ true → is_left within second ≡ true
+    → (not within || goes_on (second ∷ others)) ≡ true → read (first ∷ (second ∷ others)) ≡ Ok t → ⊥
+
+and_false : (b : Bool) → (b && false) ≡ false
+and_false true = refl
+and_false false = refl
+
+-- what is read begins with no pair, if no pair is read
+module _ (read : List (List ℕ) → Result Values Refusal) (t : Values) (refuses : RefusesPairs read t) where
+  not-pair : (within : Bool) (pair : List (List ℕ)) (part : List ℕ) (others : List (List ℕ)) → is_unread within pair ≡ true → read (part ∷ others) ≡ Ok t
+      → (are_pair pair part others && (not within || goes_on others)) ≡ false
+  not-pair within [] part others unread h = refl
+  not-pair within (first ∷ []) part others unread h = refl
+  not-pair within (first ∷ (second ∷ rest)) part [] unread h = refl
+  not-pair within (first ∷ (second ∷ rest)) part (next ∷ qs) unread h =
+      elim (cases_Bool ((bytes_eq part first && bytes_eq next second) && (not within || goes_on (next ∷ qs)))) [
         | inl all ↦
-            let parts = and_parts (bytes_eq part first && bytes_eq next second) (is_none (binary_format_of after)) all in
+            let parts = and_parts (bytes_eq part first && bytes_eq next second) (not within || goes_on (next ∷ qs)) all in
             let names = and_parts (bytes_eq part first) (bytes_eq next second) parts.0 in
             let one : part ≡ first = (bytes_eq-Decides part first).0 names.0 in
             let two : next ≡ second = (bytes_eq-Decides next second).0 names.1 in
-            let same : part ∷ (next ∷ (after ∷ qs)) ≡ first ∷ (second ∷ (after ∷ qs)) = cc in
-            absurd (refused after qs (no_format (binary_format_of after) parts.1) (subst (λ rs. read rs ≡ Ok t) same h))
+            let left = and_parts (is_none (vendor_of first)) (is_left within second) unread in
+            let same : part ∷ (next ∷ qs) ≡ first ∷ (second ∷ qs) = cc in
+            let on : (not within || goes_on (second ∷ qs)) ≡ true = subst (λ it. (not within || goes_on (it ∷ qs)) ≡ true) two parts.1 in
+            absurd (refuses within first second qs left.0 left.1 on (subst (λ rs. read rs ≡ Ok t) same h))
         | inr other ↦ other
       ]
-    where
-      no_format : (o : Option BinaryFormat) → is_none o ≡ true → o ≡ None
-      no_format None is = refl
-      no_format (Some f) is = absurd cc
 
-two-none : (x y : Bool) → x ≡ false → y ≡ false → (x || (y || false)) ≡ false
-two-none x y a b = rw (a, b) refl
+  pair-alone : (b : Bool) → (b && true) ≡ false → b ≡ false
+  pair-alone true h = absurd cc
+  pair-alone false h = refl
 
-three-none : (x y z : Bool) → x ≡ false → y ≡ false → z ≡ false → (x || (y || (z || false))) ≡ false
-three-none x y z a b c = rw (a, b, c) refl
+  no_rule-fits : (place : Bool) (f : Form) (text part : List ℕ) (others : List (List ℕ)) → (not (is_pair f) || is_unread (is_within f) (parts_of text)) ≡ true → read (part ∷ others) ≡ Ok t
+      → (is_pair f && (place && has_form f text part others)) ≡ false
+  no_rule-fits place form.Whole text part others unread h = refl
+  no_rule-fits place form.HardFloats text part others unread h = refl
+  no_rule-fits place form.Dropped text part others unread h = refl
+  no_rule-fits place form.MacOs text part others unread h = refl
+  no_rule-fits place form.Pair text part others unread h = rw (pair-alone (are_pair (parts_of text) part others) (not-pair false (parts_of text) part others unread h)) (and_false place)
+  no_rule-fits place form.PairWithin text part others unread h = rw (not-pair true (parts_of text) part others unread h) (and_false place)
 
-abbrev RefusesNone : (List (List ℕ) → Result Values Refusal) → Values → Type 0
-RefusesNone read t = (after : List ℕ) (ps : List (List ℕ)) → binary_format_of after ≡ None → read (codes "none" ∷ (codes "unknown" ∷ (after ∷ ps))) ≡ Ok t → ⊥
+  none-fits : (at : Place) (part : List ℕ) (others : List (List ℕ)) (rules : List Rule) → list_all is_unread_rule rules ≡ true → read (part ∷ others) ≡ Ok t
+      → list_any (is_pair_that_fits at part others) rules ≡ false
+  none-fits at part others [] unread h = refl
+  none-fits at part others (rule ∷ rules) unread h =
+      let parts = and_parts (is_unread_rule rule) (list_all is_unread_rule rules) unread in
+      rw (no_rule-fits (may_stand rule.place (standing_at at)) rule.form rule.part part others parts.0 h) (none-fits at part others rules parts.1 h)
 
-abbrev Refuses : (List (List ℕ) → Result Values Refusal) → Values → List ℕ → List ℕ → Type 0
-Refuses read t first second = (ps : List (List ℕ)) → read (first ∷ (second ∷ ps)) ≡ Ok t → ⊥
+  no_pair : (at : Place) (part : List ℕ) (others : List (List ℕ)) → read (part ∷ others) ≡ Ok t → IsNoPair at part others
+  no_pair at part others h = none-fits at part others wide_rules pairs-unread h
 
--- what is read begins with no pair, if it can begin with none of those in the table
-later-pairs : (read : List (List ℕ) → Result Values Refusal) (t : Values) (part : List ℕ) (others : List (List ℕ))
-    → RefusesNone read t → Refuses read t (codes "windows") (codes "cygnus") → read (part ∷ others) ≡ Ok t → IsNoPair place.AfterFirst part others
-unfolding wide_rules
-later-pairs read t part [] none cygwin h = refl
-later-pairs read t part (next ∷ ps) none cygwin h =
-    two-none _ _ (not-within read t part next ps (codes "none") (codes "unknown") none h) (not-pair read t part next ps (codes "windows") (codes "cygnus") cygwin h)
-
-second-pairs : (read : List (List ℕ) → Result Values Refusal) (t : Values) (part : List ℕ) (others : List (List ℕ))
-    → Refuses read t (codes "none") (codes "linux") → RefusesNone read t → Refuses read t (codes "windows") (codes "cygnus") → read (part ∷ others) ≡ Ok t
-    → IsNoPair place.Second part others
-unfolding wide_rules
-second-pairs read t part [] linux none cygwin h = refl
-second-pairs read t part (next ∷ ps) linux none cygwin h =
-    three-none _ _ _ (not-pair read t part next ps (codes "none") (codes "linux") linux h)
-    (not-within read t part next ps (codes "none") (codes "unknown") none h) (not-pair read t part next ps (codes "windows") (codes "cygnus") cygwin h)
-
+-- a first part has no rule for a pair
 first-pairs : (part : List ℕ) (others : List (List ℕ)) → IsNoPair place.First part others
 unfolding wide_rules
 first-pairs part others = refl
 
--- the system `none` takes the first part, the environment the second, and the third is no binary format
-none_unknown-reading : (a : Architecture) (v : VendorValue) (last : Field) (after : List ℕ) (ps : List (List ℕ)) → binary_format_of after ≡ None
-    → reading_from_operating_system a v last (codes "none" ∷ (codes "unknown" ∷ (after ∷ ps))) ≡ Err (refusal_with (expected_after field.Environment) after)
-unfolding operating_system_of fixed_operating_system_of environment_of
-none_unknown-reading a v last after ps no_format = rw no_format refl
+-- no field takes both parts of a pair, wherever it begins
 
-windows_cygnus-reading : (a : Architecture) (v : VendorValue) (last : Field) (ps : List (List ℕ))
-    → reading_from_operating_system a v last (codes "windows" ∷ (codes "cygnus" ∷ ps)) ≡ Err (refusal_with (expected_after field.OperatingSystem) (codes "cygnus"))
-unfolding operating_system_of fixed_operating_system_of environment_of binary_format_of
-windows_cygnus-reading a v last ps = refl
+module _ (a : Architecture) (v : VendorValue) (t : Values) (within : Bool) (part : List ℕ) (others : List (List ℕ)) (on : (not within || goes_on (part ∷ others)) ≡ true) where
+  after-environment : (s : OperatingSystem) (e : Environment) (last : Field) → (within || is_none (binary_format_of part)) ≡ true → reading_from_binary_format a v s e last (part ∷ others) ≡ Ok t → ⊥
+  after-environment s e last left read = by_format (binary_format_of part) left read
+    where
+      by_rest : (f : BinaryFormat) (b : Bool) (qs : List (List ℕ)) → (b || false) ≡ true → (not b || goes_on (part ∷ qs)) ≡ true → final_reading (values a v s e f) field.BinaryFormat qs ≡ Ok t → ⊥
+      by_rest f true [] left on h = absurd cc
+      by_rest f true (q ∷ qs) left on h = err-apart _ t _ refl h
+      by_rest f false qs left on h = absurd cc
 
-none-no_vendor : vendor_of (codes "none") ≡ None
-unfolding vendor_of known_vendor_of is_admitted architecture_of operating_system_of fixed_operating_system_of environment_of binary_format_of
-none-no_vendor = refl
+      by_format : (o : Option BinaryFormat) → (within || is_none o) ≡ true
+          → (let f = field_reading_by field.BinaryFormat o (implied_format a s e) last part others in final_reading (values a v s e f.0) f.1 f.2) ≡ Ok t → ⊥
+      by_format (Some f) left h = by_rest f within others left on h
+      by_format None left h = err-apart _ t _ refl h
 
-windows-no_vendor : vendor_of (codes "windows") ≡ None
-unfolding vendor_of known_vendor_of is_admitted architecture_of operating_system_of fixed_operating_system_of environment_of binary_format_of
-windows-no_vendor = refl
+  after-system : (s : OperatingSystem) (last : Field) → is_left within part ≡ true → reading_from_environment a v s last (part ∷ others) ≡ Ok t → ⊥
+  after-system s last left read = by_environment (environment_of part) left read
+    where
+      by_format : (e : Environment) (q : List ℕ) (qs : List (List ℕ)) (o : Option BinaryFormat) → is_none o ≡ true
+          → (let f = field_reading_by field.BinaryFormat o (implied_format a s e) field.Environment q qs in final_reading (values a v s e f.0) f.1 f.2) ≡ Ok t → ⊥
+      by_format e q qs (Some f) none h = absurd cc
+      by_format e q qs None none h = err-apart _ t _ refl h
 
--- where the environment `none` takes the first part, the format takes the second
-none_unknown-environment : (a : Architecture) (v : VendorValue) (s : OperatingSystem) (last : Field) (after : List ℕ) (ps : List (List ℕ))
-    → reading_from_environment a v s last (codes "none" ∷ (codes "unknown" ∷ (after ∷ ps))) ≡ Err (refusal_with (expected_after field.BinaryFormat) after)
-unfolding environment_of binary_format_of
-none_unknown-environment a v s last after ps = refl
+      by_rest : (e : Environment) (b : Bool) (qs : List (List ℕ)) → (b || false) ≡ true → (not b || goes_on (part ∷ qs)) ≡ true → reading_from_binary_format a v s e field.Environment qs ≡ Ok t → ⊥
+      by_rest e true [] left on h = absurd cc
+      by_rest e true (q ∷ qs) left on h = by_format e q qs (binary_format_of q) on h
+      by_rest e false qs left on h = absurd cc
 
-windows-no_environment : environment_of (codes "windows") ≡ None
-unfolding environment_of
-windows-no_environment = refl
+      by_environment : (o : Option Environment) → (within || (is_none o && is_none (binary_format_of part))) ≡ true
+          → (let e = field_reading_by field.Environment o environment.Unknown last part others in reading_from_binary_format a v s e.0 e.1 e.2) ≡ Ok t → ⊥
+      by_environment (Some e) left h = by_rest e within others left on h
+      by_environment None left h = after-environment s environment.Unknown last left h
 
-none-no_format : binary_format_of (codes "none") ≡ None
-unfolding binary_format_of
-none-no_format = refl
+left-format : (within e f : Bool) → (within || (e && f)) ≡ true → (within || f) ≡ true
+left-format true e f left = refl
+left-format false true f left = left
+left-format false false f left = absurd cc
 
-windows-no_format : binary_format_of (codes "windows") ≡ None
-unfolding binary_format_of
-windows-no_format = refl
+module _ (a : Architecture) (v : VendorValue) (t : Values) where
+  format-refuses : (s : OperatingSystem) (e : Environment) (last : Field) → RefusesPairs (reading_from_binary_format a v s e last) t
+  format-refuses s e last within first second others vendor left on read = by_format (binary_format_of first) read
+    where
+      by_format : (o : Option BinaryFormat)
+          → (let f = field_reading_by field.BinaryFormat o (implied_format a s e) last first (second ∷ others) in final_reading (values a v s e f.0) f.1 f.2) ≡ Ok t → ⊥
+      by_format (Some f) h = err-apart _ t _ refl h
+      by_format None h = err-apart _ t _ refl h
 
-none_linux-reading : (a : Architecture) (ps : List (List ℕ))
-    → reading_from_vendor a (codes "none" ∷ (codes "linux" ∷ ps)) ≡ Err (refusal_with (expected_after field.OperatingSystem) (codes "linux"))
-unfolding vendor_of known_vendor_of is_admitted architecture_of operating_system_of fixed_operating_system_of environment_of binary_format_of
-none_linux-reading a ps = refl
+  environment-refuses : (s : OperatingSystem) (last : Field) → RefusesPairs (reading_from_environment a v s last) t
+  environment-refuses s last within first second others vendor left on read = by_environment (environment_of first) read
+    where
+      by_environment : (o : Option Environment)
+          → (let e = field_reading_by field.Environment o environment.Unknown last first (second ∷ others) in reading_from_binary_format a v s e.0 e.1 e.2) ≡ Ok t → ⊥
+      by_environment (Some e) h = after-environment a v t within second others on s e field.Environment (left-format within (is_none (environment_of second)) (is_none (binary_format_of second)) left) h
+      by_environment None h = format-refuses s environment.Unknown last within first second others vendor left on h
+
+  system-refuses : (last : Field) → RefusesPairs (reading_from_operating_system a v last) t
+  system-refuses last within first second others vendor left on read = by_system (operating_system_of first) read
+    where
+      by_system : (o : Option OperatingSystem)
+          → (let s = field_reading_by field.OperatingSystem o operating_system.Unknown last first (second ∷ others) in reading_from_environment a v s.0 s.1 s.2) ≡ Ok t → ⊥
+      by_system (Some s) h = after-system a v t within second others on s field.OperatingSystem left h
+      by_system None h = environment-refuses operating_system.Unknown last within first second others vendor left on h
+
+vendor-refuses : (a : Architecture) (t : Values) → RefusesPairs (reading_from_vendor a) t
+vendor-refuses a t within first second others vendor left on read = by_vendor (vendor_of first) vendor read
+  where
+    by_vendor : (o : Option VendorValue) → is_none o ≡ true
+        → (let v = field_reading_by field.Vendor o (Known Unknown) field.Architecture first (second ∷ others) in reading_from_operating_system a v.0 v.1 v.2) ≡ Ok t → ⊥
+    by_vendor (Some v) none h = absurd cc
+    by_vendor None none h = system-refuses a (Known Unknown) t field.Architecture within first second others vendor left on h
 
 module _ (a : Architecture) (t : Values) where
   format-no_pair : (v : VendorValue) (s : OperatingSystem) (e : Environment) (last : Field) (p : List ℕ) (ps : List (List ℕ)) → reading_from_binary_format a v s e last (p ∷ ps) ≡ Ok t
       → IsNoPair place.AfterFirst p ps
-  format-no_pair v s e last p ps h =
-      later-pairs (reading_from_binary_format a v s e last) t p ps (λ after qs no_format. err-apart _ t _ (none after qs)) (λ qs. err-apart _ t _ (windows qs)) h
-    where
-      none : (after : List ℕ) (qs : List (List ℕ)) → reading_from_binary_format a v s e last (codes "none" ∷ (codes "unknown" ∷ (after ∷ qs))) ≡ Err (refusal_with (expected_after last) (codes "none"))
-      none after qs = rw none-no_format refl
-
-      windows : (qs : List (List ℕ)) → reading_from_binary_format a v s e last (codes "windows" ∷ (codes "cygnus" ∷ qs)) ≡ Err (refusal_with (expected_after last) (codes "windows"))
-      windows qs = rw windows-no_format refl
+  format-no_pair v s e last p ps h = no_pair (reading_from_binary_format a v s e last) t (format-refuses a v t s e last) place.AfterFirst p ps h
 
   environment-no_pair : (v : VendorValue) (s : OperatingSystem) (last : Field) (p : List ℕ) (ps : List (List ℕ)) → reading_from_environment a v s last (p ∷ ps) ≡ Ok t → IsNoPair place.AfterFirst p ps
-  environment-no_pair v s last p ps h =
-      later-pairs (reading_from_environment a v s last) t p ps
-      (λ after qs no_format. err-apart _ t _ (none_unknown-environment a v s last after qs)) (λ qs. err-apart _ t _ (windows qs)) h
-    where
-      windows : (qs : List (List ℕ)) → reading_from_environment a v s last (codes "windows" ∷ (codes "cygnus" ∷ qs)) ≡ Err (refusal_with (expected_after last) (codes "windows"))
-      windows qs = rw (windows-no_environment, windows-no_format) refl
+  environment-no_pair v s last p ps h = no_pair (reading_from_environment a v s last) t (environment-refuses a v t s last) place.AfterFirst p ps h
 
   system-no_pair : (v : VendorValue) (last : Field) (p : List ℕ) (ps : List (List ℕ)) → reading_from_operating_system a v last (p ∷ ps) ≡ Ok t → IsNoPair place.AfterFirst p ps
-  system-no_pair v last p ps h =
-      later-pairs (reading_from_operating_system a v last) t p ps
-      (λ after qs no_format. err-apart _ t _ (none_unknown-reading a v last after qs no_format))
-      (λ qs. err-apart _ t _ (windows_cygnus-reading a v last qs)) h
+  system-no_pair v last p ps h = no_pair (reading_from_operating_system a v last) t (system-refuses a v t last) place.AfterFirst p ps h
 
   vendor-no_pair : (p : List ℕ) (ps : List (List ℕ)) → reading_from_vendor a (p ∷ ps) ≡ Ok t → IsNoPair place.Second p ps
-  vendor-no_pair p ps h = second-pairs (reading_from_vendor a) t p ps (λ qs. err-apart _ t _ (none_linux-reading a qs)) none windows h
-    where
-      none : (after : List ℕ) (qs : List (List ℕ)) → binary_format_of after ≡ None → reading_from_vendor a (codes "none" ∷ (codes "unknown" ∷ (after ∷ qs))) ≡ Ok t → ⊥
-      none after qs no_format read = err-apart _ t _ (none_unknown-reading a (Known Unknown) field.Architecture after qs no_format) (rw none-no_vendor at read)
-
-      windows : (qs : List (List ℕ)) → reading_from_vendor a (codes "windows" ∷ (codes "cygnus" ∷ qs)) ≡ Ok t → ⊥
-      windows qs read = err-apart _ t _ (windows_cygnus-reading a (Known Unknown) field.Architecture qs) (rw windows-no_vendor at read)
+  vendor-no_pair p ps h = no_pair (reading_from_vendor a) t (vendor-refuses a t) place.Second p ps h
 
 -- all parts are known names, and none is a pair with the next one
 abbrev pub AllStay : List (List ℕ) → Type 0

@@ -1,5 +1,5 @@
 -- Definitions for the contracts of private functions; no public contract cites them.
-use Rattle.std.specs.Prelude.{◌≡◌, ⊤, ℕ, ◌+◌, ◌^◌, ◌<◌, ◌==◌, ◌&&◌, nat_le, nat_lt, Bool, List, [], ◌∷◌, ◌++◌, Option, Some, None, map, option_map, if◌then◌else◌}
+use Rattle.std.specs.Prelude.{◌≡◌, ⊤, ℕ, ◌+◌, ◌^◌, ◌<◌, ◌==◌, ◌&&◌, nat_le, nat_lt, Bool, true, List, [], ◌∷◌, ◌++◌, Option, Some, None, map, option_map, if◌then◌else◌}
 use Rattle.std.specs.{Borrow.Bor, List.list_all}
 use Rattle.lexicon_fields.specs.Names.{Pair}
 use Rattle.target_lexicon.specs.Placement.{parts_after, parts_of}
@@ -14,7 +14,7 @@ use Rattle.tool_names.specs.declared.rules.Place.TheVariants as place
 use Rattle.tool_names.specs.declared.rules.TheConstants as code
 use Rattle.tool_names.specs.Platforms.{Words}
 use Rattle.tool_names.specs.{Patterns.plain_number, Patterns.rest_of, Patterns.star, Tables.Row, Tables.plain_row}
-use Rattle.tool_names.specs.Spelling.{Rule, Standing, first_rule, fits, is_known_at, rules_in, macosx_name, SpelledName, SpelledPart, names_by, names_of, spelled_by}
+use Rattle.tool_names.specs.Spelling.{Rule, Standing, first_rule, fits, is_known_at, may_stand, rules_in, macosx_name, SpelledName, SpelledPart, names_by, names_of, spelled_by}
 
 -- a table in the code as a list of pairs
 abbrev pub table_of : {T : Type 0} → List (Bor (List ℕ) × T) → List (Pair T)
@@ -39,6 +39,14 @@ fit_of part rule = option_map (λ (it : Rule). (it, names_by it part)) rule
 -- the first rule for a later part alone that fits
 abbrev pub later_rule : Standing → List ℕ → List (List ℕ) → Option Rule
 later_rule at part others = if is_known_at place.AfterFirst part then None else first_rule (fits at part others) (rules_in code.LATER_RULES)
+
+-- whether a rule may fit a part: where it begins otherwise, it doesn't
+abbrev pub begin_alike : List ℕ → List ℕ → Bool
+begin_alike (c ∷ cs) (d ∷ ds) = c == d
+begin_alike _ _ = true
+
+abbrev pub may_fit : Standing → Rule → List ℕ → Bool
+may_fit at rule part = begin_alike rule.part part && may_stand rule.place at
 
 -- these names, if a test holds
 abbrev pub names_if : Bool → List (List ℕ) → Option (List (List ℕ))

@@ -57,13 +57,17 @@ row_meaning Read text numbers = with_numbers numbers (read_or_unknown (reading t
 row_meaning Written text numbers = Err (HasNoTriple ONLY_WRITTEN.now)
 row_meaning NoTriple why numbers = Err (HasNoTriple why)
 
-abbrev pub values_or_unknown : Option Values → Result Values Unread
-values_or_unknown (Some t) = Ok t
-values_or_unknown None = Err IsUnknown
+abbrev pub unread_for : Option (List ℕ) → Unread
+unread_for (Some why) = HasNoTriple why
+unread_for None = IsUnknown
+
+abbrev pub values_or_unread : Result Values (Option (List ℕ)) → Result Values Unread
+values_or_unread (Ok t) = Ok t
+values_or_unread (Err why) = Err (unread_for why)
 
 -- what a name means that has no row: where such names are spelled like triples, what it means to GNU's config.sub
 abbrev pub spelled_meaning : Bool → List ℕ → Result Values Unread
-spelled_meaning true name = values_or_unknown (gnu_reading name)
+spelled_meaning true name = values_or_unread (gnu_reading name)
 spelled_meaning false name = Err IsUnknown
 
 abbrev pub found_meaning : Option (Row × List ℕ) → Result Values Unread → Result Values Unread

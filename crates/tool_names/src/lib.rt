@@ -20,6 +20,7 @@ mod shape;
 mod spelled;
 mod spelling;
 mod stated_version;
+mod systems;
 mod tables;
 mod translation;
 

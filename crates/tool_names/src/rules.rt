@@ -115,7 +115,7 @@ static FIRST_RULES: [(Place, &str, Form, &str); 34] = [
 
 #[rattlefmt::skip]
 // written by tools/names/write: the rules for later parts
-static LATER_RULES: [(Place, &str, Form, &str); 33] = [
+static LATER_RULES: [(Place, &str, Form, &str); 36] = [
     (Second, "", Whole, "unknown"),
     (Second, "hardfloat", HardFloats, "unknown"),
     (AfterFirst, "w64", Whole, "pc"),
@@ -125,6 +125,7 @@ static LATER_RULES: [(Place, &str, Form, &str); 33] = [
     (AfterFirst, "win32", Whole, "windows-msvc"),
     (AfterFirst, "macos", Whole, "macosx"),
     (AfterFirst, "macos", MacOs, "macosx"),
+    (AfterFirst, "mac", MacOs, "macosx"),
     (AfterFirst, "aix", Dropped, "aix"),
     (AfterFirst, "bitrig", Dropped, "bitrig"),
     (AfterFirst, "dragonfly", Dropped, "dragonfly"),
@@ -132,6 +133,8 @@ static LATER_RULES: [(Place, &str, Form, &str); 33] = [
     (AfterFirst, "netbsd", Dropped, "netbsd"),
     (AfterFirst, "openbsd", Dropped, "openbsd"),
     (AfterFirst, "solaris", Dropped, "solaris"),
+    (AfterFirst, "sunos5", Whole, "solaris"),
+    (AfterFirst, "sunos5", Dropped, "solaris"),
     (AfterFirst, "netbsdelf", Whole, "netbsd"),
     (AfterFirst, "netbsdelf", Dropped, "netbsd"),
     (AfterFirst, "vxworks", Dropped, "vxworks"),

@@ -2,7 +2,7 @@
 ghost use Rattle.std.specs.Prelude.{◌≡◌, ◌∷◌, [], Some, None, MatchOption, option_map};
 ghost use Rattle.target_lexicon.specs.Placement.{parts_after, parts_of};
 ghost use Rattle.tool_names.specs.Changes.{parts_left, plain_rule, spelling_names, standing_of};
-ghost use Rattle.tool_names.specs.Private.{fit_of, fit_value, later_rule, names_if, plain_rules, rule_names, spelled_value};
+ghost use Rattle.tool_names.specs.Private.{begin_alike, fit_of, fit_value, later_rule, may_fit, names_if, plain_rules, rule_names, spelled_value};
 ghost use Rattle.tool_names.specs.Spelling as spec;
 ghost use Rattle.tool_names.specs.declared.rules.Place.TheVariants as place;
 
@@ -75,6 +75,13 @@ impl Standing {
         }
     }
 
+    /// Whether a rule may fit a part: it is one for this place, and its text begins as the part does.
+    fn may_fit(&self, rule: Rule, part: &str) -> bool
+        ensures { result ≡ may_fit (standing_of self.now) (plain_rule rule.entry) part.now }
+    {
+        begin_alike(rule.1, part) && self.may_be_at(rule.0)
+    }
+
     /// The first rule that fits a part, with this after its dash, unless the part before has named it.
     pub(crate) fn fit<'a>(&self, part: &'a str, rest: Option<&str>) -> Option<Fit<'a>>
         ensures { option_map fit_value result
@@ -118,7 +125,7 @@ impl Standing {
             (plain_rules rules.now)) }
     {
         for rule in rules {
-            if self.may_be_at(rule.0) {
+            if self.may_fit(*rule, part) {
                 if let Some(names) = names_by(*rule, part, rest) {
                     return Some(Fit { rule: *rule, names });
                 }
@@ -168,6 +175,16 @@ impl Standing {
             hard_float: self.hard_float || states_hard_floats(rule.2),
             name: name_of_next(rule),
         }
+    }
+}
+
+/// Whether two strings begin with the same byte, if each has one.
+fn begin_alike(text: &str, part: &str) -> bool
+    ensures { result ≡ begin_alike text.now part.now }
+{
+    match (text.as_bytes(), part.as_bytes()) {
+        ([first, ..], [other, ..]) => first == other,
+        _ => true,
     }
 }
 

@@ -219,14 +219,14 @@ fn is_like_system(part: &str) -> bool
 }
 
 /// Whether a part is one of these names, perhaps with a version.
-fn is_one_of(part: &str, names: &[&str]) -> bool
+pub(crate) fn is_one_of(part: &str, names: &[&str]) -> bool
     ensures { result ≡ list_any (λ name. spec.may_be_versioned part.now name.now) names.now }
 {
     names.iter().any(|name| may_be_versioned(part, name))
 }
 
 /// Whether a part is this name, or the name with what may be its version.
-fn may_be_versioned(part: &str, name: &str) -> bool
+pub(crate) fn may_be_versioned(part: &str, name: &str) -> bool
     ensures { result ≡ spec.may_be_versioned part.now name.now }
 {
     match part.strip_prefix(name) {

@@ -9,7 +9,7 @@ use target_lexicon::tool_names::{
 };
 use target_lexicon::{
     default_binary_format, Architecture, CDataModel, CallingConvention, Endianness, Field,
-    PointerWidth, Size, Source, Suggestion, TripleRef, VendorRef,
+    OperatingSystem, PointerWidth, Size, Source, Suggestion, TripleRef, VendorRef,
 };
 
 pub fn canonical(triple: TripleRef<'_>) -> TripleRef<'_> {
@@ -128,10 +128,12 @@ pub fn write_explained(
     }
 }
 
-/// The canonical form of what a string means that GNU and LLVM tools print, if that has a known vendor.
+/// The canonical form of what a string means that GNU and LLVM tools print, if that has a known vendor and a system.
 pub fn meaning_elsewhere(text: &str) -> Option<String> {
     let triple = read(text).ok()?;
-    (!triple.vendor.is_custom()).then(|| canonical(triple).to_string())
+    let is_target =
+        !triple.vendor.is_custom() && triple.operating_system != OperatingSystem::Unknown;
+    is_target.then(|| canonical(triple).to_string())
 }
 
 /// A line for each part of a string that is read as other names.

@@ -97,17 +97,27 @@ pub fn translate(
         TranslateError::Write(error) => Refusal::of_written(text, to, error),
     })
 }
-/// How a name is read that isn't spelled like a triple, if it is one of another tool. `command` comes before the option.
+/// How a name is read that isn't spelled like a triple, if it is one of another tool; or why that tool's name has no triple.
+/// `command` comes before the option.
 pub fn dialects_note(command: &str, name: &str) -> Option<String> {
-    let options: Vec<_> = Dialect::ALL
-        .iter()
-        // GNU's names are spelled like triples.
-        .filter(|dialect| **dialect != Dialect::Gnu)
-        .filter(|dialect| !matches!(dialect.read(name), Err(NameError::Unknown)))
+    // GNU's names are spelled like triples.
+    let dialects = || Dialect::ALL.iter().filter(|it| **it != Dialect::Gnu);
+    let options: Vec<_> = dialects()
+        .filter(|dialect| dialect.read(name).is_ok())
         .map(|dialect| format!("`{command}--from {dialect}`"))
         .collect();
-    (!options.is_empty())
-        .then(|| format!("it is a name of another tool: use {}", options.join(" or ")))
+    if options.is_empty() {
+        return dialects().find_map(|dialect| match dialect.read(name) {
+            Err(NameError::WithoutTriple(why)) => {
+                Some(format!("it is a name of {dialect} without a triple: {why}"))
+            }
+            _ => None,
+        });
+    }
+    Some(format!(
+        "it is a name of another tool: use {}",
+        options.join(" or ")
+    ))
 }
 
 /// The name that another tool has for the triple of a target.

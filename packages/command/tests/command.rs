@@ -442,6 +442,10 @@ fn names_of_other_tools_are_read_and_written() {
         "note: other tools mean `x86_64-unknown-linux`, which `target-lexicon read` gives"
     );
     assert_eq!(
+        note(&["elsewhere", "amd64"]),
+        "note: it is a name of another tool: use `target-lexicon read --from debian` or `target-lexicon read --from rpm`"
+    );
+    assert_eq!(
         note(&["explain", "x86_64-freebsd13.2"]),
         "note other tools mean `x86_64-unknown-freebsd`, which `target-lexicon read` gives"
     );
@@ -490,6 +494,14 @@ fn names_of_other_tools_are_read_and_written() {
         (
             "armhf",
             "note: it is a name of another tool: use `--from debian` or `--from apk`",
+        ),
+        (
+            "js/wasm",
+            "note: it is a name of go without a triple: Go's pointers have 64 bits there, those of wasm32 32",
+        ),
+        (
+            "arm64e-apple-darwin",
+            "note: it is a name of rust without a triple: a target of rustc that has no triple here: its architecture is no known name",
         ),
         ("foo", "^^^"),
     ] {

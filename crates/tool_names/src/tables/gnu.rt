@@ -2,7 +2,7 @@
 ghost use Rattle.std.specs.Prelude.{◌≡◌};
 ghost use Rattle.tool_names.specs.Tables.{constant_rows, plain_rows};
 
-use crate::tables::Way::Both;
+use crate::tables::Way::{Both, NoTriple, Read, Written};
 use crate::tables::{Row, Way};
 
 pub(crate) fn rows() -> &'static [Row]
@@ -36,7 +36,8 @@ static ROWS: [(&str, &str, Way); 50] = [
     ("armeb-linux-uclibc", "armeb-unknown-linux-uclibc", Both),
     ("armeb-none-eabi", "armeb-unknown-none-eabi", Both),
     ("hexagon-linux-musl", "hexagon-unknown-linux-musl", Both),
-    ("i486--netbsdelf", "i686-unknown-netbsd", Both),
+    ("i486--netbsdelf", "its programs are for an i486: without a dialect it is read as i386", NoTriple),
+    ("i486--netbsdelf", "i686-unknown-netbsd", Written),
     ("i686-gnu", "i686-unknown-hurd-gnu", Both),
     ("i686-linux-gnu", "i686-unknown-linux-gnu", Both),
     ("i686-linux-musl", "i686-unknown-linux-musl", Both),
@@ -62,7 +63,6 @@ static ROWS: [(&str, &str, Way); 50] = [
     ("mipsel-linux-uclibc", "mipsel-unknown-linux-uclibc", Both),
     ("mipsisa32r6-linux-gnu", "mipsisa32r6-unknown-linux-gnu", Both),
     ("mipsisa32r6-linux-musl", "mipsisa32r6-unknown-linux-musl", Both),
-    ("mipsisa32r6-linux-uclibc", "mipsisa32r6-unknown-linux-uclibc", Both),
 ];
 
 pub(crate) fn rows_2() -> &'static [Row]
@@ -72,7 +72,8 @@ pub(crate) fn rows_2() -> &'static [Row]
 }
 
 #[rattlefmt::skip]
-static ROWS_2: [(&str, &str, Way); 45] = [
+static ROWS_2: [(&str, &str, Way); 48] = [
+    ("mipsisa32r6-linux-uclibc", "mipsisa32r6-unknown-linux-uclibc", Both),
     ("mipsisa32r6el-linux-gnu", "mipsisa32r6el-unknown-linux-gnu", Both),
     ("mipsisa32r6el-linux-musl", "mipsisa32r6el-unknown-linux-musl", Both),
     ("mipsisa32r6el-linux-uclibc", "mipsisa32r6el-unknown-linux-uclibc", Both),
@@ -100,9 +101,11 @@ static ROWS_2: [(&str, &str, Way); 45] = [
     ("riscv64-linux-musl", "riscv64-unknown-linux-musl", Both),
     ("riscv64-linux-uclibc", "riscv64-unknown-linux-uclibc", Both),
     ("riscv64-unknown-elf", "riscv64-unknown-none-elf", Both),
+    ("rs6000", "powerpc-ibm-aix", Read),
     ("s390x-linux-gnu", "s390x-unknown-linux-gnu", Both),
     ("s390x-linux-musl", "s390x-unknown-linux-musl", Both),
     ("s390x-linux-uclibc", "s390x-unknown-linux-uclibc", Both),
+    ("sparc", "triples have no system sunos", NoTriple),
     ("sparc-linux-gnu", "sparc-unknown-linux-gnu", Both),
     ("sparc-linux-musl", "sparc-unknown-linux-musl", Both),
     ("sparc-linux-uclibc", "sparc-unknown-linux-uclibc", Both),

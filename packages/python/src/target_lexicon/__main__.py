@@ -12,7 +12,7 @@ import sys
 from contextlib import suppress
 from typing import Any, Dict, Iterator, List, Optional, Tuple
 
-from . import LIBRARY_VERSION, Dialect, LinuxLibc, ParseError, Triple, _library, explain
+from . import LIBRARY_VERSION, Dialect, LinuxLibc, OperatingSystem, ParseError, Triple, _library, explain
 from ._dialects import OTHER_NAMES, READ, WRITTEN, dialect_number
 from ._named import members
 from ._triple import _version_text
@@ -101,7 +101,7 @@ def _explanation(target: str) -> str:
     if explanation.triple.has_custom_vendor:
         with suppress(ParseError):
             meant = Triple.read(target)
-            if not meant.has_custom_vendor:
+            if not meant.has_custom_vendor and meant.operating_system != OperatingSystem.UNKNOWN:
                 lines.append(f"  {'note':16}  other tools mean `{meant.canonical}`, which `target-lexicon read` gives")
     return "\n".join(lines)
 
@@ -120,12 +120,19 @@ def _lines(command: str, target: str, answer: Answer) -> str:
     return "\n".join([target, *lines])
 
 
-def _is_name(dialect: Dialect, name: str) -> bool:
-    try:
-        Triple.read(name, dialect)
-    except ParseError as error:
-        return error.reason is not None
-    return True
+def _note(name: str) -> List[str]:
+    """How a name is read that isn't spelled like a triple, if it is one of another tool; or why that tool's name has no triple."""
+    known, reasons = [], []
+    for dialect in _DIALECTS:
+        if dialect is Dialect.GNU:  # whose names are spelled like triples
+            continue
+        try:
+            Triple.read(name, dialect)
+            known.append(f"`--from {dialect}`")
+        except ParseError as error:
+            reasons += [] if error.reason is None else [f"it is a name of {dialect} without a triple: {error.reason}"]
+    notes = [f"it is a name of another tool: use {' or '.join(known)}"] if known else reasons[:1]
+    return [f"  note: {note}" for note in notes]
 
 
 def _answered(options: argparse.Namespace, target: str) -> Tuple[Answer, str]:
@@ -140,8 +147,7 @@ def _answered(options: argparse.Namespace, target: str) -> Tuple[Answer, str]:
         if options.command != "read":
             return _refusal(error, None), lines[0]
         if dialect is None:
-            known = " or ".join(f"`--from {it}`" for it in _DIALECTS if it is not Dialect.GNU and _is_name(it, target))
-            lines += [f"  note: it is a name of another tool: use {known}"] if known else []
+            lines += _note(target)
         return _refusal(error, dialect), "\n".join(lines)
 
 

@@ -4,20 +4,55 @@
 use crate::proved::tool_names::formats::wasm_or;
 use crate::proved::tool_names::reading::read;
 use crate::proved::tool_names::shape::usual_vendor;
-use crate::proved::{BinaryFormat, Environment, OperatingSystem, TripleRef, VendorRef};
+use crate::proved::tool_names::spelling::is_one_of;
+use crate::proved::tool_names::systems::{reason_for, KERNELS, MAKERS};
+use crate::proved::{
+    first_part, BinaryFormat, Environment, Field, KnownVendor, OperatingSystem, Refusal, TripleRef,
+    VendorRef,
+};
 
-/// The triple that a string means to config.sub. `None` if it isn't spelled like a triple of known names.
-pub(crate) fn read_as_gnu(text: &str) -> Option<TripleRef<'static>> {
+/// The triple that a string means to config.sub, which is spelled like a triple; or why it has none, if that is known.
+pub(crate) fn read_as_gnu(text: &str) -> Result<TripleRef<'static>, Option<&'static str>> {
     match read(text) {
         Ok(triple) => {
             if triple.architecture.is_clever() {
-                None
-            } else {
-                Some(as_gnu(&triple))
+                return Err(None);
+            }
+            match second_system(text, states_vendor(triple.vendor)) {
+                Some(part) => Err(reason_for(part)),
+                None => Ok(as_gnu(&triple)),
             }
         }
-        Err(_) => None,
+        Err(refusal) => Err(reason_of(&refusal)),
     }
+}
+
+/// Why a string is refused, if config.sub knows the refused system.
+fn reason_of(refusal: &Refusal<'_>) -> Option<&'static str> {
+    match refusal.expected {
+        Some(Field::OperatingSystem) => reason_for(refusal.part.text),
+        _ => None,
+    }
+}
+
+/// Whether a vendor says anything.
+fn states_vendor(vendor: VendorRef<'_>) -> bool {
+    !matches!(vendor, VendorRef::Known(KnownVendor::Unknown))
+}
+
+/// The second part, if it is a system to config.sub: a kernel, or no maker where it states a vendor and is the last part.
+fn second_system(text: &str, states_vendor: bool) -> Option<&str> {
+    let (part, after) = first_part(first_part(text).1?);
+    if is_system(part, after.is_none() && states_vendor) {
+        Some(part)
+    } else {
+        None
+    }
+}
+
+/// Whether a second part is a system to config.sub.
+fn is_system(part: &str, is_last_vendor: bool) -> bool {
+    is_one_of(part, &KERNELS) || (is_last_vendor && !is_one_of(part, &MAKERS))
 }
 
 /// The triple with what is missing, and the usual vendor.

@@ -37,6 +37,8 @@ pub(crate) mod spelling;
 #[cfg(feature = "tool_names")]
 pub(crate) mod stated_version;
 #[cfg(feature = "tool_names")]
+pub(crate) mod systems;
+#[cfg(feature = "tool_names")]
 pub(crate) mod tables;
 #[cfg(feature = "tool_names")]
 pub(crate) mod translation;

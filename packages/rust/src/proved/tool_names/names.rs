@@ -190,8 +190,9 @@ fn row_meaning(row: Row, numbers: Numbers) -> Result<TripleRef<'static>, NameErr
 fn spelled_meaning(name: &str, spelled: bool) -> Result<TripleRef<'static>, NameError> {
     if spelled {
         match read_as_gnu(name) {
-            Some(triple) => Ok(triple),
-            None => Err(NameError::Unknown),
+            Ok(triple) => Ok(triple),
+            Err(Some(why)) => Err(NameError::WithoutTriple(why)),
+            Err(None) => Err(NameError::Unknown),
         }
     } else {
         Err(NameError::Unknown)

@@ -173,13 +173,13 @@ fn is_like_system(part: &str) -> bool {
 
 /// Whether a part is one of these names, perhaps with a version.
 #[inline]
-fn is_one_of(part: &str, names: &[&str]) -> bool {
+pub(crate) fn is_one_of(part: &str, names: &[&str]) -> bool {
     names.iter().any(|name| may_be_versioned(part, name))
 }
 
 /// Whether a part is this name, or the name with what may be its version.
 #[inline]
-fn may_be_versioned(part: &str, name: &str) -> bool {
+pub(crate) fn may_be_versioned(part: &str, name: &str) -> bool {
     match part.strip_prefix(name) {
         Some(version) => may_be_version(version.as_bytes()),
         None => false,

@@ -82,7 +82,7 @@ static ROWS_2: [(&str, &str, Way); 20] = [
     ("Haiku x86_64", "x86_64-unknown-haiku", Read),
     ("Haiku BePC", "i586-unknown-haiku", Read),
     ("CYGWIN_NT-10.0-* x86_64", "x86_64-pc-cygwin", Read),
-    ("MSYS_NT-10.0-* x86_64", "x86_64-pc-cygwin", Read),
+    ("MSYS_NT-10.0-* x86_64", "triples have no system msys; MINGW64_NT has that of programs for Windows", NoTriple),
     ("MINGW64_NT-10.0-* x86_64", "x86_64-pc-windows-gnu", Read),
     ("MINGW32_NT-10.0-* x86_64", "i686-pc-windows-gnu", Read),
     ("MINGW32_NT-10.0-* i686", "i686-pc-windows-gnu", Read),
