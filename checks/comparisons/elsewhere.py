@@ -258,7 +258,7 @@ class Comparison(Report):
     def check_gnu(self):
         rows = self.rows_of("gnu")
         self.fact("a name of GNU's compilers without a system or a vendor is read as its triple without a dialect too", (
-            (row.name, str(self.read(row.name)), row.triple) for row in rows), "hurd|none|i486|sparcv9")
+            (row.name, str(self.read(row.name)), row.triple) for row in rows), "hurd|none|i486|rs6000|sparcv9")
         self.fact("and has that one's byte order and width", (
             (row.name, order_and_width(self.read(row.name)), order_and_width(it)) for row in rows if (it := self.read(row.name, "gnu"))))
         sub = "/usr/share/misc/config.sub"

@@ -106,7 +106,11 @@ avr=avr-unknown-none-elf=
 avr-none=avr-unknown-none-elf=
 arm-none-eabi=arm-unknown-none-eabi=arm-none-eabi
 arm-none-eabihf=arm-unknown-none-eabihf=arm-none-eabi
-i486--netbsdelf=i686-unknown-netbsd=i486--netbsdelf
+=i686-unknown-netbsd=i486--netbsdelf
+mips-sony=mips-unknown-none-elf=
+x86_64-apple==
+x86_64-foo==
+riscv32-esp-elf=riscv32-unknown-none-elf=riscv32-unknown-elf
 x86_64-unknown-freebsd13.2=x86_64-unknown-freebsd=
 =thumbv7em-unknown-none-eabihf=arm-none-eabi
 =armebv7r-unknown-none-eabihf=armeb-none-eabi
@@ -168,6 +172,18 @@ fn names_of_dialects(rt: HostRuntime) {
     assert!(rt; Dialect::Python.read("any") == Err(NameError::WithoutTriple("no machine")));
     let unknown = "a target of rustc that has no triple here: its architecture is no known name";
     assert!(rt; Dialect::Rust.read("arm64e-apple-ios") == Err(NameError::WithoutTriple(unknown)));
+    for (name, why) in [
+        ("mips-irix6.5", "triples have no system irix"),
+        ("x86_64-kfreebsd-gnu", "triples have no system kfreebsd"),
+        ("arm-symbian-eabi", "triples have no system symbian"),
+        ("x86_64-unknown-beos", "triples have no system beos"),
+        (
+            "i486--netbsdelf",
+            "its programs are for an i486: without a dialect it is read as i386",
+        ),
+    ] {
+        assert!(rt; Dialect::Gnu.read(name) == Err(NameError::WithoutTriple(why)), "{name}");
+    }
     assert!(rt; "python".parse() == Ok(Dialect::Python) && prints(&Dialect::Python, "python"));
 }
 

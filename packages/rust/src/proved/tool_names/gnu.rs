@@ -42,11 +42,24 @@ fn states_vendor(vendor: VendorRef<'_>) -> bool {
 
 /// The second part, if it is a system to config.sub: a kernel, or no maker where it states a vendor and is the last part.
 fn second_system(text: &str, states_vendor: bool) -> Option<&str> {
-    let (part, after) = first_part(first_part(text).1?);
-    if is_system(part, after.is_none() && states_vendor) {
-        Some(part)
-    } else {
-        None
+    match first_part(text).1 {
+        Some(rest) => {
+            let (part, after) = first_part(rest);
+            if is_system(part, is_last_vendor(states_vendor, after)) {
+                Some(part)
+            } else {
+                None
+            }
+        }
+        None => None,
+    }
+}
+
+/// Whether a part that states a vendor is the last one, with this after its dash.
+fn is_last_vendor(states_vendor: bool, after: Option<&str>) -> bool {
+    match after {
+        Some(_) => false,
+        None => states_vendor,
     }
 }
 

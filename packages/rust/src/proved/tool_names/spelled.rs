@@ -69,6 +69,12 @@ impl Standing {
         }
     }
 
+    /// Whether a rule may fit a part: it is one for this place, and its text begins as the part does.
+    #[inline]
+    fn may_fit(&self, rule: Rule, part: &str) -> bool {
+        begin_alike(rule.1, part) && self.may_be_at(rule.0)
+    }
+
     /// The first rule that fits a part, with this after its dash, unless the part before has named it.
     #[inline]
     pub(crate) fn fit<'a>(&self, part: &'a str, rest: Option<&str>) -> Option<Fit<'a>> {
@@ -102,7 +108,7 @@ impl Standing {
     #[inline]
     fn fit_of<'a>(&self, rules: &[Rule], part: &'a str, rest: Option<&str>) -> Option<Fit<'a>> {
         for rule in rules {
-            if self.may_be_at(rule.0) {
+            if self.may_fit(*rule, part) {
                 if let Some(names) = names_by(*rule, part, rest) {
                     return Some(Fit { rule: *rule, names });
                 }
@@ -148,6 +154,15 @@ impl Standing {
             hard_float: self.hard_float || states_hard_floats(rule.2),
             name: name_of_next(rule),
         }
+    }
+}
+
+/// Whether two strings begin with the same byte, if each has one.
+#[inline]
+fn begin_alike(text: &str, part: &str) -> bool {
+    match (text.as_bytes(), part.as_bytes()) {
+        ([first, ..], [other, ..]) => first == other,
+        _ => true,
     }
 }
 

@@ -1,14 +1,22 @@
-// Erased from crates/tool_names/src/systems.rt by tools/erase. Don't edit it here.
+// @generated: erased from crates/tool_names/src/systems.rt by tools/erase. Don't edit it here.
 //! The words of config.sub: its makers, and the systems that triples don't have.
 
 use crate::proved::tool_names::spelling::may_be_versioned;
 
 /// Why a string isn't read in which this part is the system, if config.sub knows the system.
 pub(crate) fn reason_for(part: &str) -> Option<&'static str> {
-    match reason_among(&SYSTEMS, part) {
+    match reason_among(systems(), part) {
         Some(reason) => Some(reason),
-        None => reason_among(&MORE_SYSTEMS, part),
+        None => reason_among(more_systems(), part),
     }
+}
+
+fn systems() -> &'static [&'static str] {
+    &SYSTEMS
+}
+
+fn more_systems() -> &'static [&'static str] {
+    &MORE_SYSTEMS
 }
 
 /// The first of these reasons that ends with the name of this part.
