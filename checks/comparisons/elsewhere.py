@@ -33,7 +33,7 @@ SYSTEM_WORDS = {"android": "linux", "win32": "windows", "win": "windows", "manyl
                 "sunos": "solaris illumos", "hurd": "hurd", "musl": "linux", "uclibc": "linux", "lpia": "linux", "iphoneos": "ios", "alpine": "linux",
                 "linuxmusl": "linux", "mas": "darwin", "openharmony": "linux", "osx": "darwin macosx", "maccatalyst": "ios", "iossimulator": "ios",
                 "tvossimulator": "tvos", "browser": "emscripten", "freestanding": "none unknown", "pyodide": "emscripten", "mingw": "windows",
-                "gnu": "hurd", "msys_nt": "cygwin", "cygwin_nt": "cygwin", "mingw64_nt": "windows", "mingw32_nt": "windows", "windows_nt": "windows",}
+                "gnu": "hurd", "cygwin_nt": "cygwin", "mingw64_nt": "windows", "mingw32_nt": "windows", "windows_nt": "windows",}
 # The dialects whose names have a word for the system, and those whose names are a machine's word, mostly.
 OF_SYSTEMS = ("debian", "go", "oci", "node", "python", "uname", "dotnet", "conda", "zig", "nix")
 DIALECTS = (*OF_SYSTEMS, "rpm", "apk", "pacman")
@@ -57,9 +57,10 @@ NOT_DPKG = ("aarch64", "i686", "x86_64", "amd64v3", "lpia", "iphoneos-arm", "iph
 NOT_PORTS = ("386", "amd64", "arm64", "linux/s390", "zos/s390x")
 # Other spellings that no rule of `spelled_by_rule` explains, and what they are read as.
 SPELLINGS = {"amd64": "x86_64", "armel": "arm", "i486": "i386", "bpf_be": "bpfeb", "bpf_le": "bpfel", "systemz": "s390x", "thumbv7": "thumbv7a", "w64": "pc",
-             "mingw32": "windows-gnu", "mingw64": "windows-gnu", "win32": "windows-msvc", "macos": "macosx", "gnu*": "hurd-gnu",
+             "mingw32": "windows-gnu", "mingw64": "windows-gnu", "win32": "windows-msvc", "macos": "macosx", "macos+": "macosx", "mac+": "macosx", "sunos5": "solaris", "sunos5*": "solaris", "gnu*": "hurd-gnu",
              "netbsdelf": "netbsd", "netbsdelf*": "netbsd", "simulator": "sim", "x64": "x86_64", "ppc64el": "powerpc64le", "rs6000": "powerpc",
-             "sun4v": "sparc64", "mingw32ucrt": "windows-gnu", "gnu.*": "gnu", "gnu2.*": "gnu"}
+             "sun4v": "sparc64", "mingw32ucrt": "windows-gnu", "gnu.*": "gnu", "gnu2.*": "gnu",
+             "none-unknown-": "unknown-none", "windows-cygnus": "cygwin-unknown"}
 # The machines and ends of strings that config.sub is asked for, and the words of systems in its own text.
 MACHINES = "x86_64 i686 aarch64 arm armv7l armv6l armeb powerpc powerpc64le ppc64le mips mips64el riscv64 riscv32 s390x sparc64 loongarch64 m68k avr".split()
 ENDS = ("", "linux", "unknown-linux", "redhat-linux", "suse-linux", "poky-linux", "buildroot-linux-gnu", "linux-gnu", "alpine-linux-musl", "linux-musl",
@@ -137,14 +138,15 @@ class Comparison(Report):
 
     def check_spellings(self):
         self.fact("each other spelling of a part is explained by a rule, or listed here", (
-            (row.dialect, row.name, row.triple, SPELLINGS.get(row.name) or spelled_by_rule(row.name))
+            (row.dialect, row.name, row.triple, SPELLINGS.get(row.name) or spelled_by_rule(row.name.rstrip("!")))
             for dialect in ("first", "later") for row in self.rows_of(dialect)))
         sub = "/usr/share/misc/config.sub"
         if self.has("config.sub", os.path.exists(sub)):
-            first = {row: output("sh", sub, f"{row.name}-unknown-linux-gnu").split("-")[0] for row in self.rows_of("first")}
+            first = {row: output("sh", sub, f"{row.name.rstrip('!')}-unknown-linux-gnu").split("-")[0] for row in self.rows_of("first")}
             self.fact("config.sub rewrites no first part otherwise", (
-                (row.name, row.triple if said in ("", row.name) else said, row.triple) for row, said in first.items()))
-            later = {row.name: row.name.replace("*", "9.1") for row in self.rows_of("later")}
+                (row.name, row.triple if said in ("", row.name.rstrip("!")) else said, row.triple) for row, said in first.items()))
+            # Two parts are LLVM's.
+            later = {row.name: re.sub("[*+]", "9.1", row.name) for row in self.rows_of("later") if "-" not in row.name}
             takes = {name: any(output("sh", sub, f"{machine}-{part}") for machine in ("x86_64-unknown", "arm-unknown-linux"))
                      for name, part in later.items()}
             self.fact("config.sub takes each later part", ((name, took, True) for name, took in takes.items()), "w64|win32|msvc|simulator")
@@ -225,7 +227,7 @@ class Comparison(Report):
             rows.append((row.name, *(it and f"{family(it)} {re.sub('[0-9.]', '', str(it.operating_system))}" for it in (ours, said))))
         # Of the systems of BSD it asks `uname -p` and `arch`, and not `uname -m`; a compiler tells it what Mac it is; it doesn't know busybox.
         self.fact("config.guess means the same machine and system as the words of uname", rows,
-                  "BSD|Power Macintosh|Darwin i386|Darwin x86_64|DragonFly|Windows_NT|MINGW32_NT-10.0-\\* x86_64|MSYS|GNU")
+                  "BSD|Power Macintosh|Darwin i386|Darwin x86_64|DragonFly|Windows_NT|MINGW32_NT-10.0-\\* x86_64|GNU")
 
     def check_host(self):
         """Tools that name the machine that they run on."""
