@@ -442,7 +442,7 @@ fn names_of_other_tools_are_read_and_written() {
         "note: other tools mean `x86_64-unknown-linux`, which `target-lexicon read` gives"
     );
     assert_eq!(
-        note(&["elsewhere", "amd64"]),
+        note(&["check", "amd64"]),
         "note: it is a name of another tool: use `target-lexicon read --from debian` or `target-lexicon read --from rpm`"
     );
     assert_eq!(
