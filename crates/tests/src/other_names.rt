@@ -182,7 +182,10 @@ fn names_of_dialects(rt: HostRuntime) {
             "its programs are for an i486: without a dialect it is read as i386",
         ),
     ] {
-        assert!(rt; Dialect::Gnu.read(name) == Err(NameError::WithoutTriple(why)), "{name}");
+        assert!(rt;
+            Dialect::Gnu.read(name) == Err(NameError::WithoutTriple(why)),
+            "{name}"
+        );
     }
     assert!(rt; "python".parse() == Ok(Dialect::Python) && prints(&Dialect::Python, "python"));
 }

@@ -118,6 +118,7 @@ impl Standing {
     }
 
     /// The first of these rules that fits.
+    #[inline(always)]
     fn fit_of<'a>(&self, rules: &[Rule], part: &'a str, rest: Option<&str>) -> Option<Fit<'a>>
         ensures { option_map fit_value result
             ≡ fit_of part.entry.now (spec.first_rule

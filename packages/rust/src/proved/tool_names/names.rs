@@ -46,7 +46,8 @@ impl Dialect {
     ///
     /// A name of Python is read by its tag: `macosx-11.0-arm64` and `macosx_11_0_arm64` mean the same. A name of GNU that is
     /// none of its cross compilers' is read by its spelling, as by [`read`](crate::proved::tool_names::read), and completed as `config.sub` does:
-    /// its vendor says nothing, Linux is with `gnu`, and without a system `gnu` is the Hurd's; otherwise there is none.
+    /// its vendor says nothing, Linux is with `gnu`, and without a system `gnu` is the Hurd's; otherwise there is none. A
+    /// second part that is the last one is a system, unless `config.sub` lists it as a maker.
     ///
     /// # Errors
     ///

@@ -105,7 +105,7 @@ impl Standing {
     }
 
     /// The first of these rules that fits.
-    #[inline]
+    #[inline(always)]
     fn fit_of<'a>(&self, rules: &[Rule], part: &'a str, rest: Option<&str>) -> Option<Fit<'a>> {
         for rule in rules {
             if self.may_fit(*rule, part) {
