@@ -27,10 +27,7 @@ pub fn written() -> impl Iterator<Item = Dialect> {
 }
 
 // written by tools/names/write: the other names of dialects for the command
-const OTHER_NAMES: [(&str, Dialect); 2] = [
-    ("docker", Dialect::Oci),
-    ("npm", Dialect::Node),
-];
+const OTHER_NAMES: [(&str, Dialect); 2] = [("docker", Dialect::Oci), ("npm", Dialect::Node)];
 // end of what is written
 
 /// The value of `--from` for all dialects.
