@@ -47,10 +47,10 @@ def cargo(crate, command, *words, flags=""):
     return ran.stdout
 
 
-def rust_program(crate, name, profile="release", flags=""):
+def rust_program(crate, name, flags=""):
     """The path of a program of the package."""
-    cargo(crate, "build", f"--profile={profile}", f"--bin={name}", flags=flags)
-    return f"{os.environ.get('CARGO_TARGET_DIR', f'{SOURCES}/target')}/{profile}/{name}"
+    cargo(crate, "build", "--release", f"--bin={name}", flags=flags)
+    return f"{os.environ.get('CARGO_TARGET_DIR', f'{SOURCES}/target')}/release/{name}"
 
 
 def quoted_texts(crate, form):
