@@ -1,31 +1,29 @@
 -- The answers to the lines of an input, one after another.
-use Rattle.std.proofs.Common.{◌≡◌, ℕ, Bool, true, false, ◌||◌, not, List, [], ◌∷◌, ◌++◌, codes, String, if◌then◌else◌, Option, Some, None, IfSome, MatchOption, Result, Ok, Err, IfOk, IfErr, OnOk, refl, sym, ap, ◌∙◌, append_assoc}
+use Rattle.std.proofs.Common.{◌≡◌, ℕ, Bool, true, false, ◌||◌, not, List, [], ◌∷◌, ◌++◌, codes, String, if◌then◌else◌, Option, Some, None, MatchOption, Result, Ok, Err, OnOk, refl, sym, ap, ◌∙◌, append_assoc}
 use Rattle.std.proofs.{lemmas.List.append-nil, lemmas.List.Folds.list_any-append, Math.Bool.or-false}
 use Rattle.std.proofs.lemmas.{Bool.Decides.same_from_decides, Map.Text.hash_set_updates_text, Slice.Eq.bytes_eq-Decides}
-use Rattle.std.specs.{HashSet.IsEmpty, HashSet.UpdatesBy, HashSet.contains_text, List.AllZip, List.list_any, Str.bytes_eq, String.string_bytes, String.string_eq}
+use Rattle.std.specs.{HashSet.IsEmpty, HashSet.UpdatesBy, HashSet.contains_text, List.list_any, Str.bytes_eq, String.string_bytes, String.string_eq}
 use Rattle.std.specs.declared.alloc.Global.{Global}
-use Rattle.target_lexicon.specs.{FixedPoints.canonical_text, FixedPoints.settled_values, Laws.ComesBack, Reading.ReadsAs, Reading.IsRefusedAs, Reading.IsRefusalOrOutOfMemory, Refusal.Refusal, Refusal.refusal_line, Refusal.refusal_of, Values.Values, Values.values_of, declared.parse_error.ParseError.ParseError, declared.triple.Triple.Triple}
+use Rattle.target_lexicon.specs.{FixedPoints.canonical_text, Reading.ReadsAs, Reading.IsErrorOf, Reading.IsRefusedAs, Reading.MayAllocate, Refusal.Refusal, Refusal.refusal_line, Refusal.refusal_of, Values.Values, declared.parse_error.ParseError.ParseError}
 use Rattle.triples.specs.Lines.{line_feed}
-use Rattle.triples.specs.Output.{Answer, Shown, Refused, IsAnswer, IsEntry, IsLineOutput, IsMatrix, shows, is_kept_after, kept_answers, matrix_of, answer_bytes, written_lines}
-use Rattle.triples.specs.Private.{Seen, HasOneMore, is_repeated, AddsAnswer, AddsEntry, AddsRefusal, IsFormOf, form_of, shown_text, text_in}
-use Rattle.triples.specs.declared.lines.LineMode.{LineMode}
-use Rattle.triples.specs.declared.lines.LineMode.TheVariants.{Print, Show, Settle}
+use Rattle.triples.specs.Output.{Answer, Shown, Refused, IsAnswer, AreAnswers, IsLineOutput, IsMatrix, shows, is_kept_after, kept_answers, matrix_of, answer_bytes, written_lines}
+use Rattle.triples.specs.Private.{Seen, HasOneMore, is_repeated, AddsAnswer, AddsEntry, AddsRefusal}
 
 -- the lines so far precede the rest, and these are their answers
-pub record AreAnswersSoFar (Is : List ℕ → Answer → Type 0) (lines rest : List (List ℕ)) (before : List Answer) : Type 0 where
-  pub whole : (more : List Answer) → AllZip Is rest more → AllZip Is lines (before ++ more)
+pub record AreAnswersSoFar (shown : Values → List ℕ) (lines rest : List (List ℕ)) (before : List Answer) : Type 0 where
+  pub whole : (more : List Answer) → AreAnswers shown rest more → AreAnswers shown lines (before ++ more)
 
-so-far-next : {Is : List ℕ → Answer → Type 0} {lines rest others : List (List ℕ)} {line : List ℕ} (before : List Answer) (answer : Answer)
-    → rest ≡ line ∷ others → Is line answer → AreAnswersSoFar Is lines rest before → AreAnswersSoFar Is lines others (before ++ answer ∷ [])
+so-far-next : {shown : Values → List ℕ} {lines rest others : List (List ℕ)} {line : List ℕ} (before : List Answer) (answer : Answer)
+    → rest ≡ line ∷ others → IsAnswer shown line answer → AreAnswersSoFar shown lines rest before → AreAnswersSoFar shown lines others (before ++ answer ∷ [])
 so-far-next before answer cut is far = record { whole = λ more are. rw append_assoc (far.whole (answer ∷ more) (rw cut (is, are))) }
 
-so-far-end : {Is : List ℕ → Answer → Type 0} {lines rest : List (List ℕ)} {before : List Answer} → rest ≡ [] → AreAnswersSoFar Is lines rest before → AllZip Is lines before
+so-far-end : {shown : Values → List ℕ} {lines rest : List (List ℕ)} {before : List Answer} → rest ≡ [] → AreAnswersSoFar shown lines rest before → AreAnswers shown lines before
 so-far-end none far = rw append-nil at (far.whole [] (rw none tt))
 
 -- the lines so far precede the rest, and their answers were written
 pub record IsSoFar (shown : Values → List ℕ) (lines rest : List (List ℕ)) (output : List ℕ) : Type 0 where
   pub before : List Answer
-  pub answers : AreAnswersSoFar (IsAnswer shown) lines rest before
+  pub answers : AreAnswersSoFar shown lines rest before
   pub written_lines : output ≡ written_lines before
 
 pub so-far-none : {shown : Values → List ℕ} {lines : List (List ℕ)} {output : List ℕ} → output ≡ [] → IsSoFar shown lines lines output
@@ -34,7 +32,7 @@ so-far-none empty = record { before = []; answers = record { whole = λ more are
 -- the same for a matrix: the answers that stay were written, and what they show was seen
 pub record IsMatrixSoFar (lines rest : List (List ℕ)) (output : List ℕ) (seen : Seen) : Type 0 where
   pub before : List Answer
-  pub answers : AreAnswersSoFar IsEntry lines rest before
+  pub answers : AreAnswersSoFar canonical_text lines rest before
   pub written_lines : output ≡ written_lines (matrix_of before)
   pub agree : (text : List ℕ) → contains_text seen text ≡ list_any (shows text) before
 
@@ -104,35 +102,20 @@ matrix-whole none far = (far.before, so-far-end none far.answers, far.written_li
 
 -- what a line that parses adds, and what a refused line adds
 
-abbrev refused_text : Refusal → List ℕ
+abbrev pub refused_text : Refusal → List ℕ
 refused_text refusal = codes "error: " ++ refusal_line refusal
 
 line-ended : (old text unended new : List ℕ) → unended ≡ old ++ text → new ≡ unended ++ line_feed ∷ [] → new ≡ old ++ (text ++ line_feed ∷ [])
 line-ended old text unended new grown ended = ended ∙ ap (λ (t : List ℕ). t ++ line_feed ∷ []) grown ∙ append_assoc old text (line_feed ∷ [])
 
--- a refused line
-pub refusal-written : (shown : Values → List ℕ) (line old unended : List ℕ) (error : ParseError) → IsRefusalOrOutOfMemory line error → AddsRefusal error old unended
-    → (answer : Answer) × IsAnswer shown line answer × (unended ≡ old ++ answer_bytes answer)
-refusal-written shown line old unended error is adds =
+-- an error whose line was written is the refusal of the line
+pub error-refuses : (line old unended : List ℕ) (error : ParseError) → IsErrorOf line error → AddsRefusal error old unended
+    → (refusal : Refusal) × IsRefusedAs line refusal × (unended ≡ old ++ refused_text refusal)
+error-refuses line old unended error is adds =
     elim (refusal_of error) as
-    (λ (r : Option Refusal). IfSome r (λ refusal. IsRefusedAs line refusal) → MatchOption r ⊥ (λ refusal. unended ≡ old ++ refused_text refusal)
-    → (answer : Answer) × IsAnswer shown line answer × (unended ≡ old ++ answer_bytes answer))
-    [ Some refusal ↦ λ refused grown. (Refused (refused_text refusal), (refusal, refused, refl), grown) | None ↦ λ _ bad. absurd bad ] is adds
-
--- the text of the form that a mode shows
-text-of-form : (mode : LineMode) (t : Values) → text_in mode (form_of mode t) ≡ shown_text mode t
-text-of-form Print t = refl
-text-of-form Show t = refl
-text-of-form Settle t = refl
-
--- what was read of a line, written
-pub outcome-written : (mode : LineMode) (line old unended : List ℕ) (outcome : Result Triple ParseError)
-    → IfOk outcome (λ triple. IsFormOf (form_of mode) line (values_of triple)) → IfErr outcome (λ error. IsRefusalOrOutOfMemory line error)
-    → IfOk outcome (λ triple. unended ≡ old ++ text_in mode (values_of triple)) → IfErr outcome (λ error. AddsRefusal error old unended)
-    → (answer : Answer) × IsAnswer (shown_text mode) line answer × (unended ≡ old ++ answer_bytes answer)
-outcome-written mode line old unended (Ok triple) is _ grown _ =
-    (Shown (shown_text mode is.0), (is.0, is.1, refl), grown ∙ ap (λ (t : Values). old ++ text_in mode t) is.2 ∙ ap (λ (x : List ℕ). old ++ x) (text-of-form mode is.0))
-outcome-written mode line old unended (Err error) _ is _ grown = refusal-written (shown_text mode) line old unended error is grown
+    (λ (r : Option Refusal). MatchOption r (MayAllocate line) (λ refusal. IsRefusedAs line refusal) → MatchOption r ⊥ (λ refusal. unended ≡ old ++ refused_text refusal)
+    → (refusal : Refusal) × IsRefusedAs line refusal × (unended ≡ old ++ refused_text refusal))
+    [ Some refusal ↦ λ refused grown. (refusal, refused, grown) | None ↦ λ _ bad. absurd bad ] is adds
 
 -- an answer that was written, and then a line feed
 pub answer-adds : {T E : Type 0} (done : Result T E) (shown : Values → List ℕ) (line old unended new : List ℕ) (answer : Answer) → IsAnswer shown line answer
@@ -149,17 +132,17 @@ module _ (line old new : List ℕ) (seen_old seen_new : Seen) where
   unless-seen true text = refl
   unless-seen false text = refl
 
-  pub read-enters : {T E : Type 0} (done : Result T E) (t : Values) (text : List ℕ) → ReadsAs line t → ComesBack (settled_values t) → text ≡ canonical_text t
+  pub read-enters : {T E : Type 0} (done : Result T E) (t : Values) (text : List ℕ) → ReadsAs line t → text ≡ canonical_text t
       → OnOk done (new ≡ old ++ (if contains_text seen_old text then [] else text ++ line_feed ∷ []))
       → OnOk done (HasOneMore seen_old seen_new text)
       → OnOk done (AddsEntry line old new seen_old seen_new)
-  read-enters (Ok _) t text reads back is grown seen = record {
+  read-enters (Ok _) t text reads is grown seen = record {
     answer = Shown text;
-    is = (t, reads, back, is);
+    is = (t, reads, is);
     grown = grown ∙ ap (λ (t : List ℕ). old ++ t) (unless-seen (contains_text seen_old text) text);
     seen = seen;
   }
-  read-enters (Err _) t text reads back is grown seen = tt
+  read-enters (Err _) t text reads is grown seen = tt
 
   pub refusal-enters : {T E : Type 0} (done : Result T E) (unended : List ℕ) (refusal : Refusal) → IsRefusedAs line refusal
       → unended ≡ old ++ refused_text refusal → OnOk done (new ≡ unended ++ line_feed ∷ []) → OnOk done (AddsEntry line old new seen_old seen_old)
@@ -170,13 +153,6 @@ module _ (line old new : List ℕ) (seen_old seen_new : Seen) where
     seen = λ text. sym (or-false (contains_text seen_old text));
   }
   refusal-enters (Err _) unended refusal refused grown ended = tt
-
-  pub error-enters : {T E : Type 0} (done : Result T E) (unended : List ℕ) (error : ParseError) → IsRefusalOrOutOfMemory line error → AddsRefusal error old unended
-      → OnOk done (new ≡ unended ++ line_feed ∷ []) → OnOk done (AddsEntry line old new seen_old seen_old)
-  error-enters done unended error is adds ended =
-      elim (refusal_of error) as
-      (λ (r : Option Refusal). IfSome r (λ refusal. IsRefusedAs line refusal) → MatchOption r ⊥ (λ refusal. unended ≡ old ++ refused_text refusal) → OnOk done (AddsEntry line old new seen_old seen_old))
-      [ Some refusal ↦ λ refused grown. refusal-enters done unended refusal refused grown ended | None ↦ λ _ bad. absurd bad ] is adds
 
 bytes_eq-comm : (a b : List ℕ) → bytes_eq a b ≡ bytes_eq b a
 bytes_eq-comm a b =

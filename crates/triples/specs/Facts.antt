@@ -7,8 +7,12 @@ use Rattle.target_lexicon.specs.Queries.{endianness_name, width_name, endianness
 abbrev pub spaced_word : Option (List ℕ) → List ℕ
 spaced_word word = codes " " ++ unwrap_or word (codes "-")
 
--- a printed triple, and the words for its byte order, pointer width, calling convention and data model
+-- the words for the byte order, pointer width, calling convention and data model of a triple
+abbrev pub facts_of : Values → List ℕ
+facts_of t =
+    spaced_word (option_map endianness_name (endianness t)) ++ (spaced_word (option_map width_name (pointer_width t))
+    ++ (spaced_word (option_map convention_name (calling_convention t)) ++ spaced_word (option_map model_name (data_model t))))
+
+-- a printed triple, and these words
 abbrev pub text_with_facts : Values → List ℕ
-text_with_facts t =
-    text_of t ++ (spaced_word (option_map endianness_name (endianness t)) ++ (spaced_word (option_map width_name (pointer_width t))
-    ++ (spaced_word (option_map convention_name (calling_convention t)) ++ spaced_word (option_map model_name (data_model t)))))
+text_with_facts t = text_of t ++ facts_of t

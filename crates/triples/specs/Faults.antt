@@ -15,9 +15,3 @@ line_of OutOfMemory = codes "Out of memory"
 -- what a program writes if a run fails
 abbrev pub fault_line : RunError → List ℕ
 fault_line error = codes "fault: " ++ (line_of error ++ codes "\n")
-
--- the errors of an input that should be a JSON list
-abbrev pub IsOfJson : RunError → Type 0
-IsOfJson NotJson = Unit {0}
-IsOfJson NotList = Unit {0}
-IsOfJson _ = ⊥

@@ -6,5 +6,6 @@ pub mod MatrixLaws
 pub mod Output
 pub mod Private
 pub mod Run
+pub mod RunLaws
 pub mod Streams
 pub mod Words

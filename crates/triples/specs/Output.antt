@@ -2,7 +2,7 @@
 use Rattle.std.specs.Prelude.{ℕ, ◌≡◌, ◌<◌, Bool, true, false, not, if◌then◌else◌, List, length, [], ◌∷◌, ◌++◌, codes}
 use Rattle.std.specs.List.{AllZip, list_any}
 use Rattle.std.specs.Str.{bytes_eq}
-use Rattle.target_lexicon.specs.{FixedPoints.canonical_text, FixedPoints.settled_values, Laws.ComesBack, Printing.text_of, Reading.ReadsAs, Reading.IsRefusedAs, Refusal.Refusal, Refusal.refusal_line, Values.Values}
+use Rattle.target_lexicon.specs.{FixedPoints.canonical_text, Printing.text_of, Reading.ReadsAs, Reading.IsRefusedAs, Refusal.Refusal, Refusal.refusal_line, Values.Values}
 use Rattle.triples.specs.{declared.mode.Mode.Mode, Facts.text_with_facts}
 use Rattle.triples.specs.declared.mode.Mode.TheVariants.{Print, Show, Settle, Json, Matrix}
 use Rattle.triples.specs.{declared.run_error.RunError.RunError, declared.run_error.RunError.TheVariants.OutOfMemory}
@@ -22,15 +22,6 @@ IsAnswer shown line (Refused message) = (refusal : Refusal) × IsRefusedAs line 
 -- the answer to each line, in order
 abbrev pub AreAnswers : (Values → List ℕ) → List (List ℕ) → List Answer → Type 0
 AreAnswers shown lines answers = AllZip (IsAnswer shown) lines answers
-
--- the same of an answer that shows the canonical triple, which comes back
-abbrev pub IsEntry : List ℕ → Answer → Type 0
-IsEntry line (Shown text) = (values : Values) × ReadsAs line values × ComesBack (settled_values values) × (text ≡ canonical_text values)
-IsEntry line (Refused message) = IsAnswer canonical_text line (Refused message)
-
--- the entry of each line, in order
-abbrev pub AreEntries : List (List ℕ) → List Answer → Type 0
-AreEntries lines answers = AllZip IsEntry lines answers
 
 -- whether an answer shows this string; a refusal never does, even if it has the same bytes
 abbrev pub shows : List ℕ → Answer → Bool
@@ -69,7 +60,7 @@ IsLineOutput shown lines output =
 -- the output is the matrix of these lines
 abbrev pub IsMatrix : List (List ℕ) → List ℕ → Type 0
 IsMatrix lines output =
-    (answers : List Answer) × AreEntries lines answers × (output ≡ written_lines (matrix_of answers))
+    (answers : List Answer) × AreAnswers canonical_text lines answers × (output ≡ written_lines (matrix_of answers))
 
 -- the output of a mode for an input
 abbrev pub IsOutput : Mode → List ℕ → List ℕ → Type 0

@@ -4,33 +4,23 @@ use Rattle.std.specs.declared.alloc.Global.{Global}
 use Rattle.std.specs.HashSet.{HashSet, contains_text}
 use Rattle.std.specs.declared.hash.{BuildHasherDefault.BuildHasherDefault, FoldHasher.FoldHasher}
 use Rattle.std.specs.Str.{bytes_eq}
-use Rattle.target_lexicon.specs.{FixedPoints.canonical_text, FixedPoints.settled_values, Printing.text_of, Reading.ReadsAs, Refusal.refusal_line, Refusal.refusal_of, declared.parse_error.ParseError.ParseError, Values.Values}
+use Rattle.target_lexicon.specs.{FixedPoints.canonical_text, Printing.text_of, Reading.ReadsAs, Refusal.refusal_line, Refusal.refusal_of, declared.parse_error.ParseError.ParseError, Values.Values}
 use Rattle.triples.specs.Facts.{text_with_facts}
-use Rattle.triples.specs.declared.lines.LineMode.{LineMode}
-use Rattle.triples.specs.declared.lines.LineMode.TheVariants.{Print, Show, Settle}
-use Rattle.triples.specs.Output.{Answer, Shown, Refused, IsAnswer, IsEntry, shows, written_lines}
+use Rattle.triples.specs.declared.mode.Mode.{Mode}
+use Rattle.triples.specs.declared.mode.Mode.TheVariants.{Print, Show, Settle, Json, Matrix}
+use Rattle.triples.specs.Output.{Answer, Shown, Refused, IsAnswer, shows, written_lines}
+
+-- a string parses as the triple
+abbrev pub IsParsed : Values → Type 0
+IsParsed t = (text : List ℕ) × ReadsAs text t
 
 -- what a mode shows of a triple
-abbrev pub shown_text : LineMode → Values → List ℕ
+abbrev pub shown_text : Mode → Values → List ℕ
 shown_text Print = text_of
 shown_text Show = text_with_facts
 shown_text Settle = canonical_text
-
--- the triple that a mode shows
-abbrev pub form_of : LineMode → Values → Values
-form_of Print t = t
-form_of Show t = t
-form_of Settle t = settled_values t
-
--- a line parses, and this is that form of its triple
-abbrev pub IsFormOf : (Values → Values) → List ℕ → Values → Type 0
-IsFormOf form line shown = (t : Values) × ReadsAs line t × (shown ≡ form t)
-
--- what a mode shows of the triple of that form
-abbrev pub text_in : LineMode → Values → List ℕ
-text_in Print t = text_of t
-text_in Show t = text_with_facts t
-text_in Settle t = text_of t
+shown_text Json = text_of
+shown_text Matrix = canonical_text
 
 -- the printed triples that were seen
 abbrev pub Seen : Type 0
@@ -59,6 +49,6 @@ pub record AddsAnswer (shown : Values → List ℕ) (line old new : List ℕ) : 
 -- seen
 pub record AddsEntry (line old new : List ℕ) (seen_old seen_new : Seen) : Type 0 where
   pub answer : Answer
-  pub is : IsEntry line answer
+  pub is : IsAnswer canonical_text line answer
   pub grown : new ≡ old ++ written_lines (if is_repeated seen_old answer then [] else answer ∷ [])
   pub seen : (text : List ℕ) → contains_text seen_new text ≡ (contains_text seen_old text || shows text answer)

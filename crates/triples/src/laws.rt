@@ -3,6 +3,7 @@ ghost use Rattle.std.specs.Prelude.{List};
 ghost use Rattle.target_lexicon.specs.Laws.{ComparesByValue, CopiesEqualTheirSources};
 ghost use Rattle.triples.specs.MatrixLaws.{EntriesAreSettledTriples, KeepsEntriesOnce, FirstEntriesStayInOrder, EachSettledTripleHasAnEntry, MatricesAreTheirOwn};
 ghost use Rattle.triples.specs.Output.{Answer};
+ghost use Rattle.triples.specs.RunLaws.{ErrorsOfRunsAreExact, RunsEndOneWay};
 ghost use Rattle.triples.specs.declared.mode.Mode.{Mode};
 ghost use Rattle.triples.specs.declared.run_error.RunError.{RunError};
 
@@ -27,10 +28,13 @@ pub fn copies_equal_their_sources()
         ⟦<RunError as Clone>⟧.is_infallible }
 {}
 
-/// Two lines that parse share an entry exactly if their canonical triples are equal.
+/// Mode `settle` writes the same string for two lines that parse exactly if their canonical triples are equal.
 pub fn entries_are_settled_triples()
     ensures { EntriesAreSettledTriples }
 {
+    target_lexicon::laws::every_text_has_one_outcome();
+    target_lexicon::laws::read_triples_are_plain();
+    target_lexicon::laws::settled_texts_are_keys();
     target_lexicon::laws::equal_texts_equal_triples();
 }
 
@@ -48,11 +52,31 @@ pub fn first_entries_stay_in_order()
 /// The canonical triple of each line that parses has exactly one entry in the matrix.
 pub fn each_settled_triple_has_an_entry()
     ensures { EachSettledTripleHasAnEntry }
-{}
+{
+    target_lexicon::laws::every_text_has_one_outcome();
+}
 
 /// Mode `matrix` gives the entries of a matrix back, if they are its input.
 pub fn matrices_are_their_own()
     ensures { MatricesAreTheirOwn }
 {
-    target_lexicon::laws::second_step_changes_one();
+    target_lexicon::laws::every_text_has_one_outcome();
+    target_lexicon::laws::read_triples_are_plain();
+    target_lexicon::laws::round_is_normal_step();
+    target_lexicon::laws::settled_texts_are_keys();
 }
+
+/// A run over known bytes, in which no read, write or flush failed and memory did not run out, has one result and
+/// writes one output.
+pub fn runs_end_one_way()
+    ensures { RunsEndOneWay }
+{
+    target_lexicon::laws::every_text_has_one_outcome();
+}
+
+/// A run returns `Read` exactly if a read failed, and `Write` exactly if a write or the flush did. Of an input that is
+/// known and was read whole, unless memory runs out, it returns `NotUtf8` exactly if it isn't UTF-8, and in mode `json`
+/// only `NotJson` exactly if it is UTF-8 but not JSON, and `NotList` exactly if it is JSON but not a list.
+pub fn errors_of_runs_are_exact()
+    ensures { ErrorsOfRunsAreExact }
+{}

@@ -5,9 +5,11 @@ ghost use Rattle.triples.specs.Lines.{line_feed, lines_of};
 ghost use Rattle.triples.specs.Output.{IsMatrix};
 ghost use Rattle.triples.specs.Private.{AddsEntry, HasOneMore};
 
-use crate::lines::{first_line, push_refusal, read_settled};
+use crate::lines::{first_line, push_refusal};
 use std::alloc::{AllocError, Global};
 use std::collections::HashSet;
+use target_lexicon::Triple;
+use target_lexicon::laws::read_vendors_are_plain;
 
 /// The matrix of the lines of an input.
 pub(crate) fn matrix(alloc: Global, input: &str) -> Result<String, AllocError>
@@ -36,13 +38,11 @@ fn push_entry(
         (AddsEntry line.now (string_bytes output.old) (string_bytes output.new) seen.old
         seen.new) }
 {
-    match read_settled(alloc, line) {
-        Ok(triple) => {
-            let text = triple.to_text(alloc)?;
-            push_first(output, seen, text)
-        }
+    read_vendors_are_plain();
+    match Triple::from_str(alloc, line) {
+        Ok(triple) => push_first(output, seen, triple.settle().to_text(alloc)?),
         Err(error) => {
-            push_refusal(output, &error)?;
+            push_refusal(output, error)?;
             output.push('\n')
         }
     }

@@ -1,16 +1,14 @@
 //! A run, from a reader to a writer, and the end of the program.
-ghost use Rattle.std.specs.Prelude.{◌≡◌, ◌≢◌, ◌<◌, ◌≤◌, ◌↔◌, string_bytes, IsErrOf, OnOk, IfOk, IfErr, IfSome};
-ghost use Rattle.std.specs.Str.{IsUtf8};
-ghost use Rattle.std.specs.Io.KnownBytes.{Appends, Keeps, IsAtEnd};
-ghost use Rattle.triples.specs.Run.{WritesOutput};
-ghost use Rattle.triples.specs.Streams.{inner, failures, AppendsBeginning, ConsumesSome};
-ghost use Rattle.triples.specs.Faults.{IsOfJson, fault_line};
-ghost use Rattle.triples.specs.JsonOutput.{IsJsonInputErrorOf};
+ghost use Rattle.std.specs.Prelude.{◌≡◌, string_bytes, IfOk, IfErr};
+ghost use Rattle.std.specs.Io.KnownBytes.{Appends};
+ghost use Rattle.triples.specs.Run.{EndsAs, use_of};
+ghost use Rattle.triples.specs.Streams.{inner, failures, AppendsBeginning};
+ghost use Rattle.triples.specs.Faults.{fault_line};
 ghost use Rattle.triples.specs.Output.{IsOutput, IsInputErrorOf};
 ghost use Rattle.triples.specs.Words.{status_of, closing_words};
 
 use crate::json::json_output;
-use crate::lines::{LineMode, answers};
+use crate::lines::answers;
 use crate::matrix::matrix;
 use crate::mode::Mode;
 use crate::run_error::RunError;
@@ -40,40 +38,8 @@ pub fn run<R: Read, W: Write>(
     r: &mut Counted<R>,
     w: &mut Counted<W>,
 ) -> Result<(), RunError>
-    // Success: the whole input was read, and its output was written.
-    ensures whole { OnOk result (IsAtEnd (R.remaining (inner r.new))) }
-    ensures ok { OnOk result
-        (WritesOutput Appends mode (R.remaining (inner r.old)) (W.contents (inner w.old))
-        (W.contents (inner w.new))) }
-
-    // An error of the reader or the writer is returned exactly if there was one.
-    ensures read { IsErrOf result RunError.Read ↔ (failures r.old < failures r.new) }
-    ensures write { IsErrOf result RunError.Write ↔ (failures w.old < failures w.new) }
-
-    // No failure is forgotten.
-    ensures reader { failures r.old ≤ failures r.new }
-    ensures writer { failures w.old ≤ failures w.new }
-
-    // What was written before an error.
-    ensures begun { IsErrOf result RunError.Write →
-        WritesOutput AppendsBeginning mode (R.remaining (inner r.old)) (W.contents (inner w.old))
-        (W.contents (inner w.new)) }
-    ensures nothing { IfErr result
-        (λ e. e ≢ RunError.Write → Keeps (W.contents (inner w.old)) (W.contents (inner w.new))) }
-
-    // Errors of the input, and running out of memory.
-    ensures utf8_whole { IsErrOf result RunError.NotUtf8 → IsAtEnd (R.remaining (inner r.new)) }
-    ensures utf8 { IsErrOf result RunError.NotUtf8 →
-        IfSome (R.remaining (inner r.old)) (λ input. ¬ (IsUtf8 input)) }
-    ensures json_only { IfErr result (λ e. IsOfJson e → mode ≡ Mode.Json) }
-    ensures json_whole { IfErr result (λ e. IsOfJson e → IsAtEnd (R.remaining (inner r.new))) }
-    ensures json { IfErr result
-        (λ e.
-        IsOfJson e →
-        IfSome (R.remaining (inner r.old))
-        (λ input. IsUtf8 input × IsJsonInputErrorOf input e)) }
-    ensures memory { IsErrOf result RunError.OutOfMemory →
-        ConsumesSome (R.remaining (inner r.old)) (R.remaining (inner r.new)) }
+    ensures ends { EndsAs mode (use_of R.remaining r.old r.new) (use_of W.contents w.old w.new)
+        result }
 {
     let bytes = read_all(alloc, r)?;
     let Ok(input) = str::from_utf8(&bytes) else {
@@ -89,9 +55,7 @@ fn output(alloc: Global, mode: Mode, input: &str) -> Result<String, RunError>
     ensures err { IfErr result (λ e. IsInputErrorOf mode input.now e) }
 {
     match mode {
-        Mode::Print => Ok(answers(alloc, LineMode::Print, input)?),
-        Mode::Show => Ok(answers(alloc, LineMode::Show, input)?),
-        Mode::Settle => Ok(answers(alloc, LineMode::Settle, input)?),
+        Mode::Print | Mode::Show | Mode::Settle => Ok(answers(alloc, mode, input)?),
         Mode::Matrix => Ok(matrix(alloc, input)?),
         Mode::Json => json_output(alloc, input),
     }
@@ -129,10 +93,6 @@ fn write_fault<W: Write>(writer: &mut Counted<W>, error: RunError) -> Result<(),
         Appends (W.contents (inner writer.old)) (W.contents (inner writer.new)) (fault_line error) }
     ensures begun { AppendsBeginning (W.contents (inner writer.old)) (W.contents (inner writer.new))
         (fault_line error) }
-    ensures unfailed { OnOk result (failures writer.new ≡ failures writer.old) }
-    ensures counted { failures writer.old ≤ failures writer.new }
-    ensures write { IsErrOf result RunError.Write ↔ (failures writer.old < failures writer.new) }
-    ensures only { IfErr result (λ e. e ≡ RunError.Write) }
 {
     write_all(writer, b"fault: ")?;
     write_all(writer, error.line().as_bytes())?;

@@ -1,9 +1,10 @@
 //! A reader or writer with a count of its failures, from which a whole input is read, or to which a whole output is
 //! written.
-ghost use Rattle.std.specs.Prelude.{◌≡◌, ◌+◌, ◌<◌, ◌≤◌, ◌↔◌, ◌⊎◌, Ok, IsErrOf, IfOk, OnOk, IfErr, IfSome, MatchOption};
+ghost use Rattle.std.specs.Prelude.{◌≡◌, ◌+◌, IfOk, OnOk, IfErr, IfSome};
 ghost use Rattle.std.specs.Io.{ReadsAtMost, WritesAtMost};
-ghost use Rattle.std.specs.Io.KnownBytes.{Appends, Consumes, IsAtEnd, Keeps, ReadConsumes, WriteAppends};
-ghost use Rattle.triples.specs.Streams.{inner, failures, failures_of, write_failures_of, AppendsBeginning, ConsumesSome};
+ghost use Rattle.std.specs.Io.KnownBytes.{Appends, Consumes, Keeps, ReadConsumes, WriteAppends};
+ghost use Rattle.triples.specs.Run.{IsReadErrorOf, IsReadWhole, use_of};
+ghost use Rattle.triples.specs.Streams.{inner, failures, failures_of, write_failures_of, AppendsBeginning};
 
 use crate::run_error::RunError;
 use std::alloc::Global;
@@ -11,15 +12,13 @@ use std::io;
 use std::io::{Read, Write};
 use target_lexicon::Steps;
 
-/// A number of failed calls. Only contracts see it; it takes no memory and has no upper limit.
-type FailureCount = Steps;
-
 /// A reader or writer, and the number of its failed calls. Each call makes the same call of the reader or writer and
 /// returns its result.
 #[derive(Drop)]
 pub struct Counted<D> {
     inner: D,
-    failures: FailureCount,
+    /// One step for each failed call: only contracts see their number, which takes no memory and has no upper limit.
+    failures: Steps,
 }
 
 impl<D> Counted<D> {
@@ -30,7 +29,7 @@ impl<D> Counted<D> {
     {
         Counted {
             inner: of,
-            failures: FailureCount::new(),
+            failures: Steps::new(),
         }
     }
 
@@ -68,8 +67,10 @@ impl<W: Write> Counted<W> {
         ensures count { failures self.new ≡ failures self.old + write_failures_of result buf.now }
     {
         let answer = self.inner.write(buf);
-        if bytes_taken(&answer, buf).is_none() {
-            self.failures.tick();
+        match answer {
+            Ok(0) if !buf.is_empty() => self.failures.tick(),
+            Ok(_) => {}
+            Err(_) => self.failures.tick(),
         }
         answer
     }
@@ -87,35 +88,16 @@ impl<W: Write> Counted<W> {
     }
 }
 
-/// The number of bytes that a write took, or `None` if it failed: with an error, or since it took no byte of a piece
-/// that is not empty.
-fn bytes_taken(answer: &io::Result<usize>, piece: &[u8]) -> Option<usize>
-    ensures { MatchOption result
-        (write_failures_of answer.now piece.now ≡ 1)
-        (λ taken. (write_failures_of answer.now piece.now ≡ 0) × (answer.now ≡ Ok taken)) }
-{
-    match answer {
-        Ok(0) if !piece.is_empty() => None,
-        Ok(taken) => Some(*taken),
-        Err(_) => None,
-    }
-}
-
 /// Reads to the end of the reader.
 pub fn read_all<R: Read>(alloc: Global, reader: &mut Counted<R>) -> Result<Vec<u8>, RunError>
+    ensures whole { OnOk result (IsReadWhole (use_of R.remaining reader.old reader.new)) }
     ensures taken { IfOk result
         (λ bytes.
         Consumes (R.remaining (inner reader.old)) (R.remaining (inner reader.new))
         bytes.items) }
-    ensures end { OnOk result (IsAtEnd (R.remaining (inner reader.new))) }
     ensures bytes { IfOk result
         (λ bytes. IfSome (R.remaining (inner reader.old)) (λ input. bytes.items ≡ input)) }
-    ensures unfailed { OnOk result (failures reader.new ≡ failures reader.old) }
-    ensures counted { failures reader.old ≤ failures reader.new }
-    ensures read { IsErrOf result RunError.Read ↔ (failures reader.old < failures reader.new) }
-    ensures memory { IsErrOf result RunError.OutOfMemory →
-        ConsumesSome (R.remaining (inner reader.old)) (R.remaining (inner reader.new)) }
-    ensures only { IfErr result (λ e. (e ≡ RunError.Read) ⊎ (e ≡ RunError.OutOfMemory)) }
+    ensures err { IfErr result (IsReadErrorOf (use_of R.remaining reader.old reader.new)) }
 {
     let mut bytes = Vec::new(alloc);
     let mut piece = [0u8; 8192];
@@ -137,18 +119,19 @@ pub fn write_all<W: Write>(writer: &mut Counted<W>, bytes: &[u8]) -> Result<(), 
     ensures ok { OnOk result
         (Appends (W.contents (inner writer.old)) (W.contents (inner writer.new)) bytes.now) }
     ensures unfailed { OnOk result (failures writer.new ≡ failures writer.old) }
-    ensures counted { failures writer.old ≤ failures writer.new }
-    ensures write { IsErrOf result RunError.Write ↔ (failures writer.old < failures writer.new) }
     ensures begun { AppendsBeginning (W.contents (inner writer.old)) (W.contents (inner writer.new))
         bytes.now }
-    ensures only { IfErr result (λ e. e ≡ RunError.Write) }
+    ensures failed { IfErr result
+        (λ e. (e ≡ RunError.Write) × (failures writer.new ≡ failures writer.old + 1)) }
 {
     let mut rest = bytes;
     while !rest.is_empty() {
-        let answer = writer.write(rest);
-        let Some(taken) = bytes_taken(&answer, rest) else {
+        let Ok(taken) = writer.write(rest) else {
             return Err(RunError::Write);
         };
+        if taken == 0 {
+            return Err(RunError::Write);
+        }
         rest = &rest[taken..];
     }
     Ok(())
@@ -159,11 +142,10 @@ pub fn write_and_flush<W: Write>(writer: &mut Counted<W>, bytes: &[u8]) -> Resul
     ensures ok { OnOk result
         (Appends (W.contents (inner writer.old)) (W.contents (inner writer.new)) bytes.now) }
     ensures unfailed { OnOk result (failures writer.new ≡ failures writer.old) }
-    ensures counted { failures writer.old ≤ failures writer.new }
-    ensures write { IsErrOf result RunError.Write ↔ (failures writer.old < failures writer.new) }
     ensures begun { AppendsBeginning (W.contents (inner writer.old)) (W.contents (inner writer.new))
         bytes.now }
-    ensures only { IfErr result (λ e. e ≡ RunError.Write) }
+    ensures failed { IfErr result
+        (λ e. (e ≡ RunError.Write) × (failures writer.new ≡ failures writer.old + 1)) }
 {
     write_all(writer, bytes)?;
     match writer.flush() {
