@@ -1,9 +1,9 @@
 -- Names between dashes.
-use Rattle.std.proofs.Common.{◌≡◌, ◌∙◌, ℕ, List, [], ◌∷◌, Option, Some, None, true, false, refl, sym, ap}
-use Rattle.std.specs.List.{join_with_byte, list_all}
+use Rattle.std.proofs.Common.{◌≡◌, ℕ, List, [], ◌∷◌, Option, Some, None, true, false, refl, sym}
+use Rattle.std.specs.List.{list_all}
 use Rattle.std.specs.Option.{option_map_or}
 use Rattle.std.proofs.lemmas.Bool.{and_parts}
-use Rattle.lexicon_fields.specs.Names.{dash, is_dash_free}
+use Rattle.lexicon_fields.specs.Names.{is_dash_free}
 use Rattle.lexicon_fields.specs.Vendor.{VendorValue, is_custom, vendor_of}
 use Rattle.lexicon_fields.proofs.VendorsReadBack.{vendor_of-dash_free}
 use Rattle.target_lexicon.proofs.PartLemmas.{parts_of-are, parts-only}

@@ -1,19 +1,9 @@
 -- No rule rewrites a known name by itself, and each rule gives known names.
-use Rattle.std.proofs.Common.{◌≡◌, ◌∙◌, ℕ, nat_lt, nat_eq, nat_le, List, [], ◌∷◌, ◌++◌, Option, Some, None, Bool, true, false, cond, refl, sym, ap, arith, inl, inr, length, drop, take}
-use Rattle.std.specs.Prelude.{◌&&◌, ◌||◌, is_some, not, option_map, option_and_then}
-use Rattle.std.specs.Char.{is_ascii_digit}
-use Rattle.std.specs.List.{list_all, list_any, onto_first, slice_split, starts_with}
-use Rattle.std.specs.Str.Parse.{digits_value, without_leading_plus}
-use Rattle.std.specs.Option.{option_map_or}
-use Rattle.std.specs.Str.{bytes_eq}
-use Rattle.std.proofs.lemmas.Bool.{and_parts, eqb-true, cases_Bool, or_parts}
-use Rattle.std.proofs.lemmas.Slice.Eq.{bytes_eq-Decides}
-use Rattle.std.proofs.lemmas.List.{take-append-drop}
-use Rattle.std.proofs.lemmas.List.Splits.{slice_split-cons_no}
-use Rattle.lexicon_fields.specs.{Architecture.architecture_of, BinaryFormat.binary_format_of, Environment.environment_of, FixedRow.has_row, OperatingSystem.fixed_operating_system_of, OperatingSystem.operating_system_of, OperatingSystem.text_after_prefix, Vendor.known_vendor_of, Version.dot, Version.number_within, Version.piece_number_within, Version.pieces_of, Version.version_of}
-use Rattle.lexicon_fields.specs.declared.deployment_target.DeploymentTarget.{DeploymentTarget}
-use Rattle.lexicon_fields.proofs.VersionsReadBack.{no_major}
-use Rattle.target_lexicon.specs.Placement.{parts_of}
+use Rattle.std.proofs.Common.{◌≡◌, ◌∙◌, ℕ, List, [], ◌∷◌, ◌++◌, Some, None, Bool, true, false, cond, refl, ap}
+use Rattle.std.specs.Prelude.{◌&&◌, ◌||◌, is_some}
+use Rattle.std.specs.List.{list_any}
+use Rattle.std.proofs.lemmas.Bool.{or_parts}
+use Rattle.lexicon_fields.specs.{Architecture.architecture_of, BinaryFormat.binary_format_of, Environment.environment_of, FixedRow.has_row, OperatingSystem.fixed_operating_system_of, OperatingSystem.operating_system_of, Vendor.known_vendor_of, Version.version_of}
 use Rattle.tool_names.specs.declared.rules.Form.{Form}
 use Rattle.tool_names.specs.declared.rules.Form.TheVariants as form
 use Rattle.tool_names.specs.declared.rules.Place.{Place}

@@ -1,7 +1,6 @@
 -- `macosx` and a version parses as the system with this version, and in no other field.
-use Rattle.std.proofs.Common.{◌≡◌, ◌∙◌, ℕ, Bool, List, [], ◌∷◌, Some, false, true, refl, sym}
-use Rattle.std.specs.Prelude.{codes, is_some, ◌||◌}
-use Rattle.lexicon_fields.specs.{Architecture.architecture_of, BinaryFormat.binary_format_of, FixedRow.has_row, Environment.environment_of, OperatingSystem.operating_system_of, OperatingSystem.fixed_operating_system_of, Vendor.known_vendor_of, Vendor.vendor_of, Version.version_of}
+use Rattle.std.proofs.Common.{◌≡◌, ℕ, List, [], ◌∷◌, Some, false, refl}
+use Rattle.lexicon_fields.specs.{Architecture.architecture_of, BinaryFormat.binary_format_of, FixedRow.has_row, Environment.environment_of, OperatingSystem.operating_system_of, OperatingSystem.fixed_operating_system_of, Vendor.known_vendor_of, Version.version_of}
 use Rattle.lexicon_fields.specs.declared.deployment_target.DeploymentTarget.{DeploymentTarget}
 use Rattle.lexicon_fields.specs.declared.operating_system.OperatingSystem.TheVariants.{MacOSX}
 use Rattle.tool_names.specs.Spelling.{macosx_name}

@@ -1,5 +1,5 @@
 -- A string without a row that parses as a system is no vendor.
-use Rattle.std.proofs.Common.{◌≡◌, ◌||◌, ◌&&◌, ℕ, List, Bool, Option, Some, None, true, false, is_some, option_map, if◌then◌else◌, refl, arith}
+use Rattle.std.proofs.Common.{◌≡◌, ◌||◌, ℕ, List, Bool, Option, Some, None, true, false, is_some, option_map, if◌then◌else◌, refl, arith}
 use Rattle.std.specs.Option.{option_or}
 use Rattle.lexicon_fields.specs.{Architecture.architecture_of, BinaryFormat.binary_format_of, Environment.environment_of, FixedRow.has_row, OperatingSystem.fixed_operating_system_of, OperatingSystem.operating_system_of, Vendor.Known, Vendor.Custom, Vendor.VendorValue, Vendor.is_admitted, Vendor.known_vendor_of, Vendor.vendor_of}
 use Rattle.lexicon_fields.specs.declared.known_vendor.KnownVendor.{KnownVendor}

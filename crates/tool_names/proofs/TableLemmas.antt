@@ -1,10 +1,8 @@
 -- Look-ups in several tables.
-use Rattle.std.proofs.Common.{◌≡◌, ◌∙◌, ℕ, List, [], ◌∷◌, ◌++◌, Option, Some, None, Bool, true, false, Bor, ap, cond, get_or, length, map, refl, take, drop, ◌+◌, ◌<◌}
-use Rattle.std.specs.Prelude.{filter, option_map}
+use Rattle.std.proofs.Common.{◌≡◌, ◌∙◌, ℕ, List, [], ◌∷◌, ◌++◌, Option, Some, None, Bool, true, false, Bor, ap, cond, get_or, length, refl, drop, ◌+◌, ◌<◌}
+use Rattle.std.specs.Prelude.{option_map}
 use Rattle.std.specs.{Option.option_or}
-use Rattle.std.proofs.lemmas.Grind.{flat_map-append}
-use Rattle.std.proofs.lemmas.List.{append-nil, drop_more, map-append, take_more}
-use Rattle.std.proofs.lemmas.List.Elements.{filter-append}
+use Rattle.std.proofs.lemmas.List.{drop_more}
 use Rattle.tool_names.specs.declared.dialect.Dialect.{Dialect}
 use Rattle.tool_names.specs.Dialects.{joined_rows, rows_of, tables_of}
 use Rattle.tool_names.specs.Patterns.{matched}

@@ -1,6 +1,6 @@
 -- What a string means to GNU's config.sub that is spelled like a triple: its vendor says nothing, and what is missing is that
 -- of the GNU system. A second part that config.sub takes as a system is no vendor.
-use Rattle.std.specs.Prelude.{ℕ, Bool, true, false, ◌||◌, ◌&&◌, not, List, [], ◌∷◌, map, Option, Some, None, option_map, Result, Ok, Err, if◌then◌else◌}
+use Rattle.std.specs.Prelude.{ℕ, Bool, false, ◌||◌, ◌&&◌, not, List, [], ◌∷◌, map, Option, Some, None, option_map, Result, Ok, Err, if◌then◌else◌}
 use Rattle.std.specs.{Borrow.Bor, List.list_any, Option.option_map_or, Option.option_or}
 use Rattle.lexicon_fields.specs.{ArchitectureQueries.is_clever, OperatingSystem.text_after_prefix}
 use Rattle.target_lexicon.specs.declared.triple_ref.TripleRef.{TripleRef}

@@ -1,5 +1,5 @@
 -- Definitions for the contracts of private functions; no public contract cites them.
-use Rattle.std.specs.Prelude.{◌≡◌, ⊤, ℕ, ◌+◌, ◌^◌, ◌<◌, ◌==◌, ◌&&◌, nat_le, nat_lt, Bool, true, List, [], ◌∷◌, ◌++◌, Option, Some, None, map, option_map, if◌then◌else◌}
+use Rattle.std.specs.Prelude.{⊤, ℕ, ◌+◌, ◌^◌, ◌<◌, ◌==◌, ◌&&◌, nat_le, nat_lt, Bool, true, List, [], ◌∷◌, ◌++◌, Option, Some, None, map, option_map, if◌then◌else◌}
 use Rattle.std.specs.{Borrow.Bor, List.list_all}
 use Rattle.lexicon_fields.specs.Names.{Pair}
 use Rattle.target_lexicon.specs.Placement.{parts_after, parts_of}

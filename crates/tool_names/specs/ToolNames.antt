@@ -1,5 +1,5 @@
 -- What a name of a dialect means, and the name of a triple in a dialect.
-use Rattle.std.specs.Prelude.{ℕ, Bool, true, false, List, [], ◌∷◌, ◌++◌, Option, Some, None, Result, Ok, Err, length, map, take, option_map}
+use Rattle.std.specs.Prelude.{ℕ, Bool, true, false, List, [], ◌∷◌, Option, Some, None, Result, Ok, Err, length, take, option_map}
 use Rattle.lexicon_fields.specs.declared.deployment_target.DeploymentTarget.{DeploymentTarget}
 use Rattle.target_lexicon.specs.{declared.triple_ref.TripleRef.TripleRef, GreedyReading.reading, Printing.text_of, Refusal.Refusal, Values.OperatingSystem, Values.Values, ValuesRef.values_of_ref}
 use Rattle.target_lexicon.specs.Values.operating_system

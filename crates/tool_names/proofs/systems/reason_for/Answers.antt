@@ -1,4 +1,4 @@
-use Rattle.std.proofs.Common.{◌≡◌, ◌∙◌, List, ℕ, Option, Some, None, refl, ap}
+use Rattle.std.proofs.Common.{◌≡◌, ◌∙◌, List, ℕ, Option, Some, None, ap}
 use Rattle.std.specs.Option.{option_or}
 use Rattle.tool_names.specs.Gnu.{reason_among, reason_for, words_in}
 use Rattle.tool_names.specs.declared.systems.TheConstants as code
