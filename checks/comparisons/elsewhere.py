@@ -33,7 +33,9 @@ SYSTEM_WORDS = {"android": "linux", "win32": "windows", "win": "windows", "manyl
                 "sunos": "solaris illumos", "hurd": "hurd", "musl": "linux", "uclibc": "linux", "lpia": "linux", "iphoneos": "ios", "alpine": "linux",
                 "linuxmusl": "linux", "mas": "darwin", "openharmony": "linux", "osx": "darwin macosx", "maccatalyst": "ios", "iossimulator": "ios",
                 "tvossimulator": "tvos", "browser": "emscripten", "freestanding": "none unknown", "pyodide": "emscripten", "mingw": "windows",
-                "gnu": "hurd", "cygwin_nt": "cygwin", "mingw64_nt": "windows", "mingw32_nt": "windows", "windows_nt": "windows",}
+                "gnu": "hurd", "cygwin_nt": "cygwin", "mingw64_nt": "windows", "mingw32_nt": "windows", "windows_nt": "windows",
+                "ucrt64_nt": "windows", "clang64_nt": "windows", "wasi": "wasip1 wasi",
+                **dict.fromkeys(("ubuntu", "debian", "rhel", "fedora", "centos", "opensuse", "sles", "ol"), "linux")}
 # The dialects whose names have a word for the system, and those whose names are a machine's word, mostly.
 OF_SYSTEMS = ("debian", "go", "oci", "node", "python", "uname", "dotnet", "conda", "zig", "nix")
 DIALECTS = (*OF_SYSTEMS, "rpm", "apk", "pacman")
@@ -44,13 +46,16 @@ ONLY_ONCE = {"arm64ilp32": "aarch64", "powerpcspe": "powerpc", "x32": "x86_64", 
              "arm/v7l": "armv7", "arm64v8": "aarch64", "aarch64_be": "aarch64_be", "armv4tl": "armv4t", "power macintosh": "powerpc",
              "octeon": "mips64", "loongson": "mips64el", "i686-at386": "i686", "bepc": "i586", "em64t": "x86_64", "ia32e": "x86_64",
              "athlon": "i686", "armv6hl": "armv6", "armv7hl": "armv7", "armv7hnl": "armv7", "armv8hl": "armv8", "ppc64p7": "powerpc64",
-             "sparcv9": "sparc", "armv7h": "armv7", "armv6h": "armv6", "thumb": "thumbv7a"}
+             "sparcv9": "sparc", "armv7h": "armv7", "armv6h": "armv6", "thumb": "thumbv7a",
+             "armel": "armv5te", "arm32v5": "armv5te", "arm32v6": "armv6", "arm32v7": "armv7", "arm64/v8.0": "aarch64", "wasm64": "wasm64"}
 # Words that mean another machine in one dialect, or there on one system: the little-endian builds of Node on Linux, the versions of Arm that
 # a tool needs, models of the i386 that others don't tell apart, and programs of 32 bits on Windows.
 OWN_WORDS = {"linux ppc64 of node": "powerpc64le", "arm of dotnet": "armv7", "armel of dotnet": "armv7", "armhf of apk": "armv6",
              "armel of apk": "armv5te", "arm of pacman": "armv5te", "64 of conda": "x86_64", "32 of conda": "i686", "i386 of rpm": "i386",
              "linux i386 of uname": "i386", "freebsd riscv of uname": "riscv64", "mingw32_nt x86_64 of uname": "i686",
-             **{f"{name} of node": "armv7" for name in ("android-arm-eabi", "linux-arm-gnueabihf", "linux-arm-musleabihf", "openharmony-arm")}}
+             "linuxmusl ppc64 of node": "powerpc64le", "x86 of apk": "i586",
+             **{f"{name} of node": "armv7" for name in ("android-arm-eabi", "linux-arm-gnueabihf", "linux-arm-musleabihf", "linux-arm-glibc", "linux-arm-musl",
+                                                        "linux-musl-arm", "linuxmusl-arm", "openharmony-arm")}}
 # Names of packages that aren't in dpkg's table: those of Termux, Ubuntu and iOS, and wildcards.
 NOT_DPKG = ("aarch64", "i686", "x86_64", "amd64v3", "lpia", "iphoneos-arm", "iphoneos-arm64", "linux-amd64", "any-amd64", "hurd-any", "linux-any")
 # Names of Go without a triple that are no ports.
@@ -184,7 +189,8 @@ class Comparison(Report):
             width = 8 * int(re.search(r"PtrSize:\s+(\d)", text)[1])
             machines[re.search(r'Name:\s+"(\w+)"', text)[1]] = ("little" if "LittleEndian" in text else "big", width)
         self.fact("Go's names have Go's byte order and width", (
-            (name, order_and_width(it), machines[name.split("/")[1]]) for name, it in self.meanings("go").items() if name in ours))
+            (name, order_and_width(it), machines[name.split("/")[1]]) for name, it in self.meanings("go").items() if name in ours),
+            "wasm")  # Go's own pointers have 64 bits there, and its memories 32.
         if not self.has("containerd", os.path.isdir("/usr/share/gocode/src/github.com/containerd/containerd/platforms")):
             return
         upstream.write(f"{self.folder}/platforms.go", PLATFORMS)
@@ -193,7 +199,7 @@ class Comparison(Report):
         lines = output(f"{self.folder}/platforms", input="".join(f"{name}\n" for name in meanings)).splitlines()
         normal = dict(zip(meanings, lines, strict=True))
         self.fact("a name of OCI means what containerd's normal form of it means", (
-            (name, normal[name], self.read(normal[name], "oci"), it) for name, it in meanings.items()))
+            (name, normal[name], self.read(normal[name], "oci"), it) for name, it in meanings.items()), "v8[.]0")
         self.fact("a name of OCI that is written is containerd's normal form", (
             (row.name, normal[row.name]) for row in self.rows_of("oci", ("rw",))))
 
@@ -227,7 +233,7 @@ class Comparison(Report):
             rows.append((row.name, *(it and f"{family(it)} {re.sub('[0-9.]', '', str(it.operating_system))}" for it in (ours, said))))
         # Of the systems of BSD it asks `uname -p` and `arch`, and not `uname -m`; a compiler tells it what Mac it is; it doesn't know busybox.
         self.fact("config.guess means the same machine and system as the words of uname", rows,
-                  "BSD|Power Macintosh|Darwin i386|Darwin x86_64|DragonFly|Windows_NT|MINGW32_NT-10.0-\\* x86_64|GNU")
+                  "BSD|Power Macintosh|Darwin i386|Darwin x86_64|DragonFly|Windows_NT|MINGW32_NT-\\S* x86_64|GNU|UCRT64|CLANG64|WOW64")
 
     def check_host(self):
         """Tools that name the machine that they run on."""
@@ -253,16 +259,17 @@ class Comparison(Report):
             known = {"arch": {"loong64", "riscv64", "mips64el"}, "platform": {"netbsd", "openharmony"}}
             for of, words in known.items():
                 words |= {*re.findall(r"`'(\w+)'`", text[text.index(f"## `process.{of}`"):][:900])}
-            names = [(row.name, *row.name.split("-")[:2]) for row in self.rows_of("node", ("rw", "w"))]
+            # A platform of `@types/node`, and a word of napi-rs.
+            names = [(row.name, *row.name.split("-")[:2]) for row in self.rows_of("node", ("rw", "w")) if row.name not in ("cygwin-x64", "wasm32-wasi")]
             self.fact("Node's words are the manual's or newer, in names that are written", (
                 (name, system in known["platform"] and machine in known["arch"], True) for name, system, machine in names))
 
     def check_gnu(self):
         rows = self.rows_of("gnu")
         self.fact("a name of GNU's compilers without a system or a vendor is read as its triple without a dialect too", (
-            (row.name, str(self.read(row.name)), row.triple) for row in rows), "hurd|none|i486|rs6000|sparcv9")
+            (row.name, str(self.read(row.name)), row.triple) for row in rows), "hurd|none|i486|rs6000|sparcv9|'mingw32'")
         self.fact("and has that one's byte order and width", (
-            (row.name, order_and_width(self.read(row.name)), order_and_width(it)) for row in rows if (it := self.read(row.name, "gnu"))))
+            (row.name, order_and_width(self.read(row.name)), order_and_width(it)) for row in rows if (it := self.read(row.name, "gnu"))), "'mingw32'")
         sub = "/usr/share/misc/config.sub"
         if self.has("config.sub", os.path.exists(sub)):
             self.fact("config.sub takes the names of GNU's compilers", (
@@ -284,7 +291,7 @@ class Comparison(Report):
             # cc takes GNU's compiler for musl, 32-bit PowerPC's for 64 bits, and little-endian Arm's for big-endian Arm, and
             # NetBSD's has a version of Arm; two names have a vendor, which the shape drops.
             self.fact("the crate cc's prefixes are the names of GNU's compilers", (
-                (name, it, pairs[name]) for name, it in written.items()), "musl|powerpc64|armebv7r|armv[67]--netbsdelf|-frc-|-rumprun-")
+                (name, it, pairs[name]) for name, it in written.items()), "musl|powerpc64|armebv7r|armv[67]--netbsdelf|-frc-|-rumprun-|-uwp-")
 
     def check_words(self, sub):
         """What the words of config.sub's own text mean, alone after a machine, and with a version."""
@@ -306,7 +313,9 @@ class Comparison(Report):
         if not self.has("rustc", shutil.which("rustc")):
             return
         targets = output("rustc", "--print", "target-list").split()
-        ours, meanings, theirs = [row.name for row in self.rows_of("rust", ("rw", "r", "-"))], self.meanings("rust"), rustc_answers(rustc_specs())
+        old = [row.name for row in self.rows_of("rust") if row.note.startswith("rustc's name")]
+        ours = [row.name for row in self.rows_of("rust", ("rw", "r", "-")) if row.name not in old]
+        meanings, theirs = self.meanings("rust"), rustc_answers(rustc_specs())
         self.fact("rust's names are those of `rustc --print target-list`", (
             (name, name in ours, name in targets) for name in {*ours, *targets}))
         read = {name: it for name, it in meanings.items() if name in theirs}
@@ -318,6 +327,8 @@ class Comparison(Report):
             (name, it.object_format.value, theirs[name]["format"]) for name, it in read.items()), "wali")
         self.fact("a target that parses without a custom vendor has a triple, and that triple its name", (
             (name, it.name_in("rust"), name) for name, it in self.parsed(targets).items() if not it.has_custom_vendor), "-uwp-")
+        self.fact("each target that parses is itself, or has no name", (
+            (name, written, name) for name, it in self.parsed(targets).items() if (written := it.name_in("rust"))))
 
     def check_clang(self):
         clang = shutil.which("clang")
@@ -380,17 +391,21 @@ def words_of(dialect, name):
     if dialect in ("go", "oci"):
         return re.fullmatch(r"([a-z0-9]+)(?:\(.*\))?[/_-](.+)", name).groups()
     if dialect == "uname":
-        return re.fullmatch(r"(\w+?)(?:-10\.0-\*)? (.+)", name.lower()).groups()
+        return re.fullmatch(r"(\w+?)(?:-[\w.*-]+)? (.+)", name.lower()).groups()
     if dialect in ("zig", "nix"):
         machine, system = re.match(r"(\w+)-(\w+)", name).groups()
         return system, machine
     if dialect in ("node", "dotnet", "conda"):
-        system, machine = re.match(r"(?:node\*-)?([a-z]+\d*)(?:\.\*\.\*)?(?:-(?:musl|bionic))?-(\w+)", name).groups()
+        if name == "wasm32-wasi":
+            return "wasi", "wasm32"
+        system, machine = re.match(r"(?:node\*-|bun-)?([a-z]+\d*)(?:\.[\d.*]+)?(?:-(?:musl|bionic))?-(\w+)", name).groups()
         return (system if system in SYSTEM_WORDS else system.rstrip("0123456789")), machine
     if dialect == "debian":
         return (name.split("-")[0] if "-" in name else "linux"), name.split("-")[-1]
+    # Tags with dots between them are those of one file.
+    name = re.sub(r"^manylinux.*_(?=manylinux)", "", name)
     system, word = re.fullmatch(r"(?:cp\*_)?(win|linux|mingw|manylinux|musllinux|macosx|ios|android|freebsd|openbsd|netbsd|dragonfly|haiku|cygwin|emscripten|pyodide|wasi)"
-                                r"[0-9_*]*_?(?:RELEASE_)?(\D.*?)??(?:_iphone\w+|_(?:ucrt|msvcrt)_\w+)?", name).groups()
+                                r"[0-9_*]*_?(?:RELEASE_|release_)?(\D.*?)??(?:_iphone\w+|_(?:ucrt|msvcrt)_\w+)?", name).groups()
     return system, name if name == "win32" else word
 
 

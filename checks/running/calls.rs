@@ -146,40 +146,36 @@ pub fn more_of_triple(r: &mut Report, t: V, triple: TripleRef<'static>) {
     if s::is_plain(s::get_vendor(t)).yes() {
         r.holds("the round trip is the normal step", eq(s::reading(s::text_of(t)), con(s::Result__Ok, &[step])), &triple);
     }
-    for (c, library) in [(s::LinuxLibc__Glibc, LinuxLibc::Glibc), (s::LinuxLibc__Musl, LinuxLibc::Musl)] {
+    for (c, library) in [
+        (s::LinuxLibc__Glibc, LinuxLibc::Glibc),
+        (s::LinuxLibc__Musl, LinuxLibc::Musl),
+        (s::LinuxLibc__Msvc, LinuxLibc::Msvc),
+        (s::LinuxLibc__Mingw, LinuxLibc::Mingw),
+        (s::LinuxLibc__Gnullvm, LinuxLibc::Gnullvm),
+    ] {
         answers! { r, &triple, (V::C(c, &[]), t): completed = tools::complete(&triple, library); }
     }
 }
 
 /// The name of a triple in each dialect.
-pub fn written(r: &mut Report, t: V, triple: TripleRef<'static>, dialects: &[(V, Dialect)], libraries: &[(V, Option<LinuxLibc>)]) {
+pub fn written(r: &mut Report, t: V, triple: TripleRef<'static>, dialects: &[(V, Dialect)]) {
     for (d, dialect) in dialects {
         let of = (dialect, triple);
         answers! { r, &of, (*d, t): shape = dialect.shape(&triple); triple_name = dialect.write(&triple).as_ref().map(|it| it.as_str()); }
-        for (major, minor) in [(11, 0), (65535, 255), (0, 7)] {
+        for (major, minor) in [(11, 0), (2, 17), (1, 2), (65535, 255), (0, 7)] {
             let name = dialect.write_versioned(&triple, major, minor);
             answers! { r, &of, (*d, t, V::N(major.into()), V::N(minor.into())): versioned_name = name.as_ref().map(|it| it.as_str()); }
-        }
-        for (c, library) in libraries {
-            answers! { r, &of, (*d, *c, t): written = dialect.write_with(&triple, *library).as_ref().map(|it| it.as_str()); }
         }
     }
 }
 
-/// What a name means in each dialect, and what it is called in each other one.
-pub fn name(r: &mut Report, name: &str, dialects: &[(V, Dialect)], libraries: &[(V, Option<LinuxLibc>)]) {
+/// What a name means in each dialect.
+pub fn name(r: &mut Report, name: &str, dialects: &[(V, Dialect)]) {
     // The reasons have other names.
-    let reasons = |shown: String| shown.replace("Err(Unknown)", "Err(IsUnknown)").replace("WithoutTriple", "HasNoTriple").replace("Write(", "IsUnwritten(");
+    let reasons = |shown: String| shown.replace("Err(Unknown)", "Err(IsUnknown)").replace("WithoutTriple", "HasNoTriple");
     for (d, dialect) in dialects {
         let read = dialect.read(name);
         r.same("name_meaning", s::name_meaning(*d, v(name)), &format_args!("{}", reasons(format!("{read:?}"))), &(dialect, name));
-        for (to, other) in dialects.iter().filter(|_| read.is_ok()) {
-            for (c, library) in libraries {
-                let translated = dialect.translate(name, *library, *other).map(|it| it.to_string());
-                let of = (dialect, name, library, other);
-                r.same("translation", s::translation(*d, v(name), *c, *to), &format_args!("{}", reasons(format!("{translated:?}"))), &of);
-            }
-        }
     }
 }
 

@@ -3,7 +3,7 @@ use crate::report::without_names_of_structs;
 use definitions::spec as s;
 use definitions::values::{apply, con, eq, keep, library, shown, text as v, with, N, V};
 use std::fmt::Debug;
-use target_lexicon::tool_names::{Dialect, LinuxLibc};
+use target_lexicon::tool_names::Dialect;
 use target_lexicon::{Architecture, BinaryFormat, Environment, OperatingSystem, TripleRef, VendorRef};
 
 /// Which of the cases: those of a number divided by `of` that leave `shard`, of each `step`-th case. A step is a prime: it doesn't go
@@ -48,12 +48,6 @@ fn paired<T: Debug>(values: &[V], name: fn(V) -> V, parse: impl Fn(&str) -> Opti
 
 pub fn dialects() -> Vec<(V, Dialect)> {
     paired(s::dialects().list(), s::dialect_name, |name| name.parse().ok())
-}
-
-/// No C library, and each one.
-pub fn c_libraries() -> Vec<(V, Option<LinuxLibc>)> {
-    let some = |tag| keep(|| con(s::Option__Some, &[V::C(tag, &[])]));
-    vec![(V::C(s::Option__None, &[]), None), (some(s::LinuxLibc__Glibc), Some(LinuxLibc::Glibc)), (some(s::LinuxLibc__Musl), Some(LinuxLibc::Musl))]
 }
 
 /// All values of each field. A system like Darwin is without a version, with one, and with one at the limits. Custom vendors are

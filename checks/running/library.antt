@@ -161,6 +161,9 @@ slice_range xs start end = take (end - start) (drop start xs)
 -- whether the second list is the beginning of the first, where the function says which items are equal
 starts_with : {A : Type 0} → (A → A → Bool) → List A → List A → Bool
 
+-- whether it is the end of the first
+ends_with : {A : Type 0} → (A → A → Bool) → List A → List A → Bool
+
 -- the pieces between the items that pass a test
 slice_split : {A : Type 0} → (A → Bool) → List A → List (List A)
 

@@ -15,7 +15,7 @@ use target_lexicon::TripleRef;
 
 /// The cases of a part. What a case took in memory is given back after it.
 fn run(part: &str, chosen: Chosen, r: &mut Report) {
-    let (dialects, libraries) = (inputs::dialects(), inputs::c_libraries());
+    let dialects = inputs::dialects();
     let strings = |strings: Strings, r: &mut Report, call: fn(&mut Report, &str)| {
         for i in chosen.of(strings.count()) {
             call(r, &strings.string(i));
@@ -52,8 +52,8 @@ fn run(part: &str, chosen: Chosen, r: &mut Report) {
         }),
         "triples" => triples(inputs::fields(), r, &calls::triple),
         "more" => triples(inputs::fields(), r, &calls::more_of_triple),
-        "written" => triples(inputs::fields(), r, &|r, t, triple| calls::written(r, t, triple, &dialects, &libraries)),
-        "names" => words(inputs::names(), r, &|r, name| calls::name(r, name, &dialects, &libraries)),
+        "written" => triples(inputs::fields(), r, &|r, t, triple| calls::written(r, t, triple, &dialects)),
+        "names" => words(inputs::names(), r, &|r, name| calls::name(r, name, &dialects)),
         "library" => library::run(r),
         "laws" => laws::run(r, Chosen { step: 1, ..chosen }, chosen.step),
         _ => panic!("no part {part}"),

@@ -851,6 +851,8 @@ class Rust:
         token = tokens.pop(0)
         if type in ("&str", "&'staticstr"):
             return f"con(R_now, &[text({token})])"
+        if type == "u16" and token.isdigit():
+            return f"V::N({token})"
         if not token[0].isalpha():
             raise Untranslated(f"{token} isn't a {type}")
         while tokens and tokens[0] == ":":

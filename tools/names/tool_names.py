@@ -9,9 +9,10 @@ WAYS = {"rw": "Both", "r": "Read", "w": "Written", "-": "NoTriple"}
 DIALECT, ONLY_WRITTEN = "# dialect ", "# only written: "
 # The rules of a dialect: for each word of its line the field of `Rules`, and its value for each choice. The first choice goes
 # without saying. A dialect may have other names too.
-RULES = {"machine": ("machine", {"order": "MachineRule::Order", "version": "MachineRule::Version", "rustc": "MachineRule::Rustc"}),
+RULES = {"machine": ("machine", {"order": "MachineRule::Order", "version": "MachineRule::Version", "rustc": "MachineRule::Rustc",
+                      "alpine": "MachineRule::Alpine", "packages": "MachineRule::Packages"}),
          "abi": ("abi", {"kept": "AbiRule::Kept", "dropped": "AbiRule::Dropped", "linux": "AbiRule::KeptOnLinux",
-                  "systems": "AbiRule::KeptOnSystems"}),
+                  "windows": "AbiRule::KeptOnLinuxAndWindows", "systems": "AbiRule::KeptOnSystems"}),
          "versions": ("versions", {"no": "false", "yes": "true"}), "tags": ("tags", {"no": "false", "yes": "true"}),
          "spelled": ("spelled", {"no": "false", "yes": "true"}), "platforms": ("platforms", {"no": "false", "yes": "true"})}
 
@@ -57,6 +58,8 @@ class Elsewhere:
     words: dict = field(default_factory=lambda: {"maker": [], "kernel": [], "system": []})
     parts: dict = field(default_factory=lambda: {"first": [], "second": [], "hard": [], "later": []})
     only_written: str = ""
+    versions: list = field(default_factory=list)
+    reasons: list = field(default_factory=list)
 
 
 def tables_of(text, wrong):
@@ -75,6 +78,11 @@ def tables_of(text, wrong):
             described = found.dialects.setdefault(name, Dialect(name, rules, others))
         elif line.startswith(ONLY_WRITTEN):
             found.only_written = line.removeprefix(ONLY_WRITTEN)
+        elif line.startswith("# reason\t"):
+            found.reasons.append(line.split("\t")[1:])
+        elif line.startswith("# versions\t"):
+            _, text, least, most, _ = line.split("\t")
+            found.versions.append((text, int(least), int(most)))
         elif line.startswith("#"):
             if described:
                 described.about, described = line[2:], None
@@ -153,6 +161,10 @@ def rust_lists(tables):
     return lists | {
         "the reasons for C": [rf'"{reason}\0",' for reason in sorted(reasons)],
         "the reason of names that are only written": [f'pub(crate) const ONLY_WRITTEN: &str = "{tables.only_written}";'],
+        "the reasons": [line for name, text in tables.reasons for line in (f"/// {text[0].upper()}{text[1:]}.", f"{name},")],
+        "the texts of reasons": [line for name, text in tables.reasons for line in (f"WriteError::{name} => {{", f'    "{text}"', "}")],
+        "the ranges of versions": [f"static VERSION_RANGES: [(&str, u16, u16); {len(tables.versions)}] = [",
+                                   *(f'    ("{text}", {least}, {most}),' for text, least, most in tables.versions), "];"],
         "the dialects": [line for it in dialects for line in (f"/// {it.about}", f"{it.variant},")],
         "the names of the dialects": [f'Dialect::{it.variant} => "{it.name}",' for it in dialects],
         "the dialects by name": [f"static DIALECTS: [(&str, Dialect); {len(dialects) + len(other_names(tables))}] = [",
@@ -239,7 +251,7 @@ def antt_lists(tables):
         "tables_of": [f"tables_of dialect.{it.variant} = {' ∷ '.join([*(f'constant_rows {it.name}.{name.upper()}' for name, _ in it.tables), '[]'])}"
                       for it in dialects],
         "the rows of each dialect pass": [line for it in dialects for line in (
-            f"{it.name}-rows : RowsPass dialect.{it.variant}", "unfolding shape triple_name rows_of target_lexicon_on_literals",
+            f"{it.name}-rows : RowsPass dialect.{it.variant}", "unfolding shape triple_name is_another_target rows_of target_lexicon_on_literals",
             f"{it.name}-rows = record {{ apart = refl; canonical = refl; formed = refl; versions_short = refl; paired = refl; plain_back = refl; versioned_back = λ a b. refl }}", "")][:-1],
         "what the rows of each dialect pass": [f"rows-pass dialect.{it.variant} = {it.name}-rows" for it in dialects],
         "the rows of each dialect": [f"use Rattle.tool_names.specs.declared.tables.{it.name}.TheConstants as {it.name}" for it in dialects],

@@ -46,6 +46,33 @@ fn triples_are_completed(rt: HostRuntime) {
     }
 }
 
+/// A triple, a C library of Windows, and what the triple is with it.
+const ON_WINDOWS: &str = "\
+x86_64-pc-windows msvc x86_64-pc-windows-msvc
+x86_64-pc-windows mingw x86_64-pc-windows-gnu
+aarch64-pc-windows gnullvm aarch64-pc-windows-gnullvm
+x86_64-pc-windows glibc x86_64-pc-windows
+x86_64-unknown-linux msvc x86_64-unknown-linux
+x86_64-pc-windows-gnu msvc x86_64-pc-windows-gnu";
+
+#[test]
+fn triples_of_windows_are_completed(rt: HostRuntime) {
+    for row in ON_WINDOWS.lines() {
+        let mut columns = row.split(' ');
+        let (Some(text), Some(library), Some(completed)) =
+            (columns.next(), columns.next(), columns.next())
+        else {
+            panic!(rt; "{row}");
+        };
+        match (TripleRef::from_str(text), LinuxLibc::from_str(library)) {
+            (Ok(triple), Ok(c_library)) => {
+                assert!(rt; prints(&complete(&triple, c_library), completed), "{row}");
+            }
+            _ => panic!(rt; "{row}"),
+        }
+    }
+}
+
 /// The names of Linux that OCI reads, with the architecture of Debian and the prefix of GNU's compilers.
 const PLATFORMS: &str = "\
 linux/386 i386 i686-linux-gnu
@@ -54,12 +81,12 @@ linux/amd64 amd64 x86_64-linux-gnu
 linux/amd64/v1 amd64 x86_64-linux-gnu
 linux/arm armhf arm-linux-gnueabihf
 linux/arm/v5 armel arm-linux-gnueabi
-linux/arm/v6 armhf arm-linux-gnueabihf
+linux/arm/v6 - arm-linux-gnueabihf
 linux/arm/v7 armhf arm-linux-gnueabihf
 linux/arm/v8 armhf arm-linux-gnueabihf
 linux/arm64 arm64 aarch64-linux-gnu
 linux/arm64/v8 arm64 aarch64-linux-gnu
-linux/armel armhf arm-linux-gnueabihf
+linux/armel - arm-linux-gnueabihf
 linux/armhf armhf arm-linux-gnueabihf
 linux/i386 i386 i686-linux-gnu
 linux/loong64 loong64 loongarch64-linux-gnu
@@ -74,11 +101,11 @@ linux/s390x s390x s390x-linux-gnu
 linux/x86-64 amd64 x86_64-linux-gnu
 linux/x86_64 amd64 x86_64-linux-gnu";
 
-/// Whether a dialect calls a triple so.
+/// Whether a dialect calls a triple so; a dash is no name.
 fn is_called(dialect: Dialect, triple: &TripleRef<'_>, name: &str) -> bool {
     match dialect.write(triple) {
         Some(found) => found.as_str() == name,
-        None => false,
+        None => name == "-",
     }
 }
 
@@ -112,6 +139,9 @@ fn c_libraries_are_named(rt: HostRuntime) {
     for (name, c_library, other) in [
         ("glibc", LinuxLibc::Glibc, LinuxLibc::Musl),
         ("musl", LinuxLibc::Musl, LinuxLibc::Glibc),
+        ("msvc", LinuxLibc::Msvc, LinuxLibc::Mingw),
+        ("mingw", LinuxLibc::Mingw, LinuxLibc::Gnullvm),
+        ("gnullvm", LinuxLibc::Gnullvm, LinuxLibc::Msvc),
     ] {
         assert!(rt; name.parse() == Ok(c_library) && prints(&c_library, name));
         assert!(rt; hash_alike(&c_library, &c_library) && c_library != other);

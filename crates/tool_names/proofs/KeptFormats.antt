@@ -1,4 +1,4 @@
--- A dialect that keeps every environment keeps the object format.
+-- A dialect that keeps every environment keeps the object format, and so does each dialect where there is a system.
 use Rattle.std.proofs.Common.{◌≡◌, Bool, true, false, ap, cond, refl}
 use Rattle.target_lexicon.specs.ImpliedFormat.{default_binary_format, implied_format, non_darwin_format, wasm_or_elf}
 use Rattle.target_lexicon.specs.Values.{Architecture, BinaryFormat, Environment, OperatingSystem, Values}
@@ -12,7 +12,7 @@ use Rattle.tool_names.specs.declared.dialect.Dialect.{Dialect}
 use Rattle.tool_names.specs.declared.shape.AbiRule.{AbiRule}
 use Rattle.tool_names.specs.declared.shape.AbiRule.TheVariants.{Kept}
 use Rattle.tool_names.specs.declared.shape.MachineRule.{MachineRule}
-use Rattle.tool_names.specs.declared.shape.MachineRule.TheVariants.{Order, Version, Rustc}
+use Rattle.tool_names.specs.declared.shape.MachineRule.TheVariants.{Order, Version, Alpine, Packages, Rustc}
 use Rattle.tool_names.specs.Dialects.{rules_of}
 use Rattle.tool_names.specs.ObjectFormat.{instead_of_elf, instead_of_unknown, object_format, toolchain_format, wasm_or}
 use Rattle.tool_names.specs.Shape.{abi_by, machine_by, shape, sparc_of_rustc, system_by}
@@ -36,29 +36,37 @@ sparc-known : (s : OperatingSystem) → is_unknown (sparc_of_rustc s) ≡ false
 sparc-known operating_system.Linux = refl
 sparc-known _ = refl
 
-machine-wasm : (rule : MachineRule) (s : OperatingSystem) (a : Architecture) → is_wasm (machine_by rule s a) ≡ is_wasm a
-machine-wasm Order s architecture.X86_64 = refl
-machine-wasm Order s _ = refl
-machine-wasm Version s architecture.X86_64 = refl
-machine-wasm Version s _ = refl
-machine-wasm Rustc s (architecture.Riscv32 riscv32.Riscv32) = refl
-machine-wasm Rustc s (architecture.Riscv32 _) = refl
-machine-wasm Rustc s (architecture.Riscv64 riscv64.Riscv64) = refl
-machine-wasm Rustc s (architecture.Riscv64 _) = refl
-machine-wasm Rustc s architecture.Sparc64 = sparc-wasm s
-machine-wasm Rustc s _ = refl
+machine-wasm : (rule : MachineRule) (s : OperatingSystem) (e : Environment) (a : Architecture) → is_wasm (machine_by rule s e a) ≡ is_wasm a
+machine-wasm Order s e architecture.X86_64 = refl
+machine-wasm Order s e _ = refl
+machine-wasm Version s e architecture.X86_64 = refl
+machine-wasm Version s e _ = refl
+machine-wasm Alpine s e architecture.X86_64 = refl
+machine-wasm Alpine s e _ = refl
+machine-wasm Packages s e architecture.X86_64 = refl
+machine-wasm Packages s e _ = refl
+machine-wasm Rustc s e (architecture.Riscv32 riscv32.Riscv32) = refl
+machine-wasm Rustc s e (architecture.Riscv32 _) = refl
+machine-wasm Rustc s e (architecture.Riscv64 riscv64.Riscv64) = refl
+machine-wasm Rustc s e (architecture.Riscv64 _) = refl
+machine-wasm Rustc s e architecture.Sparc64 = sparc-wasm s
+machine-wasm Rustc s e _ = refl
 
-machine-known : (rule : MachineRule) (s : OperatingSystem) (a : Architecture) → is_unknown (machine_by rule s a) ≡ is_unknown a
-machine-known Order s architecture.X86_64 = refl
-machine-known Order s _ = refl
-machine-known Version s architecture.X86_64 = refl
-machine-known Version s _ = refl
-machine-known Rustc s (architecture.Riscv32 riscv32.Riscv32) = refl
-machine-known Rustc s (architecture.Riscv32 _) = refl
-machine-known Rustc s (architecture.Riscv64 riscv64.Riscv64) = refl
-machine-known Rustc s (architecture.Riscv64 _) = refl
-machine-known Rustc s architecture.Sparc64 = sparc-known s
-machine-known Rustc s _ = refl
+machine-known : (rule : MachineRule) (s : OperatingSystem) (e : Environment) (a : Architecture) → is_unknown (machine_by rule s e a) ≡ is_unknown a
+machine-known Order s e architecture.X86_64 = refl
+machine-known Order s e _ = refl
+machine-known Version s e architecture.X86_64 = refl
+machine-known Version s e _ = refl
+machine-known Alpine s e architecture.X86_64 = refl
+machine-known Alpine s e _ = refl
+machine-known Packages s e architecture.X86_64 = refl
+machine-known Packages s e _ = refl
+machine-known Rustc s e (architecture.Riscv32 riscv32.Riscv32) = refl
+machine-known Rustc s e (architecture.Riscv32 _) = refl
+machine-known Rustc s e (architecture.Riscv64 riscv64.Riscv64) = refl
+machine-known Rustc s e (architecture.Riscv64 _) = refl
+machine-known Rustc s e architecture.Sparc64 = sparc-known s
+machine-known Rustc s e _ = refl
 
 wasm_or-by : (f : BinaryFormat) (a : Architecture) → wasm_or f a ≡ cond (is_wasm a) binary_format.Wasm f
 wasm_or-by f architecture.Wasm32 = refl
@@ -124,6 +132,33 @@ system-toolchain : (b : Bool) (a : Architecture) (s : OperatingSystem) (f : Bina
 system-toolchain b a s binary_format.Elf = system-elf b a s
 system-toolchain b a s _ = refl
 
+-- only without a system does the environment count
+
+abbrev pub has_system : OperatingSystem → Bool
+has_system operating_system.None_ = false
+has_system _ = true
+
+abi-implied : (rule : AbiRule) (a : Architecture) (s : OperatingSystem) (e : Environment) → has_system s ≡ true → implied_format a s (abi_by rule s e) ≡ implied_format a s e
+unfolding implied_format
+abi-implied rule a operating_system.None_ e has = absurd cc
+abi-implied rule a _ e has = refl
+
+pub system-format : (d : Dialect) (t : Values) → has_system t.operating_system ≡ true → object_format (shape d t) ≡ object_format t
+unfolding shape
+system-format d t has =
+    let rules = rules_of d in
+    let e : Environment = abi_by rules.abi t.operating_system t.environment in
+    let machine = machine_by rules.machine t.operating_system e t.architecture in
+    let wasm = machine-wasm rules.machine t.operating_system e t.architecture in
+    let known = machine-known rules.machine t.operating_system e t.architecture in
+    rw (
+      system-implied rules.versions machine t.operating_system e,
+      abi-implied rules.abi machine t.operating_system t.environment has,
+      alike-implied machine t.architecture wasm known t.operating_system t.environment,
+      system-toolchain rules.versions machine t.operating_system (default_binary_format t),
+      alike-toolchain machine t.architecture wasm known t.operating_system (default_binary_format t),
+    ) refl
+
 abbrev pub keeps_abi : AbiRule → Bool
 keeps_abi Kept = true
 keeps_abi _ = false
@@ -136,11 +171,12 @@ pub kept-format : (d : Dialect) (t : Values) → keeps_abi (rules_of d).abi ≡ 
 unfolding shape
 kept-format d t kept =
     let rules = rules_of d in
-    let machine = machine_by rules.machine t.operating_system t.architecture in
-    let wasm = machine-wasm rules.machine t.operating_system t.architecture in
-    let known = machine-known rules.machine t.operating_system t.architecture in
+    let same = abi-kept rules.abi t.operating_system t.environment kept in
+    let machine = machine_by rules.machine t.operating_system t.environment t.architecture in
+    let wasm = machine-wasm rules.machine t.operating_system t.environment t.architecture in
+    let known = machine-known rules.machine t.operating_system t.environment t.architecture in
     rw (
-      abi-kept rules.abi t.operating_system t.environment kept,
+      same,
       system-implied rules.versions machine t.operating_system t.environment,
       alike-implied machine t.architecture wasm known t.operating_system t.environment,
       system-toolchain rules.versions machine t.operating_system (default_binary_format t),

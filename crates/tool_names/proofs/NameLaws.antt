@@ -19,23 +19,24 @@ use Rattle.lexicon_fields.specs.declared.architecture.riscv.Riscv64Architecture.
 use Rattle.tool_names.specs.declared.dialect.Dialect.{Dialect}
 use Rattle.tool_names.specs.declared.shape.MachineRule.{MachineRule}
 use Rattle.tool_names.specs.declared.dialect.Dialect.TheVariants.{Debian}
-use Rattle.tool_names.specs.declared.shape.MachineRule.TheVariants.{Order, Version, Rustc}
+use Rattle.tool_names.specs.declared.shape.MachineRule.TheVariants.{Order, Version, Alpine, Packages, Rustc}
 use Rattle.tool_names.specs.declared.tables.Way.{Way}
 use Rattle.tool_names.specs.declared.tables.Way.TheVariants.{Both, Read, Written, NoTriple}
 use Rattle.tool_names.specs.{Dialects.rows_of, Dialects.rules_of, Private.is_short_pattern}
 use Rattle.tool_names.specs.{Laws.IsCanonical, Laws.IsNamed, Laws.NamesAreCanonical, Laws.NamesKeepAnswers, Laws.NamesMeanTheShape, Laws.NamesMeanTheirRows, Laws.MeansTheShape, Laws.ReadsBack, Laws.NamesReadBack, Laws.NamesWithoutTripleAreRefused, Laws.OneNumberIsEnough, Laws.TagsMeanTheSame, Laws.may_be_long, Laws.may_be_short}
 use Rattle.tool_names.specs.Gnu.{as_gnu, gnu_meaning, gnu_system, second_system, unless_system}
 use Rattle.tool_names.specs.Spelling.{spelled_reading}
-use Rattle.tool_names.specs.{ObjectFormat.object_format, Shape.machine_by, Shape.shape, Shape.sparc_of_rustc, Shape.system_by, Shape.unversioned, Shape.with_two_numbers}
+use Rattle.tool_names.specs.{ObjectFormat.object_format, Shape.abi_by, Shape.machine_by, Shape.shape, Shape.sparc_of_rustc, Shape.system_by, Shape.unversioned, Shape.with_two_numbers}
 use Rattle.std.specs.Option.{option_or}
 use Rattle.tool_names.specs.Platforms.{Words, has_words, normal_words, row_with_words, words_of}
 use Rattle.tool_names.specs.Patterns.{all_limits, are_within, filled, fits, star_count, with_star, without_star}
 use Rattle.tool_names.specs.Tables.{Row, is_read_and, is_written, row_named}
+use Rattle.tool_names.specs.Variants.{is_another_target}
 use Rattle.tool_names.specs.ToolNames.{HasNoTriple, Unread, found_meaning, name_meaning, numbers_in, platform_row, read_or_unknown, row_meaning, shape_row, spelled_meaning, system_with, text_without_numbers, triple_name, values_or_unread, version_of_numbers, with_numbers, without_numbers}
 use Rattle.tool_names.proofs.Filling.{counted_fits, filled_matches, fits_are_within, fits_counted, is_own_tag, is_spaced, match_fits}
-use Rattle.tool_names.proofs.KeptFormats.{keeps_abi, kept-format}
+use Rattle.tool_names.proofs.KeptFormats.{has_system, keeps_abi, kept-format, system-format}
 use Rattle.tool_names.proofs.ObjectFormats.{given_kept}
-use Rattle.tool_names.proofs.RowChecks.{IsWrittenFor, both_rows, gives_no_special_text, has_canonical, has_form, has_numbers, has_pair, has_triple, is_both, is_canonical, is_canonical_as, is_known_format, is_ordinary, is_ordinary_architecture, is_ordinary_system, is_long_of, is_pair, is_short_of, name_of, row-written, rows-pass, tags-unspelled, written_back}
+use Rattle.tool_names.proofs.RowChecks.{IsWrittenFor, both_rows, gives_no_special_text, has_canonical, has_form, has_numbers, has_pair, has_triple, is_both, is_canonical, is_canonical_as, is_known_format, is_ordinary, keeps_format, is_ordinary_architecture, is_ordinary_system, is_long_of, is_pair, is_short_of, name_of, row-written, rows-pass, tags-unspelled, written_back}
 use Rattle.tool_names.proofs.ReadAgain.{read-sound}
 use Rattle.tool_names.proofs.RowLemmas.{all-at, any-at, is_only_written, is_refused, first-at, named-at, row-found}
 use Rattle.tool_names.proofs.Tags.{named_tag}
@@ -56,7 +57,7 @@ record IsRow (kept : Bool) (text : List ℕ) (t : Values) : Type 0 where
   prints : text_of t ≡ text
   known : is_custom t.vendor ≡ false
   not_clever : is_clever t.architecture ≡ false
-  ordinary : (kept || is_ordinary t) ≡ true
+  keeps : (kept || keeps_format t) ≡ true
 
 canonical-row : (kept : Bool) (text : List ℕ) → is_canonical kept text ≡ true → (t : Values) × IsRow kept text t
 canonical-row kept text h = by_reading (reading text) refl h
@@ -70,7 +71,7 @@ canonical-row kept text h = by_reading (reading text) refl h
             prints = (bytes_eq-Decides (text_of t) text).0 second.0;
             known = not-false _ second.1;
             not_clever = not-false _ third.1;
-            ordinary = last.1;
+            keeps = last.1;
           },
         )
     by_reading (Err x) is test = absurd cc
@@ -106,9 +107,9 @@ row-canonical round_trip read_plain kept text t row =
     let back = row-comes_back kept text t row in
     fixed-canonical t back row.known (values_unique (text_of t) (normal_step t) t (round_trip t (read_plain (text_of t) t back)) back)
 
--- a triple whose vendor has no special string, and whose text is that of a row, parses back from it, and is ordinary
+-- a triple whose vendor has no special string, and whose text is that of a row, parses back from it, and keeps its object format
 pub text-row : RoundIsNormalStep → (every : Bool) (u : Values) → IsPlainTriple u → has_no_special_text u.vendor ≡ true → is_canonical every (text_of u) ≡ true
-    → (reading (text_of u) ≡ Ok u) × ((every || is_ordinary u) ≡ true)
+    → (reading (text_of u) ≡ Ok u) × ((every || keeps_format u) ≡ true)
 text-row round_trip every u plain no_special canonical =
     let row = canonical-row every (text_of u) canonical in
     let reads : reading (text_of u) ≡ Ok (normal_step u) = ((reading_computed (text_of u)).read (normal_step u)).0 (round_trip u plain) in
@@ -117,7 +118,7 @@ text-row round_trip every u plain no_special canonical =
     let other : is_clever u.architecture ≡ false =
     sym (ap is_clever (kept u).architecture) ∙ sym (ap (λ x. is_clever x.architecture) same) ∙ row.1.not_clever in
     let step = step-no_special u no_special other in
-    (reads ∙ ap Ok step, sym (ap (λ x. every || is_ordinary x) (same ∙ step)) ∙ row.1.ordinary)
+    (reads ∙ ap Ok step, sym (ap (λ x. every || keeps_format x) (same ∙ step)) ∙ row.1.keeps)
 
 -- a name means what its row says
 
@@ -312,7 +313,7 @@ triple-canonical way kept text stars h is = and_parts _ _ (rw is at h)
 abbrev pub keeps : Dialect → Bool
 keeps d = keeps_abi (rules_of d).abi
 
--- whether a name needn't be that of an ordinary triple
+-- whether a name needn't be that of a triple that keeps its object format
 abbrev pub is_free : Dialect → Row → Bool
 is_free d row = not (is_written row.way) || keeps d
 
@@ -458,7 +459,7 @@ written-triple _ is = refl
 
 name-row : (d : Dialect) (t : Values) (name : List ℕ) → triple_name d t ≡ Some name → IsNameOf d t name
 unfolding triple_name
-name-row d t name h = by_row (shape_row d (shape d t)) refl h
+name-row d t name h = by_vendor (is_another_target t.vendor) h
   where
     by_row : (o : Option Row) → shape_row d (shape d t) ≡ o → option_map (λ (row : Row). filled row.pattern (numbers_in (shape d t).operating_system)) o ≡ Some name → IsNameOf d t name
     by_row None is h = absurd cc
@@ -468,7 +469,11 @@ name-row d t name h = by_row (shape_row d (shape d t)) refl h
         let canonical : is_canonical (keeps d) row.meaning ≡ true = rw written.written at free in
         record { row = row; is = is; written = written; name_is = cc; canonical = subst (λ x. is_canonical (keeps d) x ≡ true) (sym written.text_is) canonical }
 
-base-row : RoundIsNormalStep → (d : Dialect) (t : Values) → is_canonical (keeps d) (text_of (base d t)) ≡ true → (reading (text_of (base d t)) ≡ Ok (base d t)) × ((keeps d || is_ordinary (base d t)) ≡ true)
+    by_vendor : (another : Bool) → cond another None (option_map (λ (row : Row). filled row.pattern (numbers_in (shape d t).operating_system)) (shape_row d (shape d t))) ≡ Some name → IsNameOf d t name
+    by_vendor true h = absurd cc
+    by_vendor false h = by_row (shape_row d (shape d t)) refl h
+
+base-row : RoundIsNormalStep → (d : Dialect) (t : Values) → is_canonical (keeps d) (text_of (base d t)) ≡ true → (reading (text_of (base d t)) ≡ Ok (base d t)) × ((keeps d || keeps_format (base d t)) ≡ true)
 base-row round_trip d t canonical = text-row round_trip (keeps d) (base d t) (base-plain d t) (shape-no_special d t) canonical
 
 pub names_mean_shape : RoundIsNormalStep → NamesMeanTheShape
@@ -528,17 +533,21 @@ ordinary-sparc : (s : OperatingSystem) → is_ordinary_architecture (sparc_of_ru
 ordinary-sparc operating_system.Linux = refl
 ordinary-sparc _ = refl
 
-ordinary-machine : (rule : MachineRule) (s : OperatingSystem) (a : Architecture) → is_ordinary_architecture (machine_by rule s a) ≡ is_ordinary_architecture a
-ordinary-machine Order s architecture.X86_64 = refl
-ordinary-machine Order s _ = refl
-ordinary-machine Version s architecture.X86_64 = refl
-ordinary-machine Version s _ = refl
-ordinary-machine Rustc s (architecture.Riscv32 riscv32.Riscv32) = refl
-ordinary-machine Rustc s (architecture.Riscv32 _) = refl
-ordinary-machine Rustc s (architecture.Riscv64 riscv64.Riscv64) = refl
-ordinary-machine Rustc s (architecture.Riscv64 _) = refl
-ordinary-machine Rustc s architecture.Sparc64 = ordinary-sparc s
-ordinary-machine Rustc s _ = refl
+ordinary-machine : (rule : MachineRule) (s : OperatingSystem) (e : Environment) (a : Architecture) → is_ordinary_architecture (machine_by rule s e a) ≡ is_ordinary_architecture a
+ordinary-machine Order s e architecture.X86_64 = refl
+ordinary-machine Order s e _ = refl
+ordinary-machine Version s e architecture.X86_64 = refl
+ordinary-machine Version s e _ = refl
+ordinary-machine Alpine s e architecture.X86_64 = refl
+ordinary-machine Alpine s e _ = refl
+ordinary-machine Packages s e architecture.X86_64 = refl
+ordinary-machine Packages s e _ = refl
+ordinary-machine Rustc s e (architecture.Riscv32 riscv32.Riscv32) = refl
+ordinary-machine Rustc s e (architecture.Riscv32 _) = refl
+ordinary-machine Rustc s e (architecture.Riscv64 riscv64.Riscv64) = refl
+ordinary-machine Rustc s e (architecture.Riscv64 _) = refl
+ordinary-machine Rustc s e architecture.Sparc64 = ordinary-sparc s
+ordinary-machine Rustc s e _ = refl
 
 unversioned-ordinary : (s : OperatingSystem) → is_ordinary_system (without_numbers (unversioned s)) ≡ is_ordinary_system s
 unversioned-ordinary operating_system.Linux = refl
@@ -556,9 +565,19 @@ without-ordinary : (s : OperatingSystem) → is_ordinary_system (without_numbers
 without-ordinary operating_system.Linux = refl
 without-ordinary _ = refl
 
+unversioned-system : (b : Bool) (s : OperatingSystem) → has_system (without_numbers (system_by b s)) ≡ has_system s
+unversioned-system true operating_system.Linux = refl
+unversioned-system true _ = refl
+unversioned-system false operating_system.Linux = refl
+unversioned-system false _ = refl
+
+base-system : (d : Dialect) (t : Values) → has_system (base d t).operating_system ≡ has_system t.operating_system
+unfolding shape
+base-system d t = unversioned-system (rules_of d).versions t.operating_system
+
 base-ordinary : (d : Dialect) (t : Values) → is_ordinary (base d t) ≡ is_ordinary t
 unfolding shape
-base-ordinary d t = rw (ordinary-machine (rules_of d).machine t.operating_system t.architecture, ordinary-system (rules_of d).versions t.operating_system) refl
+base-ordinary d t = rw (ordinary-machine (rules_of d).machine t.operating_system (abi_by (rules_of d).abi t.operating_system t.environment) t.architecture, ordinary-system (rules_of d).versions t.operating_system) refl
 
 shape-ordinary : (d : Dialect) (t : Values) → is_ordinary (base d t) ≡ is_ordinary (shape d t)
 shape-ordinary d t = rw (without-ordinary (shape d t).operating_system) refl
@@ -575,6 +594,10 @@ names_keep_answers round_trip d t name h =
       object_format = by_kept (keeps d) refl (base-row round_trip d t (name-row d t name h).canonical).1;
     }
   where
-    by_kept : (kept : Bool) → keeps d ≡ kept → (kept || is_ordinary (base d t)) ≡ true → object_format (shape d t) ≡ object_format t
+    by_system : (has : Bool) → has_system t.operating_system ≡ has → (has || is_ordinary (base d t)) ≡ true → object_format (shape d t) ≡ object_format t
+    by_system true has test = system-format d t has
+    by_system false has ordinary = ordinary-format (shape d t) (sym (shape-ordinary d t) ∙ ordinary) ∙ shape-format d t ∙ sym (ordinary-format t (sym (base-ordinary d t) ∙ ordinary))
+
+    by_kept : (kept : Bool) → keeps d ≡ kept → (kept || keeps_format (base d t)) ≡ true → object_format (shape d t) ≡ object_format t
     by_kept true kept test = kept-format d t kept
-    by_kept false kept ordinary = ordinary-format (shape d t) (sym (shape-ordinary d t) ∙ ordinary) ∙ shape-format d t ∙ sym (ordinary-format t (sym (base-ordinary d t) ∙ ordinary))
+    by_kept false kept test = by_system (has_system t.operating_system) refl (rw (base-system d t) at test)

@@ -18,9 +18,10 @@ use Rattle.tool_names.specs.{Dialects.rows_of, Dialects.rules_of, Laws.may_be_lo
 use Rattle.tool_names.specs.Patterns.{filled, star_count, with_star, without_star}
 use Rattle.tool_names.specs.StatedVersion.{is_read}
 use Rattle.tool_names.specs.Tables.{Row, is_read_and, is_written, is_written_for, row_for}
+use Rattle.tool_names.specs.Variants.{is_another_target}
 use Rattle.tool_names.specs.ToolNames.{Unread, read_or_unknown, triple_name, with_numbers}
 use Rattle.tool_names.proofs.Filling.{is_own_tag, is_spaced}
-use Rattle.tool_names.proofs.KeptFormats.{keeps_abi}
+use Rattle.tool_names.proofs.KeptFormats.{has_system, keeps_abi}
 use Rattle.tool_names.proofs.RowLemmas.{all-at, all_apart, first-at, is_only_written}
 use Rattle.tool_names.proofs.ShapeLemmas.{has_no_special_text}
 
@@ -43,10 +44,15 @@ is_known_format _ = true
 abbrev pub is_ordinary : Values → Bool
 is_ordinary t = is_ordinary_architecture t.architecture && is_ordinary_system t.operating_system && is_known_format t.binary_format
 
+-- the triples whose object format stays, whatever becomes of the environment
+
+abbrev pub keeps_format : Values → Bool
+keeps_format t = has_system t.operating_system || is_ordinary t
+
 -- a text parses as a triple with a known vendor that prints as the text
--- where a name is written, and the dialect doesn't keep every environment, the triple is an ordinary one
+-- where a name is written, and the dialect doesn't keep every environment, the triple keeps its object format
 abbrev pub is_canonical_as : Bool → List ℕ → Result Values Refusal → Bool
-is_canonical_as kept text (Ok t) = bytes_eq (text_of t) text && not (is_custom t.vendor) && not (is_clever t.architecture) && (kept || is_ordinary t)
+is_canonical_as kept text (Ok t) = bytes_eq (text_of t) text && not (is_custom t.vendor) && not (is_clever t.architecture) && (kept || keeps_format t)
 is_canonical_as kept text (Err _) = false
 
 abbrev pub is_canonical : Bool → List ℕ → Bool
@@ -135,63 +141,63 @@ pub record RowsPass (d : Dialect) : Type 0 where
 
 -- written by tools/names/write: the rows of each dialect pass
 debian-rows : RowsPass dialect.Debian
-unfolding shape triple_name rows_of target_lexicon_on_literals
+unfolding shape triple_name is_another_target rows_of target_lexicon_on_literals
 debian-rows = record { apart = refl; canonical = refl; formed = refl; versions_short = refl; paired = refl; plain_back = refl; versioned_back = λ a b. refl }
 
 go-rows : RowsPass dialect.Go
-unfolding shape triple_name rows_of target_lexicon_on_literals
+unfolding shape triple_name is_another_target rows_of target_lexicon_on_literals
 go-rows = record { apart = refl; canonical = refl; formed = refl; versions_short = refl; paired = refl; plain_back = refl; versioned_back = λ a b. refl }
 
 oci-rows : RowsPass dialect.Oci
-unfolding shape triple_name rows_of target_lexicon_on_literals
+unfolding shape triple_name is_another_target rows_of target_lexicon_on_literals
 oci-rows = record { apart = refl; canonical = refl; formed = refl; versions_short = refl; paired = refl; plain_back = refl; versioned_back = λ a b. refl }
 
 node-rows : RowsPass dialect.Node
-unfolding shape triple_name rows_of target_lexicon_on_literals
+unfolding shape triple_name is_another_target rows_of target_lexicon_on_literals
 node-rows = record { apart = refl; canonical = refl; formed = refl; versions_short = refl; paired = refl; plain_back = refl; versioned_back = λ a b. refl }
 
 gnu-rows : RowsPass dialect.Gnu
-unfolding shape triple_name rows_of target_lexicon_on_literals
+unfolding shape triple_name is_another_target rows_of target_lexicon_on_literals
 gnu-rows = record { apart = refl; canonical = refl; formed = refl; versions_short = refl; paired = refl; plain_back = refl; versioned_back = λ a b. refl }
 
 python-rows : RowsPass dialect.Python
-unfolding shape triple_name rows_of target_lexicon_on_literals
+unfolding shape triple_name is_another_target rows_of target_lexicon_on_literals
 python-rows = record { apart = refl; canonical = refl; formed = refl; versions_short = refl; paired = refl; plain_back = refl; versioned_back = λ a b. refl }
 
 rust-rows : RowsPass dialect.Rust
-unfolding shape triple_name rows_of target_lexicon_on_literals
+unfolding shape triple_name is_another_target rows_of target_lexicon_on_literals
 rust-rows = record { apart = refl; canonical = refl; formed = refl; versions_short = refl; paired = refl; plain_back = refl; versioned_back = λ a b. refl }
 
 uname-rows : RowsPass dialect.Uname
-unfolding shape triple_name rows_of target_lexicon_on_literals
+unfolding shape triple_name is_another_target rows_of target_lexicon_on_literals
 uname-rows = record { apart = refl; canonical = refl; formed = refl; versions_short = refl; paired = refl; plain_back = refl; versioned_back = λ a b. refl }
 
 rpm-rows : RowsPass dialect.Rpm
-unfolding shape triple_name rows_of target_lexicon_on_literals
+unfolding shape triple_name is_another_target rows_of target_lexicon_on_literals
 rpm-rows = record { apart = refl; canonical = refl; formed = refl; versions_short = refl; paired = refl; plain_back = refl; versioned_back = λ a b. refl }
 
 apk-rows : RowsPass dialect.Apk
-unfolding shape triple_name rows_of target_lexicon_on_literals
+unfolding shape triple_name is_another_target rows_of target_lexicon_on_literals
 apk-rows = record { apart = refl; canonical = refl; formed = refl; versions_short = refl; paired = refl; plain_back = refl; versioned_back = λ a b. refl }
 
 pacman-rows : RowsPass dialect.Pacman
-unfolding shape triple_name rows_of target_lexicon_on_literals
+unfolding shape triple_name is_another_target rows_of target_lexicon_on_literals
 pacman-rows = record { apart = refl; canonical = refl; formed = refl; versions_short = refl; paired = refl; plain_back = refl; versioned_back = λ a b. refl }
 
 dotnet-rows : RowsPass dialect.Dotnet
-unfolding shape triple_name rows_of target_lexicon_on_literals
+unfolding shape triple_name is_another_target rows_of target_lexicon_on_literals
 dotnet-rows = record { apart = refl; canonical = refl; formed = refl; versions_short = refl; paired = refl; plain_back = refl; versioned_back = λ a b. refl }
 
 conda-rows : RowsPass dialect.Conda
-unfolding shape triple_name rows_of target_lexicon_on_literals
+unfolding shape triple_name is_another_target rows_of target_lexicon_on_literals
 conda-rows = record { apart = refl; canonical = refl; formed = refl; versions_short = refl; paired = refl; plain_back = refl; versioned_back = λ a b. refl }
 
 zig-rows : RowsPass dialect.Zig
-unfolding shape triple_name rows_of target_lexicon_on_literals
+unfolding shape triple_name is_another_target rows_of target_lexicon_on_literals
 zig-rows = record { apart = refl; canonical = refl; formed = refl; versions_short = refl; paired = refl; plain_back = refl; versioned_back = λ a b. refl }
 
 nix-rows : RowsPass dialect.Nix
-unfolding shape triple_name rows_of target_lexicon_on_literals
+unfolding shape triple_name is_another_target rows_of target_lexicon_on_literals
 nix-rows = record { apart = refl; canonical = refl; formed = refl; versions_short = refl; paired = refl; plain_back = refl; versioned_back = λ a b. refl }
 
 -- end of what is written

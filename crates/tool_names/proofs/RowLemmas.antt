@@ -1,5 +1,5 @@
 -- The row of a name: no name has two, except names that are only written.
-use Rattle.std.proofs.Common.{◌≡◌, ◌∙◌, ◌+◌, take, ℕ, zero, suc, List, [], ◌∷◌, Option, Some, None, Bool, true, false, refl, ap, sym, subst, get_or, cond}
+use Rattle.std.proofs.Common.{◌≡◌, ◌∙◌, ◌+◌, take, drop, arith, ℕ, zero, suc, List, [], ◌∷◌, Option, Some, None, Bool, true, false, refl, ap, sym, subst, get_or, cond}
 use Rattle.std.specs.Prelude.{not, ◌&&◌, ◌||◌, nat_eq, option_and_then, option_map, slice_get}
 use Rattle.std.specs.{Char.is_ascii_digit, List.list_all, List.list_any, List.prefix_len, Option.option_or}
 use Rattle.std.proofs.lemmas.Bool.{and_parts, eqb-false, eqb-true}
@@ -9,13 +9,22 @@ use Rattle.tool_names.specs.Patterns.{after_digits, all_limits, head_digits, key
 use Rattle.tool_names.proofs.Tags.{matched_key}
 use Rattle.tool_names.specs.Tables.{Row, first_row, row_named}
 
--- two patterns that are apart: they differ at a byte, or one has a star where the other has a byte that begins no number
+-- whether no star follows the digits that a pattern begins with
+abbrev begins_with_star : List ℕ → Bool
+begins_with_star [] = false
+begins_with_star (c ∷ cs) = nat_eq c star
+
+abbrev ends_number : List ℕ → Bool
+ends_number pattern = not (begins_with_star (after_digits pattern))
+
+-- two patterns that are apart: they differ at a byte, or one has a star where the other has a byte that begins no number, or
+-- they differ after the star and the digits of the second
 abbrev pub apart : List ℕ → List ℕ → Bool
 apart [] [] = false
 apart [] (q ∷ qs) = true
 apart (p ∷ ps) [] = true
 apart (p ∷ ps) (q ∷ qs) =
-    cond (nat_eq p star) (cond (nat_eq q star) (apart ps qs) (not (is_ascii_digit q)))
+    cond (nat_eq p star) (cond (nat_eq q star) (apart ps qs) (cond (is_ascii_digit q) (ends_number (q ∷ qs) && apart ps (after_digits (q ∷ qs))) true))
     (cond (nat_eq q star) (not (is_ascii_digit p)) (cond (nat_eq p q) (apart ps qs) true))
 
 -- what a match says of the first byte
@@ -73,6 +82,62 @@ not-true : (b : Bool) → b ≡ true → not b ≡ true → ⊥
 not-true true h n = absurd cc
 not-true false h n = absurd cc
 
+-- what follows the digits of a pattern matches what follows those of a name
+
+digit-dropped : (c : ℕ) (cs : List ℕ) → is_ascii_digit c ≡ true → after_digits (c ∷ cs) ≡ after_digits cs
+digit-dropped c cs digit =
+    let one : 1 + prefix_len is_ascii_digit cs ≡ suc (prefix_len is_ascii_digit cs) = omega arith in
+    ap (λ b. drop (cond b (1 + prefix_len is_ascii_digit cs) 0) (c ∷ cs)) digit ∙ ap (λ (k : ℕ). drop k (c ∷ cs)) one
+
+other-stays : (c : ℕ) (cs : List ℕ) → is_ascii_digit c ≡ false → after_digits (c ∷ cs) ≡ c ∷ cs
+other-stays c cs other = ap (λ b. drop (cond b (1 + prefix_len is_ascii_digit cs) 0) (c ∷ cs)) other
+
+no-star : (c : ℕ) → is_ascii_digit c ≡ true → nat_eq c star ≡ false
+no-star c digit = by_star (nat_eq c star) refl
+  where
+    by_star : (b : Bool) → nat_eq c star ≡ b → b ≡ false
+    by_star false h = refl
+    by_star true h = absurd (let same : c ≡ star = eqb-true c star h in let bad = sym (ap is_ascii_digit same) ∙ digit in cc)
+
+no-star-next : (c : ℕ) → not (nat_eq c star) ≡ true → nat_eq c star ≡ false
+no-star-next c h = by_star (nat_eq c star) h
+  where
+    by_star : (b : Bool) → not b ≡ true → b ≡ false
+    by_star false h = refl
+    by_star true h = absurd cc
+
+after-run : (q : ℕ) (qs limits name x : List ℕ) → is_ascii_digit q ≡ true → ends_number (q ∷ qs) ≡ true → matched_within false limits (q ∷ qs) name ≡ Some x
+    → matched_within false limits (after_digits (q ∷ qs)) (after_digits name) ≡ Some x
+after-run q [] limits name x digit ends has =
+    let found = at-byte q [] limits name x (no-star q digit) has in
+    let none : found.0 ≡ [] = ended limits found.0 x found.2 in
+    let left : after_digits name ≡ [] = ap after_digits found.1 ∙ digit-dropped q found.0 digit ∙ ap after_digits none in
+    let right : after_digits (q ∷ []) ≡ [] = digit-dropped q [] digit in
+    rw (left, right) (subst (λ (n : List ℕ). matched_within false limits [] n ≡ Some x) none found.2)
+after-run q (r ∷ rs) limits name x digit ends has = by_digit (after-run r rs limits) (is_ascii_digit r) refl
+  where
+    found : (cs : List ℕ) × (name ≡ q ∷ cs) × (matched_within false limits (r ∷ rs) cs ≡ Some x)
+    found = at-byte q (r ∷ rs) limits name x (no-star q digit) has
+
+    left : after_digits name ≡ after_digits found.0
+    left = ap after_digits found.1 ∙ digit-dropped q found.0 digit
+
+    right : after_digits (q ∷ (r ∷ rs)) ≡ after_digits (r ∷ rs)
+    right = digit-dropped q (r ∷ rs) digit
+
+    ends_next : ends_number (r ∷ rs) ≡ true
+    ends_next = sym (ap (λ (p : List ℕ). not (begins_with_star p)) right) ∙ ends
+
+    by_digit : ((n y : List ℕ) → is_ascii_digit r ≡ true → ends_number (r ∷ rs) ≡ true → matched_within false limits (r ∷ rs) n ≡ Some y → matched_within false limits (after_digits (r ∷ rs)) (after_digits n) ≡ Some y)
+        → (b : Bool) → is_ascii_digit r ≡ b → matched_within false limits (after_digits (q ∷ (r ∷ rs))) (after_digits name) ≡ Some x
+    by_digit again true is = rw (left, right) (again found.0 x is ends_next found.2)
+    by_digit again false is =
+        let stays : after_digits (r ∷ rs) ≡ r ∷ rs = other-stays r rs is in
+        let plain : nat_eq r star ≡ false = no-star-next r (sym (ap (λ (p : List ℕ). not (begins_with_star p)) stays) ∙ ends_next) in
+        let next = at-byte r rs limits found.0 x plain found.2 in
+        let same : after_digits found.0 ≡ found.0 = ap after_digits next.1 ∙ other-stays r next.0 is ∙ sym next.1 in
+        rw (left, right, stays, same) found.2
+
 -- no name has both patterns
 abbrev have_no_name : List ℕ → List ℕ → Type 0
 have_no_name ps qs = (name l m x y : List ℕ) → apart ps qs ≡ true → matched_within false l ps name ≡ Some x → matched_within false m qs name ≡ Some y → ⊥
@@ -82,7 +147,7 @@ apart-sound : (ps qs : List ℕ) → have_no_name ps qs
 apart-sound [] [] name l m x y is has_p has_q = absurd cc
 apart-sound [] (q ∷ qs) name l m x y is has_p has_q = empty-unmatched q qs m y (subst (λ (n : List ℕ). matched_within false m (q ∷ qs) n ≡ Some y) (ended l name x has_p) has_q)
 apart-sound (p ∷ ps) [] name l m x y is has_p has_q = empty-unmatched p ps l x (subst (λ (n : List ℕ). matched_within false l (p ∷ ps) n ≡ Some x) (ended m name y has_q) has_p)
-apart-sound (p ∷ ps) (q ∷ qs) name l m x y is has_p has_q = by_stars (apart-sound ps qs) (nat_eq p star) (nat_eq q star) refl refl is
+apart-sound (p ∷ ps) (q ∷ qs) name l m x y is has_p has_q = by_stars (apart-sound ps) (nat_eq p star) (nat_eq q star) refl refl is
   where
     by_bytes : have_no_name ps qs → (cs ds : List ℕ) → name ≡ p ∷ cs → name ≡ q ∷ ds → matched_within false l ps cs ≡ Some x → matched_within false m qs ds ≡ Some y → (b : Bool) → nat_eq p q ≡ b → cond b (apart ps qs) true ≡ true → ⊥
     by_bytes again cs ds name_p name_q rest_p rest_q true same h =
@@ -93,21 +158,28 @@ apart-sound (p ∷ ps) (q ∷ qs) name l m x y is has_p has_q = by_stars (apart-
         let both : p ∷ cs ≡ q ∷ ds = sym name_p ∙ name_q in
         eqb-false p q same (ap (λ (n : List ℕ). get_or n 0 0) both)
 
-    by_stars : have_no_name ps qs → (a b : Bool) → nat_eq p star ≡ a → nat_eq q star ≡ b → cond a (cond b (apart ps qs) (not (is_ascii_digit q))) (cond b (not (is_ascii_digit p)) (cond (nat_eq p q) (apart ps qs) true)) ≡ true → ⊥
+    by_number : ((rs : List ℕ) → have_no_name ps rs) → nat_eq p star ≡ true → nat_eq q star ≡ false → (b : Bool) → is_ascii_digit q ≡ b → cond b (ends_number (q ∷ qs) && apart ps (after_digits (q ∷ qs))) true ≡ true → ⊥
+    by_number again star_p star_q true digit h =
+        let parts = and_parts (ends_number (q ∷ qs)) (apart ps (after_digits (q ∷ qs))) h in
+        let rest_p = (at-star p ps l name x star_p has_p).1 in
+        again (after_digits (q ∷ qs)) (after_digits name) (rest_of l) m rest_p.0 y parts.1 rest_p.1 (after-run q qs m name y digit parts.0 has_q)
+    by_number again star_p star_q false other h =
+        let found = at-byte q qs m name y star_q has_q in
+        not-true (is_ascii_digit q) (subst (λ (n : List ℕ). first_digit n ≡ true) found.1 (at-star p ps l name x star_p has_p).0) (rw other refl)
+
+    by_stars : ((rs : List ℕ) → have_no_name ps rs) → (a b : Bool) → nat_eq p star ≡ a → nat_eq q star ≡ b → cond a (cond b (apart ps qs) (cond (is_ascii_digit q) (ends_number (q ∷ qs) && apart ps (after_digits (q ∷ qs))) true)) (cond b (not (is_ascii_digit p)) (cond (nat_eq p q) (apart ps qs) true)) ≡ true → ⊥
     by_stars again true true star_p star_q h =
         let rest_p = (at-star p ps l name x star_p has_p).1 in
         let rest_q = (at-star q qs m name y star_q has_q).1 in
-        again (after_digits name) (rest_of l) (rest_of m) rest_p.0 rest_q.0 h rest_p.1 rest_q.1
-    by_stars again true false star_p star_q h =
-        let found = at-byte q qs m name y star_q has_q in
-        not-true (is_ascii_digit q) (subst (λ (n : List ℕ). first_digit n ≡ true) found.1 (at-star p ps l name x star_p has_p).0) h
+        again qs (after_digits name) (rest_of l) (rest_of m) rest_p.0 rest_q.0 h rest_p.1 rest_q.1
+    by_stars again true false star_p star_q h = by_number again star_p star_q (is_ascii_digit q) refl h
     by_stars again false true star_p star_q h =
         let found = at-byte p ps l name x star_p has_p in
         not-true (is_ascii_digit p) (subst (λ (n : List ℕ). first_digit n ≡ true) found.1 (at-star q qs m name y star_q has_q).0) h
     by_stars again false false star_p star_q h =
         let found_p = at-byte p ps l name x star_p has_p in
         let found_q = at-byte q qs m name y star_q has_q in
-        by_bytes again found_p.0 found_q.0 found_p.1 found_q.1 found_p.2 found_q.2 (nat_eq p q) refl h
+        by_bytes (again qs) found_p.0 found_q.0 found_p.1 found_q.1 found_p.2 found_q.2 (nat_eq p q) refl h
 
 -- rows in their order: a later one has no name of an earlier one, unless it is only written and the earlier one isn't read
 

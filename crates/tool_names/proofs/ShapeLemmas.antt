@@ -13,13 +13,15 @@ use Rattle.target_lexicon.specs.Values.operating_system
 use Rattle.target_lexicon.specs.Values.environment
 use Rattle.tool_names.specs.declared.dialect.Dialect.{Dialect}
 use Rattle.tool_names.specs.declared.shape.AbiRule.{AbiRule}
-use Rattle.tool_names.specs.declared.shape.AbiRule.TheVariants.{Kept, Dropped, KeptOnLinux, KeptOnSystems}
+use Rattle.tool_names.specs.declared.shape.AbiRule.TheVariants.{Kept, Dropped, KeptOnLinux, KeptOnLinuxAndWindows, KeptOnSystems}
 use Rattle.tool_names.specs.declared.shape.MachineRule.{MachineRule}
-use Rattle.tool_names.specs.declared.shape.MachineRule.TheVariants.{Order, Version, Rustc}
+use Rattle.tool_names.specs.declared.shape.MachineRule.TheVariants.{Order, Version, Alpine, Packages, Rustc}
 use Rattle.tool_names.specs.Dialects.{rules_of}
 use Rattle.tool_names.specs.Laws.{ShapesAreFixed}
 use Rattle.tool_names.specs.Patterns.{all_limits, are_within}
-use Rattle.tool_names.specs.Shape.{abi_by, abi_on, abi_on_systems, arm_of_linux, arm_of_order, arm_of_rustc, arm_of_version, arm_of_windows, is_bare_abi, is_dropped_abi, machine_by, machine_of_order, machine_of_rustc, machine_of_version, one_eabi, shape, sparc_of_rustc, system_by, unknown_if, unversioned, usual_vendor, with_two_numbers}
+use Rattle.lexicon_fields.specs.declared.architecture.x86_32.X86_32Architecture.{X86_32Architecture}
+use Rattle.lexicon_fields.specs.declared.architecture.x86_32.X86_32Architecture.TheVariants.{I386}
+use Rattle.tool_names.specs.Shape.{abi_by, abi_on, abi_on_both, abi_on_systems, arm_of_android, arm_of_gnu, arm_of_hard_floats, arm_of_linux, arm_of_order, arm_of_packages, arm_of_rustc, arm_of_soft_floats, arm_of_version, arm_of_windows, armv5_of, is_bare_abi, is_dropped_abi, machine_by, machine_of_alpine, machine_of_order, machine_of_packages, machine_of_rustc, machine_of_version, one_eabi, shape, sparc_of_rustc, system_by, unknown_if, unversioned, usual_vendor, with_two_numbers, x86_of_alpine}
 use Rattle.tool_names.specs.ToolNames.{numbers_in, system_with, without_numbers}
 
 -- once is enough
@@ -40,41 +42,81 @@ version-machine-once : (a : Architecture) → machine_of_version (machine_of_ver
 version-machine-once (architecture.Arm a) = ap architecture.Arm (version-once a)
 version-machine-once _ = refl
 
-linux-arm-once : (a : ArmArchitecture) → arm_of_linux (arm_of_linux a) ≡ arm_of_linux a
-linux-arm-once arm.Arm = refl
-linux-arm-once _ = refl
+x86-once : (x : X86_32Architecture) → x86_of_alpine (x86_of_alpine x) ≡ x86_of_alpine x
+x86-once I386 = refl
+x86-once _ = refl
+
+alpine-machine-once : (a : Architecture) → machine_of_alpine (machine_of_alpine a) ≡ machine_of_alpine a
+alpine-machine-once (architecture.X86_32 x) = ap architecture.X86_32 (x86-once x)
+alpine-machine-once (architecture.Arm a) = ap architecture.Arm (version-once a)
+alpine-machine-once _ = refl
+
+hard-once : (a : ArmArchitecture) → arm_of_hard_floats (arm_of_hard_floats a) ≡ arm_of_hard_floats a
+hard-once arm.Arm = refl
+hard-once _ = refl
+
+soft-once : (a : ArmArchitecture) → arm_of_soft_floats (arm_of_soft_floats a) ≡ arm_of_soft_floats a
+soft-once arm.Arm = refl
+soft-once _ = refl
+
+packages-once : (e : Environment) (a : ArmArchitecture) → arm_of_packages e (arm_of_packages e a) ≡ arm_of_packages e a
+packages-once environment.Gnueabihf a = hard-once a
+packages-once environment.Musleabihf a = hard-once a
+packages-once environment.Uclibceabihf a = hard-once a
+packages-once environment.Gnueabi a = soft-once a
+packages-once environment.Musleabi a = soft-once a
+packages-once environment.Uclibceabi a = soft-once a
+packages-once _ a = order-once a
+
+packages-machine-once : (e : Environment) (a : Architecture) → machine_of_packages e (machine_of_packages e a) ≡ machine_of_packages e a
+packages-machine-once e (architecture.Arm a) = ap architecture.Arm (packages-once e a)
+packages-machine-once e _ = refl
+
+gnu-arm-once : (a : ArmArchitecture) → arm_of_gnu (arm_of_gnu a) ≡ arm_of_gnu a
+gnu-arm-once arm.Arm = refl
+gnu-arm-once _ = refl
+
+android-arm-once : (a : ArmArchitecture) → arm_of_android (arm_of_android a) ≡ arm_of_android a
+android-arm-once arm.Arm = refl
+android-arm-once _ = refl
+
+linux-arm-once : (e : Environment) (a : ArmArchitecture) → arm_of_linux e (arm_of_linux e a) ≡ arm_of_linux e a
+linux-arm-once environment.Androideabi a = android-arm-once a
+linux-arm-once _ a = gnu-arm-once a
 
 windows-arm-once : (a : ArmArchitecture) → arm_of_windows (arm_of_windows a) ≡ arm_of_windows a
 windows-arm-once arm.Arm = refl
 windows-arm-once _ = refl
 
-rustc-arm-once : (b : Bool) (s : OperatingSystem) (a : ArmArchitecture) → arm_of_rustc (system_by b s) (arm_of_rustc s a) ≡ arm_of_rustc s a
-rustc-arm-once true operating_system.Linux a = linux-arm-once a
-rustc-arm-once false operating_system.Linux a = linux-arm-once a
-rustc-arm-once true operating_system.Windows a = windows-arm-once a
-rustc-arm-once false operating_system.Windows a = windows-arm-once a
-rustc-arm-once true _ a = refl
-rustc-arm-once false _ a = refl
+rustc-arm-once : (b : Bool) (s : OperatingSystem) (e : Environment) (a : ArmArchitecture) → arm_of_rustc (system_by b s) e (arm_of_rustc s e a) ≡ arm_of_rustc s e a
+rustc-arm-once true operating_system.Linux e a = linux-arm-once e a
+rustc-arm-once false operating_system.Linux e a = linux-arm-once e a
+rustc-arm-once true operating_system.Windows e a = windows-arm-once a
+rustc-arm-once false operating_system.Windows e a = windows-arm-once a
+rustc-arm-once true _ e a = refl
+rustc-arm-once false _ e a = refl
 
-rustc-sparc-once : (b : Bool) (s : OperatingSystem) → machine_of_rustc (system_by b s) (sparc_of_rustc s) ≡ sparc_of_rustc s
-rustc-sparc-once true operating_system.Linux = refl
-rustc-sparc-once false operating_system.Linux = refl
-rustc-sparc-once true _ = refl
-rustc-sparc-once false _ = refl
+rustc-sparc-once : (b : Bool) (s : OperatingSystem) (e : Environment) → machine_of_rustc (system_by b s) e (sparc_of_rustc s) ≡ sparc_of_rustc s
+rustc-sparc-once true operating_system.Linux e = refl
+rustc-sparc-once false operating_system.Linux e = refl
+rustc-sparc-once true _ e = refl
+rustc-sparc-once false _ e = refl
 
-rustc-machine-once : (b : Bool) (s : OperatingSystem) (a : Architecture) → machine_of_rustc (system_by b s) (machine_of_rustc s a) ≡ machine_of_rustc s a
-rustc-machine-once b s (architecture.Arm a) = ap architecture.Arm (rustc-arm-once b s a)
-rustc-machine-once b s (architecture.Riscv32 riscv32.Riscv32) = refl
-rustc-machine-once b s (architecture.Riscv32 _) = refl
-rustc-machine-once b s (architecture.Riscv64 riscv64.Riscv64) = refl
-rustc-machine-once b s (architecture.Riscv64 _) = refl
-rustc-machine-once b s architecture.Sparc64 = rustc-sparc-once b s
-rustc-machine-once b s _ = refl
+rustc-machine-once : (b : Bool) (s : OperatingSystem) (e : Environment) (a : Architecture) → machine_of_rustc (system_by b s) e (machine_of_rustc s e a) ≡ machine_of_rustc s e a
+rustc-machine-once b s e (architecture.Arm a) = ap architecture.Arm (rustc-arm-once b s e a)
+rustc-machine-once b s e (architecture.Riscv32 riscv32.Riscv32) = refl
+rustc-machine-once b s e (architecture.Riscv32 _) = refl
+rustc-machine-once b s e (architecture.Riscv64 riscv64.Riscv64) = refl
+rustc-machine-once b s e (architecture.Riscv64 _) = refl
+rustc-machine-once b s e architecture.Sparc64 = rustc-sparc-once b s e
+rustc-machine-once b s e _ = refl
 
-machine-once : (rule : MachineRule) (b : Bool) (s : OperatingSystem) (a : Architecture) → machine_by rule (system_by b s) (machine_by rule s a) ≡ machine_by rule s a
-machine-once Order b s a = order-machine-once a
-machine-once Version b s a = version-machine-once a
-machine-once Rustc b s a = rustc-machine-once b s a
+machine-once : (rule : MachineRule) (b : Bool) (s : OperatingSystem) (e : Environment) (a : Architecture) → machine_by rule (system_by b s) e (machine_by rule s e a) ≡ machine_by rule s e a
+machine-once Order b s e a = order-machine-once a
+machine-once Version b s e a = version-machine-once a
+machine-once Alpine b s e a = alpine-machine-once a
+machine-once Packages b s e a = packages-machine-once e a
+machine-once Rustc b s e a = rustc-machine-once b s e a
 
 unversioned-once : (s : OperatingSystem) → unversioned (unversioned s) ≡ unversioned s
 unversioned-once operating_system.Linux = refl
@@ -117,6 +159,14 @@ linux-once true _ e = library-once e
 linux-once false operating_system.Linux e = bare-once e
 linux-once false _ e = library-once e
 
+both-once : (b : Bool) (s : OperatingSystem) (e : Environment) → abi_on_both (system_by b s) (abi_on_both s e) ≡ abi_on_both s e
+both-once true operating_system.Linux e = bare-once e
+both-once true operating_system.Windows e = bare-once e
+both-once true _ e = library-once e
+both-once false operating_system.Linux e = bare-once e
+both-once false operating_system.Windows e = bare-once e
+both-once false _ e = library-once e
+
 one_eabi-once : (e : Environment) → one_eabi (one_eabi e) ≡ one_eabi e
 one_eabi-once environment.Eabihf = refl
 one_eabi-once _ = refl
@@ -131,13 +181,15 @@ abi-once : (rule : AbiRule) (b : Bool) (s : OperatingSystem) (e : Environment) �
 abi-once Kept b s e = refl
 abi-once Dropped b s e = library-once e
 abi-once KeptOnLinux b s e = linux-once b s e
+abi-once KeptOnLinuxAndWindows b s e = both-once b s e
 abi-once KeptOnSystems b s e = systems-once b s e
 
 pub shapes_fixed : ShapesAreFixed
 unfolding shape
 shapes_fixed = record {
   again = λ d t. let r = rules_of d in
-      rw (machine-once r.machine r.versions t.operating_system t.architecture, vendor-once r.versions t.operating_system, system-once r.versions t.operating_system, abi-once r.abi r.versions t.operating_system t.environment) refl;
+      let e : Environment = abi_by r.abi t.operating_system t.environment in
+      rw (abi-once r.abi r.versions t.operating_system t.environment, machine-once r.machine r.versions t.operating_system e t.architecture, vendor-once r.versions t.operating_system, system-once r.versions t.operating_system) refl;
   vendor = λ d t v. refl;
 }
 
@@ -151,18 +203,43 @@ version-endianness : (a : ArmArchitecture) → arm_endianness (arm_of_version a)
 version-endianness arm.Arm = refl
 version-endianness _ = refl
 
-linux-arm-endianness : (a : ArmArchitecture) → arm_endianness (arm_of_linux a) ≡ arm_endianness a
-linux-arm-endianness arm.Arm = refl
-linux-arm-endianness _ = refl
+hard-endianness : (a : ArmArchitecture) → arm_endianness (arm_of_hard_floats a) ≡ arm_endianness a
+hard-endianness arm.Arm = refl
+hard-endianness _ = refl
+
+soft-endianness : (a : ArmArchitecture) → arm_endianness (arm_of_soft_floats a) ≡ arm_endianness a
+soft-endianness arm.Arm = refl
+soft-endianness _ = refl
+
+packages-endianness : (e : Environment) (a : ArmArchitecture) → arm_endianness (arm_of_packages e a) ≡ arm_endianness a
+packages-endianness environment.Gnueabihf a = hard-endianness a
+packages-endianness environment.Musleabihf a = hard-endianness a
+packages-endianness environment.Uclibceabihf a = hard-endianness a
+packages-endianness environment.Gnueabi a = soft-endianness a
+packages-endianness environment.Musleabi a = soft-endianness a
+packages-endianness environment.Uclibceabi a = soft-endianness a
+packages-endianness _ a = order-endianness a
+
+gnu-arm-endianness : (a : ArmArchitecture) → arm_endianness (arm_of_gnu a) ≡ arm_endianness a
+gnu-arm-endianness arm.Arm = refl
+gnu-arm-endianness _ = refl
+
+android-arm-endianness : (a : ArmArchitecture) → arm_endianness (arm_of_android a) ≡ arm_endianness a
+android-arm-endianness arm.Arm = refl
+android-arm-endianness _ = refl
+
+linux-arm-endianness : (e : Environment) (a : ArmArchitecture) → arm_endianness (arm_of_linux e a) ≡ arm_endianness a
+linux-arm-endianness environment.Androideabi a = android-arm-endianness a
+linux-arm-endianness _ a = gnu-arm-endianness a
 
 windows-arm-endianness : (a : ArmArchitecture) → arm_endianness (arm_of_windows a) ≡ arm_endianness a
 windows-arm-endianness arm.Arm = refl
 windows-arm-endianness _ = refl
 
-rustc-arm-endianness : (s : OperatingSystem) (a : ArmArchitecture) → arm_endianness (arm_of_rustc s a) ≡ arm_endianness a
-rustc-arm-endianness operating_system.Linux a = linux-arm-endianness a
-rustc-arm-endianness operating_system.Windows a = windows-arm-endianness a
-rustc-arm-endianness _ a = refl
+rustc-arm-endianness : (s : OperatingSystem) (e : Environment) (a : ArmArchitecture) → arm_endianness (arm_of_rustc s e a) ≡ arm_endianness a
+rustc-arm-endianness operating_system.Linux e a = linux-arm-endianness e a
+rustc-arm-endianness operating_system.Windows e a = windows-arm-endianness a
+rustc-arm-endianness _ e a = refl
 
 sparc-endianness : (s : OperatingSystem) → architecture_endianness (sparc_of_rustc s) ≡ architecture_endianness architecture.Sparc64
 sparc-endianness operating_system.Linux = refl
@@ -172,30 +249,38 @@ sparc-width : (s : OperatingSystem) → architecture_width (sparc_of_rustc s) �
 sparc-width operating_system.Linux = refl
 sparc-width _ = refl
 
-machine-endianness : (rule : MachineRule) (s : OperatingSystem) (a : Architecture) → architecture_endianness (machine_by rule s a) ≡ architecture_endianness a
-machine-endianness Order s (architecture.Arm a) = ap Some (order-endianness a)
-machine-endianness Order s _ = refl
-machine-endianness Version s (architecture.Arm a) = ap Some (version-endianness a)
-machine-endianness Version s _ = refl
-machine-endianness Rustc s (architecture.Arm a) = ap Some (rustc-arm-endianness s a)
-machine-endianness Rustc s (architecture.Riscv32 riscv32.Riscv32) = refl
-machine-endianness Rustc s (architecture.Riscv32 _) = refl
-machine-endianness Rustc s (architecture.Riscv64 riscv64.Riscv64) = refl
-machine-endianness Rustc s (architecture.Riscv64 _) = refl
-machine-endianness Rustc s architecture.Sparc64 = sparc-endianness s
-machine-endianness Rustc s _ = refl
+machine-endianness : (rule : MachineRule) (s : OperatingSystem) (e : Environment) (a : Architecture) → architecture_endianness (machine_by rule s e a) ≡ architecture_endianness a
+machine-endianness Order s e (architecture.Arm a) = ap Some (order-endianness a)
+machine-endianness Order s e _ = refl
+machine-endianness Version s e (architecture.Arm a) = ap Some (version-endianness a)
+machine-endianness Version s e _ = refl
+machine-endianness Alpine s e (architecture.Arm a) = ap Some (version-endianness a)
+machine-endianness Alpine s e _ = refl
+machine-endianness Packages s e (architecture.Arm a) = ap Some (packages-endianness e a)
+machine-endianness Packages s e _ = refl
+machine-endianness Rustc s e (architecture.Arm a) = ap Some (rustc-arm-endianness s e a)
+machine-endianness Rustc s e (architecture.Riscv32 riscv32.Riscv32) = refl
+machine-endianness Rustc s e (architecture.Riscv32 _) = refl
+machine-endianness Rustc s e (architecture.Riscv64 riscv64.Riscv64) = refl
+machine-endianness Rustc s e (architecture.Riscv64 _) = refl
+machine-endianness Rustc s e architecture.Sparc64 = sparc-endianness s
+machine-endianness Rustc s e _ = refl
 
-machine-width : (rule : MachineRule) (s : OperatingSystem) (a : Architecture) → architecture_width (machine_by rule s a) ≡ architecture_width a
-machine-width Order s architecture.X86_64 = refl
-machine-width Order s _ = refl
-machine-width Version s architecture.X86_64 = refl
-machine-width Version s _ = refl
-machine-width Rustc s (architecture.Riscv32 riscv32.Riscv32) = refl
-machine-width Rustc s (architecture.Riscv32 _) = refl
-machine-width Rustc s (architecture.Riscv64 riscv64.Riscv64) = refl
-machine-width Rustc s (architecture.Riscv64 _) = refl
-machine-width Rustc s architecture.Sparc64 = sparc-width s
-machine-width Rustc s _ = refl
+machine-width : (rule : MachineRule) (s : OperatingSystem) (e : Environment) (a : Architecture) → architecture_width (machine_by rule s e a) ≡ architecture_width a
+machine-width Order s e architecture.X86_64 = refl
+machine-width Order s e _ = refl
+machine-width Version s e architecture.X86_64 = refl
+machine-width Version s e _ = refl
+machine-width Alpine s e architecture.X86_64 = refl
+machine-width Alpine s e _ = refl
+machine-width Packages s e architecture.X86_64 = refl
+machine-width Packages s e _ = refl
+machine-width Rustc s e (architecture.Riscv32 riscv32.Riscv32) = refl
+machine-width Rustc s e (architecture.Riscv32 _) = refl
+machine-width Rustc s e (architecture.Riscv64 riscv64.Riscv64) = refl
+machine-width Rustc s e (architecture.Riscv64 _) = refl
+machine-width Rustc s e architecture.Sparc64 = sparc-width s
+machine-width Rustc s e _ = refl
 
 library-ilp32 : (e : Environment) → is_ilp32 (unknown_if (is_dropped_abi e) e) ≡ is_ilp32 e
 library-ilp32 environment.Unknown = refl
@@ -209,6 +294,11 @@ linux-ilp32 : (s : OperatingSystem) (e : Environment) → is_ilp32 (abi_on s e) 
 linux-ilp32 operating_system.Linux e = bare-ilp32 e
 linux-ilp32 _ e = library-ilp32 e
 
+both-ilp32 : (s : OperatingSystem) (e : Environment) → is_ilp32 (abi_on_both s e) ≡ is_ilp32 e
+both-ilp32 operating_system.Linux e = bare-ilp32 e
+both-ilp32 operating_system.Windows e = bare-ilp32 e
+both-ilp32 _ e = library-ilp32 e
+
 one_eabi-ilp32 : (e : Environment) → is_ilp32 (one_eabi e) ≡ is_ilp32 e
 one_eabi-ilp32 environment.Eabihf = refl
 one_eabi-ilp32 _ = refl
@@ -221,15 +311,16 @@ abi-ilp32 : (rule : AbiRule) (s : OperatingSystem) (e : Environment) → is_ilp3
 abi-ilp32 Kept s e = refl
 abi-ilp32 Dropped s e = library-ilp32 e
 abi-ilp32 KeptOnLinux s e = linux-ilp32 s e
+abi-ilp32 KeptOnLinuxAndWindows s e = both-ilp32 s e
 abi-ilp32 KeptOnSystems s e = systems-ilp32 s e
 
 pub shape-endianness : (d : Dialect) (t : Values) → endianness (shape d t) ≡ endianness t
 unfolding shape
-shape-endianness d t = machine-endianness (rules_of d).machine t.operating_system t.architecture
+shape-endianness d t = machine-endianness (rules_of d).machine t.operating_system (abi_by (rules_of d).abi t.operating_system t.environment) t.architecture
 
 pub shape-width : (d : Dialect) (t : Values) → pointer_width (shape d t) ≡ pointer_width t
 unfolding shape pointer_width
-shape-width d t = rw (abi-ilp32 (rules_of d).abi t.operating_system t.environment, machine-width (rules_of d).machine t.operating_system t.architecture) refl
+shape-width d t = rw (abi-ilp32 (rules_of d).abi t.operating_system t.environment, machine-width (rules_of d).machine t.operating_system (abi_by (rules_of d).abi t.operating_system t.environment) t.architecture) refl
 
 -- the numbers of a shape
 

@@ -14,7 +14,8 @@ use Rattle.tool_names.specs.declared.tables.Way.{Way}
 use Rattle.tool_names.specs.declared.tables.Way.TheVariants.{Both, Read, Written, NoTriple}
 use Rattle.tool_names.specs.{Dialects.rows_of, Private.is_short_pattern, Tables.Row, Tables.first_row, Wanted.is_wanted}
 use Rattle.tool_names.specs.Patterns.{all_limits, are_within, filled, first_text, rest_of, star, star_count}
-use Rattle.tool_names.specs.StatedVersion.{VersionedNamesAreRead, has_version, is_read, is_versioned_for, shape_to_version, system_to_version, versioned_row}
+use Rattle.tool_names.specs.StatedVersion.{VersionedNamesAreRead, has_places, has_version, is_read, is_versioned_for, may_begin_version, shape_to_version, system_to_version, versioned_row}
+use Rattle.tool_names.specs.Variants.{is_another_target}
 use Rattle.tool_names.specs.ToolNames.{name_meaning, read_or_unknown, row_meaning, system_with, with_numbers}
 use Rattle.tool_names.proofs.Filling.{counted_fits}
 use Rattle.tool_names.proofs.NameLaws.{canonical-at, is_free, named-filled, names_mean_rows, no_special-known, one-system, text-row}
@@ -32,16 +33,18 @@ pub record IsVersioned (d : Dialect) (minor : ℕ) (text : List ℕ) (row : Row)
   pub listed : slice_get (rows_of d) place ≡ Some row
   pub read : is_read row.way ≡ true
   pub text_is : text ≡ row.meaning
-  pub version : has_version minor row.pattern ≡ true
+  pub version : has_places minor row.pattern ≡ true
   pub short : is_short_pattern row.pattern ≡ true
   pub text_short : length text ≤ 64
 
-pub row-versioned : (d : Dialect) (minor : ℕ) (text : List ℕ) (row : Row) → versioned_row (rows_of d) minor text ≡ Some row → IsVersioned d minor text row
-row-versioned d minor text row is =
-    let found = first-at (is_versioned_for minor text) (rows_of d) row is in
-    let parts = and_parts (is_read row.way && bytes_eq text row.meaning) (has_version minor row.pattern) found.2 in
+pub row-versioned : (d : Dialect) (major minor : ℕ) (text : List ℕ) (row : Row) → versioned_row (rows_of d) major minor text ≡ Some row → IsVersioned d minor text row
+unfolding has_version
+row-versioned d major minor text row is =
+    let found = first-at (is_versioned_for major minor text) (rows_of d) row is in
+    let parts = and_parts (is_read row.way && bytes_eq text row.meaning) (has_version major minor row.pattern) found.2 in
     let first = and_parts (is_read row.way) (bytes_eq text row.meaning) parts.0 in
-    let stars = some_star (nat_eq (star_count row.pattern) 2) (nat_eq (star_count row.pattern) 1) (nat_eq minor 0) parts.1 in
+    let version = and_parts (has_places minor row.pattern) (may_begin_version major row.pattern) parts.1 in
+    let stars = some_star (nat_eq (star_count row.pattern) 2) (nat_eq (star_count row.pattern) 1) (nat_eq minor 0) version.0 in
     let form : has_short_version row ≡ true = all-at has_short_version (rows_of d) found.0 row (rows-pass d).versions_short found.1 in
     let sizes : (is_short_pattern row.pattern && nat_le (length row.meaning) 64) ≡ true = rw (first.0, stars) at form in
     let short = and_parts (is_short_pattern row.pattern) (nat_le (length row.meaning) 64) sizes in
@@ -51,7 +54,7 @@ row-versioned d minor text row is =
       listed = found.1;
       read = first.0;
       text_is = same;
-      version = parts.1;
+      version = version.0;
       short = short.0;
       text_short = omega (arith, ap length same, leb-true (length row.meaning) 64 short.1);
     }
@@ -60,7 +63,7 @@ row-versioned d minor text row is =
 
 short-row : (d : Dialect) (w : Wanted) (text : List ℕ) (row : Row) → first_row (is_wanted w text) (rows_of d) ≡ Some row → (is_short_pattern row.pattern ≡ true) × (length text ≤ 64)
 short-row d (wanted.Written numbers) text row is = let found = row-written d numbers text row is in (found.short, found.text_short)
-short-row d (wanted.Versioned minor) text row is = let found = row-versioned d minor text row is in (found.short, found.text_short)
+short-row d (wanted.Versioned major minor) text row is = let found = row-versioned d major minor text row is in (found.short, found.text_short)
 
 pub long-unwanted : (d : Dialect) (w : Wanted) (text : List ℕ) → 64 < length text → first_row (is_wanted w text) (rows_of d) ≡ None
 long-unwanted d w text long = by_row (first_row (is_wanted w text) (rows_of d)) refl
@@ -132,7 +135,7 @@ versioned-means round_trip d t minor row numbers it counted within =
     ∙ ap (λ r. with_numbers numbers (read_or_unknown r)) reads
 
 pub versioned_read : RoundIsNormalStep → VersionedNamesAreRead
-versioned_read round_trip d t major minor name small_major small_minor is = by_row (versioned_row (rows_of d) minor (text_of (shape_to_version d t))) refl is
+versioned_read round_trip d t major minor name small_major small_minor is = by_vendor (is_another_target t.vendor) is
   where
     u : Values
     u = shape_to_version d t
@@ -150,11 +153,16 @@ versioned_read round_trip d t major minor name small_major small_minor is = by_r
     by_stars row it false true false two_is one_is zero_is h = absurd cc
     by_stars row it false false zero two_is one_is zero_is h = absurd cc
 
-    by_row : (o : Option Row) → versioned_row (rows_of d) minor (text_of u) ≡ o → option_map (λ (row : Row). filled row.pattern (major ∷ minor ∷ [])) o ≡ Some name
+    by_row : (o : Option Row) → versioned_row (rows_of d) major minor (text_of u) ≡ o → option_map (λ (row : Row). filled row.pattern (major ∷ minor ∷ [])) o ≡ Some name
         → name_meaning d name ≡ Ok (record u { operating_system = system_with (major ∷ minor ∷ []) u.operating_system })
     by_row None found h = absurd cc
     by_row (Some row) found h =
-        let it = row-versioned d minor (text_of u) row found in
+        let it = row-versioned d major minor (text_of u) row found in
         let same : filled row.pattern (major ∷ minor ∷ []) ≡ name = cc in
         subst (λ n. name_meaning d n ≡ Ok (record u { operating_system = system_with (major ∷ minor ∷ []) u.operating_system })) same
         (by_stars row it (nat_eq (star_count row.pattern) 2) (nat_eq (star_count row.pattern) 1) (nat_eq minor 0) refl refl refl it.version)
+
+    by_vendor : (another : Bool) → cond another None (option_map (λ (row : Row). filled row.pattern (major ∷ minor ∷ [])) (versioned_row (rows_of d) major minor (text_of u))) ≡ Some name
+        → name_meaning d name ≡ Ok (record u { operating_system = system_with (major ∷ minor ∷ []) u.operating_system })
+    by_vendor true h = absurd cc
+    by_vendor false h = by_row (versioned_row (rows_of d) major minor (text_of u)) refl h

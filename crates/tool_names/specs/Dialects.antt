@@ -68,16 +68,16 @@ dialect_of name = value_named (named_values dialect_name dialects ++ other_diale
 -- what names state in a dialect
 abbrev pub rules_of : Dialect → Rules
 -- written by tools/names/write: rules_of
-rules_of dialect.Debian = record { machine = machine.Order; abi = abi.Kept; versions = false; tags = false; spelled = false; platforms = false }
+rules_of dialect.Debian = record { machine = machine.Packages; abi = abi.Kept; versions = false; tags = false; spelled = false; platforms = false }
 rules_of dialect.Go = record { machine = machine.Order; abi = abi.Dropped; versions = false; tags = false; spelled = false; platforms = false }
 rules_of dialect.Oci = record { machine = machine.Version; abi = abi.Dropped; versions = false; tags = false; spelled = false; platforms = true }
-rules_of dialect.Node = record { machine = machine.Order; abi = abi.KeptOnLinux; versions = false; tags = false; spelled = false; platforms = false }
+rules_of dialect.Node = record { machine = machine.Packages; abi = abi.KeptOnLinuxAndWindows; versions = false; tags = false; spelled = false; platforms = false }
 rules_of dialect.Gnu = record { machine = machine.Order; abi = abi.KeptOnSystems; versions = false; tags = false; spelled = true; platforms = false }
 rules_of dialect.Python = record { machine = machine.Version; abi = abi.Dropped; versions = true; tags = true; spelled = false; platforms = false }
 rules_of dialect.Rust = record { machine = machine.Rustc; abi = abi.Kept; versions = false; tags = false; spelled = false; platforms = false }
 rules_of dialect.Uname = record { machine = machine.Version; abi = abi.Dropped; versions = false; tags = false; spelled = false; platforms = false }
 rules_of dialect.Rpm = record { machine = machine.Version; abi = abi.Kept; versions = false; tags = false; spelled = false; platforms = false }
-rules_of dialect.Apk = record { machine = machine.Version; abi = abi.Kept; versions = false; tags = false; spelled = false; platforms = false }
+rules_of dialect.Apk = record { machine = machine.Alpine; abi = abi.Kept; versions = false; tags = false; spelled = false; platforms = false }
 rules_of dialect.Pacman = record { machine = machine.Version; abi = abi.Kept; versions = false; tags = false; spelled = false; platforms = false }
 rules_of dialect.Dotnet = record { machine = machine.Version; abi = abi.KeptOnLinux; versions = false; tags = false; spelled = false; platforms = false }
 rules_of dialect.Conda = record { machine = machine.Version; abi = abi.KeptOnLinux; versions = false; tags = false; spelled = false; platforms = false }
@@ -89,7 +89,7 @@ rules_of dialect.Nix = record { machine = machine.Version; abi = abi.Dropped; ve
 -- the tables of a dialect, in the order in which they are tried
 abbrev pub tables_of : Dialect → List (List Row)
 -- written by tools/names/write: tables_of
-tables_of dialect.Debian = constant_rows debian.ROWS ∷ constant_rows debian.ROWS_2 ∷ constant_rows debian.ROWS_3 ∷ []
+tables_of dialect.Debian = constant_rows debian.ROWS ∷ constant_rows debian.ROWS_2 ∷ []
 tables_of dialect.Go = constant_rows go.ROWS ∷ constant_rows go.ROWS_2 ∷ []
 tables_of dialect.Oci = constant_rows oci.ROWS ∷ constant_rows oci.ROWS_2 ∷ []
 tables_of dialect.Node = constant_rows node.ROWS ∷ constant_rows node.ROWS_2 ∷ constant_rows node.ROWS_3 ∷ []
@@ -102,7 +102,7 @@ tables_of dialect.Apk = constant_rows apk.ROWS ∷ []
 tables_of dialect.Pacman = constant_rows pacman.ROWS ∷ []
 tables_of dialect.Dotnet = constant_rows dotnet.ROWS ∷ constant_rows dotnet.ROWS_2 ∷ []
 tables_of dialect.Conda = constant_rows conda.ROWS ∷ []
-tables_of dialect.Zig = constant_rows zig.ROWS ∷ constant_rows zig.ROWS_2 ∷ []
+tables_of dialect.Zig = constant_rows zig.ROWS ∷ constant_rows zig.ROWS_2 ∷ constant_rows zig.ROWS_3 ∷ []
 tables_of dialect.Nix = constant_rows nix.ROWS ∷ []
 
 -- end of what is written

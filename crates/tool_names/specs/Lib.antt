@@ -13,5 +13,5 @@ pub mod Spelling
 pub mod StatedVersion
 pub mod Tables
 pub mod ToolNames
-pub mod Translation
+pub mod Variants
 pub mod Wanted

@@ -13,7 +13,7 @@ use Rattle.tool_names.specs.{declared.rules.Form.Form, declared.rules.Place.Plac
 use Rattle.tool_names.specs.declared.rules.Place.TheVariants as place
 use Rattle.tool_names.specs.declared.rules.TheConstants as code
 use Rattle.tool_names.specs.Platforms.{Words}
-use Rattle.tool_names.specs.{Patterns.plain_number, Patterns.rest_of, Patterns.star, Tables.Row, Tables.plain_row}
+use Rattle.tool_names.specs.{Patterns.plain_number, Patterns.rest_of, Patterns.star, Tables.Range, Tables.Row, Tables.plain_row}
 use Rattle.tool_names.specs.Spelling.{Rule, Standing, first_rule, fits, is_known_at, may_stand, rules_in, macosx_name, SpelledName, SpelledPart, names_by, names_of, spelled_by}
 
 -- a table in the code as a list of pairs
@@ -47,6 +47,10 @@ begin_alike _ _ = true
 
 abbrev pub may_fit : Standing → Rule → List ℕ → Bool
 may_fit at rule part = begin_alike rule.part part && may_stand rule.place at
+
+-- a range of versions in the code
+abbrev pub plain_range : Bor (List ℕ) × ℕ × ℕ → Range
+plain_range row = record { text = row.0.now; least = row.1; most = row.2 }
 
 -- these names, if a test holds
 abbrev pub names_if : Bool → List (List ℕ) → Option (List (List ℕ))

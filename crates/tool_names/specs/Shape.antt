@@ -4,7 +4,8 @@
 use Rattle.std.specs.Prelude.{Bool, true, false, None, option_map, if◌then◌else◌}
 use Rattle.lexicon_fields.specs.{declared.architecture.arm.ArmArchitecture.ArmArchitecture, declared.deployment_target.DeploymentTarget.DeploymentTarget, declared.known_vendor.KnownVendor.KnownVendor}
 use Rattle.lexicon_fields.specs.declared.known_vendor.KnownVendor.TheVariants as vendor
-use Rattle.lexicon_fields.specs.declared.architecture.x86_32.X86_32Architecture.TheVariants.{I686}
+use Rattle.lexicon_fields.specs.declared.architecture.x86_32.X86_32Architecture.{X86_32Architecture}
+use Rattle.lexicon_fields.specs.declared.architecture.x86_32.X86_32Architecture.TheVariants.{I386, I586, I686}
 use Rattle.lexicon_fields.specs.declared.architecture.riscv.Riscv64Architecture.TheVariants as riscv64
 use Rattle.target_lexicon.specs.Values.{Architecture, OperatingSystem, Environment, Known, Values, values}
 use Rattle.target_lexicon.specs.Values.architecture
@@ -60,20 +61,83 @@ abbrev pub machine_of_version : Architecture → Architecture
 machine_of_version (architecture.Arm a) = architecture.Arm (arm_of_version a)
 machine_of_version a = unversioned_machine a
 
--- the Arm by which rustc names a target. On Linux its `arm` is Armv6, and Armv8 in 32 bits runs programs of Armv7; on Windows
--- each Arm is `thumbv7a`
-abbrev pub arm_of_linux : ArmArchitecture → ArmArchitecture
-arm_of_linux arm.Armv6 = arm.Arm
-arm_of_linux arm.Armv6j = arm.Arm
-arm_of_linux arm.Armv6k = arm.Arm
-arm_of_linux arm.Armv6z = arm.Arm
-arm_of_linux arm.Armv6kz = arm.Arm
-arm_of_linux arm.Armv6t2 = arm.Arm
-arm_of_linux arm.Armv7a = arm.Armv7
-arm_of_linux arm.Armv7ve = arm.Armv7
-arm_of_linux arm.Armv8 = arm.Armv7
-arm_of_linux arm.Armv8a = arm.Armv7
-arm_of_linux a = a
+-- Alpine builds its packages of x86 for the i586; they run on an i686 too
+abbrev pub x86_of_alpine : X86_32Architecture → X86_32Architecture
+x86_of_alpine I386 = I386
+x86_of_alpine _ = I586
+
+abbrev pub machine_of_alpine : Architecture → Architecture
+machine_of_alpine (architecture.X86_32 x) = architecture.X86_32 (x86_of_alpine x)
+machine_of_alpine a = machine_of_version a
+
+-- what packages with floating-point registers are built for: Armv7. They run on Armv8 too, and on no Armv6. An Arm without a
+-- version is that of the tool
+abbrev pub arm_of_hard_floats : ArmArchitecture → ArmArchitecture
+arm_of_hard_floats arm.Arm = arm.Armv7
+arm_of_hard_floats arm.Armv7a = arm.Armv7
+arm_of_hard_floats arm.Armv7ve = arm.Armv7
+arm_of_hard_floats arm.Thumbv7a = arm.Armv7
+arm_of_hard_floats arm.Thumbv7neon = arm.Armv7
+arm_of_hard_floats arm.Armv8 = arm.Armv7
+arm_of_hard_floats arm.Armv8a = arm.Armv7
+arm_of_hard_floats a = a
+
+-- and without floating-point registers: Armv5, which runs on Armv6 to Armv8 too
+abbrev pub armv5_of : ArmArchitecture → ArmArchitecture
+armv5_of arm.Arm = arm.Armv5te
+armv5_of arm.Armv6 = arm.Armv5te
+armv5_of arm.Armv7 = arm.Armv5te
+armv5_of arm.Armv8 = arm.Armv5te
+armv5_of a = a
+
+abbrev pub arm_of_soft_floats : ArmArchitecture → ArmArchitecture
+arm_of_soft_floats a = armv5_of (arm_of_version a)
+
+-- the Arm that packages of an environment are built for; without a floating-point ABI it is one for each byte order
+abbrev pub arm_of_packages : Environment → ArmArchitecture → ArmArchitecture
+arm_of_packages environment.Gnueabihf a = arm_of_hard_floats a
+arm_of_packages environment.Musleabihf a = arm_of_hard_floats a
+arm_of_packages environment.Uclibceabihf a = arm_of_hard_floats a
+arm_of_packages environment.Gnueabi a = arm_of_soft_floats a
+arm_of_packages environment.Musleabi a = arm_of_soft_floats a
+arm_of_packages environment.Uclibceabi a = arm_of_soft_floats a
+arm_of_packages _ a = arm_of_order a
+
+abbrev pub machine_of_packages : Environment → Architecture → Architecture
+machine_of_packages e (architecture.Arm a) = architecture.Arm (arm_of_packages e a)
+machine_of_packages e a = unversioned_machine a
+
+-- the Arm by which rustc names a target. On Linux its `arm` is Armv6, except on Android, where it is older, and Armv8 in 32
+-- bits runs programs of Armv7; on Windows each Arm is `thumbv7a`
+abbrev pub arm_of_gnu : ArmArchitecture → ArmArchitecture
+arm_of_gnu arm.Arm = arm.Armv6
+arm_of_gnu arm.Armv6j = arm.Armv6
+arm_of_gnu arm.Armv6k = arm.Armv6
+arm_of_gnu arm.Armv6z = arm.Armv6
+arm_of_gnu arm.Armv6kz = arm.Armv6
+arm_of_gnu arm.Armv6t2 = arm.Armv6
+arm_of_gnu arm.Armv7a = arm.Armv7
+arm_of_gnu arm.Armv7ve = arm.Armv7
+arm_of_gnu arm.Armv8 = arm.Armv7
+arm_of_gnu arm.Armv8a = arm.Armv7
+arm_of_gnu a = a
+
+abbrev pub arm_of_android : ArmArchitecture → ArmArchitecture
+arm_of_android arm.Armv6 = arm.Arm
+arm_of_android arm.Armv6j = arm.Arm
+arm_of_android arm.Armv6k = arm.Arm
+arm_of_android arm.Armv6z = arm.Arm
+arm_of_android arm.Armv6kz = arm.Arm
+arm_of_android arm.Armv6t2 = arm.Arm
+arm_of_android arm.Armv7a = arm.Armv7
+arm_of_android arm.Armv7ve = arm.Armv7
+arm_of_android arm.Armv8 = arm.Armv7
+arm_of_android arm.Armv8a = arm.Armv7
+arm_of_android a = a
+
+abbrev pub arm_of_linux : Environment → ArmArchitecture → ArmArchitecture
+arm_of_linux environment.Androideabi a = arm_of_android a
+arm_of_linux _ a = arm_of_gnu a
 
 abbrev pub arm_of_windows : ArmArchitecture → ArmArchitecture
 arm_of_windows arm.Arm = arm.Thumbv7a
@@ -81,28 +145,30 @@ arm_of_windows arm.Armv7 = arm.Thumbv7a
 arm_of_windows arm.Armv7a = arm.Thumbv7a
 arm_of_windows a = a
 
-abbrev pub arm_of_rustc : OperatingSystem → ArmArchitecture → ArmArchitecture
-arm_of_rustc operating_system.Linux a = arm_of_linux a
-arm_of_rustc operating_system.Windows a = arm_of_windows a
-arm_of_rustc _ a = a
+abbrev pub arm_of_rustc : OperatingSystem → Environment → ArmArchitecture → ArmArchitecture
+arm_of_rustc operating_system.Linux e a = arm_of_linux e a
+arm_of_rustc operating_system.Windows e a = arm_of_windows a
+arm_of_rustc _ e a = a
 
 abbrev pub sparc_of_rustc : OperatingSystem → Architecture
 sparc_of_rustc operating_system.Solaris = architecture.Sparcv9
 sparc_of_rustc _ = architecture.Sparc64
 
 -- the architecture by which rustc names a target
-abbrev pub machine_of_rustc : OperatingSystem → Architecture → Architecture
-machine_of_rustc s (architecture.Arm a) = architecture.Arm (arm_of_rustc s a)
-machine_of_rustc s (architecture.Riscv32 riscv32.Riscv32) = architecture.Riscv32 riscv32.Riscv32gc
-machine_of_rustc s (architecture.Riscv64 riscv64.Riscv64) = architecture.Riscv64 riscv64.Riscv64gc
-machine_of_rustc s architecture.Sparc64 = sparc_of_rustc s
-machine_of_rustc s a = a
+abbrev pub machine_of_rustc : OperatingSystem → Environment → Architecture → Architecture
+machine_of_rustc s e (architecture.Arm a) = architecture.Arm (arm_of_rustc s e a)
+machine_of_rustc s e (architecture.Riscv32 riscv32.Riscv32) = architecture.Riscv32 riscv32.Riscv32gc
+machine_of_rustc s e (architecture.Riscv64 riscv64.Riscv64) = architecture.Riscv64 riscv64.Riscv64gc
+machine_of_rustc s e architecture.Sparc64 = sparc_of_rustc s
+machine_of_rustc s e a = a
 
--- the architecture without what isn't stated
-abbrev pub machine_by : MachineRule → OperatingSystem → Architecture → Architecture
-machine_by machine.Order s a = machine_of_order a
-machine_by machine.Version s a = machine_of_version a
-machine_by machine.Rustc s a = machine_of_rustc s a
+-- the architecture without what isn't stated, where names state this environment
+abbrev pub machine_by : MachineRule → OperatingSystem → Environment → Architecture → Architecture
+machine_by machine.Order s e a = machine_of_order a
+machine_by machine.Version s e a = machine_of_version a
+machine_by machine.Alpine s e a = machine_of_alpine a
+machine_by machine.Packages s e a = machine_of_packages e a
+machine_by machine.Rustc s e a = machine_of_rustc s e a
 
 -- the system without a version; macOS has one name
 abbrev pub unversioned : OperatingSystem → OperatingSystem
@@ -177,6 +243,12 @@ abbrev pub abi_on : OperatingSystem → Environment → Environment
 abi_on operating_system.Linux e = unknown_if (is_bare_abi e) e
 abi_on _ e = unknown_if (is_dropped_abi e) e
 
+-- so does Windows
+abbrev pub abi_on_both : OperatingSystem → Environment → Environment
+abi_on_both operating_system.Linux e = unknown_if (is_bare_abi e) e
+abi_on_both operating_system.Windows e = unknown_if (is_bare_abi e) e
+abi_on_both _ e = unknown_if (is_dropped_abi e) e
+
 -- without a system the two embedded ABIs are one
 abbrev pub one_eabi : Environment → Environment
 one_eabi environment.Eabihf = environment.Eabi
@@ -191,12 +263,14 @@ abbrev pub abi_by : AbiRule → OperatingSystem → Environment → Environment
 abi_by abi.Kept s e = e
 abi_by abi.Dropped s e = unknown_if (is_dropped_abi e) e
 abi_by abi.KeptOnLinux s e = abi_on s e
+abi_by abi.KeptOnLinuxAndWindows s e = abi_on_both s e
 abi_by abi.KeptOnSystems s e = abi_on_systems s e
 
 abbrev pub shape_by : Rules → Values → Values
 shape_by rules t =
-    values (machine_by rules.machine t.operating_system t.architecture) (Known (usual_vendor t.operating_system)) (system_by rules.versions t.operating_system)
-    (abi_by rules.abi t.operating_system t.environment) t.binary_format
+    let e = abi_by rules.abi t.operating_system t.environment in
+    values (machine_by rules.machine t.operating_system e t.architecture) (Known (usual_vendor t.operating_system)) (system_by rules.versions t.operating_system)
+    e t.binary_format
 
 -- the shape of a triple
 unfoldable pub shape : Dialect → Values → Values

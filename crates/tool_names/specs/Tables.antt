@@ -15,6 +15,16 @@ pub record Row : Type 0 where
 abbrev pub Text : Type 0
 Text = record { now : List ℕ }
 
+-- the first numbers that versions may have in names with patterns that begin or end with a text: versions of glibc are 2.x
+pub record Range : Type 0 where
+  pub text : List ℕ
+  pub least : ℕ
+  pub most : ℕ
+
+-- the ranges of a constant
+abbrev pub ranges_in : List (Text × ℕ × ℕ) → List Range
+ranges_in rows = map (λ (row : Text × ℕ × ℕ). record { text = row.0.now; least = row.1; most = row.2 }) rows
+
 -- the rows of a constant, and those of a slice
 abbrev pub constant_rows : List (Text × Text × Way) → List Row
 constant_rows rows = map (λ (row : Text × Text × Way). record { pattern = row.0.now; meaning = row.1.now; way = row.2 }) rows

@@ -1,5 +1,5 @@
 -- What a name of a dialect means, and the name of a triple in a dialect.
-use Rattle.std.specs.Prelude.{ℕ, Bool, true, false, List, [], ◌∷◌, Option, Some, None, Result, Ok, Err, length, take, option_map}
+use Rattle.std.specs.Prelude.{ℕ, Bool, true, false, List, [], ◌∷◌, Option, Some, None, Result, Ok, Err, length, take, option_map, if◌then◌else◌}
 use Rattle.lexicon_fields.specs.declared.deployment_target.DeploymentTarget.{DeploymentTarget}
 use Rattle.target_lexicon.specs.{declared.triple_ref.TripleRef.TripleRef, GreedyReading.reading, Printing.text_of, Refusal.Refusal, Values.OperatingSystem, Values.Values, ValuesRef.values_of_ref}
 use Rattle.target_lexicon.specs.Values.operating_system
@@ -12,6 +12,7 @@ use Rattle.tool_names.specs.declared.shape.Rules.{Rules}
 use Rattle.tool_names.specs.Patterns.{filled}
 use Rattle.tool_names.specs.Platforms.{normal_words, row_with_words, words_of}
 use Rattle.tool_names.specs.Tables.{Row, row_for, row_named}
+use Rattle.tool_names.specs.Variants.{is_another_target}
 
 -- why a name isn't read: it isn't known, or it has no triple, for this reason
 pub data Unread : Type 0 where
@@ -109,9 +110,9 @@ shape_row d s = row_for (rows_of d) (length (numbers_in s.operating_system)) (te
 abbrev pub shape_name : Dialect → Values → Option (List ℕ)
 shape_name d s = option_map (λ (row : Row). filled row.pattern (numbers_in s.operating_system)) (shape_row d s)
 
--- the name of a triple: that of its shape
+-- the name of a triple: that of its shape; none if its vendor says that the target is another one
 unfoldable pub triple_name : Dialect → Values → Option (List ℕ)
-triple_name d t = shape_name d (shape d t)
+triple_name d t = if is_another_target t.vendor then None else shape_name d (shape d t)
 
 abbrev pub name_bytes : Name → List ℕ
 name_bytes name = take name.length name.bytes

@@ -7,4 +7,4 @@ use Rattle.tool_names.specs.{StatedVersion.is_versioned_for, Tables.Row, Tables.
 -- whether a row is wanted for a triple's string
 abbrev pub is_wanted : Wanted → List ℕ → Row → Bool
 is_wanted (wanted.Written numbers) = is_written_for numbers
-is_wanted (wanted.Versioned minor) = is_versioned_for minor
+is_wanted (wanted.Versioned major minor) = is_versioned_for major minor

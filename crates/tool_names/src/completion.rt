@@ -1,4 +1,4 @@
-//! The environment that a C library gives to a triple of Linux.
+//! The environment that a C library gives to a triple of Linux or Windows.
 ghost use Rattle.std.specs.Prelude.{◌≡◌, Some};
 ghost use Rattle.lexicon_fields.specs.Names.{MatchesLookup};
 ghost use Rattle.target_lexicon.specs.ValuesRef.{values_of_ref};
@@ -10,7 +10,7 @@ use std::fmt;
 use std::str::FromStr;
 use target_lexicon::{Architecture, ArmArchitecture, Environment, OperatingSystem, TripleRef};
 
-/// A C library of Linux, which gives a triple its environment: [`complete`].
+/// A C library of Linux or Windows, which gives a triple its environment: [`complete`]. On Windows it is an ABI too.
 ///
 /// # Examples
 ///
@@ -26,6 +26,12 @@ pub enum LinuxLibc {
     Glibc,
     /// musl, as Alpine has it.
     Musl,
+    /// Microsoft's, with the ABI of Visual C++.
+    Msvc,
+    /// MinGW's, with the ABI of GNU's tools.
+    Mingw,
+    /// MinGW's, with the tools of LLVM.
+    Gnullvm,
 }
 
 impl LinuxLibc {
@@ -42,6 +48,9 @@ impl LinuxLibc {
         match self {
             LinuxLibc::Glibc => "glibc",
             LinuxLibc::Musl => "musl",
+            LinuxLibc::Msvc => "msvc",
+            LinuxLibc::Mingw => "mingw",
+            LinuxLibc::Gnullvm => "gnullvm",
         }
     }
 
@@ -52,20 +61,40 @@ impl LinuxLibc {
         look_up(&C_LIBRARIES, name).ok_or(())
     }
 
+    /// Whether the C library is one of the system.
+    fn is_of(self, operating_system: OperatingSystem) -> bool
+        ensures { result ≡ spec.is_of self operating_system }
+    {
+        match self {
+            LinuxLibc::Glibc | LinuxLibc::Musl => {
+                matches!(operating_system, OperatingSystem::Linux)
+            }
+            _ => matches!(operating_system, OperatingSystem::Windows),
+        }
+    }
+
     /// The usual environment on an architecture.
     fn environment(self, architecture: Architecture) -> Environment
         ensures { result ≡ spec.usual_environment self architecture }
     {
-        match (self, architecture) {
-            (_, Architecture::Arm(arm)) => self.arm_environment(arm_of_version(arm)),
-            (LinuxLibc::Glibc, Architecture::Mips64(_)) => Environment::Gnuabi64,
-            (LinuxLibc::Musl, Architecture::Mips64(_)) => Environment::Muslabi64,
-            (LinuxLibc::Glibc, _) => Environment::Gnu,
-            (LinuxLibc::Musl, _) => Environment::Musl,
+        match self {
+            LinuxLibc::Msvc => Environment::Msvc,
+            LinuxLibc::Mingw => Environment::Gnu,
+            LinuxLibc::Gnullvm => Environment::GnuLlvm,
+            LinuxLibc::Glibc => match architecture {
+                Architecture::Arm(arm) => self.arm_environment(arm_of_version(arm)),
+                Architecture::Mips64(_) => Environment::Gnuabi64,
+                _ => Environment::Gnu,
+            },
+            LinuxLibc::Musl => match architecture {
+                Architecture::Arm(arm) => self.arm_environment(arm_of_version(arm)),
+                Architecture::Mips64(_) => Environment::Muslabi64,
+                _ => Environment::Musl,
+            },
         }
     }
 
-    /// The usual environment on an Arm, which is taken by its version.
+    /// The usual environment on an Arm of Linux, which is taken by its version.
     fn arm_environment(self, arm: ArmArchitecture) -> Environment
         ensures { result ≡ spec.arm_environment self arm }
     {
@@ -74,24 +103,27 @@ impl LinuxLibc {
             | ArmArchitecture::Armv6
             | ArmArchitecture::Armv7
             | ArmArchitecture::Armv8 => match self {
-                LinuxLibc::Glibc => Environment::Gnueabihf,
                 LinuxLibc::Musl => Environment::Musleabihf,
+                _ => Environment::Gnueabihf,
             },
             ArmArchitecture::Armv5te => match self {
-                LinuxLibc::Glibc => Environment::Gnueabi,
                 LinuxLibc::Musl => Environment::Musleabi,
+                _ => Environment::Gnueabi,
             },
             _ => match self {
-                LinuxLibc::Glibc => Environment::Gnu,
                 LinuxLibc::Musl => Environment::Musl,
+                _ => Environment::Gnu,
             },
         }
     }
 }
 
-static C_LIBRARIES: [(&str, LinuxLibc); 2] = [
+static C_LIBRARIES: [(&str, LinuxLibc); 5] = [
     ("glibc", LinuxLibc::Glibc),
     ("musl", LinuxLibc::Musl),
+    ("msvc", LinuxLibc::Msvc),
+    ("mingw", LinuxLibc::Mingw),
+    ("gnullvm", LinuxLibc::Gnullvm),
 ];
 
 impl FromStr for LinuxLibc {
@@ -114,14 +146,15 @@ impl fmt::Display for LinuxLibc {
     }
 }
 
-/// The triple with the usual environment of a C library, if it is of Linux and its environment is unknown. Every other
-/// triple is returned as it is. Nothing is allocated.
+/// The triple with the usual environment of a C library, if it is of the library's system and its environment is unknown.
+/// Every other triple is returned as it is, so that a list of targets may be completed for Linux and then for Windows.
+/// Nothing is allocated.
 ///
 /// Names of Go, OCI and Python don't state the C library, so that what they mean has no name of Debian, of GNU or of
 /// rustc. Nothing is guessed: the caller says which C library it is. With glibc the environment is `gnueabihf` on `arm`,
 /// `armv6`, `armv7` and `armv8`, `gnueabi` on `armv5te`, `gnuabi64` on 64-bit MIPS, and `gnu` on every other architecture;
 /// with musl it is `musleabihf`, `musleabi`, `muslabi64` or `musl`. A name of one Arm that stands for a version, such as
-/// `armv7a`, counts as that version.
+/// `armv7a`, counts as that version. On Windows it is `msvc`, with MinGW `gnu`, and with that of LLVM's tools `gnullvm`.
 ///
 /// # Examples
 ///
@@ -148,7 +181,7 @@ pub fn complete<'a>(triple: &TripleRef<'a>, c_library: LinuxLibc) -> TripleRef<'
     }
 }
 
-/// The environment, which is the usual one if it is unknown, on Linux.
+/// The environment, which is the usual one if it is unknown, on the library's system.
 fn completed_environment(
     c_library: LinuxLibc,
     architecture: Architecture,
@@ -157,8 +190,14 @@ fn completed_environment(
 ) -> Environment
     ensures { result ≡ spec.environment_with c_library architecture operating_system environment }
 {
-    match (operating_system, environment) {
-        (OperatingSystem::Linux, Environment::Unknown) => c_library.environment(architecture),
+    match environment {
+        Environment::Unknown => {
+            if c_library.is_of(operating_system) {
+                c_library.environment(architecture)
+            } else {
+                Environment::Unknown
+            }
+        }
         _ => environment,
     }
 }

@@ -123,12 +123,12 @@ pub fn names_keep_answers()
     round_is_normal_step();
 }
 
-/// Completion changes only the environment, and only an unknown one on Linux; that it makes known.
+/// Completion changes only the environment, and only an unknown one on the library's system; that it makes known.
 pub fn completion_fills_only_a_gap()
     ensures { CompletionFillsOnlyAGap }
 {}
 
-/// A completed triple stays, whatever C library comes after.
+/// A completed triple stays, whatever C library comes after. A C library of another system changes nothing.
 pub fn completed_triples_stay()
     ensures { CompletedTriplesStay }
 {}

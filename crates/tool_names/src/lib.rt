@@ -22,7 +22,7 @@ mod spelling;
 mod stated_version;
 mod systems;
 mod tables;
-mod translation;
+mod variant;
 
 pub use change::{Change, ChangedParts, changes};
 pub use completion::{LinuxLibc, complete};
@@ -32,4 +32,3 @@ pub use name::Name;
 pub use names::NameError;
 pub use reading::read;
 pub use spelling::Spelling;
-pub use translation::{TranslateError, WriteError};

@@ -1,7 +1,10 @@
 //! Names that state a version which triples don't have.
-ghost use Rattle.std.specs.Prelude.{◌≡◌, option_map};
+ghost use Rattle.std.specs.Prelude.{◌≡◌, map, option_map};
+ghost use Rattle.std.specs.List.{list_any};
 ghost use Rattle.target_lexicon.specs.ValuesRef.{values_of_ref};
+ghost use Rattle.tool_names.specs.Private.{plain_range};
 ghost use Rattle.tool_names.specs.StatedVersion as spec;
+ghost use Rattle.tool_names.specs.Tables.{ranges_in};
 ghost use Rattle.tool_names.specs.ToolNames.{name_bytes};
 
 use crate::dialect::Dialect;
@@ -10,13 +13,15 @@ use crate::names::Wanted;
 use crate::pattern::{Numbers, star_count};
 use crate::shape::{AbiRule, Rules, unversioned};
 use crate::tables::Way;
+use crate::variant::is_another_target;
 use target_lexicon::{OperatingSystem, TripleRef};
 
 impl Dialect {
     /// The name in this dialect that states a version which triples don't have: `manylinux_2_17_x86_64` of glibc 2.17,
     /// `musllinux_1_2_aarch64` of musl 1.2, `macosx_11_0_arm64` of macOS 11.0, also for `darwin`, or `android_21_x86_64` of
     /// Android's API level 21, which has no second number: 0 is passed. `None` if no name that [`read`](Dialect::read) knows
-    /// has such a version and means the triple. Nothing is allocated.
+    /// has such a version and means the triple. A version is one of the system or C library: that of glibc is 2.x, that of
+    /// musl 1.x, and that of macOS 10.x or a later one. Nothing is allocated.
     ///
     /// # Examples
     ///
@@ -31,7 +36,13 @@ impl Dialect {
         ensures { option_map name_bytes result
             ≡ spec.versioned_name self (values_of_ref triple.now) major minor }
     {
-        let pattern = self.pattern_for(Wanted::Versioned(minor), &self.shape_to_version(triple))?;
+        if is_another_target(triple.vendor) {
+            return None;
+        }
+        let pattern = self.pattern_for(
+            Wanted::Versioned(major, minor),
+            &self.shape_to_version(triple),
+        )?;
         Some(Name::filled(pattern, Numbers::Two(major, minor)))
     }
 
@@ -66,13 +77,83 @@ pub(crate) fn is_read(way: Way) -> bool
     matches!(way, Way::Both | Way::Read)
 }
 
-/// Whether a pattern has a place for both numbers of a version, or for the first, if the second is 0.
-pub(crate) fn has_version(minor: u8, pattern: &str) -> bool
-    ensures { result ≡ spec.has_version minor pattern.now }
+/// Whether names with a pattern may have a version.
+pub(crate) fn has_version(major: u16, minor: u8, pattern: &str) -> bool
+    ensures { result ≡ spec.has_version major minor pattern.now }
 {
-    match star_count(pattern.as_bytes()) {
+    has_places(minor, pattern.as_bytes()) && may_begin_version(major, pattern.as_bytes())
+}
+
+/// Whether a pattern has a place for both numbers of a version, or for the first, if the second is 0.
+fn has_places(minor: u8, pattern: &[u8]) -> bool
+    ensures { result ≡ spec.has_places minor pattern.now }
+{
+    match star_count(pattern) {
         2 => true,
         1 => minor == 0,
         _ => false,
     }
 }
+
+/// Whether a version in names with a pattern may have this first number.
+fn may_begin_version(major: u16, pattern: &[u8]) -> bool
+    ensures { result ≡ spec.may_begin_version major pattern.now }
+{
+    is_in_one(version_ranges(), major, pattern)
+}
+
+/// Whether the number is in one of these ranges.
+fn is_in_one(ranges: &[Range], major: u16, pattern: &[u8]) -> bool
+    ensures { result
+        ≡ list_any (λ range. spec.is_in_range major pattern.now (plain_range range)) ranges.now }
+{
+    ranges
+        .iter()
+        .any(|range| is_in_range(major, pattern, *range))
+}
+
+/// The ranges, with the texts that patterns begin or end with.
+fn version_ranges() -> &'static [Range]
+    ensures { map plain_range result.now ≡ ranges_in VERSION_RANGES }
+{
+    &VERSION_RANGES
+}
+
+/// A text that patterns begin or end with, the least first number of a version, and the most.
+type Range = (&'static str, u16, u16);
+
+fn is_in_range(major: u16, pattern: &[u8], range: Range) -> bool
+    ensures { result ≡ spec.is_in_range major pattern.now (plain_range range.entry) }
+{
+    begins_or_ends(pattern, range.0.as_bytes()) && range.1 <= major && major <= range.2
+}
+
+fn begins_or_ends(pattern: &[u8], text: &[u8]) -> bool
+    ensures { result ≡ spec.begins_or_ends pattern.now text.now }
+{
+    pattern.starts_with(text) || pattern.ends_with(text)
+}
+
+#[rattlefmt::skip]
+// written by tools/names/write: the ranges of versions
+static VERSION_RANGES: [(&str, u16, u16); 18] = [
+    ("manylinux_*", 2, 2),
+    ("gnu.*.*", 2, 2),
+    ("gnueabi.*.*", 2, 2),
+    ("gnueabihf.*.*", 2, 2),
+    ("gnuabi64.*.*", 2, 2),
+    ("gnux32.*.*", 2, 2),
+    ("musllinux_*", 1, 1),
+    ("macosx_*", 10, 99),
+    ("macos.*.*", 10, 99),
+    ("macos.*.*-none", 10, 99),
+    ("osx.*", 10, 99),
+    ("ios_*", 2, 99),
+    ("android_*", 1, 99),
+    ("freebsd_*", 1, 99),
+    ("openbsd_*", 1, 99),
+    ("netbsd_*", 1, 99),
+    ("dragonfly_*", 1, 99),
+    ("windows(10.0.*", 10240, 65535),
+];
+// end of what is written

@@ -54,16 +54,16 @@ impl Dialect {
     {
         match self {
             // written by tools/names/write: the rules of the dialects
-            Dialect::Debian => Rules { machine: MachineRule::Order, abi: AbiRule::Kept, versions: false, tags: false, spelled: false, platforms: false },
+            Dialect::Debian => Rules { machine: MachineRule::Packages, abi: AbiRule::Kept, versions: false, tags: false, spelled: false, platforms: false },
             Dialect::Go => Rules { machine: MachineRule::Order, abi: AbiRule::Dropped, versions: false, tags: false, spelled: false, platforms: false },
             Dialect::Oci => Rules { machine: MachineRule::Version, abi: AbiRule::Dropped, versions: false, tags: false, spelled: false, platforms: true },
-            Dialect::Node => Rules { machine: MachineRule::Order, abi: AbiRule::KeptOnLinux, versions: false, tags: false, spelled: false, platforms: false },
+            Dialect::Node => Rules { machine: MachineRule::Packages, abi: AbiRule::KeptOnLinuxAndWindows, versions: false, tags: false, spelled: false, platforms: false },
             Dialect::Gnu => Rules { machine: MachineRule::Order, abi: AbiRule::KeptOnSystems, versions: false, tags: false, spelled: true, platforms: false },
             Dialect::Python => Rules { machine: MachineRule::Version, abi: AbiRule::Dropped, versions: true, tags: true, spelled: false, platforms: false },
             Dialect::Rust => Rules { machine: MachineRule::Rustc, abi: AbiRule::Kept, versions: false, tags: false, spelled: false, platforms: false },
             Dialect::Uname => Rules { machine: MachineRule::Version, abi: AbiRule::Dropped, versions: false, tags: false, spelled: false, platforms: false },
             Dialect::Rpm => Rules { machine: MachineRule::Version, abi: AbiRule::Kept, versions: false, tags: false, spelled: false, platforms: false },
-            Dialect::Apk => Rules { machine: MachineRule::Version, abi: AbiRule::Kept, versions: false, tags: false, spelled: false, platforms: false },
+            Dialect::Apk => Rules { machine: MachineRule::Alpine, abi: AbiRule::Kept, versions: false, tags: false, spelled: false, platforms: false },
             Dialect::Pacman => Rules { machine: MachineRule::Version, abi: AbiRule::Kept, versions: false, tags: false, spelled: false, platforms: false },
             Dialect::Dotnet => Rules { machine: MachineRule::Version, abi: AbiRule::KeptOnLinux, versions: false, tags: false, spelled: false, platforms: false },
             Dialect::Conda => Rules { machine: MachineRule::Version, abi: AbiRule::KeptOnLinux, versions: false, tags: false, spelled: false, platforms: false },
@@ -80,7 +80,7 @@ impl Dialect {
     {
         match self {
             // written by tools/names/write: the tables of each dialect
-            Dialect::Debian => [debian::rows(), debian::rows_2(), debian::rows_3(), &[], &[], &[], &[]],
+            Dialect::Debian => [debian::rows(), debian::rows_2(), &[], &[], &[], &[], &[]],
             Dialect::Go => [go::rows(), go::rows_2(), &[], &[], &[], &[], &[]],
             Dialect::Oci => [oci::rows(), oci::rows_2(), &[], &[], &[], &[], &[]],
             Dialect::Node => [node::rows(), node::rows_2(), node::rows_3(), &[], &[], &[], &[]],
@@ -93,7 +93,7 @@ impl Dialect {
             Dialect::Pacman => [pacman::rows(), &[], &[], &[], &[], &[], &[]],
             Dialect::Dotnet => [dotnet::rows(), dotnet::rows_2(), &[], &[], &[], &[], &[]],
             Dialect::Conda => [conda::rows(), &[], &[], &[], &[], &[], &[]],
-            Dialect::Zig => [zig::rows(), zig::rows_2(), &[], &[], &[], &[], &[]],
+            Dialect::Zig => [zig::rows(), zig::rows_2(), zig::rows_3(), &[], &[], &[], &[]],
             Dialect::Nix => [nix::rows(), &[], &[], &[], &[], &[], &[]],
             // end of what is written
         }

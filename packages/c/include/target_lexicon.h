@@ -82,8 +82,8 @@ enum lexicon_status {
   LEXICON_TRIPLE_WITHOUT_NAME = 14, /* the dialect has no name for the triple */
   LEXICON_NO_SUCH_DIALECT = 15, /* the number of a dialect names none; where a name is written, also 0 */
   LEXICON_TOO_LARGE = 16, /* a size is above PTRDIFF_MAX; that of a custom vendor gives LEXICON_NO_SUCH_VENDOR */
-  LEXICON_NEEDS_C_LIBRARY = 17, /* the dialect has a name for it with glibc or musl, and none is said */
-  LEXICON_NO_SUCH_C_LIBRARY = 18, /* the number of a C library of Linux is above 2; for lexicon_complete also 0 */
+  LEXICON_NEEDS_C_LIBRARY = 17, /* the dialect has a name for it with glibc or musl, on Windows msvc or mingw, and none is said */
+  LEXICON_NO_SUCH_C_LIBRARY = 18, /* the number of a C library of Linux or Windows is above 5; for lexicon_complete also 0 */
   LEXICON_NO_SUCH_CHANGE = 19, /* the string has no change with this number */
   LEXICON_NO_SUGGESTION = 20, /* nothing else may have been meant */
   /* end of what is written */
@@ -117,6 +117,9 @@ enum lexicon_linux_libc {
   /* written by tools/names/write: the answers of linux_libc for C */
   LEXICON_LINUX_LIBC_GLIBC = 1,
   LEXICON_LINUX_LIBC_MUSL = 2,
+  LEXICON_LINUX_LIBC_MSVC = 3, /* Windows, with the ABI of Visual C++ */
+  LEXICON_LINUX_LIBC_MINGW = 4, /* Windows, with MinGW */
+  LEXICON_LINUX_LIBC_GNULLVM = 5, /* Windows, with MinGW and the tools of LLVM */
   /* end of what is written */
 };
 
@@ -752,7 +755,7 @@ LEXICON_NAMES(lexicon_dialect_name, NULL,
   "debian", "go", "oci", "node", "gnu", "python", "rust", "uname", "rpm", "apk", "pacman", "dotnet", "conda", "zig", "nix",
   /* end of what is written */
 )
-LEXICON_NAMES(lexicon_linux_libc_name, NULL, "glibc", "musl")
+LEXICON_NAMES(lexicon_linux_libc_name, NULL, "glibc", "musl", "msvc", "mingw", "gnullvm")
 LEXICON_NAMES(lexicon_origin_name, "not given", "given", "implied", "alias")
 LEXICON_NAMES(lexicon_endianness_name, NULL, "little", "big")
 LEXICON_NAMES(lexicon_calling_convention_name, NULL, "SystemV", "WasmBasicCAbi", "WindowsFastcall", "AppleAarch64")

@@ -170,6 +170,9 @@ enum class LinuxLibc : std::uint8_t {
   // written by tools/names/write: the answers of linux_libc for C++
   Glibc = LEXICON_LINUX_LIBC_GLIBC,
   Musl = LEXICON_LINUX_LIBC_MUSL,
+  Msvc = LEXICON_LINUX_LIBC_MSVC,
+  Mingw = LEXICON_LINUX_LIBC_MINGW,
+  Gnullvm = LEXICON_LINUX_LIBC_GNULLVM,
   // end of what is written
 };
 

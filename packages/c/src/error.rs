@@ -53,8 +53,8 @@ pub(crate) fn expected_at(status: Status) -> Option<Option<Field>> {
 /// Why a triple isn't written, as a status.
 pub(crate) fn unwritten_status(error: WriteError) -> Status {
     match error {
-        WriteError::NoName => TRIPLE_WITHOUT_NAME,
-        WriteError::NeedsCLibrary => NEEDS_C_LIBRARY,
+        WriteError::NeedsCLibrary | WriteError::NeedsWindowsAbi => NEEDS_C_LIBRARY,
+        _ => TRIPLE_WITHOUT_NAME,
     }
 }
 

@@ -379,7 +379,8 @@ pub unsafe extern "C" fn lexicon_write_versioned(
 ) -> Status {
     let find = |dialect: Dialect, triple: &TripleRef<'_>| {
         let version = u16::try_from(major).ok().zip(u8::try_from(minor).ok());
-        version.and_then(|(major, minor)| dialect.write_versioned(triple, major, minor)).ok_or(TRIPLE_WITHOUT_NAME)
+        let (major, minor) = version.ok_or(TRIPLE_WITHOUT_NAME)?;
+        dialect.write_with_version(triple, major, minor).map_err(unwritten_status)
     };
     unsafe { write_name(dialect, triple, find, out, out_size, length) }
 }

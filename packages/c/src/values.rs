@@ -185,7 +185,8 @@ pub(crate) fn dialect_at(number: u32) -> Option<Option<Dialect>> {
 
 /// The C library of this number. 0 is none.
 pub(crate) fn c_library_at(number: u32) -> Option<Option<LinuxLibc>> {
-    none_or_at(number, &[LinuxLibc::Glibc, LinuxLibc::Musl])
+    use LinuxLibc::{Glibc, Gnullvm, Mingw, Msvc, Musl};
+    none_or_at(number, &[Glibc, Musl, Msvc, Mingw, Gnullvm])
 }
 
 fn at<T: Copy>(number: u32, values: &[T]) -> Option<T> {

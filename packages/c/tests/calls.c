@@ -483,7 +483,7 @@ static void try_names(void) {
       lexicon_origin_name, lexicon_endianness_name, lexicon_calling_convention_name, lexicon_data_model_name, lexicon_c_library_name, lexicon_float_abi_name};
   uint32_t dialects = 0;
   while (lexicon_read(dialects + 1, "", 0, &accepted, NULL) != LEXICON_NO_SUCH_DIALECT) dialects++;
-  const uint32_t last[] = {LEXICON_NO_SUGGESTION, LEXICON_FIELD_BINARY_FORMAT, LEXICON_FAMILY_Z80, dialects, LEXICON_LINUX_LIBC_MUSL,
+  const uint32_t last[] = {LEXICON_NO_SUGGESTION, LEXICON_FIELD_BINARY_FORMAT, LEXICON_FAMILY_Z80, dialects, LEXICON_LINUX_LIBC_GNULLVM,
       LEXICON_ORIGIN_ALIAS, LEXICON_ENDIANNESS_BIG, LEXICON_CALLING_CONVENTION_APPLE_AARCH64, LEXICON_DATA_MODEL_ILP64, LEXICON_C_LIBRARY_UCLIBC, LEXICON_FLOAT_ABI_HARD};
   for (size_t i = 0; i < sizeof names / sizeof *names; i++) {
     for (uint32_t number = 1; number <= last[i]; number++) expect(names[i](number) && *names[i](number), "the enumerator has a name", "");
@@ -516,7 +516,7 @@ static const struct { uint32_t dialect; const char *name, *printed, *written; } 
     {LEXICON_DIALECT_NONE, "armv7l-unknown-linux-gnueabihf", "armv7-unknown-linux-gnueabihf", NULL},
     {LEXICON_DIALECT_NONE, "arm64-apple-macos13.1", "aarch64-apple-macosx13.1.0", NULL},
     {LEXICON_DIALECT_NONE, "x86_64-acme-linux", "x86_64-acme-linux", NULL},
-    {LEXICON_DIALECT_DEBIAN, "armhf", "arm-unknown-linux-gnueabihf", "armhf"},
+    {LEXICON_DIALECT_DEBIAN, "armhf", "armv7-unknown-linux-gnueabihf", "armhf"},
     {LEXICON_DIALECT_GO, "linux/arm64", "aarch64-unknown-linux", "linux/arm64"},
     {LEXICON_DIALECT_OCI, "linux/arm64", "aarch64-unknown-linux", "linux/arm64"},
     {LEXICON_DIALECT_NODE, "darwin-arm64", "aarch64-apple-darwin", "darwin-arm64"},
@@ -537,7 +537,7 @@ static const struct { uint32_t dialect; const char *name; enum lexicon_status st
     {LEXICON_DIALECT_OCI, "linux/arm/v77", LEXICON_UNKNOWN_NAME, 0, 13, "Unknown name: linux/arm/v77", NULL, NULL},
     {LEXICON_DIALECT_GNU, "x86_64-linux-gnuu", LEXICON_UNKNOWN_NAME, 0, 17, "Unknown name: x86_64-linux-gnuu", NULL, "x86_64-linux-gnu"},
     {LEXICON_DIALECT_GO, "js/wasm", LEXICON_NAME_WITHOUT_TRIPLE, 0, 7, "No triple has this name: js/wasm",
-     "Go's pointers have 64 bits there, those of wasm32 32", NULL},
+     "a module for Go's own JavaScript; rustc's nearest target is wasm32-unknown-unknown", NULL},
     {LEXICON_DIALECT_RUST, "arm64e-apple-ios", LEXICON_NAME_WITHOUT_TRIPLE, 0, 16, "No triple has this name: arm64e-apple-ios",
      "a target of rustc that has no triple here: its architecture is no known name", NULL},
     {LEXICON_DIALECT_PYTHON, "macosx_10_9_universal2", LEXICON_NAME_WITHOUT_TRIPLE, 0, 22, "No triple has this name: macosx_10_9_universal2",
@@ -620,12 +620,14 @@ static const struct { const char *text; uint32_t major, minor; const char *name;
     {"aarch64-apple-macosx13.1.2", 11, 0, "macosx_11_0_arm64"},
     {"x86_64-linux-android", 21, 0, "android_21_x86_64"},
     {"x86_64-linux-android", 21, 1, NULL},
-    {"x86_64-unknown-linux-gnu", 65535, 255, "manylinux_65535_255_x86_64"},
+    {"aarch64-apple-darwin", 99, 255, "macosx_99_255_arm64"},
+    {"aarch64-apple-darwin", 2, 17, NULL},
+    {"aarch64-unknown-linux-musl", 11, 0, NULL},
+    {"x86_64-unknown-linux-gnu", 65535, 255, NULL},
     {"x86_64-unknown-linux-gnu", 65536, 0, NULL},
     {"x86_64-unknown-linux-gnu", 2, 256, NULL},
-    {"armv7-unknown-linux-gnueabi", 2, 17, NULL},
-    {"x86_64-unknown-linux", 2, 17, NULL},
-    {"x86_64-pc-windows-msvc", 10, 0, NULL},
+    {"armv7-unknown-linux-gnueabi", 2, 17, "linux_armv7l"},
+    {"x86_64-pc-windows-msvc", 10, 0, "win_amd64"},
 };
 
 static int version_of;
@@ -649,7 +651,9 @@ static void try_versioned_names(void) {
   }
   struct lexicon_triple triple = triple_of("x86_64-unknown-linux-gnu");
   expect(lexicon_write_versioned(LEXICON_DIALECT_NONE, &triple, 2, 17, out, sizeof out, NULL) == LEXICON_NO_SUCH_DIALECT, "no dialect", "0");
-  expect(lexicon_write_versioned(LEXICON_DIALECT_GO, &triple, 2, 17, out, sizeof out, NULL) == LEXICON_TRIPLE_WITHOUT_NAME, "no version", "go");
+  expect(lexicon_write_versioned(LEXICON_DIALECT_GO, &triple, 2, 17, out, sizeof out, NULL) == LEXICON_OK && !strcmp(out, "linux/amd64"), "no version", "go");
+  triple = triple_of("x86_64-unknown-linux");
+  expect(lexicon_write_versioned(LEXICON_DIALECT_PYTHON, &triple, 2, 17, out, sizeof out, NULL) == LEXICON_NEEDS_C_LIBRARY, "no library", "python");
   triple.environment = 255;
   expect(lexicon_write_versioned(LEXICON_DIALECT_GO, &triple, 2, 17, out, sizeof out, NULL) == LEXICON_NO_SUCH_VALUE, "a bad value", "go");
 }
@@ -669,7 +673,8 @@ static const struct { uint32_t from, libc, to; const char *name, *translated; en
     {LEXICON_DIALECT_OCI, LEXICON_LINUX_LIBC_GLIBC, LEXICON_DIALECT_RUST, "linux/arm64/v8", "aarch64-unknown-linux-gnu", LEXICON_OK, 0, NULL},
     {LEXICON_DIALECT_OCI, LEXICON_LINUX_LIBC_MUSL, LEXICON_DIALECT_DEBIAN, "linux/amd64", "musl-linux-amd64", LEXICON_OK, 0, NULL},
     {LEXICON_DIALECT_DEBIAN, LEXICON_LINUX_LIBC_NONE, LEXICON_DIALECT_GO, "arm64", "linux/arm64", LEXICON_OK, 0, NULL},
-    {LEXICON_DIALECT_NONE, LEXICON_LINUX_LIBC_NONE, LEXICON_DIALECT_NODE, "x86_64-w64-mingw32", "win32-x64", LEXICON_OK, 0, NULL},
+    {LEXICON_DIALECT_NONE, LEXICON_LINUX_LIBC_NONE, LEXICON_DIALECT_NODE, "x86_64-w64-mingw32", "win32-x64-gnu", LEXICON_OK, 0, NULL},
+    {LEXICON_DIALECT_OCI, LEXICON_LINUX_LIBC_MSVC, LEXICON_DIALECT_RUST, "windows/amd64", "x86_64-pc-windows-msvc", LEXICON_OK, 0, NULL},
     {LEXICON_DIALECT_OCI, LEXICON_LINUX_LIBC_NONE, LEXICON_DIALECT_DEBIAN, "linux/amd64", NULL, LEXICON_NEEDS_C_LIBRARY, 11,
      "The name in the other dialect depends on the C library: linux/amd64"},
     {LEXICON_DIALECT_OCI, LEXICON_LINUX_LIBC_GLIBC, LEXICON_DIALECT_DEBIAN, "windows/amd64", NULL, LEXICON_TRIPLE_WITHOUT_NAME, 13,
@@ -681,7 +686,7 @@ static const struct { uint32_t from, libc, to; const char *name, *translated; en
     {77, LEXICON_LINUX_LIBC_NONE, LEXICON_DIALECT_OCI, "linux/amd64", NULL, LEXICON_NO_SUCH_DIALECT, 0, NULL},
     {LEXICON_DIALECT_GO, LEXICON_LINUX_LIBC_NONE, LEXICON_DIALECT_NONE, "linux/amd64", NULL, LEXICON_NO_SUCH_DIALECT, 0, NULL},
     {LEXICON_DIALECT_GO, LEXICON_LINUX_LIBC_NONE, 77, "linux/amd64", NULL, LEXICON_NO_SUCH_DIALECT, 0, NULL},
-    {LEXICON_DIALECT_GO, 3, LEXICON_DIALECT_OCI, "linux/amd64", NULL, LEXICON_NO_SUCH_C_LIBRARY, 0, NULL},
+    {LEXICON_DIALECT_GO, 6, LEXICON_DIALECT_OCI, "linux/amd64", NULL, LEXICON_NO_SUCH_C_LIBRARY, 0, NULL},
 };
 
 static size_t row_of;
@@ -724,7 +729,7 @@ static void try_translation(void) {
   }
   struct lexicon_triple copy = triple = triple_of("x86_64-linux");
   expect(lexicon_complete(&triple, LEXICON_LINUX_LIBC_NONE) == LEXICON_NO_SUCH_C_LIBRARY && are_same(&triple, &copy), "complete", "with none");
-  expect(lexicon_complete(&triple, 3) == LEXICON_NO_SUCH_C_LIBRARY && are_same(&triple, &copy), "complete", "with 3");
+  expect(lexicon_complete(&triple, 6) == LEXICON_NO_SUCH_C_LIBRARY && are_same(&triple, &copy), "complete", "with 6");
   for (row_of = 0; row_of < sizeof translated / sizeof *translated; row_of++) {
     const char *name = translated[row_of].name;
     uint32_t from = translated[row_of].from, libc = translated[row_of].libc, to = translated[row_of].to;

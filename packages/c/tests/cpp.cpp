@@ -254,13 +254,13 @@ static void try_no_names() {
   EXPECT(!Triple::read("amd64", static_cast<Dialect>(99), &error) && error.status == LEXICON_NO_SUCH_DIALECT);
   EXPECT(!parsed("x86_64-linux").name_in(static_cast<Dialect>(99)));
   EXPECT(parsed("aarch64-linux-android").versioned_name_in(Dialect::Python, 21) == "android_21_arm64_v8a");
-  EXPECT(!parsed("x86_64-linux-gnu").versioned_name_in(Dialect::Debian, 2, 17));
+  EXPECT(parsed("x86_64-linux-gnu").versioned_name_in(Dialect::Debian, 2, 17) == "amd64");
 }
 
 static void try_dialects() {
   ParseError error;
   auto mingw = Triple::read("x86_64-w64-mingw32");
-  EXPECT(mingw && mingw->printed() == "x86_64-pc-windows-gnu" && mingw->name_in(Dialect::Node) == "win32-x64");
+  EXPECT(mingw && mingw->printed() == "x86_64-pc-windows-gnu" && mingw->name_in(Dialect::Node) == "win32-x64-gnu");
   auto arm = Triple::read("linux/arm64", Dialect::Oci);
   EXPECT(arm && *arm == parsed("aarch64-linux") && arm->name_in(Dialect::Oci) == "linux/arm64" && arm->name_in(Dialect::Debian) == std::nullopt);
   EXPECT(Triple::read("x86_64-acme-linux")->vendor_name() == "acme" && !Triple::read("linux/arm64"));
@@ -285,7 +285,7 @@ static void try_translation() {
   EXPECT(parsed("x86_64-linux").completed(static_cast<LinuxLibc>(9)) == parsed("x86_64-linux"));
   EXPECT(Triple::translate("linux/arm64/v8", Dialect::Oci, Dialect::Rust, LinuxLibc::Glibc) == "aarch64-unknown-linux-gnu");
   EXPECT(Triple::translate("arm64", Dialect::Debian, Dialect::Oci) == "linux/arm64");
-  EXPECT(Triple::translate("x86_64-w64-mingw32", std::nullopt, Dialect::Node) == "win32-x64");
+  EXPECT(Triple::translate("x86_64-w64-mingw32", std::nullopt, Dialect::Node) == "win32-x64-gnu");
   EXPECT(!Triple::translate("linux/arm64", Dialect::Oci, Dialect::Debian) && !Triple::translate("linux/arm64", Dialect::Oci, static_cast<Dialect>(99)));
   EXPECT(!Triple::translate("linux/arm64", Dialect::Oci, Dialect::Debian, std::nullopt, &error) && error.status == LEXICON_NEEDS_C_LIBRARY);
   EXPECT(error.line == "The name in the other dialect depends on the C library: linux/arm64" && error.part == "linux/arm64" && !error.field());

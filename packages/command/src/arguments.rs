@@ -38,8 +38,10 @@ fn libc() -> Arg {
     Arg::new("libc")
         .long("libc")
         .value_name("LIBRARY")
-        .value_parser(PossibleValuesParser::new(["glibc", "musl"]))
-        .help("The C library of targets on Linux that state none")
+        .value_parser(PossibleValuesParser::new([
+            "glibc", "musl", "msvc", "mingw", "gnullvm",
+        ]))
+        .help("The C library of targets on Linux or Windows that state none")
 }
 
 /// A version that a name states: its two numbers.

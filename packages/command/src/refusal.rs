@@ -140,8 +140,21 @@ pub fn versioned_name_in<'a>(
     triple: &TripleRef<'_>,
 ) -> Result<Name, Refusal<'a>> {
     dialect
-        .write_versioned(triple, major, minor)
-        .ok_or_else(|| Refusal::of_written(text, dialect, WriteError::NoName))
+        .write_with_version(triple, major, minor)
+        .map_err(|error| Refusal::of_written(text, dialect, error))
+}
+
+/// Why a tool has no name for a triple, with the option that would help.
+pub fn reason(error: WriteError) -> &'static str {
+    match error {
+        WriteError::NeedsCLibrary => {
+            "it depends on the C library: use `--libc glibc` or `--libc musl`"
+        }
+        WriteError::NeedsWindowsAbi => {
+            "it depends on the ABI of Windows: use `--libc msvc`, `mingw` or `gnullvm`"
+        }
+        other => other.reason(),
+    }
 }
 
 impl<'a> Refusal<'a> {
@@ -175,9 +188,8 @@ impl<'a> Refusal<'a> {
 
     /// A target that has no name in a dialect.
     fn of_written(text: &'a str, dialect: Dialect, error: WriteError) -> Self {
-        let needs = "it depends on the C library: use `--libc glibc` or `--libc musl`";
         Refusal {
-            reason: (error == WriteError::NeedsCLibrary).then_some(needs),
+            reason: Some(reason(error)),
             ..Refusal::of_all(format!("no name of {dialect} for"), text)
         }
     }

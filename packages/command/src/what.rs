@@ -3,7 +3,7 @@ use crate::answers::canonical;
 use crate::arguments::written;
 use crate::input::{Place, Target};
 use crate::json::{Json, Object};
-use crate::refusal::Refusal;
+use crate::refusal::{reason, Refusal};
 use std::io::{self, Write};
 use target_lexicon::tool_names::{complete, read, Dialect, LinuxLibc, Name, NameError, WriteError};
 use target_lexicon::TripleRef;
@@ -93,7 +93,7 @@ impl<'a> What<'a> {
         writeln!(out, "{text}")?;
         for (triple, tools) in &self.meanings {
             writeln!(out, "  is {triple}, as {}", tools.join(", "))?;
-            let mut unnamed: Vec<(String, Vec<&str>)> = Vec::new();
+            let mut unnamed: Vec<(&str, Vec<&str>)> = Vec::new();
             for dialect in written() {
                 match dialect.write_with(triple, self.libc) {
                     Ok(name) => writeln!(out, "    {dialect:8}{name}")?,
@@ -149,16 +149,5 @@ impl<'a> What<'a> {
                 Json::Object(without.map(|(tool, why)| (*tool, (*why).into())).collect()),
             ),
         ]
-    }
-}
-
-/// Why a tool has no name for a triple, with the option that would help.
-fn reason(error: WriteError) -> String {
-    match error {
-        WriteError::NeedsCLibrary => {
-            "it depends on the C library: use `--libc glibc` or `--libc musl`".into()
-        }
-        WriteError::NoName => "no name".into(),
-        other => other.to_string(),
     }
 }

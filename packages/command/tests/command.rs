@@ -497,7 +497,7 @@ fn names_of_other_tools_are_read_and_written() {
         ),
         (
             "js/wasm",
-            "note: it is a name of go without a triple: Go's pointers have 64 bits there, those of wasm32 32",
+            "note: it is a name of go without a triple: a module for Go's own JavaScript; rustc's nearest target is wasm32-unknown-unknown",
         ),
         (
             "arm64e-apple-darwin",
@@ -1050,8 +1050,12 @@ oci linux/foo debian glibc error: unknown name of oci
 go linux/mips64 gnu glibc mips64-linux-gnuabi64
 node linux-x64-musl debian glibc musl-linux-amd64
 debian armhf go musl linux/arm
-debian armhf oci musl error: no name of oci
-debian armhf node - linux-arm-glibc";
+debian armhf oci musl linux/arm/v7
+debian armhf node - linux-arm-gnueabihf
+oci windows/amd64 rust - it depends on the ABI of Windows
+oci windows/amd64 rust msvc x86_64-pc-windows-msvc
+oci linux/arm/v6 debian glibc armhf of Debian is for Armv7
+rust arm-unknown-linux-gnueabihf oci - linux/arm/v6";
 
 #[test]
 fn names_are_translated() {

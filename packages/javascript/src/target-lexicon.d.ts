@@ -95,7 +95,7 @@ export const DIALECTS: readonly ["debian", "go", "oci", "node", "gnu", "python",
 // end of what is written
 
 /** A C library of Linux, which the caller says where a name doesn't state it. */
-export type LinuxLibc = "glibc" | "musl";
+export type LinuxLibc = "glibc" | "musl" | "msvc" | "mingw" | "gnullvm";
 
 /** The version of an operating system. As an argument it has a `major`, and what else is left out is 0: `{ major: 17, minor: 1 }`. */
 export interface Version {

@@ -35,7 +35,7 @@ const CONVENTIONS = [null, "SystemV", "WasmBasicCAbi", "WindowsFastcall", "Apple
 const MODELS = [null, "LP32", "ILP32", "LLP64", "LP64", "ILP64"];
 const C_LIBRARIES = [null, "bionic", "glibc", "mingw", "msvc", "musl", "newlib", "relibc", "system", "uclibc"];
 const FLOAT_ABIS = [null, "soft", "hard"];
-const LINUX_LIBCS = [null, "glibc", "musl"];
+const LINUX_LIBCS = [null, "glibc", "musl", "msvc", "mingw", "gnullvm"];
 // end of what is written
 
 // Where the structs of target_lexicon.h are, after the module's own data, with pointers and sizes of 32 bits. Strings and buffers

@@ -83,7 +83,8 @@ class Names(unittest.TestCase):
         self.assertEqual(Triple("arm64-apple-macosx11.7.10").name_in("python"), "macosx_11_7_arm64")
         for text, version, name in [("x86_64-pc-linux-gnu", (2, 17), "manylinux_2_17_x86_64"), ("armv7-linux-musleabihf", [1, 2], "musllinux_1_2_armv7l"),
                                     ("x86_64-apple-darwin", (10, 9), "macosx_10_9_x86_64"), ("aarch64-linux-android", (24,), "android_24_arm64_v8a"),
-                                    ("aarch64-linux-android", (24, 1), None), ("x86_64-linux", (2, 17), None), ("x86_64-pc-windows-msvc", (10,), None)]:
+                                    ("aarch64-linux-android", (24, 1), None), ("x86_64-linux", (2, 17), None), ("x86_64-pc-windows-msvc", (10,), "win_amd64"),
+                                    ("aarch64-apple-darwin", (2, 17), None), ("aarch64-linux-musl", (11, 0), None)]:
             self.assertEqual(Triple(text).name_in("python", version), name)
         for wrong in ((2, 17, 1), (), (1, 2, 3, 4), (2, 256), (-1,), (65536,)):
             self.assertRaises(ValueError, Triple("x86_64-linux-gnu").name_in, "python", wrong)
@@ -186,14 +187,15 @@ class Names(unittest.TestCase):
         gc.collect()
         self.assertEqual(str(vendor), f"x86_64-{'a' * 500}-linux-musl")
         for value in "gnu", "", "Glibc":
-            self.assertRaisesRegex(ValueError, "the C library must be one of glibc, musl, not ", Triple("x86_64").complete, value)
+            self.assertRaisesRegex(ValueError, "the C library must be one of glibc, musl, msvc, mingw, gnullvm, not ", Triple("x86_64").complete, value)
         for value in None, 1, b"musl":
             self.assertRaisesRegex(TypeError, "the C library must be of type LinuxLibc or str", Triple("x86_64").complete, value)
 
     def test_translations(self):
         for words, translated in ((("linux/arm64/v8", "oci", "rust", "glibc"), "aarch64-unknown-linux-gnu"), (("arm64", "debian", "go"), "linux/arm64"),
                                   (("linux/amd64", Dialect.OCI, Dialect.DEBIAN, LinuxLibc.MUSL), "musl-linux-amd64"),
-                                  (("x86_64-w64-mingw32", None, "node"), "win32-x64")):
+                                  (("x86_64-w64-mingw32", None, "node"), "win32-x64-gnu"),
+                                  (("windows/amd64", "oci", "rust", "msvc"), "x86_64-pc-windows-msvc")):
             self.assertEqual(target_lexicon.translate(*words), translated)
         # What is translated is what is read, completed and written, and what isn't has the same refusal.
         for row in NAMES:
@@ -206,12 +208,13 @@ class Names(unittest.TestCase):
                         target_lexicon.translate(name, row.dialect, target, libc)
                     self.assertEqual(str(caught.exception), str(error))
                     break
-                expected = (triple.complete(libc) if libc else triple).name_in(target)
+                completed = triple.complete(libc) if libc else triple
+                expected = completed.name_in(target)
                 try:
                     self.assertEqual(target_lexicon.translate(name, row.dialect, target, libc), expected)
                 except target_lexicon.TranslationError as error:
-                    with_libc = [triple.complete(it).name_in(target) for it in LinuxLibc]
-                    self.assertEqual((expected, error.needs_libc), (None, libc is None and any(with_libc)), name)
+                    with_libc = [completed.complete(it).name_in(target) for it in LinuxLibc]
+                    self.assertEqual((expected, error.needs_libc), (None, any(with_libc)), name)
 
     def test_translations_that_fail(self):
         for words, line in ((("linux/arm64", "oci", "debian"), "The name in the other dialect depends on the C library: linux/arm64"),

@@ -49,7 +49,7 @@ impl Dialect {
 /// assert_eq!((error.word(), error.suggestion()), ("golang", Some("go")));
 /// assert_eq!(error.to_string(), "Unknown dialect: golang; did you mean `go`?");
 /// let error = "gnu".parse::<LinuxLibc>().unwrap_err();
-/// assert_eq!(error.to_string(), "Unknown C library of Linux: gnu; it is glibc or musl");
+/// assert_eq!(error.to_string(), "Unknown C library: gnu; it is glibc, musl, msvc, mingw or gnullvm");
 /// ```
 #[derive(Clone, Debug, PartialEq, Eq)]
 pub struct UnknownWord {
@@ -127,7 +127,7 @@ impl fmt::Display for UnknownWord {
                 Dialect::ALL.iter().try_for_each(|it| write!(f, " {it}"))
             }
             (Words::LinuxLibcs, _) => {
-                write!(f, "Unknown C library of Linux: {word}; it is glibc or musl")
+                write!(f, "Unknown C library: {word}; it is glibc, musl, msvc, mingw or gnullvm")
             }
         }
     }

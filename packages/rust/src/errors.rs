@@ -1,7 +1,7 @@
 //! The errors as those of Rust: `Display` where the proved source has none, and `Error`.
 #[cfg(feature = "tool_names")]
 use {
-    crate::tool_names::{NameError, TranslateError, WriteError},
+    crate::tool_names::NameError,
     core::fmt,
 };
 
@@ -11,26 +11,6 @@ impl fmt::Display for NameError {
         match self {
             NameError::Unknown => f.write_str("Unknown name"),
             NameError::WithoutTriple(why) => write!(f, "No triple has this name: {why}"),
-        }
-    }
-}
-
-#[cfg(feature = "tool_names")]
-impl fmt::Display for WriteError {
-    fn fmt(&self, f: &mut fmt::Formatter<'_>) -> fmt::Result {
-        f.write_str(match self {
-            WriteError::NoName => "No name for the triple",
-            WriteError::NeedsCLibrary => "The C library isn't known: say glibc or musl",
-        })
-    }
-}
-
-#[cfg(feature = "tool_names")]
-impl fmt::Display for TranslateError {
-    fn fmt(&self, f: &mut fmt::Formatter<'_>) -> fmt::Result {
-        match self {
-            TranslateError::Read(error) => error.fmt(f),
-            TranslateError::Write(error) => error.fmt(f),
         }
     }
 }

@@ -325,7 +325,7 @@ mod of_tool_names {
         let error = "gnu".parse::<LinuxLibc>().unwrap_err();
         assert_eq!(
             error.to_string(),
-            "Unknown C library of Linux: gnu; it is glibc or musl"
+            "Unknown C library: gnu; it is glibc, musl, msvc, mingw or gnullvm"
         );
     }
 }

@@ -2,7 +2,7 @@
 ghost use Rattle.std.specs.Prelude.{◌≡◌};
 ghost use Rattle.tool_names.specs.Tables.{constant_rows, plain_rows};
 
-use crate::tables::Way::{Both, NoTriple, Read};
+use crate::tables::Way::{Both, NoTriple};
 use crate::tables::{Row, Way};
 
 pub(crate) fn rows() -> &'static [Row]
@@ -29,8 +29,8 @@ static ROWS: [(&str, &str, Way); 20] = [
     ("win-32", "i686-pc-windows", Both),
     ("win-arm64", "aarch64-pc-windows", Both),
     ("freebsd-64", "x86_64-unknown-freebsd", Both),
-    ("emscripten-wasm32", "wasm32-unknown-emscripten", Read),
-    ("wasi-wasm32", "wasm32-wasi", Read),
+    ("emscripten-wasm32", "wasm32-unknown-emscripten", Both),
+    ("wasi-wasm32", "wasm32-wasip1", Both),
     ("zos-z", "z/OS is no known name", NoTriple),
     ("noarch", "no machine", NoTriple),
 ];

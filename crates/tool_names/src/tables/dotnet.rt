@@ -72,7 +72,7 @@ pub(crate) fn rows_2() -> &'static [Row]
 }
 
 #[rattlefmt::skip]
-static ROWS_2: [(&str, &str, Way); 19] = [
+static ROWS_2: [(&str, &str, Way); 39] = [
     ("osx-arm64", "aarch64-apple-darwin", Both),
     ("osx.*.*-arm64", "aarch64-apple-macosx", Read),
     ("maccatalyst-arm64", "aarch64-apple-ios-macabi", Both),
@@ -84,7 +84,7 @@ static ROWS_2: [(&str, &str, Way); 19] = [
     ("illumos-x64", "x86_64-unknown-illumos", Both),
     ("solaris-x64", "x86_64-pc-solaris", Both),
     ("haiku-x64", "x86_64-unknown-haiku", Both),
-    ("browser-wasm", "wasm32-unknown-emscripten", Read),
+    ("browser-wasm", "wasm32-unknown-emscripten", Both),
     ("wasi-wasm", "wasm32-wasi", Read),
     ("any", "no machine", NoTriple),
     ("linux", "no machine", NoTriple),
@@ -92,4 +92,24 @@ static ROWS_2: [(&str, &str, Way); 19] = [
     ("osx", "no machine", NoTriple),
     ("unix", "no machine", NoTriple),
     ("win", "no machine", NoTriple),
+    ("osx.*-x64", "x86_64-apple-macosx", Read),
+    ("ubuntu.*.04-x64", "x86_64-unknown-linux-gnu", Read),
+    ("ubuntu.*.10-x64", "x86_64-unknown-linux-gnu", Read),
+    ("debian.*-x64", "x86_64-unknown-linux-gnu", Read),
+    ("rhel.*-x64", "x86_64-unknown-linux-gnu", Read),
+    ("rhel.*.*-x64", "x86_64-unknown-linux-gnu", Read),
+    ("fedora.*-x64", "x86_64-unknown-linux-gnu", Read),
+    ("centos.*-x64", "x86_64-unknown-linux-gnu", Read),
+    ("osx.*-arm64", "aarch64-apple-macosx", Read),
+    ("ubuntu.*.04-arm64", "aarch64-unknown-linux-gnu", Read),
+    ("ubuntu.*.10-arm64", "aarch64-unknown-linux-gnu", Read),
+    ("debian.*-arm64", "aarch64-unknown-linux-gnu", Read),
+    ("rhel.*-arm64", "aarch64-unknown-linux-gnu", Read),
+    ("rhel.*.*-arm64", "aarch64-unknown-linux-gnu", Read),
+    ("fedora.*-arm64", "aarch64-unknown-linux-gnu", Read),
+    ("centos.*-arm64", "aarch64-unknown-linux-gnu", Read),
+    ("opensuse.*.*-x64", "x86_64-unknown-linux-gnu", Read),
+    ("sles.*-x64", "x86_64-unknown-linux-gnu", Read),
+    ("sles.*.*-x64", "x86_64-unknown-linux-gnu", Read),
+    ("ol.*-x64", "x86_64-unknown-linux-gnu", Read),
 ];

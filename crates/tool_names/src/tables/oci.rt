@@ -32,7 +32,7 @@ static ROWS: [(&str, &str, Way); 50] = [
     ("illumos/amd64", "x86_64-unknown-illumos", Both),
     ("ios/amd64", "x86_64-apple-ios", Both),
     ("ios/arm64", "aarch64-apple-ios", Both),
-    ("js/wasm", "Go's pointers have 64 bits there, those of wasm32 32", NoTriple),
+    ("js/wasm", "a module for Go's own JavaScript; rustc's nearest target is wasm32-unknown-unknown", NoTriple),
     ("linux", "half of a platform: containerd adds that of the host", NoTriple),
     ("linux/386", "i686-unknown-linux", Both),
     ("linux/amd64", "x86_64-unknown-linux", Both),
@@ -45,7 +45,6 @@ static ROWS: [(&str, &str, Way); 50] = [
     ("linux/arm/v7l", "armv7-unknown-linux", Read),
     ("linux/arm/v8", "armv8-unknown-linux", Both),
     ("linux/arm64", "aarch64-unknown-linux", Both),
-    ("linux/arm64/v8.*", "a version of the 64-bit Arm is no known name", NoTriple),
     ("linux/arm64/v9", "a version of the 64-bit Arm is no known name", NoTriple),
     ("linux/arm64/v9.*", "a version of the 64-bit Arm is no known name", NoTriple),
     ("linux/arm64v8", "aarch64-unknown-linux", Read),
@@ -63,6 +62,7 @@ static ROWS: [(&str, &str, Way); 50] = [
     ("linux/ppc64le/power10", "a triple can't state a version of POWER", NoTriple),
     ("linux/ppc64le/power8", "a triple can't state a version of POWER", NoTriple),
     ("linux/ppc64le/power9", "a triple can't state a version of POWER", NoTriple),
+    ("linux/riscv64", "riscv64-unknown-linux", Both),
 ];
 
 pub(crate) fn rows_2() -> &'static [Row]
@@ -72,8 +72,7 @@ pub(crate) fn rows_2() -> &'static [Row]
 }
 
 #[rattlefmt::skip]
-static ROWS_2: [(&str, &str, Way); 30] = [
-    ("linux/riscv64", "riscv64-unknown-linux", Both),
+static ROWS_2: [(&str, &str, Way); 47] = [
     ("linux/riscv64/rva20u64", "a triple can't state a profile of RISC-V", NoTriple),
     ("linux/riscv64/rva22u64", "a triple can't state a profile of RISC-V", NoTriple),
     ("linux/riscv64/rva23u64", "a triple can't state a profile of RISC-V", NoTriple),
@@ -94,13 +93,31 @@ static ROWS_2: [(&str, &str, Way); 30] = [
     ("openbsd/riscv64", "riscv64-unknown-openbsd", Both),
     ("solaris/amd64", "x86_64-pc-solaris", Both),
     ("unknown/unknown", "no machine", NoTriple),
-    ("wasi/wasm", "wasm32-wasi", Read),
-    ("wasi/wasm32", "wasm32-wasi", Read),
-    ("wasip1/wasm", "wasm32-wasip1", Read),
-    ("wasip2/wasm", "wasm32-wasip2", Read),
+    ("wasi/wasm", "wasm32-wasip1", Read),
+    ("wasi/wasm32", "wasm32-wasip1", Read),
+    ("wasip1/wasm", "wasm32-wasip1", Both),
+    ("wasip2/wasm", "wasm32-wasip2", Both),
     ("windows(10.0.*)/amd64", "x86_64-pc-windows", Read),
     ("windows/386", "i686-pc-windows", Both),
     ("windows/amd64", "x86_64-pc-windows", Both),
     ("windows/arm/v7", "armv7-pc-windows", Both),
     ("windows/arm64", "aarch64-pc-windows", Both),
+    ("linux/arm64/v8.0", "aarch64-unknown-linux", Read),
+    ("linux/arm64/v8.1", "a version of the 64-bit Arm is no known name", NoTriple),
+    ("linux/arm64/v8.2", "a version of the 64-bit Arm is no known name", NoTriple),
+    ("linux/arm64/v8.3", "a version of the 64-bit Arm is no known name", NoTriple),
+    ("linux/arm64/v8.4", "a version of the 64-bit Arm is no known name", NoTriple),
+    ("linux/arm64/v8.5", "a version of the 64-bit Arm is no known name", NoTriple),
+    ("linux/arm64/v8.6", "a version of the 64-bit Arm is no known name", NoTriple),
+    ("linux/arm64/v8.7", "a version of the 64-bit Arm is no known name", NoTriple),
+    ("linux/arm64/v8.8", "a version of the 64-bit Arm is no known name", NoTriple),
+    ("linux/arm64/v8.9", "a version of the 64-bit Arm is no known name", NoTriple),
+    ("linux/arm32v5", "armv5te-unknown-linux", Read),
+    ("linux/arm32v6", "armv6-unknown-linux", Read),
+    ("linux/arm32v7", "armv7-unknown-linux", Read),
+    ("windows(10.0.*)/arm64", "aarch64-pc-windows", Read),
+    ("windows(10.0.14393.*)/amd64", "x86_64-pc-windows", Read),
+    ("windows(10.0.17763.*)/amd64", "x86_64-pc-windows", Read),
+    ("windows(10.0.20348.*)/amd64", "x86_64-pc-windows", Read),
+    ("windows(10.0.26100.*)/amd64", "x86_64-pc-windows", Read),
 ];

@@ -30,7 +30,7 @@ _COMMANDS = {
 }
 # As the command orders them: those that are only written are the last.
 _DIALECTS = [*READ, *(it for it in WRITTEN if it not in READ)]
-_NEEDS_LIBC = "it depends on the C library: use `--libc glibc` or `--libc musl`"
+_NEEDS_LIBC = "it depends on the C library: use `--libc glibc` or `--libc musl`, on Windows `--libc msvc` or `--libc mingw`"
 
 
 def _places(targets: List[str]) -> Iterator[Answer]:

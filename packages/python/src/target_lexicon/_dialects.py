@@ -65,16 +65,22 @@ def dialect_number(dialect: Union[Dialect, DialectName]) -> int:
 
 
 class LinuxLibc(NamedValue):
-    """A C library of Linux, which the caller says where a name doesn't state it."""
+    """A C library of Linux or Windows, which the caller says where a name doesn't state it."""
 
     #: GNU's C library, which most distributions have.
     GLIBC = "glibc"
     #: musl, as Alpine has it.
     MUSL = "musl"
+    #: Microsoft's, with the ABI of Visual C++.
+    MSVC = "msvc"
+    #: MinGW's, with the ABI of GNU's tools.
+    MINGW = "mingw"
+    #: MinGW's, with the tools of LLVM.
+    GNULLVM = "gnullvm"
 
 
-#: The names of the C libraries of Linux.
-LinuxLibcName = Literal["glibc", "musl"]
+#: The names of the C libraries.
+LinuxLibcName = Literal["glibc", "musl", "msvc", "mingw", "gnullvm"]
 
 
 def libc_number(libc: Union[LinuxLibc, LinuxLibcName]) -> int:

@@ -106,7 +106,7 @@ class Triple:
         """The triple that a name of another tool means. The tool is a `Dialect`, or its name; none is guessed.
 
         >>> Triple.read("linux/arm64", Dialect.OCI), Triple.read("armhf", "debian")
-        (Triple('aarch64-unknown-linux'), Triple('arm-unknown-linux-gnueabihf'))
+        (Triple('aarch64-unknown-linux'), Triple('armv7-unknown-linux-gnueabihf'))
 
         Without a dialect the string is spelled like a triple, as `cc -dumpmachine` and `config.guess` print it:
 

@@ -11,13 +11,15 @@ mod misspellings;
 #[cfg(feature = "tool_names")]
 mod rustc_cfg;
 mod suggestions;
+#[cfg(feature = "tool_names")]
+mod translation;
 
 #[cfg(feature = "tool_names")]
 pub use crate::dialects::{ParseNameError, UnknownWord};
 #[cfg(feature = "tool_names")]
 pub use crate::proved::tool_names::{
     changes, complete, object_format, read, Change, ChangedParts, Dialect, LinuxLibc, Name,
-    NameError, Spelling, TranslateError, WriteError,
+    NameError, Spelling,
 };
 #[cfg(feature = "tool_names")]
 pub use driver::{CLibrary, FloatAbi, TypeLayout};
@@ -25,3 +27,5 @@ pub use driver::{CLibrary, FloatAbi, TypeLayout};
 pub use rustc_cfg::{is_unix, RustcCfg};
 pub(crate) use suggestions::{architecture_in, suggestion_on};
 pub use suggestions::{suggestion, Suggestion};
+#[cfg(feature = "tool_names")]
+pub use translation::{TranslateError, WriteError};

@@ -41,7 +41,7 @@ pub(crate) mod systems;
 #[cfg(feature = "tool_names")]
 pub(crate) mod tables;
 #[cfg(feature = "tool_names")]
-pub(crate) mod translation;
+pub(crate) mod variant;
 
 #[cfg(feature = "tool_names")]
 pub use change::{changes, Change, ChangedParts};
@@ -59,5 +59,3 @@ pub use names::NameError;
 pub use reading::read;
 #[cfg(feature = "tool_names")]
 pub use spelling::Spelling;
-#[cfg(feature = "tool_names")]
-pub use translation::{TranslateError, WriteError};

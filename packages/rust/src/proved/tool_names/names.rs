@@ -8,6 +8,7 @@ use crate::proved::tool_names::pattern::{matched, star_count, Numbers};
 use crate::proved::tool_names::platform::row_of_platform;
 use crate::proved::tool_names::stated_version::{has_version, is_read};
 use crate::proved::tool_names::tables::{Row, Way, ONLY_WRITTEN};
+use crate::proved::tool_names::variant::is_another_target;
 use crate::proved::{DeploymentTarget, OperatingSystem, TripleRef};
 
 /// Why a name isn't read.
@@ -33,8 +34,8 @@ pub enum NameError {
 pub(crate) enum Wanted {
     /// One that is written, with this many numbers.
     Written(usize),
-    /// One that is read, and may have a version with this second number.
-    Versioned(u8),
+    /// One that is read, and may have this version.
+    Versioned(u16, u8),
 }
 
 /// The most bytes of a triple's text that a row has, and more.
@@ -76,8 +77,9 @@ impl Dialect {
         spelled_meaning(name, rules.spelled)
     }
 
-    /// The name of a triple in this dialect: that of its [shape](Dialect::shape). `None` if it has none. Nothing is
-    /// allocated.
+    /// The name of a triple in this dialect: that of its [shape](Dialect::shape). `None` if it has none, and if its vendor
+    /// says that the target is another one: a system that no triple has, such as `wasip3`, or a variant such as `uwp`.
+    /// Nothing is allocated.
     ///
     /// # Examples
     ///
@@ -89,6 +91,9 @@ impl Dialect {
     /// ```
     #[must_use]
     pub fn write(self, triple: &TripleRef<'_>) -> Option<Name> {
+        if is_another_target(triple.vendor) {
+            return None;
+        }
         let shape = self.shape(triple);
         let numbers = Numbers::of_system(shape.operating_system);
         let pattern = self.pattern_for(
@@ -162,8 +167,8 @@ fn is_wanted(wanted: Wanted, text: &[u8], row: Row) -> bool {
         Wanted::Written(numbers) => {
             is_written(row.2) && text == row.1.as_bytes() && star_count(row.0.as_bytes()) == numbers
         }
-        Wanted::Versioned(minor) => {
-            is_read(row.2) && text == row.1.as_bytes() && has_version(minor, row.0)
+        Wanted::Versioned(major, minor) => {
+            is_read(row.2) && text == row.1.as_bytes() && has_version(major, minor, row.0)
         }
     }
 }

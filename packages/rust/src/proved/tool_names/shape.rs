@@ -14,6 +14,10 @@ pub(crate) enum MachineRule {
     Order,
     /// Of Arm the versions 5 to 8.
     Version,
+    /// As `Version`, and of x86 what Alpine builds for.
+    Alpine,
+    /// Of Arm what packages for its floating-point ABI are built for, or else the byte order.
+    Packages,
     /// All that rustc tells apart.
     Rustc,
 }
@@ -27,6 +31,8 @@ pub(crate) enum AbiRule {
     Dropped,
     /// C libraries are stated on Linux only.
     KeptOnLinux,
+    /// C libraries are stated on Linux and Windows only.
+    KeptOnLinuxAndWindows,
     /// Every environment is kept, except that without a system `eabihf` is `eabi`.
     KeptOnSystems,
 }
@@ -69,15 +75,18 @@ impl Dialect {
 impl Rules {
     /// The triple without what isn't stated.
     pub(crate) fn shape(self, triple: &TripleRef<'_>) -> TripleRef<'static> {
+        let environment = self
+            .abi
+            .environment(triple.operating_system, triple.environment);
         TripleRef {
-            architecture: self
-                .machine
-                .architecture(triple.operating_system, triple.architecture),
+            architecture: self.machine.architecture(
+                triple.operating_system,
+                environment,
+                triple.architecture,
+            ),
             vendor: VendorRef::Known(usual_vendor(triple.operating_system)),
             operating_system: system_by(self.versions, triple.operating_system),
-            environment: self
-                .abi
-                .environment(triple.operating_system, triple.environment),
+            environment,
             binary_format: triple.binary_format,
         }
     }
@@ -98,6 +107,10 @@ impl AbiRule {
                 OperatingSystem::Linux => is_bare_abi(environment),
                 _ => is_dropped_abi(environment),
             },
+            AbiRule::KeptOnLinuxAndWindows => match operating_system {
+                OperatingSystem::Linux | OperatingSystem::Windows => is_bare_abi(environment),
+                _ => is_dropped_abi(environment),
+            },
         };
         if forgotten {
             Environment::Unknown
@@ -112,6 +125,7 @@ impl MachineRule {
     fn architecture(
         self,
         operating_system: OperatingSystem,
+        environment: Environment,
         architecture: Architecture,
     ) -> Architecture {
         match self {
@@ -123,7 +137,16 @@ impl MachineRule {
                 Architecture::Arm(arm) => Architecture::Arm(arm_of_version(arm)),
                 other => unversioned_machine(other),
             },
-            MachineRule::Rustc => machine_of_rustc(operating_system, architecture),
+            MachineRule::Alpine => match architecture {
+                Architecture::X86_32(x86) => Architecture::X86_32(x86_of_alpine(x86)),
+                Architecture::Arm(arm) => Architecture::Arm(arm_of_version(arm)),
+                other => unversioned_machine(other),
+            },
+            MachineRule::Packages => match architecture {
+                Architecture::Arm(arm) => Architecture::Arm(arm_of_packages(environment, arm)),
+                other => unversioned_machine(other),
+            },
+            MachineRule::Rustc => machine_of_rustc(operating_system, environment, architecture),
         }
     }
 }
@@ -141,10 +164,14 @@ fn unversioned_machine(architecture: Architecture) -> Architecture {
 }
 
 /// The architecture by which rustc names a target.
-fn machine_of_rustc(operating_system: OperatingSystem, architecture: Architecture) -> Architecture {
+fn machine_of_rustc(
+    operating_system: OperatingSystem,
+    environment: Environment,
+    architecture: Architecture,
+) -> Architecture {
     match architecture {
         Architecture::Arm(arm) => Architecture::Arm(match operating_system {
-            OperatingSystem::Linux => arm_of_linux(arm),
+            OperatingSystem::Linux => arm_of_linux(environment, arm),
             OperatingSystem::Windows => arm_of_windows(arm),
             _ => arm,
         }),
@@ -162,8 +189,33 @@ fn machine_of_rustc(operating_system: OperatingSystem, architecture: Architectur
     }
 }
 
-/// The Arm by which rustc names a target of Linux: `arm` is Armv6, and Armv8 in 32 bits runs programs of Armv7.
-fn arm_of_linux(arm: ArmArchitecture) -> ArmArchitecture {
+/// The Arm by which rustc names a target of Linux: its `arm` is Armv6, except on Android.
+fn arm_of_linux(environment: Environment, arm: ArmArchitecture) -> ArmArchitecture {
+    match environment {
+        Environment::Androideabi => arm_of_android(arm),
+        _ => arm_of_gnu(arm),
+    }
+}
+
+/// The Arm by which rustc names a target of Linux with `arm` for Armv6. Armv8 in 32 bits runs programs of Armv7.
+fn arm_of_gnu(arm: ArmArchitecture) -> ArmArchitecture {
+    match arm {
+        ArmArchitecture::Arm
+        | ArmArchitecture::Armv6j
+        | ArmArchitecture::Armv6k
+        | ArmArchitecture::Armv6z
+        | ArmArchitecture::Armv6kz
+        | ArmArchitecture::Armv6t2 => ArmArchitecture::Armv6,
+        ArmArchitecture::Armv7a
+        | ArmArchitecture::Armv7ve
+        | ArmArchitecture::Armv8
+        | ArmArchitecture::Armv8a => ArmArchitecture::Armv7,
+        other => other,
+    }
+}
+
+/// The Arm by which rustc names a target of Android, whose `arm` is older than Armv6.
+fn arm_of_android(arm: ArmArchitecture) -> ArmArchitecture {
     match arm {
         ArmArchitecture::Armv6
         | ArmArchitecture::Armv6j
@@ -175,6 +227,53 @@ fn arm_of_linux(arm: ArmArchitecture) -> ArmArchitecture {
         | ArmArchitecture::Armv7ve
         | ArmArchitecture::Armv8
         | ArmArchitecture::Armv8a => ArmArchitecture::Armv7,
+        other => other,
+    }
+}
+
+/// What Alpine builds packages of x86 for: they run on an i586 and an i686.
+fn x86_of_alpine(x86: X86_32Architecture) -> X86_32Architecture {
+    match x86 {
+        X86_32Architecture::I386 => X86_32Architecture::I386,
+        _ => X86_32Architecture::I586,
+    }
+}
+
+/// What packages for the floating-point ABI are built for: Armv7 with floating-point registers, Armv5 without. Without
+/// such an ABI it is the byte order.
+fn arm_of_packages(environment: Environment, arm: ArmArchitecture) -> ArmArchitecture {
+    match environment {
+        Environment::Gnueabihf | Environment::Musleabihf | Environment::Uclibceabihf => {
+            arm_of_hard_floats(arm)
+        }
+        Environment::Gnueabi | Environment::Musleabi | Environment::Uclibceabi => {
+            arm_of_soft_floats(arm)
+        }
+        _ => arm_of_order(arm),
+    }
+}
+
+/// An Arm on which packages for Armv7 run is Armv7, and so is one without a version.
+fn arm_of_hard_floats(arm: ArmArchitecture) -> ArmArchitecture {
+    match arm {
+        ArmArchitecture::Arm
+        | ArmArchitecture::Armv7a
+        | ArmArchitecture::Armv7ve
+        | ArmArchitecture::Thumbv7a
+        | ArmArchitecture::Thumbv7neon
+        | ArmArchitecture::Armv8
+        | ArmArchitecture::Armv8a => ArmArchitecture::Armv7,
+        other => other,
+    }
+}
+
+/// An Arm on which packages for Armv5 run is Armv5, and so is one without a version.
+fn arm_of_soft_floats(arm: ArmArchitecture) -> ArmArchitecture {
+    match arm_of_version(arm) {
+        ArmArchitecture::Arm
+        | ArmArchitecture::Armv6
+        | ArmArchitecture::Armv7
+        | ArmArchitecture::Armv8 => ArmArchitecture::Armv5te,
         other => other,
     }
 }

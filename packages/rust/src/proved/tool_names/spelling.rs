@@ -167,7 +167,7 @@ fn is_custom_vendor(part: &str) -> bool {
 
 /// Whether a part is the name of a system, perhaps with a version.
 #[inline]
-fn is_like_system(part: &str) -> bool {
+pub(crate) fn is_like_system(part: &str) -> bool {
     is_one_of(part, names(Field::OperatingSystem)) || is_one_of(part, &OTHER_SYSTEMS)
 }
 

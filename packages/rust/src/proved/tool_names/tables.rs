@@ -43,7 +43,7 @@ impl Dialect {
     pub(crate) fn rules(self) -> Rules {
         match self {
             Dialect::Debian => Rules {
-                machine: MachineRule::Order,
+                machine: MachineRule::Packages,
                 abi: AbiRule::Kept,
                 versions: false,
                 tags: false,
@@ -67,8 +67,8 @@ impl Dialect {
                 platforms: true,
             },
             Dialect::Node => Rules {
-                machine: MachineRule::Order,
-                abi: AbiRule::KeptOnLinux,
+                machine: MachineRule::Packages,
+                abi: AbiRule::KeptOnLinuxAndWindows,
                 versions: false,
                 tags: false,
                 spelled: false,
@@ -115,7 +115,7 @@ impl Dialect {
                 platforms: false,
             },
             Dialect::Apk => Rules {
-                machine: MachineRule::Version,
+                machine: MachineRule::Alpine,
                 abi: AbiRule::Kept,
                 versions: false,
                 tags: false,
@@ -168,15 +168,7 @@ impl Dialect {
     /// The tables of the dialect, in the order in which they are tried. Those that it doesn't need are empty.
     pub(crate) fn tables(self) -> [&'static [Row]; TABLE_COUNT] {
         match self {
-            Dialect::Debian => [
-                debian::rows(),
-                debian::rows_2(),
-                debian::rows_3(),
-                &[],
-                &[],
-                &[],
-                &[],
-            ],
+            Dialect::Debian => [debian::rows(), debian::rows_2(), &[], &[], &[], &[], &[]],
             Dialect::Go => [go::rows(), go::rows_2(), &[], &[], &[], &[], &[]],
             Dialect::Oci => [oci::rows(), oci::rows_2(), &[], &[], &[], &[], &[]],
             Dialect::Node => [
@@ -213,7 +205,15 @@ impl Dialect {
             Dialect::Pacman => [pacman::rows(), &[], &[], &[], &[], &[], &[]],
             Dialect::Dotnet => [dotnet::rows(), dotnet::rows_2(), &[], &[], &[], &[], &[]],
             Dialect::Conda => [conda::rows(), &[], &[], &[], &[], &[], &[]],
-            Dialect::Zig => [zig::rows(), zig::rows_2(), &[], &[], &[], &[], &[]],
+            Dialect::Zig => [
+                zig::rows(),
+                zig::rows_2(),
+                zig::rows_3(),
+                &[],
+                &[],
+                &[],
+                &[],
+            ],
             Dialect::Nix => [nix::rows(), &[], &[], &[], &[], &[], &[]],
         }
     }

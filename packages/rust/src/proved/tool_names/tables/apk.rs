@@ -11,7 +11,7 @@ pub(crate) fn rows() -> &'static [Row] {
 #[rustfmt::skip]
 static ROWS: [(&str, &str, Way); 15] = [
     ("x86_64", "x86_64-unknown-linux-musl", Both),
-    ("x86", "i686-unknown-linux-musl", Both),
+    ("x86", "i586-unknown-linux-musl", Both),
     ("aarch64", "aarch64-unknown-linux-musl", Both),
     ("armv7", "armv7-unknown-linux-musleabihf", Both),
     ("armhf", "armv6-unknown-linux-musleabihf", Both),

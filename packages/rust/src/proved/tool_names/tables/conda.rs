@@ -1,7 +1,7 @@
 // @generated: erased from crates/tool_names/src/tables/conda.rt by tools/erase. Don't edit it here.
 //! Subdirectories of conda's channels, whose packages for Linux have glibc: `linux-64`, `osx-arm64`. Written by tools/names/write.
 
-use crate::proved::tool_names::tables::Way::{Both, NoTriple, Read};
+use crate::proved::tool_names::tables::Way::{Both, NoTriple};
 use crate::proved::tool_names::tables::{Row, Way};
 
 pub(crate) fn rows() -> &'static [Row] {
@@ -26,8 +26,8 @@ static ROWS: [(&str, &str, Way); 20] = [
     ("win-32", "i686-pc-windows", Both),
     ("win-arm64", "aarch64-pc-windows", Both),
     ("freebsd-64", "x86_64-unknown-freebsd", Both),
-    ("emscripten-wasm32", "wasm32-unknown-emscripten", Read),
-    ("wasi-wasm32", "wasm32-wasi", Read),
+    ("emscripten-wasm32", "wasm32-unknown-emscripten", Both),
+    ("wasi-wasm32", "wasm32-wasip1", Both),
     ("zos-z", "z/OS is no known name", NoTriple),
     ("noarch", "no machine", NoTriple),
 ];

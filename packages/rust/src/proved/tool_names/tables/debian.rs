@@ -22,8 +22,8 @@ static ROWS: [(&str, &str, Way); 50] = [
     ("arm64", "aarch64-unknown-linux-gnu", Both),
     ("arm64ilp32", "aarch64-unknown-linux-gnu_ilp32", Both),
     ("armeb", "armeb-unknown-linux-gnu", Both),
-    ("armel", "arm-unknown-linux-gnueabi", Both),
-    ("armhf", "arm-unknown-linux-gnueabihf", Both),
+    ("armel", "armv5te-unknown-linux-gnueabi", Both),
+    ("armhf", "armv7-unknown-linux-gnueabihf", Both),
     ("avr32", "its architecture is no known name", NoTriple),
     ("darwin-amd64", "x86_64-apple-darwin", Read),
     ("darwin-arm64", "aarch64-apple-darwin", Read),
@@ -67,10 +67,10 @@ pub(crate) fn rows_2() -> &'static [Row] {
 }
 
 #[rustfmt::skip]
-static ROWS_2: [(&str, &str, Way); 50] = [
+static ROWS_2: [(&str, &str, Way); 43] = [
     ("musl-linux-arm64", "aarch64-unknown-linux-musl", Both),
     ("musl-linux-armeb", "armeb-unknown-linux-musl", Both),
-    ("musl-linux-armhf", "arm-unknown-linux-musleabihf", Both),
+    ("musl-linux-armhf", "armv7-unknown-linux-musleabihf", Both),
     ("musl-linux-i386", "i686-unknown-linux-musl", Both),
     ("musl-linux-loong64", "loongarch64-unknown-linux-musl", Both),
     ("musl-linux-m68k", "m68k-unknown-linux-musl", Both),
@@ -109,37 +109,6 @@ static ROWS_2: [(&str, &str, Way); 50] = [
     ("sparc", "sparc-unknown-linux-gnu", Both),
     ("sparc64", "sparc64-unknown-linux-gnu", Both),
     ("tilegx", "its architecture is no known name", NoTriple),
-    ("uclibc-linux-amd64", "x86_64-unknown-linux-uclibc", Both),
-    ("uclibc-linux-arm", "arm-unknown-linux-uclibc", Both),
-    ("uclibc-linux-arm64", "aarch64-unknown-linux-uclibc", Both),
-    ("uclibc-linux-armeb", "armeb-unknown-linux-uclibc", Both),
-    ("uclibc-linux-armel", "arm-unknown-linux-uclibceabi", Both),
-    ("uclibc-linux-i386", "i686-unknown-linux-uclibc", Both),
-    ("uclibc-linux-loong64", "loongarch64-unknown-linux-uclibc", Both),
-    ("uclibc-linux-m68k", "m68k-unknown-linux-uclibc", Both),
-    ("uclibc-linux-mips", "mips-unknown-linux-uclibc", Both),
-];
-
-pub(crate) fn rows_3() -> &'static [Row] {
-    &ROWS_3
-}
-
-#[rustfmt::skip]
-static ROWS_3: [(&str, &str, Way); 16] = [
-    ("uclibc-linux-mips64", "mips64-unknown-linux-uclibc", Both),
-    ("uclibc-linux-mips64el", "mips64el-unknown-linux-uclibc", Both),
-    ("uclibc-linux-mips64r6", "mipsisa64r6-unknown-linux-uclibc", Both),
-    ("uclibc-linux-mips64r6el", "mipsisa64r6el-unknown-linux-uclibc", Both),
-    ("uclibc-linux-mipsel", "mipsel-unknown-linux-uclibc", Both),
-    ("uclibc-linux-mipsr6", "mipsisa32r6-unknown-linux-uclibc", Both),
-    ("uclibc-linux-mipsr6el", "mipsisa32r6el-unknown-linux-uclibc", Both),
-    ("uclibc-linux-powerpc", "powerpc-unknown-linux-uclibc", Both),
-    ("uclibc-linux-ppc64", "powerpc64-unknown-linux-uclibc", Both),
-    ("uclibc-linux-ppc64el", "powerpc64le-unknown-linux-uclibc", Both),
-    ("uclibc-linux-riscv64", "riscv64-unknown-linux-uclibc", Both),
-    ("uclibc-linux-s390x", "s390x-unknown-linux-uclibc", Both),
-    ("uclibc-linux-sparc", "sparc-unknown-linux-uclibc", Both),
-    ("uclibc-linux-sparc64", "sparc64-unknown-linux-uclibc", Both),
     ("x32", "x86_64-unknown-linux-gnux32", Both),
     ("x86_64", "Debian's name is amd64; in Termux it is Android's", NoTriple),
 ];

@@ -35,9 +35,9 @@ static ROWS: [(&str, &str, Way); 30] = [
     ("x86_64-windows", "x86_64-pc-windows", Both),
     ("i686-windows", "i686-pc-windows", Both),
     ("aarch64-windows", "aarch64-pc-windows", Both),
-    ("x86_64-cygwin", "x86_64-pc-cygwin", Read),
+    ("x86_64-cygwin", "x86_64-pc-cygwin", Both),
     ("x86_64-none", "x86_64-unknown-none", Read),
     ("aarch64-none", "aarch64-unknown-none", Read),
-    ("wasm32-wasi", "wasm32-wasi", Read),
+    ("wasm32-wasi", "wasm32-wasip1", Both),
     ("javascript-ghcjs", "no machine", NoTriple),
 ];
