@@ -43,6 +43,13 @@ fn distance(a: &[char], b: &[char]) -> usize {
     row[b.len()]
 }
 
+/// Whether two names are at most two edits apart. Each letter that only one of them has takes an edit.
+fn is_near(a: &[char], b: &[char]) -> bool {
+    let letters = |text: &[char]| text.iter().fold(0_u64, |bits, letter| bits | 1 << (*letter as u32 % 64));
+    let (of_a, of_b) = (letters(a), letters(b));
+    a.len().abs_diff(b.len()) <= 2 && (of_a & !of_b).count_ones().max((of_b & !of_a).count_ones()) <= 2 && distance(a, b) <= 2
+}
+
 /// The machine and byte order that a word of a string names: an architecture, or one of these other names of architectures.
 fn machine_in(words: &HashMap<&str, Said>, text: &str) -> Option<(String, Option<Endianness>)> {
     let is_separator = |c: char| "-/ .".contains(c);
@@ -134,7 +141,7 @@ pub fn check(input: &str, step: usize) {
                 edits(&once, &letters, &mut |twice| {
                     made += 1;
                     count += 1;
-                    if count % step.max(11) == 0 || step == 1 && others.iter().any(|it| distance(&it.0, &twice) <= 2) {
+                    if count % step.max(11) == 0 || step == 1 && others.iter().any(|it| is_near(&it.0, &twice)) {
                         ask(&twice);
                     }
                 });

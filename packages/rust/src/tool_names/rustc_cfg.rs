@@ -1,4 +1,4 @@
-//! The values of rustc's cfg options for a triple. `checks/compare llvm` asks rustc for those of each of its targets.
+//! The values of rustc's cfg options for a triple. `checks/compare elsewhere` asks rustc for those of each of its targets.
 
 use crate::{
     Architecture, Endianness, Environment, KnownVendor, Mips32Architecture, Mips64Architecture,
