@@ -1,4 +1,4 @@
-//! Compares the definitions of library.antt with those of the kit, where it is, on all arguments of small domains.
+//! Compares the definitions of library.txt with those of the kit, where it is, on all arguments of small domains.
 use crate::report::Report;
 use definitions::spec::{self as s, LIBRARY};
 use definitions::values::{con, eq, forget, function, keep, library, shown, truth, text, N, V};

@@ -2,7 +2,7 @@
 
 The definitions are a small functional language. Types aren't used: each value is a `V` of values.rs. A definition becomes a function
 of its arguments, and a proposition a test, whose variables range over the domain of their type (DOMAINS). Definitions of the kit's
-library are those of library.antt; what has no clauses there is a function of values.rs. The tables that definitions cite from the
+library are those of library.txt; what has no clauses there is a function of values.rs. The tables that definitions cite from the
 code are read from the proved source. What isn't understood is an error that names it.
 
 A proposition is translated if a Rust file of this folder, or another translated one, names it. One without arguments is a law: a
@@ -293,7 +293,7 @@ class Names:
     @functools.cache
     def module(self, path):
         if path == LIBRARY:
-            return Module(path, HERE / "library.antt")
+            return Module(path, HERE / "library.txt")
         file = self.root.joinpath("crates", *path[1:]).with_suffix(".antt")
         return Module(path, file) if path[0] == "Rattle" and path[1] in CRATES and file.exists() else None
 

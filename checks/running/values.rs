@@ -258,7 +258,7 @@ pub fn field_lists() -> V {
     once(2, || L(filled(32, chosen)))
 }
 
-/// What has no clause in library.antt. Numbers stay below 2^64, where they stop: no definition tells a larger one from that.
+/// What has no clause in library.txt. Numbers stay below 2^64, where they stop: no definition tells a larger one from that.
 pub mod library {
     use super::*;
 
