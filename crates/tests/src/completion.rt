@@ -59,9 +59,11 @@ x86_64-pc-windows-gnu msvc x86_64-pc-windows-gnu";
 fn triples_of_windows_are_completed(rt: HostRuntime) {
     for row in ON_WINDOWS.lines() {
         let mut columns = row.split(' ');
-        let (Some(text), Some(library), Some(completed)) =
-            (columns.next(), columns.next(), columns.next())
-        else {
+        let (Some(text), Some(library), Some(completed)) = (
+            columns.next(),
+            columns.next(),
+            columns.next(),
+        ) else {
             panic!(rt; "{row}");
         };
         match (TripleRef::from_str(text), LinuxLibc::from_str(library)) {

@@ -63,6 +63,14 @@ aarch64-nintendo-horizon-newlib-coff=aarch64-nintendo-horizon-coff
 clever1.0-pc-unknown-none-coff=clever1.0-pc-none-coff
 x86_64-apple-darwin*23.*=x86_64-apple-darwin23.0.0";
 
+/// Whether the round trip of the first triple gives the second.
+fn is_round(alloc: Global, triple: &Triple, back: &Triple) -> bool {
+    match round(alloc, triple) {
+        Ok(again) => again == *back,
+        Err(_) => false,
+    }
+}
+
 /// Whether the triple of the string prints this, and comes back and is in no family exactly if that parses as the triple;
 /// and the triple of the printed string is the round trip, the next step and the canonical triple, and prints the last
 /// string.
@@ -76,7 +84,7 @@ fn is_round_trip(alloc: Global, text: &str, print: &str, last: &str) -> bool {
             && is_printed(alloc, &back, last)
             && triple.comes_back() == (triple == back)
             && triple.family().is_none() == (triple == back)
-            && matches!(round(alloc, &triple), Ok(again) if again == back)
+            && is_round(alloc, &triple, &back)
             && triple.normal() == back
             && same.settle() == back,
         _ => false,
