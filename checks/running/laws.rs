@@ -31,6 +31,14 @@ fn triples() -> Cases {
     (named + count, Box::new(move |i| vec![case(i)]))
 }
 
+/// Each dialect with the values that names mean, and with some of the others.
+fn dialects_and_triples() -> Cases {
+    let (count, case) = triples();
+    let mut values = inputs::meanings();
+    values.extend((0..count).step_by(17).map(|i| keep(|| case(i)[0])));
+    both(list(s::dialects().list().to_vec()), list(values))
+}
+
 /// Triples with themselves, with what they become, and with triples of which one field is another.
 fn pairs() -> Cases {
     let (count, case) = triples();
@@ -76,6 +84,7 @@ fn cases(variables: &[(&str, &str)]) -> Cases {
     let (here, rest) = match variables {
         [] => return (1, Box::new(|_| vec![])),
         [("d", "Dialect"), ("row", "Row"), ("name", "List ℕ"), rest @ ..] => (named_rows(), rest),
+        [("d", "Dialect"), ("t", "Values"), rest @ ..] => (dialects_and_triples(), rest),
         [("t", "Values"), ("u", "Values"), rest @ ..] => (pairs(), rest),
         [("t", "Values"), rest @ ..] => (triples(), rest),
         [("text", "List ℕ"), rest @ ..] => (strings(), rest),
