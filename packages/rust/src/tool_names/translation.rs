@@ -376,10 +376,7 @@ impl Dialect {
             } else {
                 WriteError::OnlyReadNames
             }
-        } else if self
-            .rows()
-            .any(|row| is_written(row) && begins(row, bare))
-        {
+        } else if self.rows().any(|row| is_written(row) && begins(row, bare)) {
             WriteError::NoAbi
         } else if self.rows().any(|row| is_written(row) && has_system(row)) {
             WriteError::NoMachine
