@@ -84,11 +84,9 @@ impl Rules {
             .abi
             .environment(triple.operating_system, triple.environment);
         TripleRef {
-            architecture: self.machine.architecture(
-                triple.operating_system,
-                environment,
-                triple.architecture,
-            ),
+            architecture: self
+                .machine
+                .architecture(triple.operating_system, environment, triple.architecture),
             vendor: VendorRef::Known(usual_vendor(triple.operating_system)),
             operating_system: system_by(self.versions, triple.operating_system),
             environment,

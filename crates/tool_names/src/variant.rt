@@ -22,7 +22,5 @@ pub(crate) fn is_another_target(vendor: VendorRef<'_>) -> bool
 fn is_variant(vendor: &[u8]) -> bool
     ensures { result ≡ spec.is_variant vendor.now }
 {
-    vendor == b"win7".as_slice()
-        || vendor == b"unikraft".as_slice()
-        || vendor == b"wali".as_slice()
+    vendor == b"win7".as_slice() || vendor == b"unikraft".as_slice() || vendor == b"wali".as_slice()
 }
