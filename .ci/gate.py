@@ -57,6 +57,7 @@ WITHOUT_PROOF = [
     ("the Rust crate, as its users build it: tests, samples of the documentation, public surface, features, a dependent",
      "packages/rust/test", "cargo"),
     ("the definitions run, and say what the Rust crate answers", "checks/specification quick", "cargo"),
+    ("what they take from the kit's library, written again, is the kit's", 'checks/specification library "$(dirname "$(rt doc)")/rattle"', "rt cargo"),
     ("the command `target-lexicon`: arguments, output and statuses", "packages/command/test", "cargo"),
     ("it is built for the next steps, and a program to compare with", "cd packages/command && cargo build --quiet --locked --release --all-features", "cargo"),
     ("the library for C is built and installed for the next steps", f"packages/c/install {BUILT}", "cargo cc"),

@@ -19,6 +19,8 @@ macro_rules! answers {
 
         impl Triple {
             $($(#[$documentation])*
+            // One of them gives a triple that borrows.
+            #[allow(clippy::needless_lifetimes)]
             #[inline]
             pub fn $name<'a>(&'a self, $($argument: $type),*) -> $answer {
                 self.as_triple_ref().$name($($argument),*)
