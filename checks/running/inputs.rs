@@ -60,7 +60,7 @@ pub struct Fields {
     pub formats: Vec<(V, BinaryFormat)>,
 }
 
-const CUSTOM_VENDORS: [&str; 6] = ["esp", "rtems", "foo", "No-1", "", "linux"];
+const CUSTOM_VENDORS: [&str; 7] = ["esp", "rtems", "foo", "No-1", "", "linux", "pc"];
 const VERSIONS: [&str; 3] = ["", "13.4.255", "65535.0.1"];
 
 pub fn fields() -> Fields {
