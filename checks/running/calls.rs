@@ -191,6 +191,10 @@ pub fn relations(r: &mut Report, string: &str) {
         }
         let refusal = s::refusal_with(con(s::Option__Some, &[V::C(s::Field__Architecture, &[])]), library::seq(&[]));
         r.holds("IsRefusedAs of what is read", !s::IsRefusedAs(x, refusal).yes(), &string);
+        // a special string would be refused by its parts
+        if let V::C(s::Result__Err, refused) = s::reading_of_parts(s::parts_of(x)) {
+            r.holds("IsRefusedAs of a special string", !s::IsRefusedAs(x, refused[0]).yes(), &string);
+        }
         let sources = TripleRef::explain(string).sources;
         let found = [sources.architecture, sources.vendor, sources.operating_system, sources.environment, sources.binary_format].map(|source| match source {
             Source::Part(part) => con(s::SourceValue__FromPart, &[s::part_from(V::N(part.start as u64), v(part.text))]),

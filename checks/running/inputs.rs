@@ -237,6 +237,13 @@ fn joined(lists: &[&Vec<String>], mut i: usize) -> String {
     string
 }
 
+/// Strings of two to four parts around the special ones.
+pub fn near_special() -> Vec<String> {
+    let (firsts, others): (Vec<_>, Vec<_>) = (split("armv6k riscv32imc").collect(), split("nintendo 3ds esp espressif espidf horizon newlib elf unknown").collect());
+    let lists = (1..=3).map(|count| [vec![&firsts], vec![&others; count]].concat());
+    lists.flat_map(|lists| (0..product(&lists)).map(|i| joined(&lists, i)).collect::<Vec<_>>()).collect()
+}
+
 /// Numbers that are the same in each run.
 pub struct Random(u64);
 

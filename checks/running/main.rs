@@ -42,6 +42,11 @@ fn run(part: &str, chosen: Chosen, r: &mut Report) {
             }
             words(inputs::edited_words(40), r, &calls::word);
         }
+        "special" => words(inputs::near_special(), r, &|r, string| {
+            calls::string(r, string);
+            calls::owned(r, string);
+            calls::relations(r, string);
+        }),
         "strings" => strings(Strings::parsed(), r, calls::string),
         "owned" => strings(Strings::parsed(), r, calls::owned),
         "relations" => strings(Strings::parsed(), r, calls::relations),
