@@ -223,12 +223,15 @@ pub(crate) fn name_at(field: Field, number: u32) -> Option<&'static str> {
     })
 }
 
-/// Whether a string, which is a value of a field, is its name, and not another spelling.
+/// Whether a string is the name of a value of a field, and not another spelling, as a special string is for all fields.
 pub(crate) fn is_name_in(field: Field, text: &str) -> bool {
     match field {
         Field::Architecture => Architecture::from_str(text).map_or(false, |it| is_shown_as(&it, text)),
         Field::OperatingSystem => OperatingSystem::from_str(text).map_or(false, |it| is_shown_as(&it, text)),
-        Field::Vendor | Field::Environment | Field::BinaryFormat => true, // which have no other spellings
+        // These have no other spellings.
+        Field::Vendor => VendorRef::from_str(text).is_ok(),
+        Field::Environment => Environment::from_str(text).is_ok(),
+        Field::BinaryFormat => BinaryFormat::from_str(text).is_ok(),
     }
 }
 
@@ -280,6 +283,7 @@ mod tests {
                 assert_eq!(number_in(field, name), Some(number), "{name}");
                 assert!(is_name_in(field, name));
             }
+            assert!(!is_name_in(field, "armv6k-nintendo-3ds"));
         }
         assert!(!is_name_in(Field::Architecture, "arm64") && !is_name_in(Field::OperatingSystem, "ios17"));
         assert_eq!((vendor_number(VendorRef::Custom("acme")), name_at(Field::Vendor, 255)), (CUSTOM_VENDOR, None));

@@ -60,7 +60,7 @@ const tests = {
   },
   "a refusal has its field, its range and a suggestion": () => {
     for (const [text, field, part, start, suggestion] of [
-      ["", "architecture", "", 0, null], ["arm64e-linux", "architecture", "arm64e", 0, null], ["amr64-linux", "architecture", "amr64", 0, "arm64"], ["x86_64--linux", "vendor", "", 7, null],
+      ["", "architecture", "", 0, null], ["arm64e-linux", "architecture", "arm64e", 0, null], ["amr64-linux", "architecture", "amr64", 0, null], ["mispel-linux", "architecture", "mispel", 0, "mipsel"], ["x86_64--linux", "vendor", "", 7, null],
       ["x86_64-foo-bar", "operatingSystem", "bar", 11, null], ["x86_64-linux-gnuu", "environment", "gnuu", 13, "gnu"],
       ["arm64-apple-macos14.2", "operatingSystem", "macos14.2", 12, "macosx14.2"], ["x86_64-pc-linux5.10", "operatingSystem", "linux5.10", 10, "linux"],
       ["x86_64-gnu-linux", "binaryFormat", "linux", 11, null], ["x86_64-elf-linux", null, "linux", 11, null],

@@ -269,7 +269,7 @@ def names_other_tools(page):
     page.keys(Keys.ENTER)
     page.until("document.querySelectorAll('.names dl > div').length > 0")
     same(page.run("[...document.querySelectorAll('.elsewhere button')].map((it) => it.getAttribute('aria-expanded'))"), ["false", "false", "true", "false"])
-    same(page.run(shown), ["", "", "Debiannone; Gowindows/amd64; Container imageswindows/amd64; Nodewin32-x64; GNU prefixnone; Pythonwin_amd64", ""])
+    same(page.run(shown), ["", "", "Debiannone; Gowindows/amd64; Container imageswindows/amd64; Nodewin32-x64-msvc; GNU prefixnone; Pythonwin_amd64", ""])
     # The button is on the line of the target.
     same(page.run(ROWS + "[3].getClientRects().length && [...new Set([" + ROWS + "[3].cells[1], " + ROWS + "[3].cells[10]].map((it) =>"
                          " Math.round(it.getBoundingClientRect().top)))].length"), 1)
@@ -290,7 +290,7 @@ def says_what_other_tools_mean(page):
     same(page.run(FOCUSED), "amd64-unknown-freebsd13.2")
     typed(page, "js/wasm\nlinux-x64-musl\nmusllinux_1_2_x86_64")
     same([it[1] for it in page.run(CELLS)], [
-        "Unrecognized architecture: js/wasmA name of Go and container images. No triple means it: Go's pointers have 64 bits there, those of wasm32 32.",
+        "Unrecognized architecture: js/wasmA name of Go and container images. No triple means it: a module for Go's own JavaScript; rustc's nearest target is wasm32-unknown-unknown.",
         "Unrecognized architecture: linuxA name of Node, which is x86_64-unknown-linux-musl.",
         "Unrecognized architecture: musllinux_1_2_x86_64A name of Python, which is x86_64-unknown-linux-musl."])
 

@@ -59,7 +59,7 @@ const members: {
     version: Version | null; hasCustomVendor: boolean; numbers: Readonly<Record<Field, number>>; with: (values: Given) => Triple;
     toString: () => string; toJSON: () => string; nameIn: (dialect: Dialect, version?: GivenVersion) => string | null; names: () => Record<(typeof DIALECTS)[number], string | null>; settle: () => Triple; comesBack: () => boolean;
     equals: (other: Triple) => boolean; sameTarget: (other: Triple) => boolean; facts: () => Facts;
-    canonical: string; complete: (libc: "glibc" | "musl") => Triple;
+    canonical: string; complete: (libc: "glibc" | "musl" | "msvc" | "mingw" | "gnullvm") => Triple;
   }[Name]>
 } = {
   architecture: true, vendor: true, operatingSystem: true, environment: true, binaryFormat: true, version: true, hasCustomVendor: true,

@@ -345,7 +345,7 @@ class Samples(Folder):
         self.assertEqual(answer("read", "x86_64-w64-mingw32")[0], "x86_64-pc-windows-gnu\n")
         note = "  note: it is a name of another tool: use `--from go`"
         self.assertTrue(answer("read", "linux/arm64")[1].endswith(f"^\n{note} or `--from oci`\n"))
-        self.assertTrue(answer("read", "js/wasm")[1].endswith("^\n  note: it is a name of go without a triple: Go's pointers have 64 bits there, those of wasm32 32\n"))
+        self.assertTrue(answer("read", "js/wasm")[1].endswith("^\n  note: it is a name of go without a triple: a module for Go's own JavaScript; rustc's nearest target is wasm32-unknown-unknown\n"))
         self.assertEqual([answer(*it)[1].count("note") for it in (["read", "linx"], ["settle", "linux/arm64"], ["read", "--from", "debian", "linux/arm64"])],
                          [0, 0, 0])
         self.assertEqual(answer("write", "--to", "go", "arm64-linux", "avr-none"), ("linux/arm64\n", "no name of go for avr-none\n", 1))
