@@ -84,7 +84,7 @@ const calls: [
   Same<typeof Triple.read, (text: string, dialect?: Dialect | null) => Triple>, Same<typeof Triple.of, (values: Given) => Triple>,
   Same<typeof host, () => Triple>, Same<typeof version, () => string>, Same<typeof numberOf, (field: Field, text: string) => number | null>,
   Same<typeof load, (module: ArrayBuffer | ArrayBufferView | WebAssembly.Module) => Promise<void>>, Same<typeof FAMILIES, readonly Family[]>,
-  Same<typeof translate, (name: string, from: Dialect | null, to: Dialect, libc?: "glibc" | "musl" | null) => string>,
+  Same<typeof translate, (name: string, from: Dialect | null, to: Dialect, libc?: "glibc" | "musl" | "msvc" | "mingw" | "gnullvm" | null) => string>,
   Same<typeof changes, (text: string) => Change[]>, Same<typeof settleAll, (targets: Iterable<string>) => (string | null)[]>,
 ] = [true, true, true, true, true, true, true, true, true, true, true, true];
 
