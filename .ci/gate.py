@@ -190,7 +190,7 @@ def beside(environment):
 
 
 def main():
-    environment = {**os.environ, "BUILT": BUILT, "PYTHONDONTWRITEBYTECODE": "1", "WITHOUT": " ".join(sorted(WITHOUT))}
+    environment = {**os.environ, "BUILT": BUILT, "WASM_RUST": WASM, "PYTHONDONTWRITEBYTECODE": "1", "WITHOUT": " ".join(sorted(WITHOUT))}
     with open("/proc/meminfo", encoding="utf-8") as file:
         memory = next(int(line.split()[1]) // 1000000 for line in file if line.startswith("MemAvailable"))
     if memory >= 5 * os.cpu_count():

@@ -39,7 +39,7 @@ class ParseError(ValueError):
     One that is made, such as for a test, is like one that is caught. The part goes to the end, unless it is given:
 
     >>> ParseError("x86_64-pc-linx", "operating_system", 10).suggestion, ParseError("js/wasm", dialect="go").reason
-    ('linux', "Go's pointers have 64 bits there, those of wasm32 32")
+    ('linux', "a module for Go's own JavaScript; rustc's nearest target is wasm32-unknown-unknown")
     """
 
     # The name by which tracebacks and callers know it.
