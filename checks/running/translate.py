@@ -191,16 +191,22 @@ class Definition:
     @functools.cached_property
     def clauses(self):
         """The patterns and the body of each clause."""
-        found = []
-        for chunk in self.chunks:
-            parser = Parser(chunk)
-            head = parser.application()
-            found.append((head[2] if head[0] == "app" else [], parser.after("=")))
-            if parser.peek():
-                raise Untranslated(f"{parser.peek()!r} is left")
+        try:
+            found = [self.clause(chunk) for chunk in self.chunks]
+        except Untranslated as problem:
+            raise Untranslated(f"{self.title}: {problem}") from None
         if len({len(patterns) for patterns, _ in found}) > 1:
-            raise Untranslated("its clauses have different numbers of arguments")
+            raise Untranslated(f"{self.title}: its clauses have different numbers of arguments")
         return found
+
+    @staticmethod
+    def clause(chunk):
+        parser = Parser(chunk)
+        head = parser.application()
+        clause = (head[2] if head[0] == "app" else [], parser.after("="))
+        if parser.peek():
+            raise Untranslated(f"{parser.peek()!r} is left")
+        return clause
 
 
 FORMS = {
