@@ -22,8 +22,8 @@ import threading
 import time
 
 # Debian's packages of the tools: commands, modules of Debian's Python, and paths.
-MODULES = {it: f"python3-{it}" for it in "hypothesis pip venv hatchling build installer pandas distributed packaging selenium".split()} | {"ensurepip": "python3-venv"}
-PACKAGES = {it: it for it in "git clang valgrind cmake pkg-config mypy pypy3 shellcheck pyflakes3 chromium npm esbuild lintian rpm makepkg".split()} | MODULES | {
+MODULES = {it: f"python3-{it}" for it in "hypothesis pip venv hatchling build installer pandas distributed packaging selenium jsonschema".split()} | {"ensurepip": "python3-venv"}
+PACKAGES = {it: it for it in "git clang valgrind cmake meson jq pkg-config mypy pypy3 shellcheck pyflakes3 chromium npm esbuild lintian rpm makepkg zsh fish".split()} | MODULES | {
     "cargo": "cargo-web", "rustc": "rustc-web", "rustfmt": "rustfmt-web", "cargo-clippy": "rust-web-clippy", "cc": "gcc", "c++": "g++", "nm": "binutils",
     "man": "man-db", "cram3": "python3-cram", "chromedriver": "chromium-driver", "node": "nodejs", "tsc": "node-typescript", "dpkg-buildpackage": "dpkg-dev",
     "dh": "debhelper", "dh_python3": "dh-python", "llvm-config": "llvm-dev", "go": "golang-go", "nix-instantiate": "nix-bin",
@@ -48,7 +48,8 @@ STARTED = time.time()
 
 # Each step: what it is for, its command, and the tools without which it isn't run.
 FIRST = [
-    ("lists of names, the Rust source, what was reviewed of it, and PROMISES are what they are made from", "tools/write --check", "rustfmt"),
+    ("lists of names and the Rust source are what they are made from; what was reviewed of it, and of the statement, is as it was", "tools/write --check", "rustfmt"),
+    ("the published table of names is what its schema says", "checks/names", "jsonschema"),
     ("no script has a warning", "checks/scripts", "shellcheck pyflakes3"),
     ("the crate's copies of the licence are the repository's", "cmp LICENSE packages/rust/LICENSE && cmp COPYRIGHT packages/rust/COPYRIGHT", ""),
 ]

@@ -35,22 +35,29 @@ GROWS = 'cfg_attr(not(lexicon_internal), non_exhaustive)'
 NON_EXHAUSTIVE = set(
     """Architecture ArmArchitecture Aarch64Architecture CleverArchitecture Riscv32Architecture Riscv64Architecture
     X86_32Architecture Mips32Architecture Mips64Architecture Z80Architecture Vendor KnownVendor OperatingSystem Environment BinaryFormat
-    CallingConvention CDataModel Dialect Explanation Refusal Sources WriteError""".split())
+    CallingConvention CDataModel Dialect Explanation Refusal Sources""".split())
 # The public types that get the derive `Hash` too.
-HASHED = set("Explanation Family Field Name NameError Refusal Source Sources TextPart TranslateError WriteError".split())
+HASHED = set("Explanation Family Field Name NameError Refusal Source Sources TextPart".split())
 
 # Methods that only the crates above need, of which documentation doesn't speak.
 HIDDEN = {"DeploymentTarget::from_text", "Refusal::write_to", "TripleRef::step", "TripleRef::write_upstream_to"}
 
+# What needs an allocator, and the functions that do.
+ALLOCATES = 'cfg(feature = "alloc")'
+ALLOCATING = {"into_str"}
+
+# Calls that take a `Triple` as well as a `TripleRef`, by reference or by value.
+EITHER = {"Dialect::write", "Dialect::write_versioned", "Triple::settles_as", "TripleRef::settles_as"}
+
 # What few programs call: rustc compiles it only where it is called, which saves a third of a build. Functions, and modules
-# of which it is each function.
+# of which it is each function. What only suggestions need without the feature `tool_names` is compiled once with it.
 INLINE = {
     "TripleRef::from_str", "Triple::write_to", "TripleRef::write_to", "TripleRef::write_upstream_to", "Pieces::write_to",
-    "Pieces::text_length", "Pieces::version_length", "Pieces::put_version", "Pieces::put", "Piece::text_length", "Piece::put",
-    "put", "Refusal::write_to", "Triple::as_triple_ref", "Vendor::as_vendor_ref",
+    "Pieces::text_length", "Pieces::put", "piece_length", "system_length", "put_piece", "put_system", "system_version_length", "put_system_version", "put",
+    "Refusal::write_to", "Triple::as_triple_ref", "Vendor::as_vendor_ref",
 }
 INLINE_MODULES = {
-    "aarch64", "arm", "clever", "macos", "mips", "queries", "riscv", "rules", "settle", "settles_as", "spelled", "spelling", "x86_32", "z80",
+    "aarch64", "arm", "change", "clever", "macos", "mips", "queries", "riscv", "rules", "settle", "settles_as", "spelled", "spelling", "x86_32", "z80",
 }
 
 # Calls that constants can use: what `const fn` can have in Rust 1.65.
@@ -64,18 +71,24 @@ CONST = set(
     CDataModel::name CDataModel::pointer_width CDataModel::short_size Dialect::name Endianness::name
     Environment::name KnownVendor::name KnownVendor::to_vendor OperatingSystem::is_like_darwin OperatingSystem::prefix
     OperatingSystem::version PointerWidth::bits PointerWidth::bytes PointerWidth::name Refusal::range Size::bits Size::bytes
-    TextPart::range Triple::default_calling_convention Triple::endianness Triple::pointer_width Triple::unknown
-    Triple::without_vendor TripleRef::default_binary_format TripleRef::default_calling_convention
+    TextPart::range leaves_format_open object_format toolchain_format wasm_or Triple::data_model Triple::default_calling_convention
+    Triple::endianness Triple::pointer_width Triple::unknown
+    Triple::without_vendor TripleRef::data_model TripleRef::data_model_32 TripleRef::data_model_64
+    TripleRef::default_binary_format TripleRef::default_calling_convention
     TripleRef::endianness TripleRef::pointer_width TripleRef::unknown VendorRef::as_str VendorRef::is_custom""".split())
 
 # The start of the names of files, what is there, and what it becomes.
 REPLACEMENTS = [
     # Rust's formatter isn't generic, and its `Cow` names the type.
     ("", "fmt<W: fmt::Write>(&self, f: &mut fmt::Formatter<W>)", "fmt(&self, f: &mut fmt::Formatter<'_>)"),
-    ("lexicon_fields/", "std::borrow::CowStr", "alloc::borrow::Cow"),
+    ("target_lexicon/src/display.rt", "<W: fmt::Write>(f: &mut fmt::Formatter<W>,", "(f: &mut fmt::Formatter<'_>,"),
+    ("lexicon_fields/", "use std::borrow::CowStr", f"#[{ALLOCATES}]\nuse alloc::borrow::Cow"),
     ("lexicon_fields/", "CowStr<'static>", "Cow<'static, str>"),
     ("lexicon_fields/", "CowStr::", "Cow::"),
-    ("lexicon_fields/src/vendor.rt", "use std::fmt;", "use alloc::boxed::Box;\nuse alloc::string::String;\nuse std::fmt;"),
+    ("lexicon_fields/src/vendor.rt", "use std::fmt;", f"#[{ALLOCATES}]\nuse alloc::{{boxed::Box, string::String}};\nuse std::fmt;"),
+    ("lexicon_fields/src/vendor.rt", "#[derive(Debug, Drop)]\npub enum CustomVendor", "#[cfg_attr(not(feature = \"alloc\"), non_exhaustive)]\n#[derive(Debug, Drop)]\npub enum CustomVendor"),
+    ("lexicon_fields/src/vendor.rt", "Owned(Box<String>)", f"#[{ALLOCATES}]\nOwned(Box<String>)"),
+    ("lexicon_fields/src/vendor.rt", "CustomVendor::Owned(text) => text.as_str(),", f"#[{ALLOCATES}]\nCustomVendor::Owned(text) => text.as_str(),"),
     # Before Rust 1.77 slices have no `first_chunk`.
     ("lexicon_fields/src/table.rt", "use std::cmp", "#[allow(unused_imports)]\nuse crate::compat::Chunks as _;\nuse std::cmp"),
     # The counter of comparisons.
@@ -85,6 +98,12 @@ REPLACEMENTS = [
     ("lexicon_fields/src/table.rt", "/// `steps` ticks once for each row that is compared with the string: at least once, and at most eight times.\n", ""),
     ("lexicon_fields/src/table.rt", " `steps` ticks once.", ""),
     ("", ", &mut Steps::new()", ""),
+    ("target_lexicon/src/settles_as.rt", "settles_as(&other.as_triple_ref())", "settles_as(other)"),
+    # A `const fn` of Rust has no `?`; and the layer asks without a vendor too.
+    ("target_lexicon/src/queries.rt", "self.pointer_width()?", "match self.pointer_width() { Ok(it) => it, Err(error) => return Err(error) }"),
+    ("target_lexicon/src/queries.rt", "self.default_calling_convention()?",
+     "match self.default_calling_convention() { Ok(it) => it, Err(error) => return Err(error) }"),
+    ("target_lexicon/src/queries.rt", "    fn without_vendor", "    pub(crate) fn without_vendor"),
     # A name has the width that is asked for. Triples and their fields have none, as upstream's.
     ("tool_names/src/", "f.write_str(self.name())", "f.pad(self.name())"),
     ("tool_names/src/name.rt", "f.write_str(self.as_str())", "f.pad(self.as_str())"),

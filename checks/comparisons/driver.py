@@ -53,6 +53,7 @@ def check(report, targets, specs):
         (target, it[6], specs[target].get("linker-flavor", "gnu-cc").split("-")[0]) for target, it in ours.items()), LINKERS)
     report.fact("and its programs have the same names", (
         (target, it[7], f"program{specs[target].get('exe-suffix', '')}") for target, it in ours.items()))
+    report.fact("and LLVM gets the same string", ((target, it[8], specs[target]["llvm-target"]) for target, it in ours.items()))
     if not report.has("clang", shutil.which("clang")):
         return
     with concurrent.futures.ThreadPoolExecutor() as pool:

@@ -11,7 +11,7 @@ type Said = (String, Option<PointerWidth>, Option<Endianness>, Option<FloatAbi>)
 
 fn said(triple: &TripleRef) -> Said {
     let (width, order) = (triple.pointer_width().ok(), triple.endianness().ok());
-    (triple.rustc_cfg().target_arch.to_string(), width, order, FloatAbi::of(triple))
+    (triple.rustc_cfg().target_arch.to_string(), width, order, triple.float_abi())
 }
 
 /// Calls for each edit of one letter.

@@ -5,18 +5,20 @@ them; esbuild and Node's manual, the words; config.sub, which strings there are,
 table of prefixes. rustc lists its targets, and says the architecture, byte order, pointer width and object format of each, and what its cfg options are.
 clang prints its own form of each known name. Python's sysconfig says how it names platforms, and packaging which tags it makes. rpm says which machines have 64
 bits, and how they pass floating-point numbers; config.guess, what a system is whose `uname` is told; Nix and makepkg, how they name the
-machine that they run on. Without one of them it fails, unless WITHOUT names that.
+machine that they run on; Meson, of which family a machine of `uname` is; CMake, the prefixes of Android's NDK. Without one of them it fails, unless
+WITHOUT names that. Each source of the table that is a file or a command is there, and no older than the table says.
 Without any tool it checks that a machine's word means one architecture, and that each other spelling is explained by a rule or
 listed here. The status is 1 if an answer differs that docs/TOOL_NAMES.md doesn't list. The names of Android and iOS need a
 Python 3.13 that runs this.
 
 Debian's packages: dpkg-dev autotools-dev golang-go golang-github-containerd-containerd-dev esbuild nodejs-doc librust-cc-dev
-python3-packaging rpm nix-bin makepkg clang.
+python3-packaging rpm nix-bin makepkg clang meson cmake-data.
 """
 import collections
 import concurrent.futures
 import glob
 import gzip
+import json
 import os
 import re
 import shutil
@@ -34,7 +36,7 @@ SYSTEM_WORDS = {"android": "linux", "win32": "windows", "win": "windows", "manyl
                 "linuxmusl": "linux", "mas": "darwin", "openharmony": "linux", "osx": "darwin macosx", "maccatalyst": "ios", "iossimulator": "ios",
                 "tvossimulator": "tvos", "browser": "emscripten", "freestanding": "none unknown", "pyodide": "emscripten", "mingw": "windows",
                 "gnu": "hurd", "cygwin_nt": "cygwin", "mingw64_nt": "windows", "mingw32_nt": "windows", "windows_nt": "windows",
-                "ucrt64_nt": "windows", "clang64_nt": "windows", "wasi": "wasip1 wasi",
+                "ucrt64_nt": "windows", "clang64_nt": "windows", "clangarm64_nt": "windows", "wasi": "wasip1 wasi",
                 **dict.fromkeys(("ubuntu", "debian", "rhel", "fedora", "centos", "opensuse", "sles", "ol"), "linux")}
 # The dialects whose names have a word for the system, and those whose names are a machine's word, mostly.
 OF_SYSTEMS = ("debian", "go", "oci", "node", "python", "uname", "dotnet", "conda", "zig", "nix")
@@ -45,7 +47,7 @@ ONLY_ONCE = {"arm64ilp32": "aarch64", "powerpcspe": "powerpc", "x32": "x86_64", 
              "win32": "i686", "arm32": "armv7", "lpia": "i686", "riscv": "riscv32", "arm64be": "aarch64_be", "amd64_v1": "x86_64", "arm64_v8.0": "aarch64",
              "arm/v7l": "armv7", "arm64v8": "aarch64", "aarch64_be": "aarch64_be", "armv4tl": "armv4t", "power macintosh": "powerpc",
              "octeon": "mips64", "loongson": "mips64el", "i686-at386": "i686", "bepc": "i586", "em64t": "x86_64", "ia32e": "x86_64",
-             "athlon": "i686", "armv6hl": "armv6", "armv7hl": "armv7", "armv7hnl": "armv7", "armv8hl": "armv8", "ppc64p7": "powerpc64",
+             "athlon": "i686", "geode": "i586", "armv6hl": "armv6", "armv7hl": "armv7", "armv7hnl": "armv7", "armv8hl": "armv8", "ppc64p7": "powerpc64",
              "sparcv9": "sparc", "armv7h": "armv7", "armv6h": "armv6", "thumb": "thumbv7a",
              "armel": "armv5te", "arm32v5": "armv5te", "arm32v6": "armv6", "arm32v7": "armv7", "arm64/v8.0": "aarch64", "wasm64": "wasm64"}
 # Words that mean another machine in one dialect, or there on one system: the little-endian builds of Node on Linux, the versions of Arm that
@@ -83,6 +85,14 @@ func main() {
 		if err != nil { fmt.Println("error") } else { fmt.Println(platforms.Format(platforms.Normalize(it))) }
 	}
 }
+"""
+
+# What Meson says of the machines that `uname -m` would print.
+MESON = """import platform, sys
+from mesonbuild import environment
+for line in sys.stdin:
+    platform.machine = lambda: line.strip()
+    print(environment.detect_cpu_family({}))
 """
 
 # What stands for `uname` while config.guess asks.
@@ -162,15 +172,17 @@ class Comparison(Report):
         known = {*output("dpkg-architecture", "-L").split(), "all", "any", "source"}
         rows = self.rows_of("debian", ("rw", "-"))
         self.fact("Debian's names are dpkg's, or listed here", ((row.name, row.name in {*known, *NOT_DPKG}, True) for row in rows))
-        meanings, said, gnu = {name: it for name, it in self.meanings("debian").items() if name not in NOT_DPKG}, {}, {}
+        meanings, said, gnu, multiarch = {name: it for name, it in self.meanings("debian").items() if name not in NOT_DPKG}, {}, {}, {}
         for name in meanings:
             it = dict(line.split("=", 1) for line in output("dpkg-architecture", "-f", "-a", name).splitlines())
             said[name], gnu[name] = (it["DEB_HOST_ARCH_ENDIAN"], int(it["DEB_HOST_ARCH_BITS"])), it["DEB_HOST_GNU_TYPE"]
+            multiarch[name] = it["DEB_HOST_MULTIARCH"]
         self.fact("Debian's names have dpkg's byte order and width", (
             (name, order_and_width(it), said[name]) for name, it in meanings.items()))
         written = {row.name for row in self.rows_of("debian", ("rw",))}
         self.fact("the name of GNU's compiler is dpkg's GNU type", (
             (name, it.name_in("gnu"), gnu[name]) for name, it in meanings.items() if name in written))
+        self.fact("the multiarch tuple is dpkg's", ((name, it.multiarch_tuple, multiarch[name]) for name, it in meanings.items() if name in written))
 
     def check_go(self):
         go = shutil.which("go")
@@ -233,7 +245,46 @@ class Comparison(Report):
             rows.append((row.name, *(it and f"{family(it)} {re.sub('[0-9.]', '', str(it.operating_system))}" for it in (ours, said))))
         # Of the systems of BSD it asks `uname -p` and `arch`, and not `uname -m`; a compiler tells it what Mac it is; it doesn't know busybox.
         self.fact("config.guess means the same machine and system as the words of uname", rows,
-                  "BSD|Power Macintosh|Darwin i386|Darwin x86_64|DragonFly|Windows_NT|MINGW32_NT-\\S* x86_64|GNU|UCRT64|CLANG64|WOW64")
+                  "BSD|Power Macintosh|Darwin i386|Darwin x86_64|DragonFly|Windows_NT|MINGW32_NT-\\S* x86_64|GNU|UCRT64|CLANG64|CLANGARM64")
+
+        if not self.has("meson", shutil.which("meson")):
+            return
+        # Of the systems of BSD it asks `uname -p`.
+        asked = [row for row in self.rows_of("uname", ("r",)) if "*" not in row.name and "BSD" not in row.name and "Windows" not in row.name]
+        families = output("/usr/bin/python3", "-c", MESON, input="".join(f"{row.name.split(' ', 1)[1]}\n" for row in asked)).splitlines()
+        self.fact("Meson has the same family of machines", (
+            (row.name, machine_of_rustc(self.read(row.name, "uname")).replace("powerpc", "ppc"), family)
+            for row, family in zip(asked, families, strict=True)), "_NT")
+
+    def check_android(self):
+        """The prefixes of Android's NDK, and the words of Python's tags, as CMake knows them."""
+        file = glob.glob("/usr/share/cmake-*/Modules/Platform/Android-Determine.cmake")
+        if not self.has("cmake", file):
+            return
+        text = upstream.read(file[0])
+        prefixes, triples = (dict(re.findall(rf'set\(NDK_ABI_([\w-]+)(?<!_LLVM)_{word} +"([\w-]+)"\)', text)) for word in ("TRIPLE", "LLVM_TRIPLE"))
+        names = {row.name for row in self.rows_of("gnu", ("rw",))}
+        # NDKs of today have no MIPS and no Armv5.
+        self.fact("CMake's prefixes of the NDK are names of GNU's compilers", (
+            (abi, prefix, prefix in names, True) for abi, prefix in prefixes.items()), "mips")
+        self.fact("and are those of the triples that CMake gives to LLVM", (
+            (abi, self.read(triples[abi]).name_in("gnu"), prefix) for abi, prefix in prefixes.items()), "mips")
+        self.fact("Python's tags of Android mean the triples that CMake gives to LLVM", (
+            (abi, target(self.read(f"android_21_{abi.replace('-', '_')}", "python")), target(self.read(triples[abi]))) for abi in triples), "mips|'armeabi|armeabi-v6")
+
+    def check_sources(self):
+        """Each source of the table that is a file or a command."""
+        with open(f"{built.ROOT}/packages/names/names.json", encoding="utf-8") as file:
+            sources = {name: it for name, it in json.load(file)["sources"].items() if it["asked"]}
+        there = {name: bool(glob.glob(it["where"])) if it["where"].startswith("/") else bool(shutil.which(it["where"].strip("`").split()[0]))
+                 for name, it in sources.items()}
+        for name, it in sources.items():
+            self.has(it["debian_package"] or name, there[name])
+        versions = {name: output("dpkg-query", "-W", "-f", "${Version}", it["debian_package"]) if it["debian_package"] else output(name, "--version").split()[1]
+                    for name, it in sources.items() if there[name]}
+        self.fact("a source of the table is the version that it says, or a later one", (
+            (name, sources[name]["version"], found, subprocess.run(["dpkg", "--compare-versions", found, "ge", sources[name]["version"]]).returncode, 0)
+            for name, found in versions.items()))
 
     def check_host(self):
         """Tools that name the machine that they run on."""
@@ -267,9 +318,9 @@ class Comparison(Report):
     def check_gnu(self):
         rows = self.rows_of("gnu")
         self.fact("a name of GNU's compilers without a system or a vendor is read as its triple without a dialect too", (
-            (row.name, str(self.read(row.name)), row.triple) for row in rows), "hurd|none|i486|rs6000|sparcv9|'mingw32'")
+            (row.name, str(self.read(row.name)), row.triple) for row in rows), "hurd|none|i486|rs6000|sparcv9|'mingw(32|64)'")
         self.fact("and has that one's byte order and width", (
-            (row.name, order_and_width(self.read(row.name)), order_and_width(it)) for row in rows if (it := self.read(row.name, "gnu"))), "'mingw32'")
+            (row.name, order_and_width(self.read(row.name)), order_and_width(it)) for row in rows if (it := self.read(row.name, "gnu"))), "'mingw(32|64)'")
         sub = "/usr/share/misc/config.sub"
         if self.has("config.sub", os.path.exists(sub)):
             self.fact("config.sub takes the names of GNU's compilers", (
@@ -466,7 +517,8 @@ def main(options, folder):
     comparison.check_node()
     comparison.check_gnu()
     comparison.check_rust()
-
+    comparison.check_android()
+    comparison.check_sources()
     comparison.check_clang()
     comparison.check_python()
     rustc_cfg.check(comparison)

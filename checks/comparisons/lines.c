@@ -1,14 +1,15 @@
-/* The modes `print`, `show` and `settle` of the program `triples`, over the library for C.
+/* The modes `print`, `show` and `settle` of the program `triples`, over the library for C; and two modes that write all that the
+   library answers of a triple: of the one that a line parses as, or of the one with the five names that the line has, with tabs
+   between them, of which a custom vendor's has `=` before it.
 
-   usage: lines_c print | show | settle < LINES */
+   usage: lines_c print | show | settle | answers | fields [END] < LINES
+
+   A line and an answer end with a line feed, or with the byte of this number. */
 #include <target_lexicon.h>
 #include <stdio.h>
 #include <stdlib.h>
 #include <string.h>
 
-static const char *const byte_orders[] = {"-", "little", "big"};
-static const char *const conventions[] = {"-", "SystemV", "WasmBasicCAbi", "WindowsFastcall", "AppleAarch64"};
-static const char *const models[] = {"-", "LP32", "ILP32", "LLP64", "LP64", "ILP64"};
 static char out[1 << 16];
 
 static void expect(int is_so, const char *what) {
@@ -17,39 +18,143 @@ static void expect(int is_so, const char *what) {
   exit(2);
 }
 
-static void write_facts(const struct lexicon_triple *triple) {
-  struct lexicon_triple_facts facts;
-  char width[16];
-  expect(lexicon_facts(triple, &facts, sizeof facts) == LEXICON_OK, "facts of a parsed triple");
-  snprintf(width, sizeof width, "%u", (unsigned)facts.pointer_width);
-  printf(" %s %s %s %s", byte_orders[facts.endianness], facts.pointer_width ? width : "-", conventions[facts.default_calling_convention],
-         models[facts.data_model]);
+static void write_word(char before, const char *name) { printf("%c%s", before, name ? name : "-"); }
+
+static void write_number(char before, unsigned number) {
+  if (number)
+    printf("%c%u", before, number);
+  else
+    write_word(before, NULL);
 }
 
-static void answer(const char *line, size_t size, const char *mode) {
+/* The byte order, pointer width, calling convention and data model, each after this character. */
+static void write_queries(char before, const struct lexicon_triple_facts *facts) {
+  write_word(before, lexicon_endianness_name(facts->endianness));
+  write_number(before, facts->pointer_width);
+  write_word(before, lexicon_calling_convention_name(facts->default_calling_convention));
+  write_word(before, lexicon_data_model_name(facts->data_model));
+}
+
+static void write_name(uint32_t field, uint32_t number) {
+  const char *name = lexicon_name(field, number);
+  expect(name != NULL, "the name of a value");
+  write_word('\t', name);
+}
+
+/* The printed string, the canonical form, whether the triple comes back, whether printing and parsing it gives the canonical form, the
+   five values, and the facts that definitions speak of, of sizes those of a data model. Or the status, if the triple has none of these. */
+static void write_answers(const struct lexicon_triple *triple) {
+  static char canonical[1 << 16];
+  size_t length, canonical_length;
+  bool comes_back, is_round_trip;
+  struct lexicon_triple settled = *triple, again;
+  struct lexicon_triple_facts facts;
+  enum lexicon_status status = lexicon_print(triple, out, sizeof out, &length);
+  if (status != LEXICON_OK) {
+    fputs(lexicon_status_name(status), stdout);
+    return;
+  }
+  expect(lexicon_settle(&settled) == LEXICON_OK, "a canonical form");
+  expect(lexicon_print(&settled, canonical, sizeof canonical, &canonical_length) == LEXICON_OK, "a printed canonical form");
+  expect(lexicon_comes_back(triple, &comes_back) == LEXICON_OK, "whether a triple comes back");
+  expect(lexicon_parse(out, length, &again, NULL) == LEXICON_OK, "that a printed triple parses");
+  expect(lexicon_equal(&again, &settled, &is_round_trip) == LEXICON_OK, "whether triples are equal");
+  expect(lexicon_facts(triple, &facts, sizeof facts) == LEXICON_OK, "facts of a triple");
+  fwrite(out, 1, length, stdout);
+  putchar('\t');
+  fwrite(canonical, 1, canonical_length, stdout);
+  printf("\t%d\t%d", comes_back, is_round_trip);
+  write_name(LEXICON_FIELD_ARCHITECTURE, triple->architecture);
+  if (triple->vendor == LEXICON_VENDOR_CUSTOM)
+    printf("\t=%.*s", (int)triple->custom_vendor_size, triple->custom_vendor);
+  else
+    write_name(LEXICON_FIELD_VENDOR, triple->vendor);
+  write_name(LEXICON_FIELD_OPERATING_SYSTEM, triple->operating_system);
+  if (triple->has_version) printf("%u.%u.%u", (unsigned)triple->major, (unsigned)triple->minor, (unsigned)triple->patch);
+  write_name(LEXICON_FIELD_ENVIRONMENT, triple->environment);
+  write_name(LEXICON_FIELD_BINARY_FORMAT, triple->binary_format);
+  write_queries('\t', &facts);
+  const unsigned sizes[] = {facts.short_size, facts.int_size, facts.long_size, facts.long_long_size, facts.float_size, facts.double_size};
+  for (size_t i = 0; i < sizeof sizes / sizeof *sizes; i++) write_number('\t', facts.data_model ? sizes[i] : 0);
+  write_name(LEXICON_FIELD_BINARY_FORMAT, facts.implied_format);
+  write_name(LEXICON_FIELD_BINARY_FORMAT, facts.object_format);
+  printf("\t%d\t%d\t%d", facts.is_thumb, facts.is_like_darwin, facts.has_custom_vendor);
+}
+
+/* The triple of five names. */
+static struct lexicon_triple triple_of(char *line) {
+  struct lexicon_triple triple = {0};
+  char *names[5];
+  uint32_t numbers[5] = {0};
+  for (uint32_t field = 0; field < 5; field++) {
+    names[field] = line;
+    line += strcspn(line, "\t");
+    expect((*line == '\t') == (field < 4), "five names");
+    *line++ = 0;
+    if (field != LEXICON_FIELD_VENDOR || *names[field] != '=')
+      expect(lexicon_number_z(field, names[field], &numbers[field]) == LEXICON_OK, "a name of its field");
+  }
+  if (*names[1] == '=') {
+    numbers[1] = LEXICON_VENDOR_CUSTOM;
+    triple.custom_vendor = names[1] + 1;
+    triple.custom_vendor_size = strlen(names[1] + 1);
+  }
+  const char *version = names[2] + strlen(lexicon_name(LEXICON_FIELD_OPERATING_SYSTEM, numbers[2]));
+  if (*version) {
+    unsigned major, minor, patch;
+    expect(sscanf(version, "%u.%u.%u", &major, &minor, &patch) == 3, "a version of three numbers");
+    triple.has_version = 1;
+    triple.major = (uint16_t)major;
+    triple.minor = (uint8_t)minor;
+    triple.patch = (uint8_t)patch;
+  }
+  triple.architecture = (uint16_t)numbers[0];
+  triple.vendor = (uint8_t)numbers[1];
+  triple.operating_system = (uint8_t)numbers[2];
+  triple.environment = (uint8_t)numbers[3];
+  triple.binary_format = (uint8_t)numbers[4];
+  return triple;
+}
+
+static void answer(char *line, size_t size, const char *mode) {
   size_t length;
   struct lexicon_triple triple;
   struct lexicon_error error;
+  if (strcmp(mode, "fields") == 0) {
+    triple = triple_of(line);
+    write_answers(&triple);
+    return;
+  }
   if (lexicon_parse(line, size, &triple, &error) != LEXICON_OK) {
     expect(lexicon_error_line(line, size, &error, out, sizeof out, &length) == LEXICON_OK, "the line of a refusal");
     fputs("error: ", stdout);
     fwrite(out, 1, length, stdout);
     return;
   }
+  if (strcmp(mode, "answers") == 0) {
+    write_answers(&triple);
+    return;
+  }
   if (strcmp(mode, "settle") == 0) expect(lexicon_settle(&triple) == LEXICON_OK, "a canonical form");
   expect(lexicon_print(&triple, out, sizeof out, &length) == LEXICON_OK, "a printed triple");
   fwrite(out, 1, length, stdout);
-  if (strcmp(mode, "show") == 0) write_facts(&triple);
+  if (strcmp(mode, "show") == 0) {
+    struct lexicon_triple_facts facts;
+    expect(lexicon_facts(&triple, &facts, sizeof facts) == LEXICON_OK, "facts of a parsed triple");
+    write_queries(' ', &facts);
+  }
 }
 
 int main(int count, char **words) {
   char *line = NULL;
   size_t room = 0;
-  expect(count == 2, "a mode");
-  for (ssize_t size; (size = getline(&line, &room, stdin)) > 0;) {
-    expect(line[size - 1] == '\n', "a line feed at the end");
+  expect(count == 2 || count == 3, "a mode");
+  int end = count == 3 ? atoi(words[2]) : '\n';
+  for (ssize_t size; (size = getdelim(&line, &room, end, stdin)) > 0;) {
+    expect(line[size - 1] == end, "the end of a line");
+    line[size - 1] = 0;
     answer(line, (size_t)size - 1, words[1]);
-    putchar('\n');
+    putchar(end);
   }
   return fflush(stdout) == 0 ? 0 : 2;
 }

@@ -1,9 +1,11 @@
-// Writes what LLVM says of the triple on each line: byte order, pointer width and object format, or `-` for each if LLVM doesn't
-// know the architecture.
+// Writes what LLVM says of the triple on each line: byte order, pointer width, object format, and the version and the profile of 32-bit
+// Arm, or `-` for each that LLVM doesn't know.
 #if __has_include("llvm/TargetParser/Triple.h")
+#include "llvm/TargetParser/ARMTargetParser.h"
 #include "llvm/TargetParser/Triple.h"
 #else
 #include "llvm/ADT/Triple.h"
+#include "llvm/Support/ARMTargetParser.h"
 #endif
 #include <iostream>
 #include <map>
@@ -15,14 +17,23 @@ static std::map<Triple::ObjectFormatType, std::string> formats = {
     {Triple::UnknownObjectFormat, "-"}, {Triple::COFF, "coff"}, {Triple::ELF, "elf"}, {Triple::MachO, "macho"}, {Triple::Wasm, "wasm"},
     {Triple::XCOFF, "xcoff"}};
 
+static std::map<llvm::ARM::ProfileKind, std::string> profiles = {
+    {llvm::ARM::ProfileKind::INVALID, "-"}, {llvm::ARM::ProfileKind::A, "A"}, {llvm::ARM::ProfileKind::R, "R"}, {llvm::ARM::ProfileKind::M, "M"}};
+
+static std::string armOf(const Triple &triple) {
+  if (!triple.isARM() && !triple.isThumb()) return "- -";
+  unsigned version = llvm::ARM::parseArchVersion(triple.getArchName());
+  return (version ? std::to_string(version) : "-") + " " + profiles[llvm::ARM::parseArchProfile(triple.getArchName())];
+}
+
 int main() {
   for (std::string line; std::getline(std::cin, line);) {
     Triple triple(Triple::normalize(line));
     if (triple.getArch() == Triple::UnknownArch)
-      std::cout << "- - -\n";
+      std::cout << "- - - - -\n";
     else
       std::cout << (triple.isLittleEndian() ? "little " : "big ")
                 << (triple.isArch64Bit() ? "64 " : triple.isArch32Bit() ? "32 " : triple.isArch16Bit() ? "16 " : "- ")
-                << formats[triple.getObjectFormat()] << '\n';
+                << formats[triple.getObjectFormat()] << ' ' << armOf(triple) << '\n';
   }
 }

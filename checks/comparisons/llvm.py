@@ -1,7 +1,7 @@
 """Compares what the Python package says of rustc's targets with what LLVM, clang and rustc say.
 
 The targets are those of the installed rustc that parse. llvm.cpp asks LLVM for the byte order, the pointer width and the object
-format of each. The macros that clang defines give the first two, and the sizes of C's integers. rustc's descriptions of targets
+format of each, and for the version and the profile of 32-bit Arm. The macros that clang defines give the first two, and the sizes of C's arithmetic types. rustc's descriptions of targets
 have the byte order, the pointer width and the object format, and a name for LLVM, which is read as a string spelled like a triple.
 What a driver asks is compared with rustc's descriptions and with clang: C libraries, floating-point arguments, and layouts of types.
 What a tool doesn't know isn't compared.
@@ -21,16 +21,17 @@ from comparisons.tools import Report, output, rustc_answers, rustc_specs
 NARROW = "gnux32|gnu_ilp32"
 
 def our_answers(triple):
-    sizes = (triple.short_size, triple.int_size, triple.long_size, triple.long_long_size)
+    sizes = (triple.short_size, triple.int_size, triple.long_size, triple.long_long_size, triple.float_size, triple.double_size)
     return {"order": str(triple.endianness or "-"), "width": str(triple.pointer_width or "-"), "format": str(triple.object_format),
-            "sizes": " ".join(map(str, sizes)) if triple.data_model else "-"}
+            "sizes": " ".join(map(str, sizes)) if triple.int_size else "-",
+            "version of Arm": str(triple.arm_version or "-"), "profile of Arm": str(triple.arm_profile or "-")}
 
 
 def llvm_answers(targets, folder):
     flags = output("llvm-config", "--cxxflags", "--ldflags", "--libs", "--system-libs").split()
     subprocess.run(["c++", f"{upstream.SOURCES}/llvm.cpp", "-o", f"{folder}/llvm", *flags], check=True)
     lines = output(f"{folder}/llvm", input="".join(f"{target}\n" for target in targets)).splitlines()
-    return {target: dict(zip(("order", "width", "format"), line.split())) for target, line in zip(targets, lines, strict=True)}
+    return {target: dict(zip(("order", "width", "format", "version of Arm", "profile of Arm"), line.split())) for target, line in zip(targets, lines, strict=True)}
 
 
 def clang_answer(target):
@@ -40,7 +41,7 @@ def clang_answer(target):
     if "__BYTE_ORDER__" not in macros:
         return {}
     order = {"__ORDER_LITTLE_ENDIAN__": "little", "__ORDER_BIG_ENDIAN__": "big"}[macros["__BYTE_ORDER__"]]
-    sizes = " ".join(macros[f"__SIZEOF_{name}__"] for name in ("SHORT", "INT", "LONG", "LONG_LONG"))
+    sizes = " ".join(macros[f"__SIZEOF_{name}__"] for name in ("SHORT", "INT", "LONG", "LONG_LONG", "FLOAT", "DOUBLE"))
     return {"order": order, "width": str(8 * int(macros["__SIZEOF_POINTER__"])), "sizes": sizes}
 
 

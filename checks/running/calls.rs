@@ -3,11 +3,11 @@
 use crate::inputs;
 use crate::report::Report;
 use definitions::spec as s;
-use definitions::values::{con, eq, function, library, text as v, V};
+use definitions::values::{con, eq, function, library, named, text as v, with, V};
 use target_lexicon::tool_names::{self as tools, Dialect, LinuxLibc};
 use target_lexicon::{
     Aarch64Architecture, Architecture, ArmArchitecture, BinaryFormat, CleverArchitecture, Environment, Mips32Architecture, Mips64Architecture,
-    OperatingSystem, Riscv32Architecture, Riscv64Architecture, Source, Triple, TripleRef, VendorRef, X86_32Architecture, Z80Architecture,
+    OperatingSystem, ParseError, ParseTripleError, Riscv32Architecture, Riscv64Architecture, Source, Triple, TripleRef, VendorRef, X86_32Architecture, Z80Architecture,
 };
 
 /// `answers!(report, input, (arguments): definition = call; ..)`
@@ -86,18 +86,55 @@ pub fn string(r: &mut Report, string: &str) {
     }
 }
 
-/// The same for the types that own their strings, whose errors are upstream's; and where each value comes from.
+/// The same for the types that own their strings, with both of their errors.
 pub fn owned(r: &mut Report, string: &str) {
     let reading = s::reading(v(string));
-    match string.parse::<Triple>() {
-        Ok(triple) => r.same("reading", reading, &format_args!("{:?}", Ok::<_, ()>(triple.as_triple_ref())), &string),
-        Err(error) => {
+    match (string.parse::<Triple>(), Triple::parse(string)) {
+        (Ok(triple), Ok(other)) => {
+            r.same("reading", reading, &format_args!("{:?}", Ok::<_, ()>(triple.as_triple_ref())), &string);
+            r.holds("Triple::parse of what is read", triple == other, &string);
+        }
+        (Err(error), Err(other)) => {
             r.same("reading", reading, &format_args!("Err({{ expected: {:?}, part: {:?} }})", error.expected(), error.part()), &string);
             if let V::C(s::Result__Err, it) = reading {
-                answers! { r, &string, (it[0]): refusal_line = error.to_string(); }
+                parse_error(r, string, &error);
+                parse_triple_error(r, string, it[0], &other);
+                r.holds("ParseError of a ParseTripleError", ParseError::from(other) == error, &string);
             }
         }
+        _ => r.holds("Triple::parse reads what str::parse does", false, &string),
     }
+}
+
+/// Upstream's error is one of the string, no other variant is, and its line is the definition's.
+fn parse_error(r: &mut Report, string: &str, error: &ParseError) {
+    let shown = format!("{error:?}");
+    let variant = shown.split('(').next().unwrap();
+    let value = |name: &str| match named("ParseError", name) {
+        Some(V::C(tag, _)) => con(tag, &[v(error.part())]),
+        _ => panic!("the definitions have no error {name}"),
+    };
+    for other in ["Architecture", "Vendor", "OperatingSystem", "Environment", "BinaryFormat", "Field"].map(|it| format!("Unrecognized{it}")) {
+        r.holds("IsErrorOf", s::IsErrorOf(v(string), value(&other)).yes() == (other == variant), &(string, error, other));
+    }
+    answers! { r, &string, (value(variant)): error_line = error.to_string(); }
+}
+
+/// The error that owns the string. Its refusal is the definition's: the parts up to the refused one are refused, and those before it
+/// aren't. What it shows after the first line, and how it shows characters that can't be seen, is as its documentation says.
+fn parse_triple_error(r: &mut Report, string: &str, refusal: V, error: &ParseTripleError) {
+    let range = error.range();
+    r.same("reading", refusal, &format_args!("{{ expected: {:?}, part: {:?} }}", error.expected(), error.part()), &string);
+    r.holds("the string of an error", error.text() == string && string.get(range.clone()) == Some(error.part()), &string);
+    let is_read = |end: usize| matches!(s::reading_of_parts(s::parts_of(v(&string[..end]))), V::C(s::Result__Ok, _));
+    r.holds("the place of an error", !is_read(range.end) && (range.start == 0 || is_read(range.start - 1)), &string);
+    let visible = |text: &str| text.chars().map(|c| if "\"'\\".contains(c) { c.to_string() } else { c.escape_debug().to_string() }).collect::<String>();
+    let [before, part, after] = [&string[..range.start], error.part(), &string[range.end..]].map(visible);
+    let carets = "^".repeat(part.chars().count().max(1));
+    let meant = error.suggestion().map_or(String::new(), |it| format!(" did you mean `{it}`?"));
+    let line = s::refusal_line(with(refusal, &[("part", v(&part))])).string();
+    let shown = format!("{line}\n  {before}{part}{after}\n  {}{carets}{meant}", " ".repeat(before.chars().count()));
+    r.holds("what an error shows", error.to_string() == shown, &format_args!("{string:?}: {error}"));
 }
 
 /// What a string reads as that is spelled like a triple, and what is changed in it.
@@ -138,7 +175,7 @@ pub fn triple(r: &mut Report, t: V, triple: TripleRef<'static>) {
 pub fn more_of_triple(r: &mut Report, t: V, triple: TripleRef<'static>) {
     answers! { r, &triple, (t):
         upstream_text_of = triple.to_upstream_text();
-        object_format = tools::object_format(&triple);
+        object_format = triple.object_format();
     }
     let step = s::normal_step(t);
     r.holds("one step settles", eq(step, s::settled_values(t)), &triple);
@@ -153,7 +190,7 @@ pub fn more_of_triple(r: &mut Report, t: V, triple: TripleRef<'static>) {
         (s::LinuxLibc__Mingw, LinuxLibc::Mingw),
         (s::LinuxLibc__Gnullvm, LinuxLibc::Gnullvm),
     ] {
-        answers! { r, &triple, (V::C(c, &[]), t): completed = tools::complete(&triple, library); }
+        answers! { r, &triple, (V::C(c, &[]), t): completed = triple.with_c_library(library); }
     }
 }
 
@@ -186,7 +223,7 @@ pub fn relations(r: &mut Report, string: &str) {
     if tag == s::Result__Ok {
         r.holds("ReadsAs", s::ReadsAs(x, it[0]).yes(), &string);
         for field in ["architecture", "vendor", "operating_system", "environment", "binary_format"] {
-            let other = definitions::values::with(it[0], &[(field, s::nintendo_3ds().field(field))]);
+            let other = with(it[0], &[(field, s::nintendo_3ds().field(field))]);
             r.holds("ReadsAs of a neighbour", s::ReadsAs(x, other).yes() == eq(other, it[0]), &string);
         }
         let refusal = s::refusal_with(con(s::Option__Some, &[V::C(s::Field__Architecture, &[])]), library::seq(&[]));
@@ -212,7 +249,7 @@ pub fn relations(r: &mut Report, string: &str) {
     } else {
         r.holds("IsRefusedAs", s::IsRefusedAs(x, it[0]).yes(), &string);
         for other in definitions::values::fields().list() {
-            let other = definitions::values::with(it[0], &[("expected", con(s::Option__Some, &[*other]))]);
+            let other = with(it[0], &[("expected", con(s::Option__Some, &[*other]))]);
             r.holds("IsRefusedAs of a neighbour", s::IsRefusedAs(x, other).yes() == eq(other, it[0]), &string);
         }
         r.holds("ReadsAs of what is refused", !s::ReadsAs(x, s::unknown_values()).yes(), &string);

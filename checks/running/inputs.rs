@@ -125,6 +125,8 @@ impl Fields {
 /// Words that are a name of no field, or one of a system like Darwin with a version: at each limit, and next to it.
 const MORE_WORDS: &str = "3ds esp foo Foo 3com \u{e9} apple1 iosfoo ios. darwin+ darwin23.6 ios+017 ios65535 ios65536 ios1.255 ios1.256 ios1.2.255
     ios1.2.256 ios1.2.3.4 macosx65535.255.255 tvos1 visionos0.0.0 watchos10.14.6 xros2.0 tvos99999999999999999999.00007";
+/// Words with characters that end lines or texts, or turn the direction.
+const UNUSUAL_WORDS: [&str; 3] = ["lin\nux", "a\0", "\u{202e}"];
 /// More of those that are spelled otherwise: with versions, and systems that aren't known.
 const MORE_SPELLINGS: &str = "macos14 macos11.7.10 macos65536 macos. freebsd13.1 freebsd13. freebsd. freebsd gnueabi2.17 gnueabi. hardfloat";
 
@@ -139,7 +141,8 @@ fn strings(list: V) -> impl Iterator<Item = String> {
 /// The words that parsing knows, and some that it doesn't.
 pub fn words() -> Vec<String> {
     let prefixes = s::darwin_prefixes().list().iter().map(|it| it.at(0).string());
-    unique(strings(s::row_texts()).chain(prefixes).chain(split(MORE_WORDS)).chain([String::new()]))
+    let unusual = UNUSUAL_WORDS.into_iter().chain([""]).map(String::from);
+    unique(strings(s::row_texts()).chain(prefixes).chain(split(MORE_WORDS)).chain(unusual))
 }
 
 /// The words that a list of rules mentions.
@@ -269,7 +272,7 @@ impl Random {
             if at < string.len() && self.below(2) == 0 {
                 string.remove(at);
             } else {
-                string.insert(at, b"0125679.+-_azA*/ "[self.below(17)] as char);
+                string.insert(at, ['0', '1', '2', '5', '6', '7', '9', '.', '+', '-', '_', 'a', 'z', 'A', '*', '/', ' ', '\n', '\0', '\u{e9}'][self.below(20)]);
             }
         }
     }

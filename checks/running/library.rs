@@ -27,6 +27,23 @@ fn options(values: Vec<V>) -> Vec<V> {
     [none].into_iter().chain(values.into_iter().map(|it| keep(|| con(s::Option__Some, &[it])))).collect()
 }
 
+/// A JSON value of each kind.
+fn values() -> Vec<V> {
+    let all = || {
+        let items = s::items_of(library::seq(&[con(s::Data__string, &[text("a")])]));
+        let of = [
+            (s::Data__boolean, truth(true)),
+            (s::Data__number, con(s::Num__unsigned, &[N(7)])),
+            (s::Data__string, text("a-b")),
+            (s::Data__array, items),
+            (s::Data__object, V::C(s::Members__no_members, &[])),
+        ];
+        let others = of.map(|(tag, it)| con(tag, &[it]));
+        library::append(library::seq(&others), library::seq(&[V::C(s::Data__null, &[])]))
+    };
+    keep(all).list().to_vec()
+}
+
 /// What an argument of a type is tried with. A variable of types is a number.
 fn domain(kind: &str) -> Vec<V> {
     let some = |x: V| con(s::Option__Some, &[x]);
@@ -45,6 +62,9 @@ fn domain(kind: &str) -> Vec<V> {
             }
             all
         }
+        "Data" => values(),
+        "List Data" => [0, 1, 3].map(|count| keep(|| library::seq(&values()[..count]))).to_vec(),
+        "Items" => domain("List Data").into_iter().map(|it| keep(|| s::items_of(it))).collect(),
         "Result A E" => BYTES.iter().flat_map(|it| [s::Result__Ok, s::Result__Err].map(|tag| keep(|| con(tag, &[N(*it)])))).collect(),
         "Option A" => options(BYTES.map(N).to_vec()),
         "( A → Bool )" | "( A → Type 0 )" | "( E → Type 0 )" => vec![

@@ -2,8 +2,12 @@
 //! Or says what a definition says: `running ask DEFINITION WORD..`
 #![allow(non_upper_case_globals)]
 mod ask;
+mod by_value;
+mod c;
 mod calls;
 mod inputs;
+#[cfg(feature = "json")]
+mod json;
 mod laws;
 mod library;
 mod report;
@@ -59,6 +63,38 @@ fn run(part: &str, chosen: Chosen, r: &mut Report) {
         "more" => triples(inputs::fields(), r, &calls::more_of_triple),
         "written" => triples(inputs::fields(), r, &|r, t, triple| calls::written(r, t, triple, &dialects)),
         "names" => words(inputs::names(), r, &|r, name| calls::name(r, name, &dialects)),
+        "by_value" => {
+            if chosen.shard == 0 {
+                by_value::values(r);
+            }
+            let fields = inputs::fields();
+            for i in chosen.of(fields.count()) {
+                by_value::triples(r, i, &fields);
+                forget();
+            }
+        }
+        #[cfg(feature = "json")]
+        "json" => {
+            if chosen.shard == 0 {
+                json::fields(r);
+            }
+            let (all, fields) = (Strings::parsed(), inputs::fields());
+            for i in chosen.of(all.count()) {
+                json::string(r, &all, i);
+                forget();
+                let (t, triple) = fields.triple(i % fields.count());
+                json::triple(r, t, triple);
+                forget();
+            }
+        }
+        "c_strings" => {
+            let all = Strings::parsed();
+            c::compare(r, "answers", chosen.of(all.count()), |i| c::string(all.string(i)));
+        }
+        "c_triples" => {
+            let fields = inputs::fields();
+            c::compare(r, "fields", chosen.of(fields.count()), |i| c::triple(fields.triple(i).0));
+        }
         "library" => library::run(r),
         "laws" => laws::run(r, Chosen { step: 1, ..chosen }, chosen.step),
         _ => panic!("no part {part}"),

@@ -31,13 +31,14 @@ NOT_RUN = {
 # The function that gives the last argument of a relation: the constructor of its result, with that argument.
 GIVEN_BY = {"ReadsAs": ("reading", "Result__Ok"), "IsRefusedAs": ("reading", "Result__Err")}
 # What a variable of a proposition ranges over, where no condition gives its values. The fields of a placement increase, so no other list
-# of fields matters.
-DOMAINS = {"ℕ": "numbers()", "Field": "fields()", "List Field": "field_lists()", "List ( List ℕ )": "library::seq(&[parts_of(text_)])"}
+# of fields matters. The values that are tried, and what hashers are fed, are those of the Rust file that asks.
+DOMAINS = {"ℕ": "numbers()", "Field": "fields()", "List Field": "field_lists()", "List ( List ℕ )": "library::seq(&[parts_of(text_)])",
+           "V": "tried()", "Values": "tried()", "HashWrites": "writes()"}
 
 LEVELS = [["→", "↔"], ["⊎"], ["×"], ["≡", "≢", "<", "≤"], ["||"], ["&&"], ["=="], ["∷", "++"], ["+", "-"], ["*", "/", "%"], ["^"]]
 TO_THE_LEFT = ("==", "+", "-", "*", "/", "%", "≡", "≢", "<", "≤")
 # What both sides of an equivalence are tried with, besides what makes one of them true.
-OTHERS = {"Values": "some_values()", "Refusal": "some_refusals()"}
+OTHERS = {"Values": "some_values()", "Refusal": "some_refusals()", "V": "tried()"}
 TESTS = {"→": "!{}.yes() || {}.yes()", "↔": "{}.yes() == {}.yes()", "⊎": "{}.yes() || {}.yes()", "×": "{}.yes() && {}.yes()",
          "||": "{}.yes() || {}.yes()", "&&": "{}.yes() && {}.yes()", "≡": "eq({}, {})", "≢": "!eq({}, {})",
          "<": "{}.number() < {}.number()", "≤": "{}.number() <= {}.number()"}
@@ -222,7 +223,11 @@ class Module:
 
     def __init__(self, path, file):
         self.path, self.definitions, self.constructors, self.uses, self.records = path, {}, {}, {}, []
-        for chunk in chunks(file.read_text(encoding="utf-8")):
+        try:
+            text = file.read_text(encoding="utf-8")
+        except UnicodeDecodeError:
+            raise Untranslated(f"{file} isn't UTF-8") from None
+        for chunk in chunks(text):
             found = next(((kind, it) for kind, form in FORMS.items() if (it := re.match(form, chunk, re.S))), None)
             name = re.match(r"[\w-]+", chunk)
             if found:
@@ -274,7 +279,7 @@ class Kit(Module):
     """The kit's library: the first definition of each name in these files. What isn't a definition is left out."""
 
     FILES = ["core/specs/" + name for name in ("Option", "Result", "Bool", "List", "List/Sorted", "Str", "Str/Parse", "Char", "Int", "Ordering", "Fmt")]
-    FILES += ["logic/Lib/ListN", "logic/Lib/Pointwise", "antt/port/mathlib/src/Core/Bool"]
+    FILES += ["logic/Lib/ListN", "logic/Lib/Pointwise", "antt/port/mathlib/src/Core/Bool", "serde_json/specs/Find", "serde_json/specs/View"]
 
     def __init__(self, kit):
         self.path, self.definitions, self.constructors, self.uses, self.records = KIT, {}, {}, {}, []
@@ -371,9 +376,10 @@ class Rust:
 
     def __init__(self, root=ROOT, kit=None):
         self.root, self.names, self.compared = root, Names(root, kit), []
-        self.constructors, self.arity, self.shapes, self.fields, self.wholes = {}, {}, {}, {"now"}, {}
+        self.constructors, self.arity, self.shapes, self.wholes = {}, {}, {}, {}
+        self.fields = {"now": None, "value": None}  # those of references and boxes; of others the definition that has one first
         self.functions, self.of, self.constants, self.fresh, self.cited, self.failed = [], {}, 5, 0, {}, []  # values.rs has the first 5 constants
-        self.todo, self.definition = [], None
+        self.todo, self.definition, self.look_ups = [], None, 0
         self.laws, self.law_definitions, self.claims, self.claims_of, self.others = [], set(), [], {}, ""
 
     def translate(self, cited):
@@ -396,6 +402,8 @@ class Rust:
                 self.todo.append(definition)
                 for field, text in definition.laws or [("", definition.chunks[0].partition("=")[2])]:
                     self.law(definition, field, text)
+        for constructor in self.names.module(LIBRARY).constructors.values():
+            self.constructor(constructor)
         kit = self.names.kit
         for definition in self.names.module(LIBRARY).definitions.values() if kit else []:
             theirs = kit.definitions.get(definition.name)
@@ -404,6 +412,10 @@ class Rust:
         for definition in self.todo:  # it grows
             if definition not in self.law_definitions:
                 self.function(definition)
+        of_code = "".join(it.read_text(encoding="utf-8") for crate in CRATES for it in (self.root / "crates" / crate / "src").rglob("*.rt"))
+        known = set().union(*self.shapes).union(re.findall(r"^\s+(?:pub(?:\(\w+\))? )?(\w+): ", of_code, re.M))
+        self.failed += [(definition, f"no record has the field {field}") for field, definition in self.fields.items()
+                        if definition and field not in known]
         return self
 
     def has_no_arguments(self, definition):
@@ -452,6 +464,9 @@ class Rust:
         except Untranslated as problem:
             self.failed.append((definition, str(problem)))
             code = f'stuck("{name}")'
+        if code.startswith("value_named(") and len(parameters) == 1:
+            self.look_ups += 1
+            code = f"remember({self.look_ups - 1}, {parameters[0]}, || {code})"
         place = self.todo.index(definition)
         self.functions.append(f"pub fn {name}({', '.join(it + ': V' for it in parameters)}) -> V {{\n    reached({place});\n    {code}\n}}\n")
 
@@ -579,7 +594,7 @@ class Rust:
 
     def any_code(self, it, scope):
         self.others = OTHERS.get(it[2], "L(&[])")
-        domain = self.solution(it[1], it[3], scope) or DOMAINS.get(it[2])
+        domain = self.solution(it[1], it[3], scope, it[0] == "any") or DOMAINS.get(it[2])
         if not domain:
             raise Untranslated(f"no domain of {it[2]}")
         test, _ = self.expression(("lam", it[1], it[3]), scope)
@@ -607,7 +622,7 @@ class Rust:
             scope, free, given = {}, [], []
             for name, type in variables:
                 self.others = OTHERS.get(type, "L(&[])")
-                domain = self.solution(name, body, scope)
+                domain = self.solution(name, body, scope, False)
                 scope[name] = self.local(name)
                 given.append((name, type, domain))
             free = [(name, type) for name, type, domain in given if not domain]
@@ -645,19 +660,24 @@ class Rust:
         claims.append(len(self.claims) - 1)
         return ("claim", len(self.claims) - 1, value, it)
 
-    def solution(self, name, body, scope, names=None, depth=0):
-        """The code of the values of a variable with which the conditions of a proposition can be true, if one of them gives these."""
+    def solution(self, name, body, scope, is_condition, names=None, depth=0):
+        """The code of the values of a variable with which the conditions of a proposition can be true, if one of them gives these. What an
+        implication ends in is no condition, unless it is an equivalence: the variable has other values too, of which it may be false."""
         names = names or {name}
         if body[0] == "claim":
-            return self.solution(name, body[3], scope, names, depth)
+            return self.solution(name, body[3], scope, is_condition, names, depth)
         if body[0] in ("all", "any"):
-            return self.solution(name, body[3], {it: code for it, code in scope.items() if it != body[1]}, names, depth)
+            return self.solution(name, body[3], {it: code for it, code in scope.items() if it != body[1]}, is_condition, names, depth)
         if body[0] == "op" and body[1] == "↔":
-            found = self.solution(name, body[2], scope, names, depth) or self.solution(name, body[3], scope, names, depth)
+            found = self.solution(name, body[2], scope, True, names, depth) or self.solution(name, body[3], scope, True, names, depth)
             return found and f"with_others({found}, {self.others})"
-        if body[0] == "op" and body[1] in ("→", "×"):
-            left = self.solution(name, body[2], scope, names, depth)
-            return left or self.solution(name, body[3], scope, names, depth)
+        if body[0] == "op" and body[1] == "→":
+            left = self.solution(name, body[2], scope, True, names, depth)
+            return left or self.solution(name, body[3], scope, is_condition, names, depth)
+        if not is_condition:
+            return None
+        if body[0] == "op" and body[1] == "×":
+            return self.solution(name, body[2], scope, True, names, depth) or self.solution(name, body[3], scope, True, names, depth)
         if body[0] == "op" and body[1] == "≡":
             for pattern, other in (body[2:], body[3:1:-1]):
                 found = self.solved(names, pattern, other, scope)
@@ -684,7 +704,7 @@ class Rust:
                 inner[parameter[1]] = self.once(*self.expression(argument, scope))
         self.definition, outer = record, self.definition
         try:
-            return self.solution("", body, inner, renamed, depth + 1) if renamed else None
+            return self.solution("", body, inner, True, renamed, depth + 1) if renamed else None
         finally:
             self.definition = outer
 
@@ -722,7 +742,7 @@ class Rust:
         if head[0] == "get" and not kind:  # a field
             (of,), closed = self.all([head[1]], scope)
             if not head[2].isdigit():
-                self.fields.add(head[2])
+                self.fields.setdefault(head[2], self.definition)
             return self.given(f"{of}.at({head[2]})" if head[2].isdigit() else f"get_{head[2]}({of})", closed, arguments, scope)
         if head == ("var", "zero"):
             return "N(0)", TRIVIALLY
@@ -800,6 +820,8 @@ class Rust:
         titles = ", ".join(f'"{it.title}"' for it in self.todo)
         out.append(f"pub static TITLES: [&str; {len(self.todo)}] = [{titles}];\n")
         out.append(f"pub static mut REACHED: [bool; {len(self.todo)}] = [false; {len(self.todo)}];\n")
+        out.append(f"const NONE: Option<std::collections::HashMap<u128, V>> = None;\npub static mut FOUND: [Option<std::collections::HashMap<u128, V>>; {self.look_ups}] = "
+                   f"[NONE; {self.look_ups}];\n")
         out.append(f"pub static mut ONCE: [Option<V>; {self.constants}] = [None; {self.constants}];\n")
         return "".join(out)
 

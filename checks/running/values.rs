@@ -2,8 +2,9 @@
 //!
 //! There is one thread. A value may be copied freely: it lives until `forget`, or for ever if it was made inside `once` or `keep`.
 #![allow(static_mut_refs)]
-use crate::spec::{Bool__false, Bool__true, Option__None, ONCE, REACHED, TAGS};
+use crate::spec::{Bool__false, Bool__true, Option__None, FOUND, ONCE, REACHED, TAGS};
 use std::alloc::Layout;
+use std::collections::HashMap;
 
 /// A number, a constructor or record with its arguments, a list, or a function.
 #[derive(Clone, Copy)]
@@ -24,7 +25,7 @@ static mut FOR_EVER: usize = 0;
 
 /// Gives the memory of a case back.
 pub fn forget() {
-    unsafe { USED = 0 }
+    unsafe { (USED, TRIED, WRITES) = (0, None, None) }
 }
 
 fn room(bytes: usize) -> *mut u8 {
@@ -58,6 +59,28 @@ pub fn keep(f: impl FnOnce() -> V) -> V {
         FOR_EVER += 1;
         let v = f();
         FOR_EVER -= 1;
+        v
+    }
+}
+
+/// What a look-up of a text in a list of names gives is remembered for the first texts of up to 15 bytes.
+pub fn remember(i: usize, text: V, look_up: impl FnOnce() -> V) -> V {
+    const TEXTS: usize = 4096;
+    if text.list().len() > 15 {
+        return look_up();
+    }
+    // the 1 is before the bytes, so that no two texts have one key
+    let key = text.list().iter().fold(1, |key: u128, byte| key << 8 | u128::from(byte.number()));
+    unsafe {
+        let found = FOUND[i].get_or_insert_with(HashMap::new);
+        if let Some(v) = found.get(&key) {
+            return *v;
+        }
+        if found.len() == TEXTS {
+            return look_up();
+        }
+        let v = keep(look_up);
+        found.insert(key, v);
         v
     }
 }
@@ -159,7 +182,17 @@ impl V {
     }
 }
 
+/// Whether two values are the same. Most lists that are compared differ in length or at their beginning, which takes no call.
+#[inline(always)]
 pub fn eq(a: V, b: V) -> bool {
+    match (a, b) {
+        (L(a), L(b)) if a.len() != b.len() => false,
+        (L([N(a), ..]), L([N(b), ..])) if a != b => false,
+        _ => have_same_parts(a, b),
+    }
+}
+
+fn have_same_parts(a: V, b: V) -> bool {
     match (a, b) {
         (N(a), N(b)) => a == b,
         (C(s, a), C(t, b)) => s == t && a.iter().zip(b).all(|(a, b)| eq(*a, *b)),
@@ -242,6 +275,15 @@ pub fn some_values() -> V {
 pub fn some_refusals() -> V {
     use crate::spec::*;
     once(4, || library::seq(&[refusal_with(con(Option__Some, &[C(Field__Environment, &[])]), text("foo")), refusal_with(C(Option__None, &[]), text("foo"))]))
+}
+/// The values that are tried, and what hashers are fed. Whoever runs a definition that speaks of all of them says which.
+pub static mut TRIED: Option<V> = None;
+pub static mut WRITES: Option<V> = None;
+pub fn tried() -> V {
+    unsafe { TRIED.expect("values that are tried") }
+}
+pub fn writes() -> V {
+    unsafe { WRITES.expect("what hashers are fed") }
 }
 /// Numbers of parts.
 pub fn numbers() -> V {

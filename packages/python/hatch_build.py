@@ -20,10 +20,12 @@ Install Rust, which has cargo, or set the variable TARGET_LEXICON_LIBRARY to PAT
 CARGO_FAILED = "the shared library of this package isn't built: cargo ended with status {status}, and wrote why above."
 
 LICENCES = ("LICENSE", "COPYRIGHT")
+# The table of the names that other tools have for targets.
+TABLES = ("names.json", "names.csv", "names.schema.json")
 # What an sdist has of the repository, below `native`: what cargo builds the library from, what the tests read, and the licence.
 SOURCES = ("Cargo.toml", "Cargo.lock", "packages/rust/internal",
            *(f"packages/{package}/{name}" for package in ("c", "rust") for name in ("Cargo.toml", "build.rs", "src")))
-LISTS = ("packages/c/include", "tools/names/names.tsv", "tools/names/elsewhere.tsv", "checks/known_triples.txt", "checks/target_lines.py",
+LISTS = ("packages/c/include", "packages/names", "tools/names/names.tsv", "checks/known_triples.txt", "checks/target_lines.py",
          "checks/failing_allocator.c", "crates/tests/src")
 
 
@@ -38,6 +40,11 @@ class CustomBuildHook(BuildHookInterface):
             return
         licences = f"target_lexicon-{self.metadata.version}.dist-info/licenses"
         included.update({os.path.join(self.top, name): f"{licences}/{name}" for name in LICENCES})
+        if version == "editable":
+            for name in TABLES:
+                shutil.copyfile(os.path.join(self.top, "packages", "names", name), os.path.join(self.root, "src", "target_lexicon", name))
+        else:
+            included.update({os.path.join(self.top, "packages", "names", name): f"target_lexicon/{name}" for name in TABLES})
         given = os.environ.get("TARGET_LEXICON_LIBRARY")
         if given == "system":
             return

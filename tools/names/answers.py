@@ -2,11 +2,13 @@
 import re
 from dataclasses import dataclass
 
+import facts
+
 PATH = "tools/names/answers.tsv"
 ENUMS = {"endianness": "Endianness", "calling_convention": "CallingConvention", "data_model": "DataModel", "c_library": "CLibrary",
-         "float_abi": "FloatAbi", "linux_libc": "LinuxLibc"}
+         "float_abi": "FloatAbi", "arm_profile": "ArmProfile", "linux_libc": "LinuxLibc"}
 JAVASCRIPT = {"endianness": "ENDIANNESS", "calling_convention": "CONVENTIONS", "data_model": "MODELS", "c_library": "C_LIBRARIES",
-              "float_abi": "FLOAT_ABIS", "linux_libc": "LINUX_LIBCS"}
+              "float_abi": "FLOAT_ABIS", "arm_profile": "ARM_PROFILES", "linux_libc": "LINUX_LIBCS"}
 
 
 @dataclass
@@ -25,7 +27,7 @@ def answers_of(text, wrong):
     """The answers of each kind."""
     found = {}
     for number, line in enumerate(text.splitlines(), 1):
-        if line.startswith("#"):
+        if line.startswith(("#", "fact\t", "none\t")):
             continue
         kind, variant, value, name, *about = line.split("\t")
         answers = found.setdefault(kind, [])
@@ -59,6 +61,12 @@ def lists(answers):
             found[f"the answers of {kind} for Python"] = [line for it, lines in zip(answers[kind], about) for line in (*lines, f'{it.constant} = "{it.name}"')]
             found[f"the answers of {kind} for TypeScript"] = [f"export type {of} = {' | '.join(quoted(kind, answers))};"]
     return found
+
+
+def lists_of_facts(text, wrong):
+    lines = text.splitlines()
+    found = facts.facts_of((line for line in lines if line.startswith("fact\t")), ENUMS, JAVASCRIPT, wrong)
+    return facts.lists(found) | facts.lists_of_reasons([line for line in lines if line.startswith("none\t")], found, wrong)
 
 
 def quoted(kind, answers):

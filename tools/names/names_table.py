@@ -1,4 +1,4 @@
-"""The table of names, tools/names/names.tsv: its values by field and by Rust type, and what is wrong in it."""
+"""The table of names, tools/names/names.tsv: its values by field and by Rust type, what is wrong in it, and words in lines."""
 import hashlib
 import re
 from collections import namedtuple
@@ -19,6 +19,8 @@ UPSTREAM = {"architecture": (107, "a141708f0cf0b4e1"), "vendor": (15, "35e14047b
 Value = namedtuple("Value", "field variant name number family about")
 Variant = namedtuple("Variant", "variant name holds about")
 Type = namedtuple("Type", "name word variants plain held")
+
+COLUMNS = 118
 
 
 def table_of(text):
@@ -100,3 +102,15 @@ class Table:
 
 def variants_of(values):
     return [Variant(it.variant, it.name, "Option<DeploymentTarget>" * (it.family == "Darwin"), it.about) for it in values]
+
+
+def filled(words, between, indent=""):
+    """The words in lines; what is between two words ends a line too."""
+    lines = [indent + words[0]]
+    for word in words[1:]:
+        if len(f"{lines[-1]}{between}{word}{between}") > COLUMNS:
+            lines[-1] += between.rstrip()
+            lines.append(indent + word)
+        else:
+            lines[-1] += between + word
+    return lines

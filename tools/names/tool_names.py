@@ -2,11 +2,14 @@
 import re
 from dataclasses import dataclass, field
 
+from names_table import filled
+
 PATH = "tools/names/elsewhere.tsv"
+DAY = re.compile(r"\d{4}-\d\d-\d\d")
 # The check of a function that lends a table grows with the square of its rows, so a dialect has several tables.
 TABLE_ROWS = 50
 WAYS = {"rw": "Both", "r": "Read", "w": "Written", "-": "NoTriple"}
-DIALECT, ONLY_WRITTEN = "# dialect ", "# only written: "
+DIALECT, ONLY_WRITTEN, WHY, SOURCE, FROM = "# dialect ", "# only written: ", "# why\t", "# source\t", "# from\t"
 # The rules of a dialect: for each word of its line the field of `Rules`, and its value for each choice. The first choice goes
 # without saying. A dialect may have other names too.
 RULES = {"machine": ("machine", {"order": "MachineRule::Order", "version": "MachineRule::Version", "rustc": "MachineRule::Rustc",
@@ -18,14 +21,31 @@ RULES = {"machine": ("machine", {"order": "MachineRule::Order", "version": "Mach
 
 
 @dataclass
+class Source:
+    """Where names can be seen again: its name, its version, Debian's package of it, a file, a command in backquotes or a page's address, and when."""
+    name: str
+    version: str
+    package: str
+    where: str
+    seen: str
+
+    @property
+    def is_asked(self):
+        """Whether checks/compare elsewhere asks it."""
+        return not self.where.startswith("https:")
+
+
+@dataclass
 class Dialect:
-    """A dialect: its rules, its other names, what is said of it, and its rows. A row is a name, what it means or why it has no triple,
-    and its way."""
+    """A dialect: its rules, its other names, what is said of it, the patterns of names of each source, and its rows. A row is a name, what it means
+    or why it has no triple, and its way. `lines` are the rows as the file has them: name, triple, ways and note, or the reason."""
     name: str
     rules: dict
     other_names: list
     about: str = ""
+    sources: dict = field(default_factory=dict)
     rows: list = field(default_factory=list)
+    lines: list = field(default_factory=list)
 
     @property
     def variant(self):
@@ -53,17 +73,19 @@ class Dialect:
 @dataclass
 class Elsewhere:
     """The dialects in the order of their numbers, the rows of `first` and `later`, the words of config.sub, and why a name isn't read
-    that is only written."""
+    that is only written. `whys` has the reasons that rows without a triple cite, by their names."""
     dialects: dict = field(default_factory=dict)
     words: dict = field(default_factory=lambda: {"maker": [], "kernel": [], "system": []})
     parts: dict = field(default_factory=lambda: {"first": [], "second": [], "hard": [], "later": []})
     only_written: str = ""
     versions: list = field(default_factory=list)
     reasons: list = field(default_factory=list)
+    sources: dict = field(default_factory=dict)
+    whys: dict = field(default_factory=dict)
 
 
 def tables_of(text, wrong):
-    found, seen, described = Elsewhere(), set(), None
+    found, seen, cited, described = Elsewhere(), set(), set(), None
     for number, line in enumerate(text.splitlines(), 1):
         def mistake(what):
             wrong.append(f"elsewhere.tsv:{number}: {what}")
@@ -78,11 +100,27 @@ def tables_of(text, wrong):
             described = found.dialects.setdefault(name, Dialect(name, rules, others))
         elif line.startswith(ONLY_WRITTEN):
             found.only_written = line.removeprefix(ONLY_WRITTEN)
+        elif line.startswith(WHY):
+            why, text = line.removeprefix(WHY).split("\t")
+            if why in found.whys or text in found.whys.values():
+                mistake("the reason is there twice")
+            found.whys[why] = text
         elif line.startswith("# reason\t"):
             found.reasons.append(line.split("\t")[1:])
         elif line.startswith("# versions\t"):
-            _, text, least, most, _ = line.split("\t")
-            found.versions.append((text, int(least), int(most)))
+            _, text, least, most, about = line.split("\t")
+            found.versions.append((text, int(least), int(most), about))
+        elif line.startswith(SOURCE):
+            words = line.removeprefix(SOURCE).split("\t")
+            if len(words) != 5 or words[0] in found.sources or not DAY.fullmatch(words[-1]):
+                mistake("a new source, its version, Debian's package, where it is and the day are wanted")
+            else:
+                found.sources[words[0]] = Source(*("" if it == "-" else it for it in words))
+        elif line.startswith(FROM):
+            source, *patterns = line.removeprefix(FROM).split("\t")
+            if source not in found.sources or not found.dialects:
+                mistake("a source with a line of its own is wanted, in a dialect")
+            [*found.dialects.values()][-1].sources[source] = patterns
         elif line.startswith("#"):
             if described:
                 described.about, described = line[2:], None
@@ -97,13 +135,23 @@ def tables_of(text, wrong):
             if rows is None or ways not in WAYS or len(note) > 1:
                 mistake("a dialect, a name, a triple, the ways and a note are wanted")
                 continue
-            if (dialect, name, triple) in seen or (ways == "-") != (triple == "-") or (ways == "-" and not note):
-                mistake("the row is there twice, or it has neither a triple nor a reason")
+            if (dialect, name, triple) in seen or (ways == "-") != (triple == "-"):
+                mistake("the row is there twice, or it has a triple or a way, and not both")
+            if ways == "-" and (not note or note[0] not in found.whys):
+                mistake("the name of a reason is wanted, one of " + ", ".join(found.whys))
+                continue
             if dialect in found.dialects and ("*" in triple) != ("*" in name and bool(re.search("macosx|ios", triple))):
                 mistake("a name with a star and a triple of macOS or iOS with one are wanted, or another triple without one")
             seen.add((dialect, name, triple))
+            if ways == "-":
+                cited.add(note[0])
+                note = [found.whys[note[0]]]
             meaning = note[0] if ways == "-" else triple.replace("*", "") if dialect in found.dialects else triple
             rows.append((name, meaning, WAYS[ways]))
+            if dialect in found.dialects:
+                found.dialects[dialect].lines.append((name, triple, ways, *note))
+    if unused := found.whys.keys() - cited:
+        wrong.append(f"elsewhere.tsv: no row cites the reason {', '.join(sorted(unused))}")
     return found
 
 
@@ -137,7 +185,7 @@ def no_system(words):
 
 
 def text_array(declaration, texts):
-    return [f"{declaration}: [&str; {len(texts)}] = [", *(f'    "{text}",' for text in texts), "];"]
+    return [f"{declaration}: [&str; {len(texts)}] = [", *filled([f'"{text}",' for text in texts], " ", "    "), "];"]
 
 
 def rules(it, equals):
@@ -156,15 +204,15 @@ def rust_lists(tables):
     lists |= {"the start of what is said of a system": [f'pub(crate) const NO_SYSTEM: &str = "{NO_SYSTEM}";'],
               "the makers of config.sub": text_array("pub(crate) static MAKERS", words["maker"]),
               "the kernels of config.sub": text_array("pub(crate) static KERNELS", words["kernel"]),
-              "the systems without a triple": text_array("static SYSTEMS", systems[:half]) + [""] + text_array("static MORE_SYSTEMS", systems[half:])}
-    reasons = {tables.only_written, *systems} | {meaning for it in dialects for _, meaning, way in it.rows if way == "NoTriple"}
+              "the systems without a triple": text_array("static SYSTEMS", systems[:half]) + ["", "#[rattlefmt::skip]"] + text_array("static MORE_SYSTEMS", systems[half:])}
+    reasons = {tables.only_written, *systems} | {text for _, text in tables.reasons} | {meaning for it in dialects for _, meaning, way in it.rows if way == "NoTriple"}
     return lists | {
         "the reasons for C": [rf'"{reason}\0",' for reason in sorted(reasons)],
         "the reason of names that are only written": [f'pub(crate) const ONLY_WRITTEN: &str = "{tables.only_written}";'],
         "the reasons": [line for name, text in tables.reasons for line in (f"/// {text[0].upper()}{text[1:]}.", f"{name},")],
         "the texts of reasons": [line for name, text in tables.reasons for line in (f"WriteError::{name} => {{", f'    "{text}"', "}")],
         "the ranges of versions": [f"static VERSION_RANGES: [(&str, u16, u16); {len(tables.versions)}] = [",
-                                   *(f'    ("{text}", {least}, {most}),' for text, least, most in tables.versions), "];"],
+                                   *(f'    ("{text}", {least}, {most}),' for text, least, most, _ in tables.versions), "];"],
         "the dialects": [line for it in dialects for line in (f"/// {it.about}", f"{it.variant},")],
         "the names of the dialects": [f'Dialect::{it.variant} => "{it.name}",' for it in dialects],
         "the dialects by name": [f"static DIALECTS: [(&str, Dialect); {len(dialects) + len(other_names(tables))}] = [",
@@ -191,6 +239,7 @@ def lists_of_languages(dialects, others):
         "the last dialect": [f"enum {{ LAST_DIALECT = {len(dialects)} }};"],
         "the dialects for C++": [f"{it.variant} = LEXICON_DIALECT_{it.constant}," for it in dialects],
         "the dialects' names for C": [f"{names},"],
+        "the other names of dialects for C": [f'if (strcmp(name, "{name}") == 0) return LEXICON_DIALECT_{it.constant};' for name, it in others],
         "the dialects for Rust": ["pub const ALL: &'static [Dialect] = &[", *(f"    Dialect::{it.variant}," for it in dialects), "];"],
         "the dialects that are only read": ["fn is_only_read(dialect: Dialect) -> bool {",
                                             f"    matches!(dialect, {' | '.join(f'Dialect::{it.variant}' for it in dialects if not it.is_written)})", "}"],
@@ -230,7 +279,7 @@ def files(tables):
 def file_of(it):
     ways = sorted({way for _, _, way in it.rows})
     ways = f"{{{', '.join(ways)}}}" if ways[1:] else ways[0]
-    yield from [f"//! {it.about} Written by tools/names/write.", "ghost use Rattle.std.specs.Prelude.{◌≡◌};", "ghost use Rattle.tool_names.specs.Tables.{constant_rows, plain_rows};",
+    yield from ["// @generated by tools/names/write. Don't edit it here.", f"//! {it.about}", "ghost use Rattle.std.specs.Prelude.{◌≡◌};", "ghost use Rattle.tool_names.specs.Tables.{constant_rows, plain_rows};",
                 "", f"use crate::tables::Way::{ways};", "use crate::tables::{Row, Way};"]
     for name, rows in it.tables:
         constant = name.upper()

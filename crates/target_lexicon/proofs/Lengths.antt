@@ -1,6 +1,6 @@
 -- Printed strings are at most so much longer than the string that was parsed, and the canonical form makes no string
 -- longer.
-use Rattle.std.proofs.Common.{◌≡◌, ℕ, zero, suc, ◌+◌, ◌≤◌, List, [], ◌∷◌, length, codes, Bool, true, false, true≢false, not, ◌&&◌, ◌||◌, Option, Some, None, Ok, ◌⊎◌, inl, inr, unwrap_or, refl, sym, ap, subst, arith}
+use Rattle.std.proofs.Common.{◌≡◌, ℕ, zero, suc, ◌+◌, ◌≤◌, ◌<◌, ◌^◌, List, [], ◌∷◌, length, codes, Bool, true, false, true≢false, not, ◌&&◌, ◌||◌, Option, Some, None, Ok, ◌⊎◌, inl, inr, unwrap_or, refl, sym, ap, subst, arith}
 use Rattle.std.specs.List.{join_with_byte, slice_get}
 use Rattle.std.proofs.{lemmas.List.length-append, lemmas.List.Splits.join_with_byte-slice_split, lemmas.Option.MatchOption-at_some, lemmas.Bool.and_parts, lemmas.Bool.not-true, Math.Bool.and-false, Math.Bool.or-true}
 use Rattle.lexicon_fields.specs.Names.{dash}
@@ -9,9 +9,9 @@ use Rattle.target_lexicon.specs.{Field.Field, ImpliedFormat.default_binary_forma
 use Rattle.target_lexicon.specs.{FixedPoints.PrintedTextsGrowAtMost, FixedPoints.CanonicalTextsGrowAtMost, FixedPoints.RefusedPartsDoNotGrow}
 use Rattle.target_lexicon.specs.{SpecialTexts.special_text, SpecialTexts.special_values}
 use Rattle.target_lexicon.specs.FamilyFacts.{IsNintendo3ds, IsEspIdf, HidesNewlib, PrintsTheEspIdfText, ShowsOnlyNone}
-use Rattle.target_lexicon.specs.Printing.{architecture_implies_format, shows_vendor, shows_operating_system, shows_environment, shows_implied_format, shows_binary_format, shows_unknowns, shown_names, cons_if, text_of}
+use Rattle.target_lexicon.specs.Printing.{architecture_implies_format, shows_vendor, shows_operating_system, shows_environment, shows_implied_format, shows_binary_format, shows_unknowns, shown_names, cons_if, text_of, text_with}
 use Rattle.target_lexicon.specs.GreedyReading.{FieldReading, field_reading_by, field_reading, final_reading, reading_after_architecture, reading_of_parts, reading_unless_special, reading}
-use Rattle.lexicon_fields.specs.{declared.architecture.clever.CleverArchitecture.CleverArchitecture, Architecture.architecture_name, Architecture.architecture_of, Laws.TextsAreNames, Laws.NamesGrowAtMost, Vendor.vendor_name, Vendor.vendor_of}
+use Rattle.lexicon_fields.specs.{declared.architecture.clever.CleverArchitecture.CleverArchitecture, Architecture.architecture_name, Architecture.architecture_of, Laws.TextsAreNames, Laws.NamesGrowAtMost, Laws.NamesAreShort, Laws.max_name_length, Vendor.vendor_name, Vendor.vendor_of}
 use Rattle.lexicon_fields.specs.declared.known_vendor.KnownVendor.TheVariants.{Unknown, Nintendo, Espressif}
 use Rattle.lexicon_fields.specs.{OperatingSystem.operating_system_name, OperatingSystem.operating_system_of, Environment.environment_name, Environment.environment_of, ArchitectureQueries.is_clever}
 use Rattle.lexicon_fields.specs.BinaryFormat.{binary_format_name, binary_format_of}
@@ -277,3 +277,32 @@ step-does_not_grow t = step_cases (λ u. DoesNotGrow u t) t
 
 pub canonical_max_growth : PrintedTextsGrowAtMost → CanonicalTextsGrowAtMost
 canonical_max_growth printed text t reads = omega (arith, step-does_not_grow (normal_step t), step-does_not_grow t, printed text t reads)
+
+-- a string with a vendor that fits into memory fits into memory
+pub text_with-short : (b : Bool) (t : Values) → NamesAreShort architecture_name → NamesAreShort environment_name → NamesAreShort binary_format_name
+    → length (operating_system_name t.operating_system) ≤ max_name_length → (special_text t ≡ None → length (vendor_name t.vendor) < 2 ^ 63)
+    → length (text_with b t) < 2 ^ 64
+text_with-short b t architecture environment binary_format system vendor = by_special (special_text t) refl
+  where
+    names : List ℕ
+    names = join_with_byte dash (shown_names b t)
+
+    names-short : length names ≤ 100 + length (vendor_name t.vendor)
+    names-short = omega (
+      arith,
+      weight-shown t b,
+      weight-parts t b,
+      weight-cons_if (b || shows_environment t) (environment_name t.environment) (cons_if (b || shows_binary_format t) (binary_format_name t.binary_format) []),
+      weight-cons_if (b || shows_binary_format t) (binary_format_name t.binary_format) [],
+      architecture t.architecture,
+      environment t.environment,
+      binary_format t.binary_format,
+      system,
+    )
+
+    by_special : (special : Option (List ℕ)) → special_text t ≡ special → length (unwrap_or special names) < 2 ^ 64
+    by_special None is = omega (arith, names-short, vendor is)
+    by_special (Some text) is =
+        let short = special-short t.architecture t.vendor t.operating_system t.environment t.binary_format [] 21 (omega arith) (omega arith) in
+        let of_text : length text ≤ 21 = rw is at short in
+        omega (arith, of_text)

@@ -1,16 +1,22 @@
 -- The pieces that are written are the string of the triple.
-use Rattle.std.proofs.Common.{◌≡◌, ℕ, Bool, true, false, List, [], ◌∷◌, ◌++◌, ◌||◌, refl, sym, ap, append_assoc, None}
+use Rattle.std.proofs.Common.{◌≡◌, ℕ, Bool, true, false, List, [], ◌∷◌, ◌++◌, ◌||◌, refl, sym, ap, append_assoc, Option, None, if◌then◌else◌}
+use Rattle.std.specs.Borrow.{Bor}
+use Rattle.std.specs.Bool.{then_some}
 use Rattle.std.specs.List.{join_with_byte}
 use Rattle.std.proofs.{lemmas.List.append-nil, Math.Bool.and-false}
 use Rattle.lexicon_fields.specs.Names.{dash}
-use Rattle.lexicon_fields.specs.{Architecture.architecture_name, Vendor.vendor_name, OperatingSystem.operating_system_name, OperatingSystem.version_suffix, OperatingSystem.system_version, Environment.environment_name, BinaryFormat.binary_format_name}
-use Rattle.target_lexicon.specs.{Values.Values, Values.OperatingSystem, Values.Environment, Values.is_unknown_environment, Values.is_newlib, Values.implies_newlib, Private.dashed_if, Private.shown_version, SpecialTexts.special_text}
+use Rattle.lexicon_fields.specs.{Architecture.architecture_name, Vendor.vendor_name, OperatingSystem.operating_system_name, Environment.environment_name, BinaryFormat.binary_format_name}
+use Rattle.target_lexicon.specs.{Values.Values, Values.OperatingSystem, Values.Environment, Values.is_unknown_environment, Values.is_newlib, Values.implies_newlib, Private.name_piece, Private.system_piece, SpecialTexts.special_text}
 use Rattle.target_lexicon.specs.Values.environment
 use Rattle.target_lexicon.specs.Printing.{shows_vendor, shows_operating_system, shows_environment, shows_binary_format, shows_unknowns, cons_if, shown_names, text_with}
 
 -- the names that are shown
 abbrev pub printed_names : Values → List (List ℕ)
 printed_names t = shown_names (shows_unknowns t) t
+
+-- a dash and the name, if it is shown
+abbrev pub dashed_if : Bool → List ℕ → List ℕ
+dashed_if is_shown name = if is_shown then dash ∷ name else []
 
 -- each part after a dash
 unfoldable pub dashed : List (List ℕ) → List ℕ
@@ -39,35 +45,41 @@ five_parts a p q r s w x y z =
       append-nil (dashed_if z s),
     ) (simp append_assoc)
 
--- the name of a system and its version are one part
-system_part : (x : Bool) (prefix name : List ℕ) (s : OperatingSystem) → prefix ++ version_suffix (system_version s) ≡ name → dashed_if x prefix ++ shown_version x s ≡ dashed_if x name
-system_part true prefix name s is = ap (λ (n : List ℕ). dash ∷ n) is
-system_part false prefix name s is = refl
+-- a name that is shown if this holds, as a piece
+pub name_piece-shown : (b : Bool) (name : Bor (List ℕ)) → name_piece (then_some b name) ≡ dashed_if b name.now
+name_piece-shown true name = refl
+name_piece-shown false name = refl
+
+-- a system that is shown if this holds, as a piece
+pub system_piece-shown : (b : Bool) (s : OperatingSystem) → system_piece (then_some b s) ≡ dashed_if b (operating_system_name s)
+system_piece-shown true s = refl
+system_piece-shown false s = refl
 
 -- without a special string these pieces are the string
-pub text_of_pieces : (last_three : Bool) (t : Values) (first vendor system version environment format v s e f : List ℕ) (w x y z : Bool) → None ≡ special_text t
-    → first ≡ architecture_name t.architecture
-    → vendor ≡ dashed_if w v → w ≡ shows_vendor t → v ≡ vendor_name t.vendor
-    → system ≡ dashed_if x s → version ≡ shown_version x t.operating_system → s ++ version_suffix (system_version t.operating_system) ≡ operating_system_name t.operating_system → x ≡ (last_three || shows_operating_system t)
-    → environment ≡ dashed_if y e → y ≡ (last_three || shows_environment t) → e ≡ environment_name t.environment
-    → format ≡ dashed_if z f → z ≡ (last_three || shows_binary_format t) → f ≡ binary_format_name t.binary_format
-    → ((((first ++ vendor) ++ system) ++ version) ++ environment) ++ format ≡ text_with last_three t
+pub text_of_pieces : (last_three : Bool) (t : Values) (a v e f : Bor (List ℕ)) (vendor environment format : Option (Bor (List ℕ))) (system : Option OperatingSystem) (w x y z : Bool) → None ≡ special_text t
+    → a.now ≡ architecture_name t.architecture
+    → vendor ≡ then_some w v → w ≡ shows_vendor t → v.now ≡ vendor_name t.vendor
+    → system ≡ then_some x t.operating_system → x ≡ (last_three || shows_operating_system t)
+    → environment ≡ then_some y e → y ≡ (last_three || shows_environment t) → e.now ≡ environment_name t.environment
+    → format ≡ then_some z f → z ≡ (last_three || shows_binary_format t) → f.now ≡ binary_format_name t.binary_format
+    → (((a.now ++ name_piece vendor) ++ system_piece system) ++ name_piece environment) ++ name_piece format ≡ text_with last_three t
 unfolding shown_names
-text_of_pieces last_three t first vendor system version environment format v s e f w x y z none first_is vendor_is w_is v_is system_is version_is s_is x_is environment_is y_is e_is format_is z_is f_is =
+text_of_pieces last_three t a v e f vendor environment format system w x y z none a_is vendor_is w_is v_is system_is x_is environment_is y_is e_is format_is z_is f_is =
     rw (
-      first_is,
+      a_is,
       vendor_is,
-      append_assoc (architecture_name t.architecture ++ dashed_if w v) system version,
-      system_is,
-      version_is,
-      system_part x s (operating_system_name t.operating_system) t.operating_system s_is,
+      name_piece-shown w v,
       w_is,
       v_is,
+      system_is,
+      system_piece-shown x t.operating_system,
       x_is,
       environment_is,
+      name_piece-shown y e,
       y_is,
       e_is,
       format_is,
+      name_piece-shown z f,
       z_is,
       f_is,
       sym none,

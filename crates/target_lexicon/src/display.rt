@@ -1,23 +1,26 @@
 //! Printing: what is shown of a triple, as pieces, and how these are written. Functions are inlined if they return a
 //! wide value, or if that saves a hundredth of printing.
-ghost use Rattle.std.specs.Prelude.{◌≡◌, ◌+◌, ◌<◌, ◌≤◌, ◌^◌, Some, IfOk, length, string_bytes};
-ghost use Rattle.lexicon_fields.specs.Laws.{max_name_length, HasVersionInRange};
+ghost use Rattle.std.specs.Prelude.{◌≡◌, ◌+◌, ◌<◌, ◌≤◌, ◌^◌, Some, None, IfOk, length, string_bytes};
+ghost use Rattle.std.specs.Fmt.{WritesStyledOnOk};
 ghost use Rattle.lexicon_fields.specs.OperatingSystem.{version_suffix, system_version};
 ghost use Rattle.lexicon_fields.specs.Put.{IsPut, Puts};
+ghost use Rattle.lexicon_fields.specs.Vendor.{vendor_name};
 ghost use Rattle.lexicon_fields.specs.VendorRef.{ref_value};
 ghost use Rattle.target_lexicon.specs.Printing as spec;
-ghost use Rattle.target_lexicon.specs.Private.{piece_text, dashed_if, shown_version};
+ghost use Rattle.target_lexicon.specs.Private.{name_piece, system_piece};
+ghost use Rattle.target_lexicon.specs.SpecialTexts.{special_text};
 ghost use Rattle.target_lexicon.specs.Values as values;
 ghost use Rattle.target_lexicon.specs.Values.{values_of};
 ghost use Rattle.target_lexicon.specs.ValuesRef.{values_of_ref};
 ghost use Rattle.target_lexicon.specs.Written.{IsWritten};
 
+use crate::settle::versions_are_in_range;
 use crate::triple::Triple;
 use crate::triple_ref::TripleRef;
 use lexicon_fields::laws::{names_are_short, texts_are_put_in_order};
 use lexicon_fields::{
-    Architecture, ArmArchitecture, BinaryFormat, DeploymentTarget, Environment, KnownVendor,
-    MAX_VERSION_LENGTH, OperatingSystem, VendorRef, version_text,
+    Architecture, ArmArchitecture, BinaryFormat, Environment, KnownVendor, MAX_VERSION_LENGTH,
+    OperatingSystem, VendorRef, version_text,
 };
 use std::alloc::{AllocError, Global};
 use std::fmt;
@@ -87,7 +90,10 @@ impl<'a> TripleRef<'a> {
     pub fn to_text(&self, alloc: Global) -> Result<String, AllocError>
         ensures { IfOk result (λ text. string_bytes text ≡ spec.text_of (values_of_ref self.now)) }
     {
-        self.pieces(self.shows_unknowns()).to_text(alloc)
+        // few strings are longer
+        let mut text = String::with_capacity(alloc, 32)?;
+        text.write(&self.pieces(self.shows_unknowns()))?;
+        Ok(text)
     }
 
     /// The string that upstream prints for the triple, as [`Triple::to_upstream_text`] says.
@@ -95,7 +101,7 @@ impl<'a> TripleRef<'a> {
         ensures { IfOk result
             (λ text. string_bytes text ≡ spec.upstream_text_of (values_of_ref self.now)) }
     {
-        self.pieces(false).to_text(alloc)
+        self.pieces(false).to_string(alloc)
     }
 
     /// Writes the printed string at the front of the buffer if it fits there, and returns its length. If it doesn't
@@ -113,6 +119,8 @@ impl<'a> TripleRef<'a> {
     pub fn write_to(&self, out: &mut [u8]) -> usize
         ensures { IsWritten (spec.text_of (values_of_ref self.now)) out.old out.new result }
     {
+        names_are_short();
+        versions_are_in_range(self.operating_system);
         self.pieces(self.shows_unknowns()).write_to(out)
     }
 
@@ -121,32 +129,41 @@ impl<'a> TripleRef<'a> {
         ensures { IsWritten (spec.upstream_text_of (values_of_ref self.now))
             out.old out.new result }
     {
+        names_are_short();
+        versions_are_in_range(self.operating_system);
         self.pieces(false).write_to(out)
     }
 
     /// The pieces by upstream's rules, or with the last three fields shown whatever these say.
     #[inline(always)]
     fn pieces(&self, shows_last_three: bool) -> Pieces<'a>
-        ensures { pieces_text result ≡ spec.text_with shows_last_three (values_of_ref self.now) }
+        ensures text { pieces_text result
+            ≡ spec.text_with shows_last_three (values_of_ref self.now) }
+        ensures vendor { special_text (values_of_ref self.now) ≡ None →
+            length (vendor_name (ref_value self.now.vendor)) < 2 ^ 63 }
     {
         if let Some(text) = self.special_text() {
-            return Pieces::of_special_text(text);
+            return Pieces {
+                first: text,
+                vendor: None,
+                operating_system: None,
+                environment: None,
+                binary_format: None,
+            };
         }
-        names_are_short();
         let system = shows_last_three | self.shows_operating_system();
         let environment = shows_last_three | self.shows_environment();
         let binary_format = shows_last_three | self.shows_binary_format();
         Pieces {
             first: self.architecture.name(),
-            vendor: Piece::name_if(self.shows_vendor(), self.vendor.as_str()),
-            operating_system: Piece::name_if(system, self.operating_system.prefix()),
-            version: version_if(system, self.operating_system),
-            environment: Piece::name_if(environment, self.environment.name()),
-            binary_format: Piece::name_if(binary_format, self.binary_format.name()),
+            vendor: self.shows_vendor().then_some(self.vendor.as_str()),
+            operating_system: system.then_some(self.operating_system),
+            environment: environment.then_some(self.environment.name()),
+            binary_format: binary_format.then_some(self.binary_format.name()),
         }
     }
 
-    /// Whether the vendor is shown.
+    /// Whether the vendor is shown: unless it is unknown, and the triple omits an unknown one.
     #[inline(always)]
     fn shows_vendor(&self) -> bool
         ensures { result ≡ spec.shows_vendor (values_of_ref self.now) }
@@ -175,11 +192,25 @@ impl<'a> TripleRef<'a> {
                 Environment::Android | Environment::Androideabi | Environment::Kernel
             ),
             OperatingSystem::Wasi | OperatingSystem::WasiP1 | OperatingSystem::WasiP2 => true,
-            OperatingSystem::None_ => match self.architecture {
-                Architecture::Msp430 => true,
-                Architecture::Arm(sub) => is_bare_arm(sub),
-                _ => false,
-            },
+            OperatingSystem::None_ => matches!(
+                self.architecture,
+                Architecture::Msp430
+                    | Architecture::Arm(
+                        ArmArchitecture::Armv4t
+                            | ArmArchitecture::Armv5te
+                            | ArmArchitecture::Armebv7r
+                            | ArmArchitecture::Armv7a
+                            | ArmArchitecture::Armv7r
+                            | ArmArchitecture::Armv8r
+                            | ArmArchitecture::Thumbv4t
+                            | ArmArchitecture::Thumbv5te
+                            | ArmArchitecture::Thumbv6m
+                            | ArmArchitecture::Thumbv7em
+                            | ArmArchitecture::Thumbv7m
+                            | ArmArchitecture::Thumbv8mBase
+                            | ArmArchitecture::Thumbv8mMain
+                    )
+            ),
             _ => false,
         }
     }
@@ -194,32 +225,24 @@ impl<'a> TripleRef<'a> {
         )
     }
 
-    /// Whether the environment is shown.
+    /// Whether the environment is shown: unless it is unknown, or a `Newlib` that vendor and system imply.
     fn shows_environment(&self) -> bool
         ensures { result ≡ spec.shows_environment (values_of_ref self.now) }
     {
         match self.environment {
             Environment::Unknown => false,
-            Environment::Newlib => !self.implies_newlib(),
+            Environment::Newlib => !matches!(
+                (self.vendor, self.operating_system),
+                (
+                    VendorRef::Known(KnownVendor::Nintendo),
+                    OperatingSystem::Horizon
+                ) | (
+                    VendorRef::Known(KnownVendor::Espressif),
+                    OperatingSystem::Espidf
+                )
+            ),
             _ => true,
         }
-    }
-
-    /// Whether the environment `Newlib` is omitted.
-    pub(crate) fn implies_newlib(&self) -> bool
-        ensures { result
-            ≡ values.implies_newlib (ref_value self.now.vendor) self.now.operating_system }
-    {
-        matches!(
-            (self.vendor, self.operating_system),
-            (
-                VendorRef::Known(KnownVendor::Nintendo),
-                OperatingSystem::Horizon
-            ) | (
-                VendorRef::Known(KnownVendor::Espressif),
-                OperatingSystem::Espidf
-            )
-        )
     }
 
     /// Whether the binary format is shown: if it isn't the implied one, or `shows_implied_format` holds.
@@ -267,136 +290,24 @@ fn architecture_implies_format(architecture: Architecture) -> bool
     )
 }
 
-/// Whether a triple of this architecture without a system omits an unknown vendor.
-fn is_bare_arm(architecture: ArmArchitecture) -> bool
-    ensures { result ≡ spec.is_bare_arm architecture }
-{
-    matches!(
-        architecture,
-        ArmArchitecture::Armv4t
-            | ArmArchitecture::Armv5te
-            | ArmArchitecture::Armebv7r
-            | ArmArchitecture::Armv7a
-            | ArmArchitecture::Armv7r
-            | ArmArchitecture::Armv8r
-            | ArmArchitecture::Thumbv4t
-            | ArmArchitecture::Thumbv5te
-            | ArmArchitecture::Thumbv6m
-            | ArmArchitecture::Thumbv7em
-            | ArmArchitecture::Thumbv7m
-            | ArmArchitecture::Thumbv8mBase
-            | ArmArchitecture::Thumbv8mMain
-    )
-}
-
-/// A dash and a name, or nothing.
-#[derive(Clone, Copy)]
-enum Piece<'a> {
-    Hidden,
-    Name(&'a str),
-}
-
-impl<'a> Piece<'a> {
-    /// The piece of a name, if it is shown.
-    fn name_if(is_shown: bool, name: &'a str) -> Piece<'a>
-        ensures text { piece_text result ≡ dashed_if is_shown name.entry.now }
-        ensures bound { length (piece_text result) ≤ 1 + length name.entry.now }
-    {
-        if is_shown {
-            Piece::Name(name)
-        } else {
-            Piece::Hidden
-        }
-    }
-
-    /// The length of the string.
-    fn text_length(self) -> usize
-        ensures { result ≡ length (piece_text self.entry) }
-    {
-        match self {
-            Piece::Hidden => 0,
-            Piece::Name(name) => 1 + name.len(),
-        }
-    }
-
-    /// Writes the string, as [`put`] writes a string.
-    fn put(self, out: &mut [u8], at: usize) -> usize
-        requires { at + length (piece_text self) ≤ length out.old }
-        ensures { Puts (piece_text self.entry) out.old at out.new result }
-    {
-        match self {
-            Piece::Hidden => at,
-            Piece::Name(name) => {
-                let at = put(out, at, b"-");
-                put(out, at, name.as_bytes())
-            }
-        }
-    }
-}
-
-impl fmt::Display for Piece<'_> {
-    ghost output = { λ it. Some (piece_text it) };
-
-    ghost styled_output = { λ it _. Some (piece_text it) };
-
-    #[inline(always)]
-    fn fmt<W: fmt::Write>(&self, f: &mut fmt::Formatter<W>) -> fmt::Result {
-        match *self {
-            Piece::Hidden => Ok(()),
-            Piece::Name(name) => {
-                f.write_str("-")?;
-                f.write_str(name)
-            }
-        }
-    }
-}
-
-/// What is shown of a triple: the name of the architecture, or the special string, and a piece for each of the other
-/// fields. The version of the operating system follows its name without a dash.
+/// What is shown of a triple: the name of the architecture, or the special string; and each other field that is shown,
+/// after a dash.
 #[derive(Clone, Copy)]
 struct Pieces<'a> {
     first: &'static str,
-    vendor: Piece<'a>,
-    operating_system: Piece<'a>,
-    version: Option<DeploymentTarget>,
-    environment: Piece<'a>,
-    binary_format: Piece<'a>,
-    ghost fits: { length first.now + length (piece_text vendor)
-        + length (piece_text operating_system) + length (version_suffix version)
-        + length (piece_text environment)
-        + length (piece_text binary_format) < 2 ^ 64 },
+    vendor: Option<&'a str>,
+    operating_system: Option<OperatingSystem>,
+    environment: Option<&'static str>,
+    binary_format: Option<&'static str>,
 }
 
 impl Pieces<'_> {
     ghost use Rattle.target_lexicon.specs.Pieces.{pieces_text};
 
-    /// The pieces of a special string, of which it is the only one.
-    fn of_special_text(text: &'static str) -> Self
-        requires { length text.now ≤ max_name_length }
-        ensures { pieces_text result ≡ text.entry.now }
-    {
-        Pieces {
-            first: text,
-            vendor: Piece::Hidden,
-            operating_system: Piece::Hidden,
-            version: None,
-            environment: Piece::Hidden,
-            binary_format: Piece::Hidden,
-        }
-    }
-
-    /// The string. `Err` if the allocation for it fails.
-    fn to_text(&self, alloc: Global) -> Result<String, AllocError>
-        ensures { IfOk result (λ text. string_bytes text ≡ pieces_text self.now) }
-    {
-        let mut text = String::with_capacity(alloc, self.text_length())?;
-        text.write(self)?;
-        Ok(text)
-    }
-
     /// Writes the string at the front of the buffer if it fits there, and returns its length. If it doesn't fit, the
     /// buffer is unchanged.
     fn write_to(&self, out: &mut [u8]) -> usize
+        requires { length (pieces_text self.now) < 2 ^ 64 }
         ensures { IsWritten (pieces_text self.now) out.old out.new result }
     {
         let length = self.text_length();
@@ -408,39 +319,14 @@ impl Pieces<'_> {
 
     /// The length of the string.
     fn text_length(&self) -> usize
+        requires { length (pieces_text self.now) < 2 ^ 64 }
         ensures { result ≡ length (pieces_text self.now) }
     {
         self.first.len()
-            + self.vendor.text_length()
-            + self.operating_system.text_length()
-            + self.version_length()
-            + self.environment.text_length()
-            + self.binary_format.text_length()
-    }
-
-    /// The length of the version's string.
-    fn version_length(&self) -> usize
-        ensures { result ≡ length (version_suffix self.now.version) }
-    {
-        match self.version {
-            Some(version) => version_text(version, &mut [0; MAX_VERSION_LENGTH]).len(),
-            None => 0,
-        }
-    }
-
-    /// Writes the version's string, as [`put`] writes a string.
-    fn put_version(&self, out: &mut [u8], at: usize) -> usize
-        requires { at + length (version_suffix self.now.version) ≤ length out.old }
-        ensures { Puts (version_suffix self.now.version) out.old at out.new result }
-    {
-        match self.version {
-            Some(version) => put(
-                out,
-                at,
-                version_text(version, &mut [0; MAX_VERSION_LENGTH]).as_bytes(),
-            ),
-            None => at,
-        }
+            + piece_length(self.vendor)
+            + system_length(self.operating_system)
+            + piece_length(self.environment)
+            + piece_length(self.binary_format)
     }
 
     /// Writes the string at the front of a buffer that has room for it, and returns its end.
@@ -450,11 +336,10 @@ impl Pieces<'_> {
     {
         texts_are_put_in_order();
         let at = put(out, 0, self.first.as_bytes());
-        let at = self.vendor.put(out, at);
-        let at = self.operating_system.put(out, at);
-        let at = self.put_version(out, at);
-        let at = self.environment.put(out, at);
-        self.binary_format.put(out, at)
+        let at = put_piece(out, at, self.vendor);
+        let at = put_system(out, at, self.operating_system);
+        let at = put_piece(out, at, self.environment);
+        put_piece(out, at, self.binary_format)
     }
 }
 
@@ -468,25 +353,104 @@ impl fmt::Display for Pieces<'_> {
     #[inline(always)]
     fn fmt<W: fmt::Write>(&self, f: &mut fmt::Formatter<W>) -> fmt::Result {
         f.write_str(self.first)?;
-        self.vendor.fmt(f)?;
-        self.operating_system.fmt(f)?;
-        if let Some(version) = self.version {
-            f.write_str(version_text(version, &mut [0; MAX_VERSION_LENGTH]))?;
+        write_piece(f, self.vendor)?;
+        if let Some(system) = self.operating_system {
+            f.write_str("-")?;
+            system.fmt(f)?;
         }
-        self.environment.fmt(f)?;
-        self.binary_format.fmt(f)
+        write_piece(f, self.environment)?;
+        write_piece(f, self.binary_format)
     }
 }
 
-/// The version of a system, if the system is shown and has one. By its type it is in range.
+/// Writes a dash and the name, if there is one.
 #[inline(always)]
-fn version_if(is_shown: bool, system: OperatingSystem) -> Option<DeploymentTarget>
-    ensures text { version_suffix result ≡ shown_version is_shown system }
-    ensures bound { length (version_suffix result)
-        ≤ length (version_suffix (system_version system)) }
-    ensures range { HasVersionInRange system }
+fn write_piece<W: fmt::Write>(f: &mut fmt::Formatter<W>, name: Option<&str>) -> fmt::Result
+    ensures { WritesStyledOnOk W.write_str_gives f.old result (name_piece name.entry) f.new }
 {
-    if is_shown { system.version() } else { None }
+    match name {
+        Some(name) => {
+            f.write_str("-")?;
+            f.write_str(name)
+        }
+        None => Ok(()),
+    }
+}
+
+/// The length of a dash and the name, if there is one.
+fn piece_length(name: Option<&str>) -> usize
+    requires { length (name_piece name) < 2 ^ 64 }
+    ensures { result ≡ length (name_piece name.entry) }
+{
+    match name {
+        Some(name) => 1 + name.len(),
+        None => 0,
+    }
+}
+
+/// The length of a dash and the name of the system, if there is one.
+fn system_length(system: Option<OperatingSystem>) -> usize
+    requires { length (system_piece system) < 2 ^ 64 }
+    ensures { result ≡ length (system_piece system) }
+{
+    match system {
+        Some(system) => { 1 + system.prefix().len() + system_version_length(system) }
+        None => 0,
+    }
+}
+
+/// The length of the version's string, if the system has a version.
+fn system_version_length(system: OperatingSystem) -> usize
+    ensures { result ≡ length (version_suffix (system_version system)) }
+{
+    match system.version() {
+        Some(version) => version_text(version, &mut [0; MAX_VERSION_LENGTH]).len(),
+        None => 0,
+    }
+}
+
+/// Writes a dash and the name, if there is one, as [`put`] writes a string.
+fn put_piece(out: &mut [u8], at: usize, name: Option<&str>) -> usize
+    requires { at + length (name_piece name) ≤ length out.old }
+    ensures { Puts (name_piece name.entry) out.old at out.new result }
+{
+    match name {
+        Some(name) => {
+            let at = put(out, at, b"-");
+            put(out, at, name.as_bytes())
+        }
+        None => at,
+    }
+}
+
+/// Writes a dash and the name of the system, if there is one, as [`put`] writes a string.
+fn put_system(out: &mut [u8], at: usize, system: Option<OperatingSystem>) -> usize
+    requires { at + length (system_piece system) ≤ length out.old }
+    ensures { Puts (system_piece system) out.old at out.new result }
+{
+    match system {
+        Some(system) => {
+            let at = put(out, at, b"-");
+            let at = put(out, at, system.prefix().as_bytes());
+            put_system_version(out, at, system)
+        }
+        None => at,
+    }
+}
+
+/// Writes the version's string, if the system has a version, as [`put`] writes a string.
+fn put_system_version(out: &mut [u8], at: usize, system: OperatingSystem) -> usize
+    requires { at + length (version_suffix (system_version system)) ≤ length out.old }
+    ensures { Puts (version_suffix (system_version system)) out.old at out.new result }
+{
+    match system.version() {
+        Some(version) => put(
+            out,
+            at,
+            version_text(version, &mut [0; MAX_VERSION_LENGTH]).as_bytes(),
+        ),
+        None => at,
+    }
 }
 
 /// Writes a string after what ends at `at`, into a buffer that has room for it. Returns the end of both.

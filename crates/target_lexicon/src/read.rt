@@ -5,7 +5,6 @@ ghost use Rattle.lexicon_fields.specs.Vendor.{OwnsCustomText, vendor_value, is_p
 ghost use Rattle.lexicon_fields.specs.VendorRef.{ref_value};
 ghost use Rattle.target_lexicon.specs.Explanation.{AreInText, AreSourcesOf, IsInText, IsRefusedAfter, IsRefusedAt, part_value, sources_of};
 ghost use Rattle.target_lexicon.specs.Placement.{parts_after, parts_of};
-ghost use Rattle.target_lexicon.specs.Reading as spec;
 ghost use Rattle.target_lexicon.specs.Reading.{ReadsAs, IsErrorOf, IsRefusedAs};
 ghost use Rattle.target_lexicon.specs.Values.{values_of};
 ghost use Rattle.target_lexicon.specs.ValuesRef.{refusal_value, values_of_ref};
@@ -16,7 +15,6 @@ use crate::reading::Reading;
 use crate::refusal::Refusal;
 use crate::triple::Triple;
 use crate::triple_ref::TripleRef;
-use lexicon_fields::Field;
 use std::alloc::Global;
 
 /// The first part of a string, and what follows its dash, if it has one.
@@ -29,19 +27,6 @@ pub fn first_part(text: &str) -> (&str, Option<&str>)
     match text.as_bytes().iter().position(|&byte| byte == b'-') {
         Some(at) => (&text[..at], Some(&text[at + 1..])),
         None => (text, None),
-    }
-}
-
-/// The field that is expected after this one is filled, if any is left.
-pub(crate) fn expected_after(last: Field) -> Option<Field>
-    ensures { result ≡ spec.expected_after last }
-{
-    match last {
-        Field::Architecture => Some(Field::Vendor),
-        Field::Vendor => Some(Field::OperatingSystem),
-        Field::OperatingSystem => Some(Field::Environment),
-        Field::Environment => Some(Field::BinaryFormat),
-        Field::BinaryFormat => None,
     }
 }
 

@@ -9,10 +9,9 @@ ghost use Rattle.target_lexicon.specs.Values.{unknown_values};
 ghost use Rattle.target_lexicon.specs.ValuesRef.{values_of_ref};
 
 use crate::explanation::{Source, Sources, TextPart};
-use crate::read::expected_after;
 use crate::refusal::Refusal;
 use crate::triple_ref::TripleRef;
-use lexicon_fields::{Architecture, Field, OperatingSystem, Steps, VendorRef, fixed_row};
+use lexicon_fields::{Field, OperatingSystem, Steps, VendorRef, fixed_row};
 
 /// The fields that the names so far fill, the others `Unknown`; and the first field that is still open.
 #[derive(Clone, Copy, Debug)]
@@ -35,7 +34,7 @@ impl<'a> Reading<'a> {
         }
     }
 
-    /// Notes that this part fills a field.
+    /// Notes that this part fills a field, and which one is expected after it.
     #[inline(always)]
     fn fill(&mut self, field: Field, part: TextPart<'a>)
         ensures expected { self.new.expected ≡ expected_after field }
@@ -43,15 +42,29 @@ impl<'a> Reading<'a> {
         ensures sources { sources_of self.new.sources
             ≡ with_source field (FromPart (part_value part.entry)) (sources_of self.old.sources) }
     {
-        self.expected = expected_after(field);
         let source = Source::Part(part);
-        match field {
-            Field::Architecture => self.sources.architecture = source,
-            Field::Vendor => self.sources.vendor = source,
-            Field::OperatingSystem => self.sources.operating_system = source,
-            Field::Environment => self.sources.environment = source,
-            Field::BinaryFormat => self.sources.binary_format = source,
-        }
+        self.expected = match field {
+            Field::Architecture => {
+                self.sources.architecture = source;
+                Some(Field::Vendor)
+            }
+            Field::Vendor => {
+                self.sources.vendor = source;
+                Some(Field::OperatingSystem)
+            }
+            Field::OperatingSystem => {
+                self.sources.operating_system = source;
+                Some(Field::Environment)
+            }
+            Field::Environment => {
+                self.sources.environment = source;
+                Some(Field::BinaryFormat)
+            }
+            Field::BinaryFormat => {
+                self.sources.binary_format = source;
+                None
+            }
+        };
     }
 
     /// Takes a name into the first field that is open and that it parses as. `Err` if there is none; nothing changes
@@ -85,61 +98,59 @@ impl<'a> Reading<'a> {
         ensures same { IfErr result (λ _. self.new ≡ self.old) }
         ensures part { IfErr result (λ it. part_value it.part ≡ part_value part.entry) }
     {
-        match self.expected {
-            Some(Field::Architecture) => {
-                if let Ok(architecture) = Architecture::from_str(name) {
+        match (self.expected, fixed_row(name, &mut Steps::new())) {
+            (Some(Field::Architecture), Some(row)) => {
+                if let Some(architecture) = row.architecture {
                     self.triple.architecture = architecture;
                     self.fill(Field::Architecture, part);
                     return Ok(());
                 }
             }
-            Some(expected) => match fixed_row(name, &mut Steps::new()) {
-                Some(row) => {
-                    if expected == Field::Vendor {
-                        if let Some(vendor) = row.vendor {
-                            self.triple.vendor = VendorRef::Known(vendor);
-                            self.fill(Field::Vendor, part);
-                            return Ok(());
-                        }
-                    }
-                    if matches!(expected, Field::Vendor | Field::OperatingSystem) {
-                        if let Some(operating_system) = row.operating_system {
-                            self.triple.operating_system = operating_system;
-                            self.fill(Field::OperatingSystem, part);
-                            return Ok(());
-                        }
-                    }
-                    if !matches!(expected, Field::BinaryFormat) {
-                        if let Some(environment) = row.environment {
-                            self.triple.environment = environment;
-                            self.fill(Field::Environment, part);
-                            return Ok(());
-                        }
-                    }
-                    if let Some(binary_format) = row.binary_format {
-                        self.triple.binary_format = binary_format;
-                        self.fill(Field::BinaryFormat, part);
+            (Some(Field::Architecture), None) | (None, _) => {}
+            (Some(expected), Some(row)) => {
+                if expected == Field::Vendor {
+                    if let Some(vendor) = row.vendor {
+                        self.triple.vendor = VendorRef::Known(vendor);
+                        self.fill(Field::Vendor, part);
                         return Ok(());
                     }
                 }
-                None => {
-                    if expected == Field::Vendor {
-                        if let Ok(vendor) = VendorRef::from_str(name) {
-                            self.triple.vendor = vendor;
-                            self.fill(Field::Vendor, part);
-                            return Ok(());
-                        }
-                    }
-                    if matches!(expected, Field::Vendor | Field::OperatingSystem) {
-                        if let Ok(operating_system) = OperatingSystem::from_str(name) {
-                            self.triple.operating_system = operating_system;
-                            self.fill(Field::OperatingSystem, part);
-                            return Ok(());
-                        }
+                if matches!(expected, Field::Vendor | Field::OperatingSystem) {
+                    if let Some(operating_system) = row.operating_system {
+                        self.triple.operating_system = operating_system;
+                        self.fill(Field::OperatingSystem, part);
+                        return Ok(());
                     }
                 }
-            },
-            None => {}
+                if !matches!(expected, Field::BinaryFormat) {
+                    if let Some(environment) = row.environment {
+                        self.triple.environment = environment;
+                        self.fill(Field::Environment, part);
+                        return Ok(());
+                    }
+                }
+                if let Some(binary_format) = row.binary_format {
+                    self.triple.binary_format = binary_format;
+                    self.fill(Field::BinaryFormat, part);
+                    return Ok(());
+                }
+            }
+            (Some(expected), None) => {
+                if expected == Field::Vendor {
+                    if let Ok(vendor) = VendorRef::from_str(name) {
+                        self.triple.vendor = vendor;
+                        self.fill(Field::Vendor, part);
+                        return Ok(());
+                    }
+                }
+                if matches!(expected, Field::Vendor | Field::OperatingSystem) {
+                    if let Ok(operating_system) = OperatingSystem::from_str(name) {
+                        self.triple.operating_system = operating_system;
+                        self.fill(Field::OperatingSystem, part);
+                        return Ok(());
+                    }
+                }
+            }
         }
         Err(Refusal {
             expected: self.expected,

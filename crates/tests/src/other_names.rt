@@ -13,7 +13,6 @@ linux-armv7l=armv7-unknown-linux=linux_armv7l
 manylinux1_i686=i686-unknown-linux-gnu=linux_i686
 manylinux2014_ppc64le=powerpc64le-unknown-linux-gnu=linux_ppc64le
 manylinux_2_17_x86_64=x86_64-unknown-linux-gnu=linux_x86_64
-manylinux_2_17_x86_64.manylinux2014_x86_64=x86_64-unknown-linux-gnu=linux_x86_64
 manylinux_2_31_armv7l=armv7-unknown-linux-gnueabihf=linux_armv7l
 musllinux_1_2_aarch64=aarch64-unknown-linux-musl=linux_aarch64
 macosx_11_0_arm64=aarch64-apple-macosx11.0.0=macosx_11_0_arm64
@@ -29,7 +28,7 @@ win_arm32=armv7-pc-windows=win_arm32
 ios_13_0_arm64_iphoneos=aarch64-apple-ios13.0.0=ios_13_0_arm64_iphoneos
 ios-13.0-arm64-iphonesimulator=aarch64-apple-ios13.0.0-sim=ios_13_0_arm64_iphonesimulator
 ios-17-arm64-iphoneos=aarch64-apple-ios17.0.0=ios_17_0_arm64_iphoneos
-ios_65535_255_x86_64_iphonesimulator=x86_64-apple-ios65535.255.0-sim=ios_65535_255_x86_64_iphonesimulator
+ios_65535_255_x86_64_iphonesimulator=x86_64-apple-ios65535.255.0=ios_65535_255_x86_64_iphonesimulator
 android_21_arm64_v8a=aarch64-linux-android=
 android-21-armeabi_v7a=armv7-linux-androideabi=
 android_5_x86=i686-linux-android=

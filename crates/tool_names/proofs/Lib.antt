@@ -13,6 +13,7 @@ pub mod KeptFormats
 pub mod KnownStay
 pub mod MacosNames
 pub mod Matches
+pub mod MayMatch
 pub mod NameLaws
 pub mod NamesRead
 pub mod NumberLemmas

@@ -47,7 +47,7 @@ number-digit limits (c ∷ cs) n is = by_digit (is_ascii_digit c) refl
         let none : head_digits (c ∷ cs) ≡ [] = ap (λ b. take (cond b (1 + prefix_len is_ascii_digit cs) 0) (c ∷ cs)) h in
         absurd (let bad = sym (ap (next_number limits) none ∙ no_number limits) ∙ is in cc)
 
-put-parts : (o : Option ℕ) (rest : Option (List ℕ)) (x : List ℕ) → put_first o rest ≡ Some x → ((n : ℕ) × (o ≡ Some n)) × ((ns : List ℕ) × (rest ≡ Some ns))
+pub put-parts : (o : Option ℕ) (rest : Option (List ℕ)) (x : List ℕ) → put_first o rest ≡ Some x → ((n : ℕ) × (o ≡ Some n)) × ((ns : List ℕ) × (rest ≡ Some ns))
 put-parts (Some n) (Some ns) x is = ((n, refl), (ns, refl))
 put-parts (Some n) None x is = absurd cc
 put-parts None rest x is = absurd cc
@@ -59,7 +59,7 @@ at-star p ps limits name x is_star is =
     let parts = put-parts (next_number limits (head_digits name)) (matched_within false (rest_of limits) ps (after_digits name)) x h in
     (number-digit limits name parts.0.0 parts.0.1, parts.1)
 
-at-byte : (p : ℕ) (ps limits name x : List ℕ) → nat_eq p star ≡ false → matched_within false limits (p ∷ ps) name ≡ Some x → (cs : List ℕ) × (name ≡ p ∷ cs) × (matched_within false limits ps cs ≡ Some x)
+pub at-byte : (p : ℕ) (ps limits name x : List ℕ) → nat_eq p star ≡ false → matched_within false limits (p ∷ ps) name ≡ Some x → (cs : List ℕ) × (name ≡ p ∷ cs) × (matched_within false limits ps cs ≡ Some x)
 at-byte p ps limits [] x other is = let h = rw other at is in absurd cc
 at-byte p ps limits (c ∷ cs) x other is = by_same (nat_eq p c) refl (rw other at is)
   where
@@ -67,14 +67,14 @@ at-byte p ps limits (c ∷ cs) x other is = by_same (nat_eq p c) refl (rw other 
     by_same true same h = (cs, ap (λ b. b ∷ cs) (sym (eqb-true p c same)), h)
     by_same false same h = absurd cc
 
-empty-unmatched : (q : ℕ) (qs limits x : List ℕ) → matched_within false limits (q ∷ qs) [] ≡ Some x → ⊥
+pub empty-unmatched : (q : ℕ) (qs limits x : List ℕ) → matched_within false limits (q ∷ qs) [] ≡ Some x → ⊥
 empty-unmatched q qs limits x is = by_star (nat_eq q star) refl
   where
     by_star : (b : Bool) → nat_eq q star ≡ b → ⊥
     by_star true h = let bad = (at-star q qs limits [] x h is).0 in absurd cc
     by_star false h = let bad = (at-byte q qs limits [] x h is).1 in absurd cc
 
-ended : (limits name x : List ℕ) → matched_within false limits [] name ≡ Some x → name ≡ []
+pub ended : (limits name x : List ℕ) → matched_within false limits [] name ≡ Some x → name ≡ []
 ended limits [] x is = refl
 ended limits (c ∷ cs) x is = absurd cc
 

@@ -12,7 +12,7 @@ use Rattle.tool_names.specs.Changes.{plain_rule}
 use Rattle.tool_names.specs.Private.{begin_alike, fit_of, later_rule, may_fit, names_if, plain_rules, rule_names}
 use Rattle.tool_names.specs.declared.rules.Place.TheVariants as place
 use Rattle.tool_names.specs.declared.rules.Form.TheVariants as form
-use Rattle.tool_names.specs.Spelling.{Rule, Standing, are_pair, first_rule, fits, has_form, is_first, is_known_at, lone_rules, may_stand, names_by, rule_at, rules_for, rules_in, wide_rules}
+use Rattle.tool_names.specs.Spelling.{Rule, Standing, are_pair, first_rule, fits, has_form, is_first, is_known_at, lone_rules, may_be_versioned, may_stand, names_by, rule_at, rules_for, rules_in, wide_rules}
 use Rattle.lexicon_fields.specs.Architecture.{architecture_of}
 use Rattle.tool_names.specs.declared.rules.TheConstants as code
 
@@ -81,6 +81,13 @@ unlike-unfit form.Dropped (c ∷ cs) (d ∷ ds) others other = rw other refl
 unlike-unfit form.MacOs (c ∷ cs) (d ∷ ds) others other = rw other refl
 unlike-unfit form.Pair (c ∷ cs) (d ∷ ds) others other = unlike-pair (parts_of cs) c d ds others (unlike c d other) (c == dash)
 unlike-unfit form.PairWithin (c ∷ cs) (d ∷ ds) others other = rw (unlike-pair (parts_of cs) c d ds others (unlike c d other) (c == dash)) refl
+
+-- nor is it its text with a version
+
+pub unlike_versioned : (part name : List ℕ) → begin_alike name part ≡ false → may_be_versioned part name ≡ false
+unlike_versioned part [] other = absurd cc
+unlike_versioned [] (c ∷ cs) other = absurd cc
+unlike_versioned (d ∷ ds) (c ∷ cs) other = rw other refl
 
 and_false : (b : Bool) → (b && false) ≡ false
 and_false true = refl

@@ -21,7 +21,7 @@ use Rattle.tool_names.specs.Laws.{ShapesAreFixed}
 use Rattle.tool_names.specs.Patterns.{all_limits, are_within}
 use Rattle.lexicon_fields.specs.declared.architecture.x86_32.X86_32Architecture.{X86_32Architecture}
 use Rattle.lexicon_fields.specs.declared.architecture.x86_32.X86_32Architecture.TheVariants.{I386}
-use Rattle.tool_names.specs.Shape.{abi_by, abi_on, abi_on_both, abi_on_systems, arm_of_android, arm_of_gnu, arm_of_hard_floats, arm_of_linux, arm_of_order, arm_of_packages, arm_of_rustc, arm_of_soft_floats, arm_of_version, arm_of_windows, armv5_of, is_bare_abi, is_dropped_abi, machine_by, machine_of_alpine, machine_of_order, machine_of_packages, machine_of_rustc, machine_of_version, one_eabi, shape, sparc_of_rustc, system_by, unknown_if, unversioned, usual_vendor, with_two_numbers, x86_of_alpine}
+use Rattle.tool_names.specs.Shape.{abi_by, abi_on, abi_on_both, abi_on_systems, arm_of_android, arm_of_gnu, arm_of_hard_floats, arm_of_linux, arm_of_order, arm_of_packages, arm_of_rustc, arm_of_soft_floats, arm_of_version, arm_of_windows, is_bare_abi, is_dropped_abi, machine_by, machine_of_alpine, machine_of_order, machine_of_packages, machine_of_rustc, machine_of_version, one_eabi, shape, sparc_of_rustc, system_by, unknown_if, unversioned, usual_vendor, with_two_numbers, x86_of_alpine}
 use Rattle.tool_names.specs.ToolNames.{numbers_in, system_with, without_numbers}
 
 -- once is enough

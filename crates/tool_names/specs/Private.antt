@@ -1,5 +1,5 @@
 -- Definitions for the contracts of private functions; no public contract cites them.
-use Rattle.std.specs.Prelude.{⊤, ℕ, ◌+◌, ◌^◌, ◌<◌, ◌==◌, ◌&&◌, nat_le, nat_lt, Bool, true, List, [], ◌∷◌, ◌++◌, Option, Some, None, map, option_map, if◌then◌else◌}
+use Rattle.std.specs.Prelude.{⊤, ℕ, ◌+◌, ◌-◌, ◌^◌, ◌<◌, ◌==◌, ◌&&◌, ◌||◌, nat_le, nat_lt, Bool, true, List, [], ◌∷◌, ◌++◌, Option, Some, None, drop, length, map, option_map, slice_get, if◌then◌else◌}
 use Rattle.std.specs.{Borrow.Bor, List.list_all}
 use Rattle.lexicon_fields.specs.Names.{Pair}
 use Rattle.target_lexicon.specs.Placement.{parts_after, parts_of}
@@ -12,8 +12,8 @@ use Rattle.tool_names.specs.declared.spelled.RuleNames.TheVariants.{Known, MacOs
 use Rattle.tool_names.specs.{declared.rules.Form.Form, declared.rules.Place.Place}
 use Rattle.tool_names.specs.declared.rules.Place.TheVariants as place
 use Rattle.tool_names.specs.declared.rules.TheConstants as code
-use Rattle.tool_names.specs.Platforms.{Words}
-use Rattle.tool_names.specs.{Patterns.plain_number, Patterns.rest_of, Patterns.star, Tables.Range, Tables.Row, Tables.plain_row}
+use Rattle.tool_names.specs.Platforms.{Words, slash}
+use Rattle.tool_names.specs.{Patterns.plain_number, Patterns.rest_of, Patterns.star, Patterns.tag_byte, Tables.Range, Tables.Row, Tables.plain_row}
 use Rattle.tool_names.specs.Spelling.{Rule, Standing, first_rule, fits, is_known_at, may_stand, rules_in, macosx_name, SpelledName, SpelledPart, names_by, names_of, spelled_by}
 
 -- a table in the code as a list of pairs
@@ -80,11 +80,33 @@ AreInRange (Two major minor) = (major < 2 ^ 16) × (minor < 2 ^ 8)
 abbrev pub platform_words : Platform → Words
 platform_words platform = record { system = platform.system.now; machine = platform.machine.now; variant = platform.variant.now }
 
+-- whether the name of a row may have these words: the first ends where it should, and the others are as long together
+abbrev pub are_other_words : Words → List ℕ → Bool
+are_other_words words [] = true
+are_other_words words (c ∷ rest) = c == slash && length rest == length words.machine + length words.variant
+
+abbrev pub may_have_words : Words → List ℕ → Bool
+may_have_words words pattern = nat_le (length words.system) (length pattern) && are_other_words words (drop (length words.system) pattern)
+
 -- one more number
 abbrev pub with_number : Numbers → List ℕ → Option Numbers
 with_number NoNumber text = option_map One (plain_number 65535 text)
 with_number (One major) text = option_map (Two major) (plain_number 255 text)
 with_number (Two _ _) text = None
+
+-- the last byte of a text
+abbrev pub last_byte : List ℕ → Option ℕ
+last_byte text = slice_get text (length text - 1)
+
+-- whether the last byte of a name may be that of a pattern
+abbrev pub end_alike : Bool → Option ℕ → Option ℕ → Bool
+end_alike tags (Some last) (Some byte) = last == star || last == (if tags then tag_byte byte else byte)
+end_alike tags _ _ = true
+
+-- whether a name may have a pattern: it is as long, but for the other digits of two numbers, and ends alike
+abbrev pub may_match : Bool → List ℕ → List ℕ → Bool
+may_match tags pattern name =
+    nat_le (length pattern) (length name) && nat_le (length name - length pattern) 8 && end_alike tags (last_byte pattern) (last_byte name)
 
 -- the row of a name, and its numbers
 abbrev pub found_row : (Bor (List ℕ) × Bor (List ℕ) × Way) × Numbers → Row × List ℕ

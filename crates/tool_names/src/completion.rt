@@ -10,7 +10,7 @@ use std::fmt;
 use std::str::FromStr;
 use target_lexicon::{Architecture, ArmArchitecture, Environment, OperatingSystem, TripleRef};
 
-/// A C library of Linux or Windows, which gives a triple its environment: [`complete`]. On Windows it is an ABI too.
+/// A C library of Linux or Windows, which gives a triple its environment. On Windows it is an ABI too.
 ///
 /// # Examples
 ///
@@ -150,23 +150,9 @@ impl fmt::Display for LinuxLibc {
 /// Every other triple is returned as it is, so that a list of targets may be completed for Linux and then for Windows.
 /// Nothing is allocated.
 ///
-/// Names of Go, OCI and Python don't state the C library, so that what they mean has no name of Debian, of GNU or of
-/// rustc. Nothing is guessed: the caller says which C library it is. With glibc the environment is `gnueabihf` on `arm`,
-/// `armv6`, `armv7` and `armv8`, `gnueabi` on `armv5te`, `gnuabi64` on 64-bit MIPS, and `gnu` on every other architecture;
-/// with musl it is `musleabihf`, `musleabi`, `muslabi64` or `musl`. A name of one Arm that stands for a version, such as
-/// `armv7a`, counts as that version. On Windows it is `msvc`, with MinGW `gnu`, and with that of LLVM's tools `gnullvm`.
-///
-/// # Examples
-///
-/// ```
-/// use target_lexicon::tool_names::{complete, LinuxLibc, Dialect};
-///
-/// let platform = Dialect::Oci.read("linux/arm/v7").unwrap();
-/// assert_eq!(Dialect::Debian.write(&platform), None);
-/// let triple = complete(&platform, LinuxLibc::Glibc);
-/// assert_eq!(triple.to_string(), "armv7-unknown-linux-gnueabihf");
-/// assert_eq!(Dialect::Debian.write(&triple).unwrap().as_str(), "armhf");
-/// ```
+/// With glibc the environment is `gnueabihf` on `arm`, `armv6`, `armv7` and `armv8`, `gnueabi` on `armv5te`, `gnuabi64` on
+/// 64-bit MIPS, and `gnu` on every other architecture; with musl it is `musleabihf`, `musleabi`, `muslabi64` or `musl`. On
+/// Windows it is `msvc`, with MinGW `gnu`, and with that of LLVM's tools `gnullvm`.
 pub fn complete<'a>(triple: &TripleRef<'a>, c_library: LinuxLibc) -> TripleRef<'a>
     ensures { values_of_ref result ≡ spec.completed c_library (values_of_ref triple.now) }
 {

@@ -6,33 +6,7 @@ ghost use Rattle.tool_names.specs.ObjectFormat as spec;
 use target_lexicon::{Architecture, BinaryFormat, OperatingSystem, TripleRef};
 
 /// The format of the object files that rustc and LLVM write for a target. It differs from the field `binary_format`,
-/// which is upstream's answer, in these cases:
-///
-/// - UEFI and Cygwin have COFF, as Windows does. Upstream says ELF.
-/// - WebAssembly has its own format on every system. Upstream says ELF on those that it doesn't list, such as `wasip1`.
-/// - A target with the system `none` has ELF, or the format of WebAssembly. Upstream knows no format.
-/// - An unknown format is the one that the other fields give.
-///
-/// A given format that isn't the implied one is kept. The answer is `Unknown` only for the architecture `Unknown`.
-///
-/// # Examples
-///
-/// ```
-/// use target_lexicon::{tool_names::object_format, BinaryFormat, TripleRef};
-///
-/// for (string, upstreams, format) in [
-///     ("x86_64-unknown-linux-gnu", BinaryFormat::Elf, BinaryFormat::Elf),
-///     ("x86_64-unknown-none", BinaryFormat::Unknown, BinaryFormat::Elf),
-///     ("wasm32-wasip1", BinaryFormat::Elf, BinaryFormat::Wasm),
-///     ("x86_64-unknown-uefi", BinaryFormat::Elf, BinaryFormat::Coff),
-///     ("x86_64-pc-cygwin", BinaryFormat::Elf, BinaryFormat::Coff),
-///     ("x86_64-pc-cygwin-macho", BinaryFormat::Macho, BinaryFormat::Macho),
-///     ("powerpc64-ibm-aix", BinaryFormat::Xcoff, BinaryFormat::Xcoff),
-/// ] {
-///     let triple = TripleRef::from_str(string).unwrap();
-///     assert_eq!((triple.binary_format, object_format(&triple)), (upstreams, format), "{string}");
-/// }
-/// ```
+/// which is upstream's answer, on UEFI, Cygwin, WebAssembly and the system `none`, and where that one is unknown.
 #[inline(always)]
 pub fn object_format(triple: &TripleRef<'_>) -> BinaryFormat
     ensures { result ≡ spec.object_format (values_of_ref triple.now) }

@@ -1,7 +1,7 @@
 //! Names with numbers: a star in the name of a row is a number.
 ghost use Rattle.std.specs.Prelude.{◌≡◌, length, option_map, if◌then◌else◌};
 ghost use Rattle.tool_names.specs.Patterns as spec;
-ghost use Rattle.tool_names.specs.Private.{AreInRange, numbers_of, with_number};
+ghost use Rattle.tool_names.specs.Private.{AreInRange, end_alike, may_match, numbers_of, with_number};
 
 use std::str::from_utf8;
 
@@ -14,7 +14,40 @@ pub(crate) enum Numbers {
 }
 
 /// The numbers that a name, or its tag, has where a pattern has stars. `None` if it doesn't have the pattern.
+#[inline(always)]
+#[tactic(auto, using(crate::proofs::MayMatch::unmatched))]
 pub(crate) fn matched(pattern: &[u8], name: &[u8], tags: bool) -> Option<Numbers>
+    ensures { option_map numbers_of result ≡ spec.matched tags pattern.now name.now }
+{
+    if may_match(pattern, name, tags) {
+        matched_bytes(pattern, name, tags)
+    } else {
+        None
+    }
+}
+
+/// Whether a name may have a pattern: their lengths differ by the digits of two numbers at most, and they end alike.
+#[inline(always)]
+fn may_match(pattern: &[u8], name: &[u8], tags: bool) -> bool
+    ensures { result ≡ may_match tags pattern.now name.now }
+{
+    pattern.len() <= name.len()
+        && name.len() - pattern.len() <= 8
+        && end_alike(pattern.last().copied(), name.last().copied(), tags)
+}
+
+/// Whether the last byte of a name may be that of a pattern.
+fn end_alike(last: Option<u8>, byte: Option<u8>, tags: bool) -> bool
+    ensures { result ≡ end_alike tags last byte }
+{
+    match (last, byte) {
+        (Some(last), Some(byte)) => last == b'*' || last == key_byte(byte, tags),
+        _ => true,
+    }
+}
+
+/// The numbers of a name, byte by byte.
+fn matched_bytes(pattern: &[u8], name: &[u8], tags: bool) -> Option<Numbers>
     ensures { option_map numbers_of result ≡ spec.matched tags pattern.now name.now }
 {
     let mut numbers = Numbers::NoNumber;

@@ -2,8 +2,8 @@
 ghost use Rattle.std.specs.Prelude.{◌≡◌, ◌≤◌, length, option_map};
 ghost use Rattle.std.specs.Str.{str_eq_ignore_ascii_case};
 ghost use Rattle.tool_names.specs.Platforms as spec;
-ghost use Rattle.tool_names.specs.Private.{platform_words};
-ghost use Rattle.tool_names.specs.Tables.{plain_row, plain_rows, rows_in};
+ghost use Rattle.tool_names.specs.Private.{may_have_words, platform_words};
+ghost use Rattle.tool_names.specs.Tables.{plain_row, rows_in};
 
 use crate::pattern::star_count;
 use crate::tables::Row;
@@ -46,13 +46,38 @@ impl<'a> Platform<'a> {
         }
     }
 
+    /// Whether the name of a row, which has no number, has these words.
+    fn is_of(self, row: Row) -> bool
+        ensures { result ≡ spec.has_words (platform_words self.entry) (plain_row row.entry) }
+    {
+        let pattern = row.0.as_bytes();
+        if self.may_be_of(pattern) {
+            star_count(pattern) == 0 && Platform::of(pattern).is(self)
+        } else {
+            false
+        }
+    }
+
+    /// Whether a row's name may have these words: the first ends where it should, and the others are as long.
+    fn may_be_of(self, pattern: &[u8]) -> bool
+        ensures { result ≡ may_have_words (platform_words self.entry) pattern.now }
+    {
+        match pattern.get(self.system.len()..) {
+            Some([slash, rest @ ..]) => {
+                *slash == b'/' && rest.len() == self.machine.len() + self.variant.len()
+            }
+            Some([]) => true,
+            None => false,
+        }
+    }
+
     /// Whether the words are the same, in any case.
     fn is(self, other: Platform<'_>) -> bool
         ensures { result
             ≡ spec.are_same_words (platform_words self.entry) (platform_words other.entry) }
     {
-        is_word(self.system, other.system)
-            && is_word(self.machine, other.machine)
+        is_word(self.machine, other.machine)
+            && is_word(self.system, other.system)
             && is_word(self.variant, other.variant)
     }
 }
@@ -62,31 +87,12 @@ pub(crate) fn row_of_platform(tables: &[&'static [Row]], name: &str) -> Option<R
     ensures { option_map plain_row result
         ≡ spec.row_with_words (rows_in tables.now) (spec.normal_words (spec.words_of name.now)) }
 {
-    row_in_tables(tables, Platform::of(name.as_bytes()).normal())
-}
-
-/// The first such row of several tables.
-fn row_in_tables(tables: &[&'static [Row]], platform: Platform<'_>) -> Option<Row>
-    ensures { option_map plain_row result
-        ≡ spec.row_with_words (rows_in tables.now) (platform_words platform.entry) }
-{
+    let platform = Platform::of(name.as_bytes()).normal();
     for rows in tables {
-        if let Some(row) = row_with_words(rows, platform) {
-            return Some(row);
-        }
-    }
-    None
-}
-
-/// That row of one table.
-fn row_with_words(rows: &[Row], platform: Platform<'_>) -> Option<Row>
-    ensures { option_map plain_row result
-        ≡ spec.row_with_words (plain_rows rows.now) (platform_words platform.entry) }
-{
-    for row in rows {
-        let pattern = row.0.as_bytes();
-        if star_count(pattern) == 0 && Platform::of(pattern).is(platform) {
-            return Some(*row);
+        for row in *rows {
+            if platform.is_of(*row) {
+                return Some(*row);
+            }
         }
     }
     None

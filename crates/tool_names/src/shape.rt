@@ -68,6 +68,7 @@ impl Dialect {
     /// let triple = TripleRef::from_str("x86_64-acme-linux-musl").unwrap();
     /// assert_eq!(Dialect::Go.shape(&triple).to_string(), "x86_64-unknown-linux");
     /// ```
+    #[tactic(auto, unfolding(crate::specs::Shape::shape))]
     pub fn shape(self, triple: &TripleRef<'_>) -> TripleRef<'static>
         ensures { values_of_ref result ≡ spec.shape self (values_of_ref triple.now) }
     {

@@ -2,13 +2,13 @@
 ghost use Rattle.std.specs.Prelude.{◌≡◌, ◌∷◌, [], Some, None, MatchOption, option_map};
 ghost use Rattle.target_lexicon.specs.Placement.{parts_after, parts_of};
 ghost use Rattle.tool_names.specs.Changes.{parts_left, plain_rule, spelling_names, standing_of};
-ghost use Rattle.tool_names.specs.Private.{begin_alike, fit_of, fit_value, later_rule, may_fit, names_if, plain_rules, rule_names, spelled_value};
+ghost use Rattle.tool_names.specs.Private.{fit_of, fit_value, later_rule, may_fit, names_if, plain_rules, rule_names, spelled_value};
 ghost use Rattle.tool_names.specs.Spelling as spec;
 ghost use Rattle.tool_names.specs.declared.rules.Place.TheVariants as place;
 
 use crate::macos::{MacOsVersion, macos_version};
 use crate::rules::{Form, Place, Rule, first_rules, later_rules, wide_rules};
-use crate::spelling::{Spelling, TripleName, has_dropped_version, is_other_system};
+use crate::spelling::{Spelling, TripleName, begin_alike, has_dropped_version, is_other_system};
 use target_lexicon::{Architecture, BinaryFormat, OperatingSystem, Steps, first_part, fixed_row};
 
 /// What the parts before a part say of it.
@@ -176,16 +176,6 @@ impl Standing {
             hard_float: self.hard_float || states_hard_floats(rule.2),
             name: name_of_next(rule),
         }
-    }
-}
-
-/// Whether two strings begin with the same byte, if each has one.
-fn begin_alike(text: &str, part: &str) -> bool
-    ensures { result ≡ begin_alike text.now part.now }
-{
-    match (text.as_bytes(), part.as_bytes()) {
-        ([first, ..], [other, ..]) => first == other,
-        _ => true,
     }
 }
 

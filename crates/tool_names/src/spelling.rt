@@ -12,7 +12,7 @@ ghost use Rattle.target_lexicon.specs.Refusal.{refusal_with};
 ghost use Rattle.target_lexicon.specs.Resumed.{NamedPart, named, resumed, resumed_left};
 ghost use Rattle.target_lexicon.specs.ValuesRef.{values_of_ref};
 ghost use Rattle.tool_names.specs.Changes.{is_only, name_text, spelling_names, spelling_text};
-ghost use Rattle.tool_names.specs.Private.{table_of};
+ghost use Rattle.tool_names.specs.Private.{begin_alike, table_of};
 ghost use Rattle.tool_names.specs.declared.rules.Form.TheVariants as form;
 ghost use Rattle.tool_names.specs.Spelling as spec;
 
@@ -196,6 +196,7 @@ impl<'a> Spelling<'a> {
 const OTHER_SYSTEMS: [&str; 5] = ["macos", "netbsdelf", "nuttx", "rtems", "wasip"];
 
 /// Whether a part parses as a custom vendor but is a system that isn't known.
+#[tactic(auto, unfolding(crate::specs::Spelling::is_other_system))]
 pub(crate) fn is_other_system(part: &str) -> bool
     ensures { result ≡ spec.is_other_system part.now }
 {
@@ -225,13 +226,28 @@ pub(crate) fn is_one_of(part: &str, names: &[&str]) -> bool
     names.iter().any(|name| may_be_versioned(part, name))
 }
 
+/// Whether two strings begin with the same byte, if each has one.
+pub(crate) fn begin_alike(text: &str, part: &str) -> bool
+    ensures { result ≡ begin_alike text.now part.now }
+{
+    match (text.as_bytes(), part.as_bytes()) {
+        ([first, ..], [other, ..]) => first == other,
+        _ => true,
+    }
+}
+
 /// Whether a part is this name, or the name with what may be its version.
+#[tactic(auto, using(crate::proofs::RuleLemmas::unlike_versioned))]
 pub(crate) fn may_be_versioned(part: &str, name: &str) -> bool
     ensures { result ≡ spec.may_be_versioned part.now name.now }
 {
-    match part.strip_prefix(name) {
-        Some(version) => may_be_version(version.as_bytes()),
-        None => false,
+    if begin_alike(name, part) {
+        match part.strip_prefix(name) {
+            Some(version) => may_be_version(version.as_bytes()),
+            None => false,
+        }
+    } else {
+        false
     }
 }
 

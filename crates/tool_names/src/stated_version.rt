@@ -78,6 +78,7 @@ pub(crate) fn is_read(way: Way) -> bool
 }
 
 /// Whether names with a pattern may have a version.
+#[tactic(auto, unfolding(crate::specs::StatedVersion::has_version))]
 pub(crate) fn has_version(major: u16, minor: u8, pattern: &str) -> bool
     ensures { result ≡ spec.has_version major minor pattern.now }
 {

@@ -79,7 +79,7 @@ enum lexicon_status {
   LEXICON_NO_SUCH_VENDOR = 11, /* a custom vendor that no string parses as */
   LEXICON_UNKNOWN_NAME = 12, /* the dialect has no such name */
   LEXICON_NAME_WITHOUT_TRIPLE = 13, /* the dialect has the name, but no triple means the same; lexicon_reason says why */
-  LEXICON_TRIPLE_WITHOUT_NAME = 14, /* the dialect has no name for the triple */
+  LEXICON_TRIPLE_WITHOUT_NAME = 14, /* the dialect has no name for the triple; lexicon_write_reason says why */
   LEXICON_NO_SUCH_DIALECT = 15, /* the number of a dialect names none; where a name is written, also 0 */
   LEXICON_TOO_LARGE = 16, /* a size is above PTRDIFF_MAX; that of a custom vendor gives LEXICON_NO_SUCH_VENDOR */
   LEXICON_NEEDS_C_LIBRARY = 17, /* the dialect has a name for it with glibc or musl, on Windows msvc or mingw, and none is said */
@@ -455,6 +455,15 @@ enum lexicon_float_abi {
   LEXICON_FLOAT_ABI_HARD = 2, /* In floating-point registers */
   /* end of what is written */
 };
+/* The profile of a 32-bit Arm architecture: for what its processors are made. */
+enum lexicon_arm_profile {
+  LEXICON_ARM_PROFILE_NONE = 0,
+  /* written by tools/names/write: the answers of arm_profile for C */
+  LEXICON_ARM_PROFILE_APPLICATION = 1, /* Applications, such as phones and servers */
+  LEXICON_ARM_PROFILE_REAL_TIME = 2, /* Real-time systems */
+  LEXICON_ARM_PROFILE_MICROCONTROLLER = 3, /* Microcontrollers */
+  /* end of what is written */
+};
 
 struct lexicon_triple {
   uint16_t architecture;     /* enum lexicon_architecture */
@@ -499,24 +508,36 @@ struct lexicon_sources {
   struct lexicon_source architecture, vendor, operating_system, environment, binary_format;
 };
 
-/* What a compiler asks about a triple. 0 is no answer. The pointer width may be known where there is no data model. A later
+/* What a compiler asks about a triple. 0 is no answer. The pointer width and sizes may be known where there is no data model. A later
    version adds members at the end. */
 struct lexicon_triple_facts {
-  uint8_t endianness;                 /* enum lexicon_endianness */
-  uint8_t pointer_width;              /* in bits: 0, 16, 32 or 64 */
-  uint8_t default_calling_convention; /* enum lexicon_calling_convention */
-  uint8_t data_model;                 /* enum lexicon_data_model */
-  uint8_t short_size, int_size, long_size, long_long_size, float_size, double_size; /* of C's types, in bytes */
-  bool is_thumb;                      /* the architecture's name begins with thumb */
-  bool is_like_darwin;                /* the system is darwin, ios, macosx, tvos, visionos, watchos or xros */
-  bool has_custom_vendor;
-  uint8_t implied_format;             /* enum lexicon_binary_format: what the other fields imply */
-  uint8_t object_format;              /* likewise: what toolchains write, where the triple leaves it open */
-  uint8_t family;                     /* enum lexicon_family */
-  uint8_t c_library;                  /* enum lexicon_c_library */
-  uint8_t float_abi;                  /* enum lexicon_float_abi */
-  bool is_unix;                       /* rustc counts the system to the family unix */
-  uint8_t long_double_size, long_double_alignment, wchar_size, wchar_alignment; /* of C's long double and wchar_t, in bytes */
+  /* written by tools/names/write: the facts for C */
+  uint8_t endianness; /* enum lexicon_endianness: the byte order */
+  uint8_t pointer_width; /* the bits of a pointer. They may be known where there is no data model, and the environment gnux32 counts */
+  uint8_t default_calling_convention; /* enum lexicon_calling_convention: the default calling convention of C */
+  uint8_t data_model; /* enum lexicon_data_model: the data model of C. Sizes of C's types may be known without one */
+  uint8_t short_size; /* the bytes of C's short */
+  uint8_t int_size; /* the bytes of C's int */
+  uint8_t long_size; /* the bytes of C's long. On bare metal and Cygwin, which have no data model, the sizes are those of the compilers */
+  uint8_t long_long_size; /* the bytes of C's long long */
+  uint8_t float_size; /* the bytes of C's float */
+  uint8_t double_size; /* the bytes of C's double */
+  bool is_thumb; /* whether the architecture is one of 32-bit Arm whose name begins with thumb */
+  bool is_like_darwin; /* whether the system is one of Apple's. Only these may have a version */
+  bool has_custom_vendor; /* whether the vendor is a custom one */
+  uint8_t implied_format; /* enum lexicon_binary_format: the binary format that the other fields imply, as upstream has it: ELF for UEFI */
+  uint8_t object_format; /* enum lexicon_binary_format: the format that toolchains write, where the triple leaves it open: COFF for UEFI. It gives the linker */
+  uint8_t family; /* enum lexicon_family: the family of the architecture: all of 32-bit Arm, Thumb too, is arm; AArch64 is its own */
+  uint8_t c_library; /* enum lexicon_c_library: the C library that the triple states, by its environment or by a system that has only one */
+  uint8_t float_abi; /* enum lexicon_float_abi: how floating-point arguments are passed: known for 32-bit Arm, and where the triple says softfloat */
+  bool is_unix; /* whether rustc counts the system to its family unix */
+  uint8_t long_double_size; /* the bytes of C's long double */
+  uint8_t long_double_alignment; /* the alignment of C's long double in bytes */
+  uint8_t wchar_size; /* the bytes of C's wchar_t */
+  uint8_t wchar_alignment; /* the alignment of C's wchar_t in bytes */
+  uint8_t arm_version; /* the version of a 32-bit Arm architecture */
+  uint8_t arm_profile; /* enum lexicon_arm_profile: the profile of a 32-bit Arm architecture, where its name states one */
+  /* end of what is written */
 };
 
 /* A part of a string that lexicon_read, without a dialect, reads as other names. */
@@ -570,6 +591,22 @@ enum lexicon_status lexicon_same_target(const struct lexicon_triple *first, cons
 LEXICON_CHECKED LEXICON_NONNULL(1, 2)
 enum lexicon_status lexicon_facts(const struct lexicon_triple *triple, struct lexicon_triple_facts *facts, size_t facts_size);
 
+/* What rustc --print cfg writes of the target's cfg options: a line for each, such as target_os="linux" or unix. A buffer that is too
+   small is unchanged. */
+LEXICON_CHECKED LEXICON_NONNULL(1)
+enum lexicon_status lexicon_rustc_cfg(const struct lexicon_triple *triple, char *out, size_t out_size, size_t *length);
+
+/* The string that LLVM and clang take for the target, which is rustc's llvm-target for each of its targets that parses: arm64-apple-macosx for
+   aarch64-apple-darwin. A buffer that is too small is unchanged. */
+LEXICON_CHECKED LEXICON_NONNULL(1)
+enum lexicon_status lexicon_llvm_target(const struct lexicon_triple *triple, char *out, size_t out_size, size_t *length);
+
+/* Debian's multiarch tuple, as dpkg-architecture -qDEB_HOST_MULTIARCH prints it: i386-linux-gnu for i686-unknown-linux-gnu.
+   LEXICON_TRIPLE_WITHOUT_NAME if Debian has no architecture for the triple, or it depends on a C library that the triple doesn't state;
+   lexicon_write_reason of LEXICON_DIALECT_DEBIAN says why. A buffer that is too small is unchanged. */
+LEXICON_CHECKED LEXICON_NONNULL(1)
+enum lexicon_status lexicon_multiarch_tuple(const struct lexicon_triple *triple, char *out, size_t out_size, size_t *length);
+
 /* Reads what another tool calls a target. At LEXICON_OK the triple is written. At any other status the error is, unless it is
    null.
 
@@ -580,7 +617,8 @@ enum lexicon_status lexicon_facts(const struct lexicon_triple *triple, struct le
    string.
 
    With a dialect, the string is a name of that tool, and no other dialect is tried. The triple is canonical, and what the name
-   doesn't state is unknown: linux/arm64 is aarch64-unknown-linux. The status is then LEXICON_OK, LEXICON_UNKNOWN_NAME,
+   doesn't state is unknown: linux/arm64 is aarch64-unknown-linux. It may have around it what files and commands have, such as the
+   scope of a package of npm, or a wheel's file name: docs/TOOL_NAMES.md. The status is then LEXICON_OK, LEXICON_UNKNOWN_NAME,
    LEXICON_NAME_WITHOUT_TRIPLE or LEXICON_NOT_UTF8; of the first two refusals, the range is that of the whole name. At
    LEXICON_NO_SUCH_DIALECT it is empty. */
 LEXICON_CHECKED LEXICON_NONNULL(4)
@@ -589,7 +627,7 @@ enum lexicon_status lexicon_read(uint32_t dialect, const char *text, size_t text
 
 /* The name of a triple in a dialect, which has at most 36 bytes. The vendor doesn't matter, nor what the dialect doesn't name;
    byte order, pointer width and object format do. Without a name, the status is LEXICON_NEEDS_C_LIBRARY if lexicon_complete gives
-   the triple one, and otherwise LEXICON_TRIPLE_WITHOUT_NAME. A buffer that is too small is unchanged. */
+   the triple one, and otherwise LEXICON_TRIPLE_WITHOUT_NAME; lexicon_write_reason says why. A buffer that is too small is unchanged. */
 LEXICON_CHECKED LEXICON_NONNULL(2)
 enum lexicon_status lexicon_write(uint32_t dialect, const struct lexicon_triple *triple, char *out, size_t out_size, size_t *length);
 
@@ -625,6 +663,18 @@ enum lexicon_status lexicon_changes(const char *text, size_t text_size, size_t n
 
 /* Why a name of a dialect has no triple, where lexicon_read gives LEXICON_NAME_WITHOUT_TRIPLE. Otherwise null. */
 const char *lexicon_reason(uint32_t dialect, const char *name, size_t name_size);
+
+/* Why lexicon_write, lexicon_write_versioned or lexicon_translate has no name for these arguments, and what would help:
+
+       it depends on the C library: say glibc or musl
+
+   It is null unless the status is LEXICON_TRIPLE_WITHOUT_NAME or LEXICON_NEEDS_C_LIBRARY or, of lexicon_translate,
+   LEXICON_NAME_WITHOUT_TRIPLE, where it is what lexicon_reason says. */
+LEXICON_NONNULL(2)
+const char *lexicon_write_reason(uint32_t dialect, const struct lexicon_triple *triple);
+LEXICON_NONNULL(2)
+const char *lexicon_write_versioned_reason(uint32_t dialect, const struct lexicon_triple *triple, uint32_t major, uint32_t minor);
+const char *lexicon_translate_reason(uint32_t from, const char *name, size_t name_size, uint32_t linux_libc, uint32_t to);
 
 /* The name of the dialect that may have been meant, where lexicon_read gives LEXICON_UNKNOWN_NAME: linux/amd64 for linux/amd46 in
    LEXICON_DIALECT_GO. Null if there is none, and otherwise. Only names that are read are suggested. */
@@ -707,6 +757,10 @@ static inline const char *lexicon_reason_z(uint32_t dialect, const char *name) {
   return lexicon_reason(dialect, name, strlen(name));
 }
 LEXICON_NONNULL(2)
+static inline const char *lexicon_translate_reason_z(uint32_t from, const char *name, uint32_t linux_libc, uint32_t to) {
+  return lexicon_translate_reason(from, name, strlen(name), linux_libc, to);
+}
+LEXICON_NONNULL(2)
 static inline const char *lexicon_name_suggestion_z(uint32_t dialect, const char *name) {
   return lexicon_name_suggestion(dialect, name, strlen(name));
 }
@@ -762,24 +816,29 @@ LEXICON_NAMES(lexicon_calling_convention_name, NULL, "SystemV", "WasmBasicCAbi",
 LEXICON_NAMES(lexicon_data_model_name, NULL, "LP32", "ILP32", "LLP64", "LP64", "ILP64")
 LEXICON_NAMES(lexicon_c_library_name, NULL, "bionic", "glibc", "mingw", "msvc", "musl", "newlib", "relibc", "system", "uclibc")
 LEXICON_NAMES(lexicon_float_abi_name, NULL, "soft", "hard")
+LEXICON_NAMES(lexicon_arm_profile_name, NULL, "A", "R", "M")
 #undef LEXICON_NAMES
 
-/* The dialect of a name, such as "go"; LEXICON_DIALECT_NONE if none has it. */
+/* The dialect of a name, such as "go" or "docker"; LEXICON_DIALECT_NONE if none has it. */
 LEXICON_NONNULL(1)
 static inline enum lexicon_dialect lexicon_dialect_named(const char *name) {
   for (uint32_t number = 1; lexicon_dialect_name(number); number++)
     if (strcmp(name, lexicon_dialect_name(number)) == 0) return (enum lexicon_dialect)number;
+  /* written by tools/names/write: the other names of dialects for C */
+  if (strcmp(name, "docker") == 0) return LEXICON_DIALECT_OCI;
+  if (strcmp(name, "npm") == 0) return LEXICON_DIALECT_NODE;
+  /* end of what is written */
   return LEXICON_DIALECT_NONE;
 }
 
-/* lexicon_parse for strings that people type: also refused is a custom vendor where the system is unknown, as in x86_64-linx. */
+/* lexicon_parse for strings that people type: a custom vendor is refused too, as in x86_64-linx and x86_64-unknwon-linux. */
 LEXICON_CHECKED LEXICON_NONNULL(3)
 static inline enum lexicon_status lexicon_parse_strict(const char *text, size_t text_size, struct lexicon_triple *triple,
                                                        struct lexicon_error *error) {
   struct lexicon_triple parsed;
   enum lexicon_status status = lexicon_parse(text, text_size, &parsed, error);
   if (status != LEXICON_OK) return status;
-  if (parsed.vendor != LEXICON_VENDOR_CUSTOM || parsed.operating_system != LEXICON_OPERATING_SYSTEM_UNKNOWN) {
+  if (parsed.vendor != LEXICON_VENDOR_CUSTOM) {
     *triple = parsed;
     return LEXICON_OK;
   }

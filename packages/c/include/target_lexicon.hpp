@@ -165,6 +165,15 @@ enum class FloatAbi : std::uint8_t {
   // end of what is written
 };
 
+// The profile of a 32-bit Arm architecture: for what its processors are made.
+enum class ArmProfile : std::uint8_t {
+  // written by tools/names/write: the answers of arm_profile for C++
+  Application = LEXICON_ARM_PROFILE_APPLICATION,
+  RealTime = LEXICON_ARM_PROFILE_REAL_TIME,
+  Microcontroller = LEXICON_ARM_PROFILE_MICROCONTROLLER,
+  // end of what is written
+};
+
 // A C library of Linux, which the caller says where a name doesn't state it.
 enum class LinuxLibc : std::uint8_t {
   // written by tools/names/write: the answers of linux_libc for C++
@@ -191,10 +200,12 @@ template <> struct FieldOf<OperatingSystem> { static constexpr Field field = Fie
 template <> struct FieldOf<Environment> { static constexpr Field field = Field::Environment; };
 template <> struct FieldOf<BinaryFormat> { static constexpr Field field = Field::BinaryFormat; };
 
-// The name that a call of target_lexicon.h gives a value, empty for a number that has none.
+// A string that a call of target_lexicon.h returns, empty for null.
+inline std::string_view text_of(const char* found) { return found ? std::string_view(found) : std::string_view(); }
+
+// The name that a call gives a value, empty for a number that has none.
 template <class Value> std::string_view name_of(const char* (*call)(std::uint32_t), Value value) {
-  const char* found = call(static_cast<std::uint32_t>(value));
-  return found ? std::string_view(found) : std::string_view();
+  return text_of(call(static_cast<std::uint32_t>(value)));
 }
 
 template <class Value> std::optional<Value> answer(std::uint8_t number) {
@@ -216,8 +227,7 @@ template <class Call> std::string written(Call call) {
 // The name of a value, such as "x86_64"; empty for Vendor::Custom, whose name is Triple::vendor_name. Here and below, that of a
 // number that is no enumerator is empty.
 template <class Value, class = decltype(detail::FieldOf<Value>::field)> std::string_view name(Value value) {
-  const char* found = lexicon_name(static_cast<std::uint32_t>(detail::FieldOf<Value>::field), static_cast<std::uint32_t>(value));
-  return found ? std::string_view(found) : std::string_view();
+  return detail::text_of(lexicon_name(static_cast<std::uint32_t>(detail::FieldOf<Value>::field), static_cast<std::uint32_t>(value)));
 }
 
 // The value that a string is in its field, aliases too: value_of<lexicon::Architecture>("arm64").
@@ -238,6 +248,7 @@ inline std::string_view name(Origin value) { return detail::name_of(lexicon_orig
 inline std::string_view name(DataModel value) { return detail::name_of(lexicon_data_model_name, value); }
 inline std::string_view name(CLibrary value) { return detail::name_of(lexicon_c_library_name, value); }
 inline std::string_view name(FloatAbi value) { return detail::name_of(lexicon_float_abi_name, value); }
+inline std::string_view name(ArmProfile value) { return detail::name_of(lexicon_arm_profile_name, value); }
 
 // The dialect of a name, such as "go".
 inline std::optional<Dialect> dialect_named(std::string_view text) {
@@ -282,7 +293,7 @@ struct ParseError {
   std::string line;        // Unrecognized operating system: linx
   std::string text;        // the line, the string with carets under the part, and the suggestion or the reason
   std::string suggestion;  // the name that may have been meant; empty if there is none
-  std::string reason;      // why no triple means the same as a dialect's name; empty if there is none
+  std::string reason;      // why a dialect's name has no triple, or isn't translated, and what would help; empty if there is none
 
   // The field of which a value was expected; none after the binary format, or if the string isn't UTF-8.
   std::optional<Field> field() const {
@@ -368,7 +379,7 @@ class Triple {
   // The triple that a string parses as. If it is refused, `error` says why.
   static std::optional<Triple> parse(std::string_view text, ParseError* error = nullptr) { return parsed(lexicon_parse, text, error); }
 
-  // Likewise, and also refused is a custom vendor where the system is unknown, as in x86_64-linx.
+  // Likewise, and a custom vendor is refused too, as in x86_64-linx and x86_64-unknwon-linux.
   static std::optional<Triple> parse_strict(std::string_view text, ParseError* error = nullptr) {
     return parsed(lexicon_parse_strict, text, error);
   }
@@ -385,22 +396,28 @@ class Triple {
     return read_in(static_cast<std::uint32_t>(dialect), name, error);
   }
 
-  // The name in a dialect, if there is one.
-  std::optional<std::string> name_in(Dialect dialect) const {
+  // The name in a dialect, if there is one. If there is none, `reason` says why, and what would help.
+  std::optional<std::string> name_in(Dialect dialect, std::string* reason = nullptr) const {
     lexicon_triple triple = c_triple();
+    auto number = static_cast<std::uint32_t>(dialect);
     std::string name = detail::written([&](char* out, std::size_t size, std::size_t* length) {
-      return lexicon_write(static_cast<std::uint32_t>(dialect), &triple, out, size, length);
+      return lexicon_write(number, &triple, out, size, length);
     });
-    return name.empty() ? std::nullopt : std::make_optional(std::move(name));
+    if (!name.empty()) return name;
+    if (reason) *reason = detail::text_of(lexicon_write_reason(number, &triple));
+    return std::nullopt;
   }
 
-  // The name in a dialect that states a version which triples don't have, as `lexicon_write_versioned` writes it, if there is one.
-  std::optional<std::string> versioned_name_in(Dialect dialect, std::uint32_t major, std::uint32_t minor = 0) const {
+  // Likewise the name that states a version which triples don't have, as `lexicon_write_versioned` writes it.
+  std::optional<std::string> versioned_name_in(Dialect dialect, std::uint32_t major, std::uint32_t minor = 0, std::string* reason = nullptr) const {
     lexicon_triple triple = c_triple();
+    auto number = static_cast<std::uint32_t>(dialect);
     std::string name = detail::written([&](char* out, std::size_t size, std::size_t* length) {
-      return lexicon_write_versioned(static_cast<std::uint32_t>(dialect), &triple, major, minor, out, size, length);
+      return lexicon_write_versioned(number, &triple, major, minor, out, size, length);
     });
-    return name.empty() ? std::nullopt : std::make_optional(std::move(name));
+    if (!name.empty()) return name;
+    if (reason) *reason = detail::text_of(lexicon_write_versioned_reason(number, &triple, major, minor));
+    return std::nullopt;
   }
 
   // The triple with the usual environment of a C library, if it is of Linux and states none; else this one.
@@ -420,7 +437,8 @@ class Triple {
       return lexicon_translate(dialect, name.data(), name.size(), number, static_cast<std::uint32_t>(to), out, size, length, &found);
     });
     if (!translated.empty()) return translated;
-    if (error) *error = name_error(dialect, name, found);
+    if (error)
+      *error = name_error(dialect, name, found, lexicon_translate_reason(dialect, name.data(), name.size(), number, static_cast<std::uint32_t>(to)));
     return std::nullopt;
   }
 
@@ -445,32 +463,58 @@ class Triple {
     return Version{numbers_.major, numbers_.minor, numbers_.patch};
   }
 
-  // What a compiler asks. Sizes of C's types are in bytes.
+  // What a compiler and its driver ask. Sizes of C's types are in bytes.
+  // written by tools/names/write: the facts for C++
+  // The byte order.
   std::optional<Endianness> endianness() const { return detail::answer<Endianness>(queries().endianness); }
+  // The bits of a pointer. They may be known where there is no data model, and the environment gnux32 counts.
   std::optional<unsigned> pointer_width() const { return detail::answer<unsigned>(queries().pointer_width); }
-  std::optional<CallingConvention> default_calling_convention() const {
-    return detail::answer<CallingConvention>(queries().default_calling_convention);
-  }
+  // The default calling convention of C.
+  std::optional<CallingConvention> default_calling_convention() const { return detail::answer<CallingConvention>(queries().default_calling_convention); }
+  // The data model of C. Sizes of C's types may be known without one.
   std::optional<DataModel> data_model() const { return detail::answer<DataModel>(queries().data_model); }
+  // The bytes of C's short.
   std::optional<unsigned> short_size() const { return detail::answer<unsigned>(queries().short_size); }
+  // The bytes of C's int.
   std::optional<unsigned> int_size() const { return detail::answer<unsigned>(queries().int_size); }
+  // The bytes of C's long. On bare metal and Cygwin, which have no data model, the sizes are those of the compilers.
   std::optional<unsigned> long_size() const { return detail::answer<unsigned>(queries().long_size); }
+  // The bytes of C's long long.
   std::optional<unsigned> long_long_size() const { return detail::answer<unsigned>(queries().long_long_size); }
+  // The bytes of C's float.
   std::optional<unsigned> float_size() const { return detail::answer<unsigned>(queries().float_size); }
+  // The bytes of C's double.
   std::optional<unsigned> double_size() const { return detail::answer<unsigned>(queries().double_size); }
+  // The binary format that the other fields imply, as upstream has it: ELF for UEFI.
   BinaryFormat implied_format() const { return static_cast<BinaryFormat>(formats().implied_format); }
-  // The format that toolchains write, where the triple leaves it open: COFF for UEFI, though its triple implies ELF.
+  // The format that toolchains write, where the triple leaves it open: COFF for UEFI. It gives the linker.
   BinaryFormat object_format() const { return static_cast<BinaryFormat>(formats().object_format); }
+  // The family of the architecture: all of 32-bit Arm, Thumb too, is arm; AArch64 is its own.
   Family family() const { return static_cast<Family>(formats().family); }
+  // Whether the architecture is one of 32-bit Arm whose name begins with thumb.
   bool is_thumb() const { return queries().is_thumb; }
+  // Whether the system is one of Apple's. Only these may have a version.
   bool is_like_darwin() const { return queries().is_like_darwin; }
-  bool has_custom_vendor() const { return !custom_vendor_.empty(); }
-
-  // What a driver asks.
+  // The C library that the triple states, by its environment or by a system that has only one.
   std::optional<CLibrary> c_library() const { return detail::answer<CLibrary>(facts().c_library); }
+  // How floating-point arguments are passed: known for 32-bit Arm, and where the triple says softfloat.
   std::optional<FloatAbi> float_abi() const { return detail::answer<FloatAbi>(facts().float_abi); }
-  // rustc counts the system to the family unix.
+  // Whether rustc counts the system to its family unix.
   bool is_unix() const { return facts().is_unix; }
+  // The bytes of C's long double.
+  std::optional<unsigned> long_double_size() const { return detail::answer<unsigned>(facts().long_double_size); }
+  // The alignment of C's long double in bytes.
+  std::optional<unsigned> long_double_alignment() const { return detail::answer<unsigned>(facts().long_double_alignment); }
+  // The bytes of C's wchar_t.
+  std::optional<unsigned> wchar_size() const { return detail::answer<unsigned>(facts().wchar_size); }
+  // The alignment of C's wchar_t in bytes.
+  std::optional<unsigned> wchar_alignment() const { return detail::answer<unsigned>(facts().wchar_alignment); }
+  // The version of a 32-bit Arm architecture.
+  std::optional<unsigned> arm_version() const { return detail::answer<unsigned>(facts().arm_version); }
+  // The profile of a 32-bit Arm architecture, where its name states one.
+  std::optional<ArmProfile> arm_profile() const { return detail::answer<ArmProfile>(facts().arm_profile); }
+  // end of what is written
+  bool has_custom_vendor() const { return !custom_vendor_.empty(); }
   std::optional<TypeLayout> long_double() const {
     auto it = facts();
     return layout(it.long_double_size, it.long_double_alignment);
@@ -480,7 +524,26 @@ class Triple {
     return layout(it.wchar_size, it.wchar_alignment);
   }
 
-  // All of these at once.
+  // The string that LLVM and clang take for the target: arm64-apple-macosx for aarch64-apple-darwin.
+  std::string llvm_target() const {
+    lexicon_triple triple = c_triple();
+    return detail::written([&](char* out, std::size_t size, std::size_t* length) { return lexicon_llvm_target(&triple, out, size, length); });
+  }
+
+  // Debian's multiarch tuple, if it has one.
+  std::optional<std::string> multiarch_tuple() const {
+    lexicon_triple triple = c_triple();
+    std::string tuple = detail::written([&](char* out, std::size_t size, std::size_t* length) { return lexicon_multiarch_tuple(&triple, out, size, length); });
+    return tuple.empty() ? std::nullopt : std::make_optional(std::move(tuple));
+  }
+
+  // What `rustc --print cfg` writes of the target's cfg options, a line for each.
+  std::string rustc_cfg() const {
+    lexicon_triple triple = c_triple();
+    return detail::written([&](char* out, std::size_t size, std::size_t* length) { return lexicon_rustc_cfg(&triple, out, size, length); });
+  }
+
+  // All of the facts at once.
   lexicon_triple_facts facts() const { return facts_up_to(sizeof(lexicon_triple_facts)); }
 
   // The printed triple, and that of the canonical form, which is a key.
@@ -614,14 +677,14 @@ class Triple {
     lexicon_triple triple;
     lexicon_error found;
     if (lexicon_read(dialect, text.data(), text.size(), &triple, &found) == LEXICON_OK) return Triple(triple);
-    if (error) *error = name_error(dialect, text, found);
+    if (error) *error = name_error(dialect, text, found, lexicon_reason(dialect, text.data(), text.size()));
     return std::nullopt;
   }
 
-  // The error of a name in a dialect.
-  static ParseError name_error(std::uint32_t dialect, std::string_view name, const lexicon_error& found) {
+  // The error of a name in a dialect, with a reason if there is one.
+  static ParseError name_error(std::uint32_t dialect, std::string_view name, const lexicon_error& found, const char* reason) {
     ParseError error = error_of(name, found);
-    if (const char* reason = lexicon_reason(dialect, name.data(), name.size())) {
+    if (reason) {
       error.reason = reason;
       error.text += " " + error.reason;
     }

@@ -44,7 +44,7 @@ static bool show(const char *text) {
     return false;
   }
   printf("%s\n  linker   %s\n", out, linker(&triple, &facts));
-  if (facts.data_model == LEXICON_DATA_MODEL_NONE) printf("  C types  -\n");
+  if (facts.int_size == 0) printf("  C types  -\n");
   else printf("  C types  int %u, long %u, pointer %u bytes\n", facts.int_size, facts.long_size, facts.pointer_width / 8u);
   return true;
 }

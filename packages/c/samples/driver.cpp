@@ -43,7 +43,7 @@ bool show(std::string_view text) {
     return false;
   }
   std::cout << *triple << "\n  linker   " << linker(*triple) << "\n  C types  ";
-  if (triple->data_model())
+  if (triple->int_size())
     std::cout << "int " << *triple->int_size() << ", long " << *triple->long_size() << ", pointer " << *triple->pointer_width() / 8
               << " bytes\n";
   else

@@ -25,8 +25,7 @@ fn start_of_line<'a>(bytes: &'a [u8], error: &TextError, out: &mut Text) -> Resu
     match error.status {
         UNKNOWN_NAME => out.push("Unknown name: "),
         NAME_WITHOUT_TRIPLE => out.push("No triple has this name: "),
-        TRIPLE_WITHOUT_NAME => out.push("No name in the other dialect: "),
-        NEEDS_C_LIBRARY => out.push("The name in the other dialect depends on the C library: "),
+        TRIPLE_WITHOUT_NAME | NEEDS_C_LIBRARY => out.push("No name in the other dialect: "),
         status => out.push(refusal_prefix(expected_at(status).ok_or(NO_SUCH_VALUE)?)),
     }
     Ok(Some(part))

@@ -1,10 +1,10 @@
 //! The facts of a triple, as numbers: where an enum has no answer, 0, and otherwise 1 more than its index. The functions return wide
 //! values, and so are inlined.
 use crate::values::{binary_format_number, family_number};
-use target_lexicon::tool_names::{is_unix, object_format, CLibrary, FloatAbi, TypeLayout};
-use target_lexicon::{Architecture, CDataModel, TripleRef};
+use target_lexicon::tool_names::{self, TypeLayout};
+use target_lexicon::{Architecture, CDataModel, PointerWidth, TripleRef};
 
-/// The sizes of C's types in bytes, by the data model; all 0 if there is none.
+/// The sizes of C's types in bytes; all 0 if they aren't known.
 #[repr(C)]
 #[derive(Clone, Copy)]
 pub struct TypeSizes {
@@ -20,34 +20,38 @@ pub struct TypeSizes {
 #[repr(C)]
 #[derive(Clone, Copy)]
 pub struct QueryFacts {
-    /// The byte order: 1 is little, 2 big.
+    // written by tools/names/write: the facts of queries for the library
+    /// The byte order.
     pub endianness: u8,
-    /// The width of a pointer in bits: 16, 32 or 64.
+    /// The bits of a pointer. They may be known where there is no data model, and the environment `gnux32` counts.
     pub pointer_width: u8,
-    /// The calling convention: 1 is System V, 2 the C ABI of WebAssembly, 3 Windows Fastcall, 4 Apple's on 64-bit Arm.
+    /// The default calling convention of C.
     pub default_calling_convention: u8,
-    /// The data model of C: 1 is LP32, 2 ILP32, 3 LLP64, 4 LP64, 5 ILP64.
+    /// The data model of C. Sizes of C's types may be known without one.
     pub data_model: u8,
-    /// The sizes of C's types.
+    /// The bytes of C's `short`.
     pub sizes: TypeSizes,
-    /// Whether the architecture is an Arm one that is Thumb.
+    /// Whether the architecture is one of 32-bit Arm whose name begins with `thumb`.
     pub is_thumb: bool,
-    /// Whether the operating system is like Darwin.
+    /// Whether the system is one of Apple's. Only these may have a version.
     pub is_like_darwin: bool,
     /// Whether the vendor is a custom one.
     pub has_custom_vendor: bool,
+    // end of what is written
 }
 
 /// Binary formats, and the family of the architecture.
 #[repr(C)]
 #[derive(Clone, Copy)]
 pub struct FormatFacts {
-    /// The number of the binary format that the other fields imply.
+    // written by tools/names/write: the facts of formats for the library
+    /// The binary format that the other fields imply, as upstream has it: ELF for UEFI.
     pub implied_format: u8,
-    /// The number of the binary format that toolchains write.
+    /// The format that toolchains write, where the triple leaves it open: COFF for UEFI. It gives the linker.
     pub object_format: u8,
-    /// The number of the architecture's family.
+    /// The family of the architecture: all of 32-bit Arm, Thumb too, is `arm`; AArch64 is its own.
     pub family: u8,
+    // end of what is written
 }
 
 /// The layout of a type of C in bytes; both numbers are 0 if there is no answer.
@@ -62,16 +66,22 @@ pub struct LayoutNumbers {
 #[repr(C)]
 #[derive(Clone, Copy)]
 pub struct DriverFacts {
-    /// The C library.
+    // written by tools/names/write: the facts of driver for the library
+    /// The C library that the triple states, by its environment or by a system that has only one.
     pub c_library: u8,
-    /// How floating-point arguments are passed: 1 is in integer registers, 2 in floating-point registers.
+    /// How floating-point arguments are passed: known for 32-bit Arm, and where the triple says `softfloat`.
     pub float_abi: u8,
-    /// Whether rustc counts the system to the family `unix`.
+    /// Whether rustc counts the system to its family `unix`.
     pub is_unix: bool,
-    /// The layout of `long double`.
+    /// The bytes of C's `long double`.
     pub long_double: LayoutNumbers,
-    /// The layout of `wchar_t`.
+    /// The bytes of C's `wchar_t`.
     pub wchar: LayoutNumbers,
+    /// The version of a 32-bit Arm architecture.
+    pub arm_version: u8,
+    /// The profile of a 32-bit Arm architecture, where its name states one.
+    pub arm_profile: u8,
+    // end of what is written
 }
 
 /// The facts of the first two groups.
@@ -95,16 +105,18 @@ impl From<&TripleRef<'_>> for QueryFacts {
     #[inline(always)]
     fn from(triple: &TripleRef<'_>) -> QueryFacts {
         let data_model = triple.data_model().map_or(0, |it| 1 + it as u8);
+        let sizes = || TYPE_SIZES[usize::from(data_model)];
         QueryFacts {
-            endianness: triple.endianness().map_or(0, |it| 1 + it as u8),
-            pointer_width: triple.pointer_width().map_or(0, |it| it.bits()),
-            default_calling_convention: triple.default_calling_convention().map_or(0, |it| 1 + it as u8),
-            data_model,
-            is_thumb: matches!(triple.architecture, Architecture::Arm(sub) if sub.is_thumb()),
+            // written by tools/names/write: the answers of queries for the library
+            endianness: triple.endianness().ok().map_or(0, |it| 1 + it as u8),
+            pointer_width: triple.pointer_width().ok().map(PointerWidth::bits).unwrap_or(0),
+            default_calling_convention: triple.default_calling_convention().ok().map_or(0, |it| 1 + it as u8),
+            data_model: data_model,
+            is_thumb: matches!(triple.architecture, Architecture::Arm(arm) if arm.is_thumb()),
             is_like_darwin: triple.operating_system.is_like_darwin(),
             has_custom_vendor: triple.vendor.is_custom(),
-            // last, so that they are copied straight into the struct
-            sizes: TYPE_SIZES[usize::from(data_model)],
+            sizes: sizes(),
+            // end of what is written
         }
     }
 }
@@ -113,9 +125,11 @@ impl From<&TripleRef<'_>> for FormatFacts {
     #[inline(always)]
     fn from(triple: &TripleRef<'_>) -> FormatFacts {
         FormatFacts {
+            // written by tools/names/write: the answers of formats for the library
             implied_format: binary_format_number(triple.default_binary_format()),
-            object_format: binary_format_number(object_format(triple)),
+            object_format: binary_format_number(triple.object_format()),
             family: family_number(triple.architecture),
+            // end of what is written
         }
     }
 }
@@ -123,12 +137,17 @@ impl From<&TripleRef<'_>> for FormatFacts {
 impl From<&TripleRef<'_>> for DriverFacts {
     #[inline(always)]
     fn from(triple: &TripleRef<'_>) -> DriverFacts {
+        let (long_double, wchar) = (|| triple.long_double_layout().into(), || triple.wchar_layout().into());
         DriverFacts {
-            c_library: CLibrary::of(triple).map_or(0, |it| 1 + it as u8),
-            float_abi: FloatAbi::of(triple).map_or(0, |it| 1 + it as u8),
-            is_unix: is_unix(triple),
-            long_double: TypeLayout::of_long_double(triple).into(),
-            wchar: TypeLayout::of_wchar(triple).into(),
+            // written by tools/names/write: the answers of driver for the library
+            c_library: triple.c_library().map_or(0, |it| 1 + it as u8),
+            float_abi: triple.float_abi().map_or(0, |it| 1 + it as u8),
+            is_unix: triple.is_unix(),
+            arm_version: triple.arm_version().unwrap_or(0),
+            arm_profile: triple.arm_profile().map_or(0, |it| 1 + it as u8),
+            long_double: long_double(),
+            wchar: wchar(),
+            // end of what is written
         }
     }
 }
@@ -156,20 +175,15 @@ impl From<Option<TypeLayout>> for LayoutNumbers {
 /// The sizes of C's types by the number of the data model; all 0 without one.
 static TYPE_SIZES: [TypeSizes; 6] = [
     TypeSizes { short: 0, int: 0, long: 0, long_long: 0, float: 0, double: 0 },
-    type_sizes(CDataModel::LP32),
-    type_sizes(CDataModel::ILP32),
-    type_sizes(CDataModel::LLP64),
-    type_sizes(CDataModel::LP64),
-    type_sizes(CDataModel::ILP64),
+    TypeSizes::new(tool_names::TypeSizes::in_model(CDataModel::LP32)),
+    TypeSizes::new(tool_names::TypeSizes::in_model(CDataModel::ILP32)),
+    TypeSizes::new(tool_names::TypeSizes::in_model(CDataModel::LLP64)),
+    TypeSizes::new(tool_names::TypeSizes::in_model(CDataModel::LP64)),
+    TypeSizes::new(tool_names::TypeSizes::in_model(CDataModel::ILP64)),
 ];
 
-const fn type_sizes(model: CDataModel) -> TypeSizes {
-    TypeSizes {
-        short: model.short_size().bytes(),
-        int: model.int_size().bytes(),
-        long: model.long_size().bytes(),
-        long_long: model.long_long_size().bytes(),
-        float: model.float_size().bytes(),
-        double: model.double_size().bytes(),
+impl TypeSizes {
+    pub(crate) const fn new(of: tool_names::TypeSizes) -> TypeSizes {
+        TypeSizes { short: of.short, int: of.int, long: of.long, long_long: of.long_long, float: of.float, double: of.double }
     }
 }

@@ -4,7 +4,6 @@ use crate::facts::Facts;
 use crate::triple::{NumberedTriple, TripleNumbers};
 use crate::values::{architecture_at, c_library_at, dialect_at, environment_at, field_at, name_at, operating_system_at};
 use std::collections::BTreeMap;
-use target_lexicon::tool_names::{CLibrary, FloatAbi};
 use target_lexicon::TripleRef;
 
 const HEADER: &str = include_str!("../include/target_lexicon.h");
@@ -149,8 +148,8 @@ fn the_answers_for_a_driver_are_those_of_the_library() {
                     environment: environment_value,
                     ..TripleRef::unknown()
                 };
-                assert_eq!(libraries[usize::from(facts.c_library)], CLibrary::of(&triple).map_or("", |it| it.name()));
-                assert_eq!(floats[usize::from(facts.float_abi)], FloatAbi::of(&triple).map_or("", |it| it.name()));
+                assert_eq!(libraries[usize::from(facts.c_library)], triple.c_library().map_or("", |it| it.name()));
+                assert_eq!(floats[usize::from(facts.float_abi)], triple.float_abi().map_or("", |it| it.name()));
                 seen[usize::from(facts.c_library)] = true;
             }
         }

@@ -34,8 +34,8 @@ use facts::{Facts, FirstFacts, QueryFacts};
 use lines::settle_lines;
 use names::{c_name, c_reason};
 use sources::FieldSources;
-use target_lexicon::tool_names::{self, Dialect, Name, NameError, Suggestion, TranslateError};
-use target_lexicon::{Field, TripleRef};
+use target_lexicon::tool_names::{self, Dialect, Name, NameError, Suggestion, TranslateError, WriteError};
+use target_lexicon::TripleRef;
 use text::{shown, write_text, written, Text};
 use triple::{NumberedTriple, TripleNumbers};
 use values::{c_library_at, dialect_at, field_at, name_at, number_in, CUSTOM_VENDOR};
@@ -84,6 +84,10 @@ pub struct Change {
     end: usize,
 }
 
+// written by tools/names/write: the size of the facts
+const FACT_COUNT: usize = 25;
+// end of what is written
+
 /// The sizes that the structs of target_lexicon.h have, with words of 64 bits or of 32.
 const _: () = {
     let word = size_of::<usize>();
@@ -91,7 +95,7 @@ const _: () = {
     assert!(size_of::<Triple>() == if word == 8 { 32 } else { 20 });
     assert!(size_of::<TextError>() == 3 * word);
     assert!(size_of::<FieldSources>() == 15 * word);
-    assert!(ALL == 23);
+    assert!(ALL == FACT_COUNT);
 };
 
 impl From<TripleRef<'_>> for Triple {
@@ -248,6 +252,24 @@ pub unsafe extern "C" fn lexicon_print(triple: *const Triple, out: *mut u8, out_
 }
 
 #[no_mangle]
+pub unsafe extern "C" fn lexicon_rustc_cfg(triple: *const Triple, out: *mut u8, out_size: usize, length: *mut usize) -> Status {
+    let triple = unsafe { Triple::read(triple) };
+    unsafe { write_text(out, out_size, length, |out| Ok(shown(&triple?.rustc_cfg(), out))) }
+}
+
+#[no_mangle]
+pub unsafe extern "C" fn lexicon_llvm_target(triple: *const Triple, out: *mut u8, out_size: usize, length: *mut usize) -> Status {
+    let triple = unsafe { Triple::read(triple) };
+    unsafe { write_text(out, out_size, length, |out| Ok(shown(&triple?.llvm_target(), out))) }
+}
+
+#[no_mangle]
+pub unsafe extern "C" fn lexicon_multiarch_tuple(triple: *const Triple, out: *mut u8, out_size: usize, length: *mut usize) -> Status {
+    let tuple = unsafe { Triple::read(triple) }.map(|triple| triple.multiarch_tuple());
+    unsafe { write_text(out, out_size, length, |out| Ok(shown(&tuple?.ok_or(TRIPLE_WITHOUT_NAME)?, out))) }
+}
+
+#[no_mangle]
 pub unsafe extern "C" fn lexicon_settle(triple: *mut Triple) -> Status {
     unsafe { answer(triple, Triple::read(triple).map(|it| it.step())) }
 }
@@ -278,7 +300,7 @@ pub unsafe extern "C" fn lexicon_equal(first: *const Triple, second: *const Trip
 
 #[no_mangle]
 pub unsafe extern "C" fn lexicon_same_target(first: *const Triple, second: *const Triple, same: *mut bool) -> Status {
-    unsafe { answer(same, both(first, second).map(|(first, second)| first.settles_as(&second))) }
+    unsafe { answer(same, both(first, second).map(|(first, second)| first.settles_as(second))) }
 }
 
 /// Two triples of the caller. Of two that are wrong, the fault is the first one's.
@@ -303,10 +325,26 @@ unsafe fn write_facts<T: for<'a> From<&'a TripleRef<'a>>>(triple: *const Triple,
     match unsafe { Triple::read(triple) } {
         Ok(asked) => unsafe {
             facts.cast::<T>().write(T::from(&asked));
-            OK
+            match (*facts.cast::<QueryFacts>()).data_model {
+                0 => write_sizes(triple, facts.cast()),
+                _ => OK,
+            }
         },
         Err(fault) => fault.into(),
     }
+}
+
+/// Writes the sizes of C's types of a triple without a data model. It is the last call, and reads the triple again: otherwise all facts
+/// would take half more instructions, since the triple would be kept for it.
+#[cold]
+#[inline(never)]
+unsafe fn write_sizes(triple: *const Triple, facts: *mut QueryFacts) -> Status {
+    unsafe {
+        if let Some(sizes) = Triple::read(triple).ok().and_then(|it| it.type_sizes()) {
+            (*facts).sizes = facts::TypeSizes::new(sizes);
+        }
+    }
+    OK
 }
 
 /// Writes as many of the facts as a struct of another size has room for. What this version doesn't answer has no answer.
@@ -326,7 +364,7 @@ unsafe fn write_facts_of_size(triple: *const Triple, facts: *mut u8, facts_size:
 #[no_mangle]
 pub unsafe extern "C" fn lexicon_complete(triple: *mut Triple, linux_libc: u32) -> Status {
     match c_library_at(linux_libc).flatten() {
-        Some(c_library) => unsafe { answer(triple, Triple::read(triple).map(|it| tool_names::complete(&it, c_library))) },
+        Some(c_library) => unsafe { answer(triple, Triple::read(triple).map(|it| it.with_c_library(c_library))) },
         None => NO_SUCH_C_LIBRARY,
     }
 }
@@ -350,7 +388,7 @@ pub unsafe extern "C" fn lexicon_read(
 /// The triple that a name of a dialect means, or a string that is spelled like a triple.
 fn meant(dialect: Option<Dialect>, text: &str) -> Result<TripleRef<'_>, TextError> {
     match dialect {
-        Some(dialect) => dialect.read(text).map_err(|error| TextError::of_name(TranslateError::Read(error), text)),
+        Some(dialect) => dialect.read_loosely(text).map_err(|error| TextError::of_name(TranslateError::Read(error), text)),
         None => Ok(tool_names::read(text)?),
     }
 }
@@ -377,12 +415,15 @@ pub unsafe extern "C" fn lexicon_write_versioned(
     out_size: usize,
     length: *mut usize,
 ) -> Status {
-    let find = |dialect: Dialect, triple: &TripleRef<'_>| {
-        let version = u16::try_from(major).ok().zip(u8::try_from(minor).ok());
-        let (major, minor) = version.ok_or(TRIPLE_WITHOUT_NAME)?;
-        dialect.write_with_version(triple, major, minor).map_err(unwritten_status)
-    };
+    let find = |dialect: Dialect, triple: &TripleRef<'_>| write_versioned(dialect, triple, major, minor).map_err(unwritten_status);
     unsafe { write_name(dialect, triple, find, out, out_size, length) }
+}
+
+/// The name that states a version. No version has numbers that are larger than those of Rust's call.
+fn write_versioned(dialect: Dialect, triple: &TripleRef<'_>, major: u32, minor: u32) -> Result<Name, WriteError> {
+    let version = u16::try_from(major).ok().zip(u8::try_from(minor).ok());
+    let (major, minor) = version.ok_or(WriteError::OtherVersion)?;
+    dialect.write_with_version(triple, major, minor)
 }
 
 /// Writes the name of a triple that is found in a dialect.
@@ -429,7 +470,7 @@ pub unsafe extern "C" fn lexicon_translate(
         let to = dialect_at(to).flatten().ok_or(no_range(NO_SUCH_DIALECT))?;
         let c_library = c_library_at(linux_libc).ok_or(no_range(NO_SUCH_C_LIBRARY))?;
         let text = text_of(bytes)?;
-        let found = to.write_with(&meant(from, text)?, c_library);
+        let found = to.write_with(meant(from, text)?, c_library);
         found.map_err(|error| TextError::of_name(TranslateError::Write(error), text))
     };
     match find() {
@@ -471,17 +512,54 @@ pub unsafe extern "C" fn lexicon_changes(
 pub unsafe extern "C" fn lexicon_reason(dialect: u32, name: *const u8, name_size: usize) -> *const u8 {
     let dialect = dialect_at(dialect).flatten();
     let name = unsafe { text_at(name, name_size) }.ok();
-    match dialect.zip(name).map(|(dialect, name)| dialect.read(name)) {
+    match dialect.zip(name).map(|(dialect, name)| dialect.read_loosely(name)) {
         Some(Err(NameError::WithoutTriple(why))) => c_reason(why),
         _ => null(),
     }
 }
 
 #[no_mangle]
+pub unsafe extern "C" fn lexicon_write_reason(dialect: u32, triple: *const Triple) -> *const u8 {
+    unsafe { reason_of(dialect, triple, |dialect, triple| dialect.write_with(triple, None).err()) }
+}
+
+#[no_mangle]
+pub unsafe extern "C" fn lexicon_write_versioned_reason(dialect: u32, triple: *const Triple, major: u32, minor: u32) -> *const u8 {
+    unsafe { reason_of(dialect, triple, |dialect, triple| write_versioned(dialect, triple, major, minor).err()) }
+}
+
+/// Why a triple is not written in a dialect, by a call that says so.
+unsafe fn reason_of(
+    dialect: u32,
+    triple: *const Triple,
+    find: impl FnOnce(Dialect, &TripleRef<'_>) -> Option<WriteError>,
+) -> *const u8 {
+    let asked = dialect_at(dialect).flatten().zip(unsafe { Triple::read(triple) }.ok());
+    asked.and_then(|(dialect, triple)| find(dialect, &triple)).map_or(null(), |why| c_reason(why.reason()))
+}
+
+#[no_mangle]
+pub unsafe extern "C" fn lexicon_translate_reason(from: u32, name: *const u8, name_size: usize, linux_libc: u32, to: u32) -> *const u8 {
+    let find = || {
+        let (from, to) = (dialect_at(from)?, dialect_at(to).flatten()?);
+        let c_library = c_library_at(linux_libc)?;
+        let name = unsafe { text_at(name, name_size) }.ok()?;
+        let triple = match from.map(|from| from.read(name)) {
+            None => tool_names::read(name).ok()?,
+            Some(Ok(triple)) => triple,
+            Some(Err(NameError::WithoutTriple(why))) => return Some(why),
+            Some(Err(_)) => return None,
+        };
+        to.write_with(&triple, c_library).err().map(WriteError::reason)
+    };
+    find().map_or(null(), c_reason)
+}
+
+#[no_mangle]
 pub unsafe extern "C" fn lexicon_name_suggestion(dialect: u32, name: *const u8, name_size: usize) -> *const u8 {
     let dialect = dialect_at(dialect).flatten();
     let name = unsafe { text_at(name, name_size) }.ok();
-    let unknown = dialect.zip(name).filter(|(dialect, name)| dialect.read(name) == Err(NameError::Unknown));
+    let unknown = dialect.zip(name).filter(|(dialect, name)| dialect.read_loosely(name) == Err(NameError::Unknown));
     unknown.and_then(|(dialect, name)| dialect.suggestion(name)).map_or(null(), c_name)
 }
 
@@ -532,9 +610,8 @@ pub unsafe extern "C" fn lexicon_suggestion(
 
 #[no_mangle]
 pub unsafe extern "C" fn lexicon_vendor_suggestion(triple: *const Triple, out: *mut u8, out_size: usize, length: *mut usize) -> Status {
-    let triple = unsafe { Triple::numbered(triple) };
-    let vendor = str::from_utf8(triple.custom_vendor).ok().filter(|vendor| !vendor.is_empty());
-    unsafe { write_suggestion(vendor.and_then(|vendor| tool_names::suggestion(Field::Vendor, vendor)), out, out_size, length) }
+    let triple = unsafe { Triple::read(triple) }.ok();
+    unsafe { write_suggestion(triple.and_then(|it| it.vendor_suggestion()), out, out_size, length) }
 }
 
 /// Writes a suggestion if there is one.

@@ -14,5 +14,5 @@ pub(crate) fn settle_lines(text: &[u8], out: &mut Text) {
 }
 
 fn settled(line: &[u8]) -> Option<TripleRef<'_>> {
-    TripleRef::from_str(str::from_utf8(line).ok()?).ok()?.settle().ok()
+    TripleRef::from_str(str::from_utf8(line).ok()?).ok().map(TripleRef::step)
 }

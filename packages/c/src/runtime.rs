@@ -1,21 +1,4 @@
 //! What rustc asks of a library without its own standard library.
-use core::alloc::{GlobalAlloc, Layout};
-
-/// The crate below has calls that allocate. None of those is reached from here: this allocator has no memory, and the linker
-/// drops it.
-struct NoHeap;
-
-// SAFETY: an allocation that fails returns null.
-unsafe impl GlobalAlloc for NoHeap {
-    unsafe fn alloc(&self, _: Layout) -> *mut u8 {
-        core::ptr::null_mut()
-    }
-
-    unsafe fn dealloc(&self, _: *mut u8, _: Layout) {}
-}
-
-#[global_allocator]
-static NO_HEAP: NoHeap = NoHeap;
 
 // The C library has `memcpy` and `memcmp`.
 #[cfg(unix)]

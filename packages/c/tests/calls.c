@@ -263,17 +263,18 @@ static void try_pairs(void) {
   }
 }
 
-static void try_facts(const char *text, struct lexicon_triple_facts expected) {
+/* The first facts of a triple, as bytes. */
+static void try_facts(const char *text, const uint8_t *first, size_t first_size) {
   struct lexicon_triple triple = triple_of(text);
   struct lexicon_triple_facts facts;
-  expect(lexicon_facts(&triple, &facts, sizeof facts) == LEXICON_OK && memcmp(&facts, &expected, sizeof facts) == 0, "facts", text);
+  expect(lexicon_facts(&triple, &facts, sizeof facts) == LEXICON_OK && memcmp(&facts, first, first_size) == 0, "facts", text);
   /* with the struct of an older header, and of a newer one */
   struct { struct lexicon_triple_facts facts; unsigned char more[4]; } newer;
   for (size_t size = 0; size <= sizeof newer; size++) {
     unsigned char *bytes = (unsigned char *)&newer;
-    size_t i, known = size < sizeof expected ? size : sizeof expected;
+    size_t i, known = size < sizeof facts ? size : sizeof facts;
     fill(&newer, sizeof newer);
-    expect(lexicon_facts(&triple, &newer.facts, size) == LEXICON_OK && memcmp(bytes, &expected, known) == 0, "facts of a size", text);
+    expect(lexicon_facts(&triple, &newer.facts, size) == LEXICON_OK && memcmp(bytes, &facts, known) == 0, "facts of a size", text);
     for (i = known; i < size && bytes[i] == 0; i++) {}
     expect(i >= size && is_filled(bytes + i, sizeof newer - i), "facts of a size", text);
   }
@@ -281,34 +282,56 @@ static void try_facts(const char *text, struct lexicon_triple_facts expected) {
   expect(lexicon_facts(&triple, &newer.facts, (size_t)-1) == LEXICON_TOO_LARGE && is_filled(&newer, sizeof newer), "facts of a size", text);
 }
 
+static enum lexicon_status rustc_cfg(const void *triple, char *out, size_t size, size_t *length) {
+  return lexicon_rustc_cfg((const struct lexicon_triple *)triple, out, size, length);
+}
+
+static enum lexicon_status llvm_target(const void *triple, char *out, size_t size, size_t *length) {
+  return lexicon_llvm_target((const struct lexicon_triple *)triple, out, size, length);
+}
+
+static enum lexicon_status multiarch_tuple(const void *triple, char *out, size_t size, size_t *length) {
+  return lexicon_multiarch_tuple((const struct lexicon_triple *)triple, out, size, length);
+}
+
 static void try_all_facts(void) {
-  struct lexicon_triple_facts ios = {LEXICON_ENDIANNESS_LITTLE, 64, LEXICON_CALLING_CONVENTION_APPLE_AARCH64, LEXICON_DATA_MODEL_LP64,
+  struct lexicon_triple i686 = triple_of("i686-pc-linux-gnu"), bare = triple_of("x86_64-linux");
+  char none[8];
+  try_text(multiarch_tuple, &i686, "i386-linux-gnu", false);
+  expect(lexicon_multiarch_tuple(&bare, none, sizeof none, NULL) == LEXICON_TRIPLE_WITHOUT_NAME, "no tuple", "x86_64-linux");
+  struct lexicon_triple mac = triple_of("arm64-apple-darwin"), far = triple_of("avr-averyveryveryverylongvendorwithmorethanonehundredandtwentyeightbytes");
+  try_text(rustc_cfg, &mac, "target_abi=\"\"\ntarget_arch=\"aarch64\"\ntarget_endian=\"little\"\ntarget_env=\"\"\ntarget_family=\"unix\"\ntarget_os=\"macos\"\n"
+           "target_pointer_width=\"64\"\ntarget_vendor=\"apple\"\nunix\n", false);
+  try_text(rustc_cfg, &far, "target_abi=\"\"\ntarget_arch=\"avr\"\ntarget_endian=\"little\"\ntarget_env=\"\"\ntarget_os=\"unknown\"\ntarget_pointer_width=\"16\"\n"
+           "target_vendor=\"averyveryveryverylongvendorwithmorethanonehundredandtwentyeightbytes\"\n", false);
+  try_text(llvm_target, &mac, "arm64-apple-macosx", false);
+  try_text(llvm_target, &far, "avr-averyveryveryverylongvendorwithmorethanonehundredandtwentyeightbytes-unknown", false);
+  static const uint8_t ios[] = {LEXICON_ENDIANNESS_LITTLE, 64, LEXICON_CALLING_CONVENTION_APPLE_AARCH64, LEXICON_DATA_MODEL_LP64,
       2, 4, 8, 8, 4, 8, false, true, false, LEXICON_BINARY_FORMAT_MACHO, LEXICON_BINARY_FORMAT_ELF, LEXICON_FAMILY_AARCH64,
       LEXICON_C_LIBRARY_SYSTEM, LEXICON_FLOAT_ABI_NONE, true, 8, 8, 4, 4};
-  struct lexicon_triple_facts thumb = {LEXICON_ENDIANNESS_LITTLE, 32, LEXICON_CALLING_CONVENTION_WINDOWS_FASTCALL, LEXICON_DATA_MODEL_ILP32,
+  static const uint8_t thumb[] = {LEXICON_ENDIANNESS_LITTLE, 32, LEXICON_CALLING_CONVENTION_WINDOWS_FASTCALL, LEXICON_DATA_MODEL_ILP32,
       2, 4, 4, 8, 4, 8, true, false, true, LEXICON_BINARY_FORMAT_COFF, LEXICON_BINARY_FORMAT_ELF, LEXICON_FAMILY_ARM,
       LEXICON_C_LIBRARY_NONE, LEXICON_FLOAT_ABI_SOFT, false, 0, 0, 2, 2};
-  struct lexicon_triple_facts avr = {LEXICON_ENDIANNESS_LITTLE, 16, LEXICON_CALLING_CONVENTION_NONE, LEXICON_DATA_MODEL_NONE,
-      0, 0, 0, 0, 0, 0, false, false, false, LEXICON_BINARY_FORMAT_UNKNOWN, LEXICON_BINARY_FORMAT_ELF, LEXICON_FAMILY_AVR,
+  static const uint8_t avr[] = {LEXICON_ENDIANNESS_LITTLE, 16, LEXICON_CALLING_CONVENTION_NONE, LEXICON_DATA_MODEL_NONE,
+      2, 2, 4, 8, 4, 4, false, false, false, LEXICON_BINARY_FORMAT_UNKNOWN, LEXICON_BINARY_FORMAT_ELF, LEXICON_FAMILY_AVR,
       LEXICON_C_LIBRARY_NONE, LEXICON_FLOAT_ABI_NONE, false, 0, 0, 0, 0};
-  struct lexicon_triple_facts windows = {LEXICON_ENDIANNESS_LITTLE, 64, LEXICON_CALLING_CONVENTION_WINDOWS_FASTCALL,
+  static const uint8_t windows[] = {LEXICON_ENDIANNESS_LITTLE, 64, LEXICON_CALLING_CONVENTION_WINDOWS_FASTCALL,
       LEXICON_DATA_MODEL_LLP64, 2, 4, 4, 8, 4, 8, false, false, false, LEXICON_BINARY_FORMAT_COFF, LEXICON_BINARY_FORMAT_COFF, LEXICON_FAMILY_X86_64,
       LEXICON_C_LIBRARY_MSVC, LEXICON_FLOAT_ABI_NONE, false, 8, 8, 2, 2};
-  struct lexicon_triple_facts s390x = {LEXICON_ENDIANNESS_BIG, 64, LEXICON_CALLING_CONVENTION_SYSTEM_V, LEXICON_DATA_MODEL_LP64,
+  static const uint8_t s390x[] = {LEXICON_ENDIANNESS_BIG, 64, LEXICON_CALLING_CONVENTION_SYSTEM_V, LEXICON_DATA_MODEL_LP64,
       2, 4, 8, 8, 4, 8, false, false, false, LEXICON_BINARY_FORMAT_ELF, LEXICON_BINARY_FORMAT_ELF, LEXICON_FAMILY_S390X,
       LEXICON_C_LIBRARY_NONE, LEXICON_FLOAT_ABI_NONE, true, 16, 8, 4, 4};
-  struct lexicon_triple_facts arm = {LEXICON_ENDIANNESS_LITTLE, 32, LEXICON_CALLING_CONVENTION_SYSTEM_V, LEXICON_DATA_MODEL_ILP32,
+  static const uint8_t arm[] = {LEXICON_ENDIANNESS_LITTLE, 32, LEXICON_CALLING_CONVENTION_SYSTEM_V, LEXICON_DATA_MODEL_ILP32,
       2, 4, 4, 8, 4, 8, false, false, false, LEXICON_BINARY_FORMAT_ELF, LEXICON_BINARY_FORMAT_ELF, LEXICON_FAMILY_ARM,
       LEXICON_C_LIBRARY_GLIBC, LEXICON_FLOAT_ABI_HARD, true, 8, 8, 4, 4};
-  struct lexicon_triple_facts unknown;
-  memset(&unknown, 0, sizeof unknown);
-  try_facts("arm64-apple-ios17.2.1-elf", ios);
-  try_facts("thumbv7m-acme-windows-eabi-elf", thumb);
-  try_facts("avr-none", avr);
-  try_facts("x86_64-pc-windows-msvc", windows);
-  try_facts("s390x-linux", s390x);
-  try_facts("armv7-linux-gnueabihf", arm);
-  try_facts("unknown", unknown);
+  static const uint8_t unknown[sizeof(struct lexicon_triple_facts)] = {0};
+  try_facts("arm64-apple-ios17.2.1-elf", ios, sizeof ios);
+  try_facts("thumbv7m-acme-windows-eabi-elf", thumb, sizeof thumb);
+  try_facts("avr-none", avr, sizeof avr);
+  try_facts("x86_64-pc-windows-msvc", windows, sizeof windows);
+  try_facts("s390x-linux", s390x, sizeof s390x);
+  try_facts("armv7-linux-gnueabihf", arm, sizeof arm);
+  try_facts("unknown", unknown, sizeof unknown);
 }
 
 /* The struct as the header says: each number by its name, and 0 in what is not read. */
@@ -411,6 +434,7 @@ static void try_too_large(void) {
       expect(errors[j].status == LEXICON_TOO_LARGE && errors[j].start == 0 && errors[j].end == 0, "too large", "error");
     expect(lexicon_read(77, text, large, &triple, NULL) == LEXICON_TOO_LARGE, "too large", "read, with no dialect");
     expect(lexicon_reason(LEXICON_DIALECT_GO, text, large) == NULL, "too large", "reason");
+    expect(lexicon_translate_reason(LEXICON_DIALECT_GO, text, large, LEXICON_LINUX_LIBC_NONE, LEXICON_DIALECT_OCI) == NULL, "too large", "translate_reason");
     expect(lexicon_name_suggestion(LEXICON_DIALECT_GO, text, large) == NULL, "too large", "name_suggestion");
     expect(lexicon_suggestion(text, large, &why, out, sizeof out, &length) == LEXICON_TOO_LARGE, "too large", "suggestion");
     expect(lexicon_suggestion(text, 5, &why, out, large, &length) == LEXICON_TOO_LARGE, "a buffer too large", "suggestion");
@@ -480,11 +504,13 @@ static void try_names(void) {
   struct lexicon_error strict;
   struct lexicon_triple accepted;
   const char *(*const names[])(uint32_t) = {lexicon_status_name, lexicon_field_name, lexicon_family_name, lexicon_dialect_name, lexicon_linux_libc_name,
-      lexicon_origin_name, lexicon_endianness_name, lexicon_calling_convention_name, lexicon_data_model_name, lexicon_c_library_name, lexicon_float_abi_name};
+      lexicon_origin_name, lexicon_endianness_name, lexicon_calling_convention_name, lexicon_data_model_name, lexicon_c_library_name, lexicon_float_abi_name,
+      lexicon_arm_profile_name};
   uint32_t dialects = 0;
   while (lexicon_read(dialects + 1, "", 0, &accepted, NULL) != LEXICON_NO_SUCH_DIALECT) dialects++;
   const uint32_t last[] = {LEXICON_NO_SUGGESTION, LEXICON_FIELD_BINARY_FORMAT, LEXICON_FAMILY_Z80, dialects, LEXICON_LINUX_LIBC_GNULLVM,
-      LEXICON_ORIGIN_ALIAS, LEXICON_ENDIANNESS_BIG, LEXICON_CALLING_CONVENTION_APPLE_AARCH64, LEXICON_DATA_MODEL_ILP64, LEXICON_C_LIBRARY_UCLIBC, LEXICON_FLOAT_ABI_HARD};
+      LEXICON_ORIGIN_ALIAS, LEXICON_ENDIANNESS_BIG, LEXICON_CALLING_CONVENTION_APPLE_AARCH64, LEXICON_DATA_MODEL_ILP64, LEXICON_C_LIBRARY_UCLIBC, LEXICON_FLOAT_ABI_HARD,
+      LEXICON_ARM_PROFILE_MICROCONTROLLER};
   for (size_t i = 0; i < sizeof names / sizeof *names; i++) {
     for (uint32_t number = 1; number <= last[i]; number++) expect(names[i](number) && *names[i](number), "the enumerator has a name", "");
     expect(names[i](last[i] + 1) == NULL && names[i](~0u) == NULL, "no other number has one", "");
@@ -493,16 +519,20 @@ static void try_names(void) {
          strcmp(lexicon_status_name(LEXICON_NOT_UTF8), "not UTF-8") == 0 && lexicon_endianness_name(LEXICON_ENDIANNESS_NONE) == NULL, "names", "");
   for (uint32_t number = 1; number <= dialects; number++)
     expect((uint32_t)lexicon_dialect_named(lexicon_dialect_name(number)) == number, "the dialect of a name", lexicon_dialect_name(number));
+  expect(lexicon_dialect_named("docker") == LEXICON_DIALECT_OCI && lexicon_dialect_named("npm") == LEXICON_DIALECT_NODE, "another name", "docker");
   expect(lexicon_dialect_named("podman") == LEXICON_DIALECT_NONE && lexicon_dialect_named("") == LEXICON_DIALECT_NONE, "no dialect", "podman");
   fill(&accepted, sizeof accepted);
   expect(lexicon_parse_strict("x86_64-linx", 11, &accepted, &strict) == LEXICON_UNRECOGNIZED_VENDOR && is_filled(&accepted, sizeof accepted) &&
          strict.status == LEXICON_UNRECOGNIZED_VENDOR && strict.start == 7 && strict.end == 11, "strict", "x86_64-linx");
   expect(lexicon_parse_strict("x86_64-linx", 11, &accepted, NULL) == LEXICON_UNRECOGNIZED_VENDOR, "strict, without an error", "x86_64-linx");
-  expect(lexicon_parse_strict("x86_64-acme-linux", 17, &accepted, &strict) == LEXICON_OK && accepted.vendor == LEXICON_VENDOR_CUSTOM, "strict", "x86_64-acme-linux");
+  expect(lexicon_parse_strict("x86_64-acme-linux", 17, &accepted, &strict) == LEXICON_UNRECOGNIZED_VENDOR && strict.start == 7 && strict.end == 11, "strict", "x86_64-acme-linux");
   expect(lexicon_parse_strict("avr", 3, &accepted, &strict) == LEXICON_OK, "strict", "avr");
   expect(lexicon_parse_strict("foo", 3, &accepted, &strict) == LEXICON_UNRECOGNIZED_ARCHITECTURE && strict.end == 3, "strict", "foo");
   struct lexicon_triple known = triple_of("x86_64-pc-linux"), custom = triple_of("x86_64-iso17.2"), far = triple_of("x86_64-customvendor");
+  struct lexicon_triple arm = triple_of("armv7-gnueabihff"), x86 = triple_of("x86_64-gnueabihff");
   try_text(vendor_suggestion, &custom, "ios17.2", false);
+  try_text(vendor_suggestion, &arm, "gnueabihf", false);
+  expect(lexicon_vendor_suggestion(&x86, NULL, 0, NULL) == LEXICON_NO_SUGGESTION, "no machine of x86 has it", "gnueabihff");
   expect(lexicon_vendor_suggestion(&known, NULL, 0, NULL) == LEXICON_NO_SUGGESTION, "nothing else is meant", "pc");
   expect(lexicon_vendor_suggestion(&far, NULL, 0, NULL) == LEXICON_NO_SUGGESTION, "nothing else is meant", "customvendor");
   expect(strncmp(lexicon_version(), LEXICON_VERSION, strlen(LEXICON_VERSION)) == 0, "version", lexicon_version());
@@ -551,6 +581,10 @@ static enum lexicon_status write_name(const void *triple, char *out, size_t size
   return lexicon_write(dialect_of, (const struct lexicon_triple *)triple, out, size, length);
 }
 
+static void try_reason(const char *found, const char *expected) {
+  expect(expected ? found && strcmp(found, expected) == 0 : found == NULL, "the reason", expected ? expected : "none");
+}
+
 static void try_dialects(void) {
   struct lexicon_triple triple;
   struct lexicon_error error;
@@ -579,7 +613,7 @@ static void try_dialects(void) {
     expect(lexicon_error_text(name, size, &error, whole, sizeof whole, NULL) == LEXICON_OK, "error text", unread[i].name);
     expect(strncmp(whole, unread[i].line, strlen(unread[i].line)) == 0 && strstr(whole, "\n  ") != NULL, "error text", whole);
     reason = lexicon_reason(unread[i].dialect, name, size);
-    expect(unread[i].reason ? reason && strcmp(reason, unread[i].reason) == 0 : reason == NULL, "the reason", unread[i].name);
+    try_reason(reason, unread[i].reason);
     meant = lexicon_name_suggestion(unread[i].dialect, name, size);
     expect(unread[i].meant ? meant && strcmp(meant, unread[i].meant) == 0 : meant == NULL, "the suggestion", unread[i].name);
   }
@@ -606,8 +640,18 @@ static void try_dialects(void) {
   expect(lexicon_write(LEXICON_DIALECT_GO, &triple, out, sizeof out, &length) == LEXICON_NO_SUCH_VALUE, "a bad value", "write");
   triple = triple_of("avr-none");
   expect(lexicon_write(LEXICON_DIALECT_GO, &triple, out, sizeof out, &length) == LEXICON_TRIPLE_WITHOUT_NAME, "no name", "avr");
+  try_reason(lexicon_write_reason(LEXICON_DIALECT_GO, &triple), "the tool has no name for the system");
   triple = triple_of("x86_64-linux");
   expect(lexicon_write(LEXICON_DIALECT_DEBIAN, &triple, out, sizeof out, &length) == LEXICON_NEEDS_C_LIBRARY, "no name", "x86_64-linux");
+  try_reason(lexicon_write_reason(LEXICON_DIALECT_DEBIAN, &triple), "it depends on the C library: say glibc or musl");
+  try_reason(lexicon_write_reason(LEXICON_DIALECT_UNAME, &triple), "names of this tool are only read");
+  try_reason(lexicon_write_reason(LEXICON_DIALECT_GO, &triple), NULL);
+  try_reason(lexicon_write_reason(LEXICON_DIALECT_NONE, &triple), NULL);
+  try_reason(lexicon_write_reason(77, &triple), NULL);
+  triple = triple_of("x86_64-windows");
+  try_reason(lexicon_write_reason(LEXICON_DIALECT_RUST, &triple), "it depends on the ABI of Windows: say msvc, mingw or gnullvm");
+  triple.environment = 255;
+  try_reason(lexicon_write_reason(LEXICON_DIALECT_RUST, &triple), NULL);
   expect(length == 77 && is_filled(out, sizeof out), "write", "unchanged");
 }
 
@@ -641,9 +685,12 @@ static void try_versioned_names(void) {
   char out[64];
   for (version_of = 0; version_of < (int)(sizeof versioned / sizeof *versioned); version_of++) {
     struct lexicon_triple triple = triple_of(versioned[version_of].text);
+    const char *reason = lexicon_write_versioned_reason(LEXICON_DIALECT_PYTHON, &triple, versioned[version_of].major, versioned[version_of].minor);
     if (versioned[version_of].name) {
       try_text(write_versioned, &triple, versioned[version_of].name, false);
+      try_reason(reason, NULL);
     } else {
+      try_reason(reason, "no version of its system or C library has these numbers: glibc has 2.x, musl 1.x, and macOS 10.x or later");
       fill(out, sizeof out);
       expect(write_versioned(&triple, out, sizeof out, NULL) == LEXICON_TRIPLE_WITHOUT_NAME, "no name", versioned[version_of].text);
       expect(is_filled(out, sizeof out), "write versioned", "unchanged");
@@ -654,6 +701,7 @@ static void try_versioned_names(void) {
   expect(lexicon_write_versioned(LEXICON_DIALECT_GO, &triple, 2, 17, out, sizeof out, NULL) == LEXICON_OK && !strcmp(out, "linux/amd64"), "no version", "go");
   triple = triple_of("x86_64-unknown-linux");
   expect(lexicon_write_versioned(LEXICON_DIALECT_PYTHON, &triple, 2, 17, out, sizeof out, NULL) == LEXICON_NEEDS_C_LIBRARY, "no library", "python");
+  try_reason(lexicon_write_versioned_reason(LEXICON_DIALECT_PYTHON, &triple, 2, 17), "it depends on the C library: say glibc or musl");
   triple.environment = 255;
   expect(lexicon_write_versioned(LEXICON_DIALECT_GO, &triple, 2, 17, out, sizeof out, NULL) == LEXICON_NO_SUCH_VALUE, "a bad value", "go");
 }
@@ -668,25 +716,28 @@ static const struct { const char *text, *glibc, *musl; } completed[] = {
     {"x86_64-freebsd", "x86_64-unknown-freebsd", "x86_64-unknown-freebsd"},
 };
 
-/* Two dialects, a C library and a name; the name in the other dialect, or the status, the range and the line. */
-static const struct { uint32_t from, libc, to; const char *name, *translated; enum lexicon_status status; size_t end; const char *line; } translated[] = {
-    {LEXICON_DIALECT_OCI, LEXICON_LINUX_LIBC_GLIBC, LEXICON_DIALECT_RUST, "linux/arm64/v8", "aarch64-unknown-linux-gnu", LEXICON_OK, 0, NULL},
-    {LEXICON_DIALECT_OCI, LEXICON_LINUX_LIBC_MUSL, LEXICON_DIALECT_DEBIAN, "linux/amd64", "musl-linux-amd64", LEXICON_OK, 0, NULL},
-    {LEXICON_DIALECT_DEBIAN, LEXICON_LINUX_LIBC_NONE, LEXICON_DIALECT_GO, "arm64", "linux/arm64", LEXICON_OK, 0, NULL},
-    {LEXICON_DIALECT_NONE, LEXICON_LINUX_LIBC_NONE, LEXICON_DIALECT_NODE, "x86_64-w64-mingw32", "win32-x64-gnu", LEXICON_OK, 0, NULL},
-    {LEXICON_DIALECT_OCI, LEXICON_LINUX_LIBC_MSVC, LEXICON_DIALECT_RUST, "windows/amd64", "x86_64-pc-windows-msvc", LEXICON_OK, 0, NULL},
+/* Two dialects, a C library and a name; the name in the other dialect, or the status, the range, the line and the reason. */
+static const struct { uint32_t from, libc, to; const char *name, *translated; enum lexicon_status status; size_t end; const char *line, *reason; } translated[] = {
+    {LEXICON_DIALECT_OCI, LEXICON_LINUX_LIBC_GLIBC, LEXICON_DIALECT_RUST, "linux/arm64/v8", "aarch64-unknown-linux-gnu", LEXICON_OK, 0, NULL, NULL},
+    {LEXICON_DIALECT_OCI, LEXICON_LINUX_LIBC_MUSL, LEXICON_DIALECT_DEBIAN, "linux/amd64", "musl-linux-amd64", LEXICON_OK, 0, NULL, NULL},
+    {LEXICON_DIALECT_DEBIAN, LEXICON_LINUX_LIBC_NONE, LEXICON_DIALECT_GO, "arm64", "linux/arm64", LEXICON_OK, 0, NULL, NULL},
+    {LEXICON_DIALECT_NONE, LEXICON_LINUX_LIBC_NONE, LEXICON_DIALECT_NODE, "x86_64-w64-mingw32", "win32-x64-gnu", LEXICON_OK, 0, NULL, NULL},
+    {LEXICON_DIALECT_OCI, LEXICON_LINUX_LIBC_MSVC, LEXICON_DIALECT_RUST, "windows/amd64", "x86_64-pc-windows-msvc", LEXICON_OK, 0, NULL, NULL},
     {LEXICON_DIALECT_OCI, LEXICON_LINUX_LIBC_NONE, LEXICON_DIALECT_DEBIAN, "linux/amd64", NULL, LEXICON_NEEDS_C_LIBRARY, 11,
-     "The name in the other dialect depends on the C library: linux/amd64"},
+     "No name in the other dialect: linux/amd64", "it depends on the C library: say glibc or musl"},
     {LEXICON_DIALECT_OCI, LEXICON_LINUX_LIBC_GLIBC, LEXICON_DIALECT_DEBIAN, "windows/amd64", NULL, LEXICON_TRIPLE_WITHOUT_NAME, 13,
-     "No name in the other dialect: windows/amd64"},
-    {LEXICON_DIALECT_GO, LEXICON_LINUX_LIBC_GLIBC, LEXICON_DIALECT_OCI, "linux/amd46", NULL, LEXICON_UNKNOWN_NAME, 11, "Unknown name: linux/amd46"},
-    {LEXICON_DIALECT_GO, LEXICON_LINUX_LIBC_GLIBC, LEXICON_DIALECT_OCI, "js/wasm", NULL, LEXICON_NAME_WITHOUT_TRIPLE, 7, "No triple has this name: js/wasm"},
-    {LEXICON_DIALECT_NONE, LEXICON_LINUX_LIBC_NONE, LEXICON_DIALECT_OCI, "linx", NULL, LEXICON_UNRECOGNIZED_ARCHITECTURE, 4, "Unrecognized architecture: linx"},
-    {LEXICON_DIALECT_GO, LEXICON_LINUX_LIBC_NONE, LEXICON_DIALECT_OCI, "", NULL, LEXICON_UNKNOWN_NAME, 0, "Unknown name: "},
-    {77, LEXICON_LINUX_LIBC_NONE, LEXICON_DIALECT_OCI, "linux/amd64", NULL, LEXICON_NO_SUCH_DIALECT, 0, NULL},
-    {LEXICON_DIALECT_GO, LEXICON_LINUX_LIBC_NONE, LEXICON_DIALECT_NONE, "linux/amd64", NULL, LEXICON_NO_SUCH_DIALECT, 0, NULL},
-    {LEXICON_DIALECT_GO, LEXICON_LINUX_LIBC_NONE, 77, "linux/amd64", NULL, LEXICON_NO_SUCH_DIALECT, 0, NULL},
-    {LEXICON_DIALECT_GO, 6, LEXICON_DIALECT_OCI, "linux/amd64", NULL, LEXICON_NO_SUCH_C_LIBRARY, 0, NULL},
+     "No name in the other dialect: windows/amd64", "the tool has no name for the system"},
+    {LEXICON_DIALECT_NONE, LEXICON_LINUX_LIBC_NONE, LEXICON_DIALECT_OCI, "avr-none", NULL, LEXICON_TRIPLE_WITHOUT_NAME, 8,
+     "No name in the other dialect: avr-none", "the tool has no name for the system"},
+    {LEXICON_DIALECT_GO, LEXICON_LINUX_LIBC_GLIBC, LEXICON_DIALECT_OCI, "linux/amd46", NULL, LEXICON_UNKNOWN_NAME, 11, "Unknown name: linux/amd46", NULL},
+    {LEXICON_DIALECT_GO, LEXICON_LINUX_LIBC_GLIBC, LEXICON_DIALECT_OCI, "js/wasm", NULL, LEXICON_NAME_WITHOUT_TRIPLE, 7, "No triple has this name: js/wasm",
+     "a module for Go's own JavaScript; rustc's nearest target is wasm32-unknown-unknown"},
+    {LEXICON_DIALECT_NONE, LEXICON_LINUX_LIBC_NONE, LEXICON_DIALECT_OCI, "linx", NULL, LEXICON_UNRECOGNIZED_ARCHITECTURE, 4, "Unrecognized architecture: linx", NULL},
+    {LEXICON_DIALECT_GO, LEXICON_LINUX_LIBC_NONE, LEXICON_DIALECT_OCI, "", NULL, LEXICON_UNKNOWN_NAME, 0, "Unknown name: ", NULL},
+    {77, LEXICON_LINUX_LIBC_NONE, LEXICON_DIALECT_OCI, "linux/amd64", NULL, LEXICON_NO_SUCH_DIALECT, 0, NULL, NULL},
+    {LEXICON_DIALECT_GO, LEXICON_LINUX_LIBC_NONE, LEXICON_DIALECT_NONE, "linux/amd64", NULL, LEXICON_NO_SUCH_DIALECT, 0, NULL, NULL},
+    {LEXICON_DIALECT_GO, LEXICON_LINUX_LIBC_NONE, 77, "linux/amd64", NULL, LEXICON_NO_SUCH_DIALECT, 0, NULL, NULL},
+    {LEXICON_DIALECT_GO, 6, LEXICON_DIALECT_OCI, "linux/amd64", NULL, LEXICON_NO_SUCH_C_LIBRARY, 0, NULL, NULL},
 };
 
 static size_t row_of;
@@ -745,6 +796,7 @@ static void try_translation(void) {
     error_of = name;
     if (translated[row_of].line) try_text(error_line, &error, translated[row_of].line, true);
     else expect(lexicon_error_line_z(name, &error, out, sizeof out, NULL) == LEXICON_NO_SUCH_VALUE, "no line", name);
+    try_reason(lexicon_translate_reason_z(from, name, libc, to), translated[row_of].reason);
   }
   fill(&error, sizeof error);
   fill(out, sizeof out);

@@ -48,7 +48,7 @@ static void try_triple() {
   EXPECT(ios.is_like_darwin() && !ios.is_thumb() && !ios.has_custom_vendor() && ios.vendor_name() == "apple");
   EXPECT(ios.printed() == "aarch64-apple-ios17.2.0" && shown(ios) == ios.printed() && ios.comes_back());
   Triple none = parsed("thumbv7m-none-eabi");
-  EXPECT(none.is_thumb() && none.pointer_width() == 32u && !none.data_model() && !none.int_size() && !none.version());
+  EXPECT(none.is_thumb() && none.pointer_width() == 32u && !none.data_model() && none.long_size() == 4u && !none.version());
   EXPECT(!Triple().endianness() && Triple().printed() == "unknown-unknown-unknown");
   EXPECT(parsed("x86_64-unknown-uefi").object_format() == BinaryFormat::Coff);
   EXPECT(parsed("x86_64-unknown-uefi").implied_format() == BinaryFormat::Elf);
@@ -165,6 +165,11 @@ static void try_driver() {
   auto arm = parsed("armv7-unknown-linux-gnueabihf"), musl = parsed("x86_64-unknown-linux-musl"), none = parsed("avr");
   EXPECT(arm.c_library() == CLibrary::Glibc && arm.float_abi() == FloatAbi::Hard && arm.is_unix());
   EXPECT(musl.c_library() == CLibrary::Musl && musl.long_double() == (TypeLayout{16, 16}) && musl.wchar() == (TypeLayout{4, 4}));
+  auto embedded = parsed("thumbv7em-none-eabihf");
+  EXPECT(embedded.arm_version() == 7u && embedded.arm_profile() == ArmProfile::Microcontroller && shown(ArmProfile::RealTime) == "R" && !none.arm_profile());
+  EXPECT(parsed("riscv64gc-linux-gnu").llvm_target() == "riscv64-unknown-linux-gnu" && parsed("arm64-apple-ios17.1").llvm_target() == "arm64-apple-ios17.1.0");
+  EXPECT(parsed("i686-linux-gnu").multiarch_tuple() == "i386-linux-gnu" && !embedded.multiarch_tuple());
+  EXPECT(embedded.rustc_cfg().find("target_os=\"none\"\n") != std::string::npos && parsed("x86_64-linux-gnu").rustc_cfg().find("\nunix\n") != std::string::npos);
   EXPECT(!none.c_library() && !none.float_abi() && !none.is_unix() && !none.long_double() && !none.wchar());
 }
 
@@ -216,7 +221,7 @@ static void try_names() {
   EXPECT(shown(Endianness::Big) == "big" && shown(CallingConvention::SystemV) == "SystemV" && shown(DataModel::LLP64) == "LLP64");
   EXPECT(shown(Family::X86_32) == "x86_32" && name(Family::Z80) == "z80" && dialect_named("go") == Dialect::Go && !dialect_named("podman"));
   EXPECT(Triple::parse("x86_64-linx") && !Triple::parse_strict("x86_64-linx", &error) && error.part == "linx" && error.suggestion == "linux");
-  EXPECT(Triple::parse_strict("x86_64-acme-linux") == Triple::parse("x86_64-acme-linux") && !Triple::parse_strict("x86_64-linx") && !Triple::parse_strict("foo", &error) && error.part == "foo");
+  EXPECT(Triple::parse_strict("x86_64-pc-linux") == Triple::parse("x86_64-pc-linux") && !Triple::parse_strict("x86_64-acme-linux") && !Triple::parse_strict("x86_64-linx") && !Triple::parse_strict("foo", &error) && error.part == "foo");
   EXPECT(value_of<Architecture>("arm64") == Architecture::Aarch64 && !value_of<Environment>("linux"));
   EXPECT(value_of<Vendor>("acme") == Vendor::Custom && value_of<OperatingSystem>("ios17") == OperatingSystem::IOS);
   EXPECT(version().substr(0, 5) == LEXICON_VERSION);
@@ -255,6 +260,9 @@ static void try_no_names() {
   EXPECT(!parsed("x86_64-linux").name_in(static_cast<Dialect>(99)));
   EXPECT(parsed("aarch64-linux-android").versioned_name_in(Dialect::Python, 21) == "android_21_arm64_v8a");
   EXPECT(parsed("x86_64-linux-gnu").versioned_name_in(Dialect::Debian, 2, 17) == "amd64");
+  std::string reason;
+  EXPECT(!parsed("x86_64-windows").name_in(Dialect::Rust, &reason) && reason == "it depends on the ABI of Windows: say msvc, mingw or gnullvm");
+  EXPECT(!parsed("x86_64-linux-gnu").versioned_name_in(Dialect::Python, 1, 2, &reason) && reason.find("glibc has 2.x") != std::string::npos);
 }
 
 static void try_dialects() {
@@ -288,9 +296,11 @@ static void try_translation() {
   EXPECT(Triple::translate("x86_64-w64-mingw32", std::nullopt, Dialect::Node) == "win32-x64-gnu");
   EXPECT(!Triple::translate("linux/arm64", Dialect::Oci, Dialect::Debian) && !Triple::translate("linux/arm64", Dialect::Oci, static_cast<Dialect>(99)));
   EXPECT(!Triple::translate("linux/arm64", Dialect::Oci, Dialect::Debian, std::nullopt, &error) && error.status == LEXICON_NEEDS_C_LIBRARY);
-  EXPECT(error.line == "The name in the other dialect depends on the C library: linux/arm64" && error.part == "linux/arm64" && !error.field());
+  EXPECT(error.line == "No name in the other dialect: linux/arm64" && error.part == "linux/arm64" && !error.field());
+  EXPECT(shown(error) == error.line + "\n  linux/arm64\n  ^^^^^^^^^^^ it depends on the C library: say glibc or musl");
   EXPECT(!Triple::translate("windows/amd64", Dialect::Oci, Dialect::Debian, LinuxLibc::Glibc, &error) && error.status == LEXICON_TRIPLE_WITHOUT_NAME);
-  EXPECT(error.line == "No name in the other dialect: windows/amd64" && error.reason.empty() && error.suggestion.empty());
+  EXPECT(error.line == "No name in the other dialect: windows/amd64" && error.suggestion.empty());
+  EXPECT(error.reason == "the tool has no name for the system");
   EXPECT(!Triple::translate("linux/amd46", Dialect::Go, Dialect::Oci, std::nullopt, &error) && error.suggestion == "linux/amd64");
   EXPECT(!Triple::translate("js/wasm", Dialect::Go, Dialect::Oci, std::nullopt, &error) && !error.reason.empty());
   auto found = changes("amd64-unknown-freebsd13.2");

@@ -100,6 +100,7 @@ static void try_names(const struct lexicon_triple *triple) {
     uint32_t status = lexicon_write(dialect, triple, name, sizeof name, &length);
     bool has_none = status == LEXICON_TRIPLE_WITHOUT_NAME || status == LEXICON_NEEDS_C_LIBRARY;
     CHECK(status == LEXICON_OK ? length == strlen(name) : has_none && length == 77);
+    CHECK((lexicon_write_reason(dialect, triple) != NULL) == has_none);
     if (status != LEXICON_OK) continue;
     status = lexicon_read(dialect, name, length, &shape, &error);
     CHECK(status == LEXICON_OK || status == LEXICON_NAME_WITHOUT_TRIPLE);
@@ -132,7 +133,7 @@ static void try_triple(const struct lexicon_triple *triple) {
   CHECK(lexicon_facts(triple, &facts, sizeof facts) == LEXICON_OK && lexicon_facts(&settled, &same_facts, sizeof same_facts) == LEXICON_OK);
   CHECK(facts.endianness == same_facts.endianness && facts.pointer_width == same_facts.pointer_width);
   CHECK(facts.data_model == same_facts.data_model && facts.default_calling_convention == same_facts.default_calling_convention);
-  CHECK((facts.data_model == 0) == (facts.short_size == 0) && facts.pointer_width % 16 == 0);
+  CHECK(facts.short_size == (facts.data_model || facts.int_size ? 2 : 0) && facts.pointer_width % 16 == 0);
   CHECK(facts.has_custom_vendor == (triple->vendor == LEXICON_VENDOR_CUSTOM));
   CHECK(!triple->has_version || facts.is_like_darwin);
   CHECK((facts.long_double_size == 0) == (facts.long_double_alignment == 0) && (facts.wchar_size == 0) == (facts.wchar_alignment == 0));

@@ -4,12 +4,9 @@ use crate::input::{Place, Target};
 use crate::json::{Json, Object};
 use crate::refusal::Parsed;
 use std::io::{self, Write};
-use target_lexicon::tool_names::{
-    self, changes, is_unix, object_format, read, CLibrary, Change, FloatAbi, RustcCfg, TypeLayout,
-};
+use target_lexicon::tool_names::{changes, read, Change};
 use target_lexicon::{
-    default_binary_format, Architecture, CDataModel, CallingConvention, Endianness, Field,
-    OperatingSystem, PointerWidth, Size, Source, Suggestion, TripleRef, VendorRef,
+    Architecture, Endianness, Field, OperatingSystem, PointerWidth, Source, TripleRef,
 };
 
 pub fn canonical(triple: TripleRef<'_>) -> TripleRef<'_> {
@@ -69,14 +66,6 @@ fn origin<'a>(explanation: &Parsed<'a>, field: Field) -> (&'static str, Option<&
     }
 }
 
-/// What was perhaps meant by a custom vendor.
-fn suggestion(vendor: VendorRef<'_>) -> Option<Suggestion<'_>> {
-    match vendor {
-        VendorRef::Custom(text) => tool_names::suggestion(Field::Vendor, text),
-        VendorRef::Known(_) => None,
-    }
-}
-
 pub fn write_explained(
     out: &mut dyn Write,
     target: Target<'_>,
@@ -108,7 +97,7 @@ pub fn write_explained(
             (word, None) => writeln!(out, "{word}")?,
         }
     }
-    if let Some(name) = suggestion(triple.vendor) {
+    if let Some(name) = triple.vendor_suggestion() {
         let vendor = triple.vendor;
         writeln!(
             out,
@@ -177,7 +166,7 @@ pub fn explained(explanation: &Parsed<'_>) -> Object {
         }
     }
     members.push(("has_custom_vendor", triple.vendor.is_custom().into()));
-    let suggestion = suggestion(triple.vendor).map(|it| it.to_string());
+    let suggestion = triple.vendor_suggestion().map(|it| it.to_string());
     members.push(("suggestion", suggestion.into()));
     members
 }
@@ -192,7 +181,7 @@ fn family(architecture: Architecture) -> String {
 
 /// The values of rustc's cfg options.
 pub fn cfg(triple: &TripleRef<'_>) -> Object {
-    let cfg = RustcCfg::of(triple);
+    let cfg = triple.rustc_cfg();
     let families = cfg.target_family.iter().map(|family| Json::from(*family));
     vec![
         ("target_arch", cfg.target_arch.into()),
@@ -221,66 +210,62 @@ pub fn facts(triple: &TripleRef<'_>) -> Object {
             members.push(("version", version(triple).into()));
         }
     }
-    let model = triple.data_model().ok();
-    let (long_double, wchar) = (
-        TypeLayout::of_long_double(triple),
-        TypeLayout::of_wchar(triple),
-    );
-    let bytes = |size: fn(CDataModel) -> Size| model.map(|model| size(model).bytes()).into();
+    let data_model = triple.data_model().ok();
+    let (long_double, wchar) = (triple.long_double_layout(), triple.wchar_layout());
+    let sizes = triple.type_sizes();
     members.extend([
-        (
-            "endianness",
-            triple.endianness().ok().map(Endianness::name).into(),
-        ),
-        (
-            "pointer_width",
-            triple.pointer_width().ok().map(PointerWidth::bits).into(),
-        ),
-        (
-            "default_calling_convention",
-            triple
-                .default_calling_convention()
-                .ok()
-                .map(CallingConvention::name)
-                .into(),
-        ),
-        ("data_model", model.map(CDataModel::name).into()),
-        ("short_size", bytes(CDataModel::short_size)),
-        ("int_size", bytes(CDataModel::int_size)),
-        ("long_size", bytes(CDataModel::long_size)),
-        ("long_long_size", bytes(CDataModel::long_long_size)),
-        ("float_size", bytes(CDataModel::float_size)),
-        ("double_size", bytes(CDataModel::double_size)),
-        ("implied_format", implied_format(triple).into()),
-        ("object_format", object_format(triple).to_string().into()),
+        // written by tools/names/write: the facts for the command
+        ("endianness", triple.endianness().ok().map(|it| it.name()).into()),
+        ("pointer_width", triple.pointer_width().ok().map(PointerWidth::bits).into()),
+        ("default_calling_convention", triple.default_calling_convention().ok().map(|it| it.name()).into()),
+        ("data_model", data_model.map(|it| it.name()).into()),
+        ("short_size", sizes.map(|it| it.short).into()),
+        ("int_size", sizes.map(|it| it.int).into()),
+        ("long_size", sizes.map(|it| it.long).into()),
+        ("long_long_size", sizes.map(|it| it.long_long).into()),
+        ("float_size", sizes.map(|it| it.float).into()),
+        ("double_size", sizes.map(|it| it.double).into()),
+        ("implied_format", triple.default_binary_format().to_string().into()),
+        ("object_format", triple.object_format().to_string().into()),
         ("family", family(triple.architecture).into()),
-        (
-            "is_thumb",
-            matches!(triple.architecture, Architecture::Arm(arm) if arm.is_thumb()).into(),
-        ),
-        (
-            "is_like_darwin",
-            triple.operating_system.is_like_darwin().into(),
-        ),
+        ("is_thumb", matches!(triple.architecture, Architecture::Arm(arm) if arm.is_thumb()).into()),
+        ("is_like_darwin", triple.operating_system.is_like_darwin().into()),
         ("has_custom_vendor", triple.vendor.is_custom().into()),
-        ("c_library", CLibrary::of(triple).map(CLibrary::name).into()),
-        ("float_abi", FloatAbi::of(triple).map(FloatAbi::name).into()),
-        ("is_unix", is_unix(triple).into()),
+        ("c_library", triple.c_library().map(|it| it.name()).into()),
+        ("float_abi", triple.float_abi().map(|it| it.name()).into()),
+        ("is_unix", triple.is_unix().into()),
         ("long_double_size", long_double.map(|it| it.size).into()),
-        (
-            "long_double_alignment",
-            long_double.map(|it| it.alignment).into(),
-        ),
+        ("long_double_alignment", long_double.map(|it| it.alignment).into()),
         ("wchar_size", wchar.map(|it| it.size).into()),
         ("wchar_alignment", wchar.map(|it| it.alignment).into()),
+        ("arm_version", triple.arm_version().into()),
+        ("arm_profile", triple.arm_profile().map(|it| it.name()).into()),
+        // end of what is written
+        ("llvm_target", triple.llvm_target().to_string().into()),
+        ("multiarch_tuple", triple.multiarch_tuple().map(|it| it.to_string()).into()),
         ("printed", triple.to_string().into()),
         ("canonical", canonical(*triple).to_string().into()),
     ]);
     members
 }
 
-fn implied_format(triple: &TripleRef<'_>) -> String {
-    default_binary_format(&triple.to_triple()).to_string()
+/// Why a fact has no answer.
+fn why_none(key: &str) -> &'static str {
+    match key {
+        // written by tools/names/write: the reasons for the command
+        "version" => "the target states none",
+        "endianness" | "pointer_width" => "the architecture doesn't say it",
+        "default_calling_convention" => "none is usual on the system",
+        "data_model" => "none is known for the machine and the system",
+        "short_size" | "int_size" | "long_size" | "long_long_size" | "float_size" | "double_size" => "no source says it of the machine and the system",
+        "c_library" => "neither the environment nor the system says it",
+        "float_abi" => "neither an environment of 32-bit Arm nor softfloat says it",
+        "long_double_size" | "long_double_alignment" | "wchar_size" | "wchar_alignment" => "no source says it of the system and the C library",
+        "arm_version" | "arm_profile" => "the architecture is no 32-bit Arm that states it",
+        "multiarch_tuple" => "Debian has no architecture for it, or it depends on the C library",
+        // end of what is written
+        _ => unreachable!("{key} has an answer"),
+    }
 }
 
 /// The target, and a line for each fact.
@@ -293,7 +278,7 @@ pub fn write_facts(out: &mut dyn Write, target: &str, facts: Object) -> io::Resu
             Json::Bool(is_so) => writeln!(out, "{}", if is_so { "yes" } else { "no" })?,
             Json::Text(text) => writeln!(out, "{text}")?,
             Json::Number(number) => writeln!(out, "{number}")?,
-            _ => writeln!(out, "-  no answer")?,
+            _ => writeln!(out, "-  {}", why_none(key))?,
         }
     }
     Ok(())

@@ -202,13 +202,16 @@ pub fn command() -> Command {
                 Arg::new("with-version")
                     .long("with-version")
                     .value_name("VERSION")
+                    .value_delimiter(',')
+                    .action(ArgAction::Append)
                     .value_parser(version)
-                    .help("The version that names state: of glibc, musl, macOS or Android"),
+                    .help("The version that names state, of glibc, musl, macOS or Android; of several with commas, the first that fits"),
             ),
             of_targets(
                 "translate",
                 "Write the name that one tool has for what a name of another means",
-                "Example:\n  $ target-lexicon translate --from oci --to debian --libc glibc linux/arm64",
+                "Names may be written as lists have them: with commas, quotes, brackets or a dash before each.\n\n\
+                 Example:\n  $ target-lexicon translate --from oci --to debian --libc glibc linux/amd64,linux/arm64",
             )
             .mut_arg("target", |names| names.value_name("NAME"))
             .arg(dialect("from", all(), "The tool whose names are read").required(true))

@@ -22,13 +22,14 @@ use json::{Json, Object};
 use matrix::Matrix;
 use output::{with_commas, Outputs, Progress};
 use refusal::{visible, Help, Refusal};
+use std::cell::Cell;
 use std::collections::HashMap;
 use std::env;
 use std::io::{self, Write};
 use std::num::NonZeroUsize;
 use std::path::Path;
 use std::process;
-use target_lexicon::tool_names::{complete, Dialect, LinuxLibc, Name, RustcCfg};
+use target_lexicon::tool_names::{Dialect, LinuxLibc, Name};
 use target_lexicon::{TripleRef, HOST};
 use what::What;
 
@@ -58,8 +59,7 @@ enum Call {
     Check,
     Matrix,
     Read(From),
-    /// The name in a dialect, and the version that it states.
-    Write(Dialect, Option<Version>),
+    Write(Dialect),
     Translate(Dialect, Dialect),
     Cfg,
     What,
@@ -88,8 +88,12 @@ enum Found<'a> {
 /// A call that answers for targets.
 struct Run {
     call: Call,
-    /// The C library that the user says, for a triple of Linux that states none.
+    /// The C library that the user says, for a triple of Linux or Windows that states none.
     libc: Option<LinuxLibc>,
+    /// Whether an answer differs from that without it.
+    needs_libc: Cell<bool>,
+    /// Of which a name that is written states the first that fits.
+    versions: Vec<Version>,
     is_strict: bool,
     is_quiet: bool,
     skips_comments: bool,
@@ -112,7 +116,9 @@ const REMEMBERED_LENGTH: usize = 100;
 impl Answers for Run {
     fn answer(&mut self, target: Target<'_>) -> Result<(), Fault> {
         match self.call {
-            Call::What => what::names_in(target).try_for_each(|name| self.answer_one(name)),
+            Call::What | Call::Translate(..) | Call::Read(From::Dialect(_) | From::Any) => {
+                what::names_in(target).try_for_each(|name| self.answer_one(name))
+            }
             _ => self.answer_one(target),
         }
     }
@@ -149,7 +155,7 @@ impl Run {
                             target.text,
                             answers::facts(&explanation.triple),
                         ),
-                        Call::Cfg => write!(out, "{}", RustcCfg::of(&explanation.triple)),
+                        Call::Cfg => write!(out, "{}", explanation.triple.rustc_cfg()),
                         _ => writeln!(out, "{}", answers::canonical(explanation.triple)),
                     },
                     Found::Read(triple) => {
@@ -194,7 +200,7 @@ impl Run {
         }
         let help = Help {
             suggestion: refusal.suggestion(target.text),
-            note: self.note(target),
+            note: refusal.mistake().or_else(|| self.note(target)),
         };
         if self.helps.len() < REMEMBERED
             && target.text.len() <= REMEMBERED_LENGTH
@@ -207,7 +213,11 @@ impl Run {
 
     fn find<'a>(&self, text: &'a str) -> Result<Found<'a>, Refusal<'a>> {
         match self.call {
-            Call::What => return What::of(text, self.libc).map(Found::What),
+            Call::What => {
+                let what = What::of(text, self.libc)?;
+                self.needs_libc_if(|| what.is_completed);
+                return Ok(Found::What(what));
+            }
             Call::Read(From::Any) => {
                 let meanings = refusal::meanings(text)?;
                 let complete = |(name, triple)| (name, self.completed(triple));
@@ -219,18 +229,23 @@ impl Run {
                 return refusal::read(text, from).map(|it| Found::Read(self.completed(it)));
             }
             Call::Translate(from, to) => {
-                return refusal::translate(text, from, self.libc, to).map(Found::Name);
+                let name = refusal::translate(text, from, self.libc, to)?;
+                self.needs_libc_if(|| from.translate(text, None, to) != Ok(name));
+                return Ok(Found::Name(name));
             }
             _ => {}
         }
         let explanation = refusal::explanation(text, self.is_strict)?;
         match self.call {
-            Call::Write(dialect, None) => {
-                refusal::name_in(dialect, text, self.libc, &explanation.triple).map(Found::Name)
+            Call::Write(dialect) if self.versions.is_empty() => {
+                let triple = explanation.triple;
+                let name = refusal::name_in(dialect, text, self.libc, &triple)?;
+                self.needs_libc_if(|| dialect.write(&triple) != Some(name));
+                Ok(Found::Name(name))
             }
-            Call::Write(dialect, Some(version)) => {
+            Call::Write(dialect) => {
                 let triple = self.completed(explanation.triple);
-                refusal::versioned_name_in(dialect, text, version, &triple).map(Found::Name)
+                refusal::versioned_name_in(dialect, text, &self.versions, &triple).map(Found::Name)
             }
             _ => Ok(Found::Parsed(explanation)),
         }
@@ -238,7 +253,33 @@ impl Run {
 
     /// The triple with the C library that the user says.
     fn completed<'a>(&self, triple: TripleRef<'a>) -> TripleRef<'a> {
-        self.libc.map_or(triple, |libc| complete(&triple, libc))
+        let completed = self.libc.map_or(triple, |libc| triple.with_c_library(libc));
+        self.needs_libc_if(|| completed != triple);
+        completed
+    }
+
+    /// Remembers that the C library is needed, which is only asked as long as it wasn't.
+    fn needs_libc_if(&self, differs: impl FnOnce() -> bool) {
+        if self.libc.is_some() && !self.needs_libc.get() {
+            self.needs_libc.set(differs());
+        }
+    }
+
+    /// Says so if each answer is the same without the C library that the user says.
+    fn note_libc(&mut self) -> Result<(), Fault> {
+        let has_answer = self.progress.targets > self.progress.refused;
+        match self.libc {
+            Some(libc) if has_answer && !self.needs_libc.get() && !self.is_quiet => {
+                self.outputs.refuse(|out, _| {
+                    writeln!(
+                        out,
+                        "note: `--libc {libc}` isn't needed: without it the answers are the same"
+                    )
+                })?;
+                self.outputs.flush()
+            }
+            _ => Ok(()),
+        }
     }
 
     /// The members of the object for what was found.
@@ -274,6 +315,8 @@ impl Run {
         Run {
             call,
             libc: libc(call, arguments),
+            needs_libc: Cell::new(false),
+            versions: versions(call, arguments),
             is_strict: arguments.get_flag("strict"),
             is_quiet: arguments.get_flag("quiet"),
             skips_comments: arguments.get_flag("comments"),
@@ -359,6 +402,7 @@ impl Run {
         }
         // A matrix that isn't whole is none, so that nobody takes it for one.
         self.outputs.end(self.call != Call::Matrix || !is_refused)?;
+        self.note_libc()?;
         self.summarize(false)?;
         Ok(i32::from(is_refused))
     }
@@ -451,6 +495,16 @@ fn libc(call: Call, arguments: &ArgMatches) -> Option<LinuxLibc> {
     requested.parse().ok()
 }
 
+fn versions(call: Call, arguments: &ArgMatches) -> Vec<Version> {
+    match call {
+        Call::Write(_) => {
+            let versions = arguments.get_many("with-version").unwrap_or_default();
+            versions.copied().collect()
+        }
+        _ => Vec::new(),
+    }
+}
+
 fn run(arguments: &ArgMatches) -> Result<i32, Fault> {
     let (name, arguments) = arguments.subcommand().expect("a subcommand is required");
     let call = match name {
@@ -465,10 +519,7 @@ fn run(arguments: &ArgMatches) -> Result<i32, Fault> {
             dialect(arguments, "to").expect("a dialect is required"),
         ),
         "cfg" => Call::Cfg,
-        "write" => Call::Write(
-            dialect(arguments, "to").expect("a dialect is required"),
-            arguments.get_one("with-version").copied(),
-        ),
+        "write" => Call::Write(dialect(arguments, "to").expect("a dialect is required")),
         "what" => Call::What,
         _ => {
             let mut outputs = Outputs::plain();

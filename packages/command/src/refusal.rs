@@ -25,7 +25,7 @@ enum Names<'a> {
     /// Those of every dialect, and of triples.
     OfAll(&'a str),
     OfParts(target_lexicon::Refusal<'a>),
-    OfVendors(&'a str),
+    OfVendors(TripleRef<'a>),
     OfDialect(Dialect, &'a str),
     No,
 }
@@ -51,11 +51,11 @@ pub fn explanation(text: &str, is_strict: bool) -> Result<Parsed<'_>, Refusal<'_
         explanation.sources,
     );
     match (triple.vendor, sources.vendor) {
-        (VendorRef::Custom(vendor), Source::Part(part)) if is_strict => Err(Refusal {
+        (VendorRef::Custom(_), Source::Part(part)) if is_strict => Err(Refusal {
             error: "custom vendor".into(),
             field: Some(Field::Vendor),
             part,
-            names: Names::OfVendors(vendor),
+            names: Names::OfVendors(triple),
             reason: None,
         }),
         _ => Ok(Parsed { triple, sources }),
@@ -66,7 +66,7 @@ pub fn explanation(text: &str, is_strict: bool) -> Result<Parsed<'_>, Refusal<'_
 pub fn read(text: &str, from: From) -> Result<TripleRef<'_>, Refusal<'_>> {
     match from {
         From::Dialect(dialect) => dialect
-            .read(text)
+            .read_loosely(text)
             .map_err(|error| Refusal::of_name(text, dialect, error)),
         _ => tool_names::read(text).map_err(Refusal::of_part),
     }
@@ -74,7 +74,7 @@ pub fn read(text: &str, from: From) -> Result<TripleRef<'_>, Refusal<'_>> {
 
 /// What a name means in each dialect that has it, and as a string that is spelled like a triple.
 pub fn meanings(text: &str) -> Result<Vec<(&'static str, TripleRef<'_>)>, Refusal<'_>> {
-    let of_dialect = |dialect: &Dialect| Some((dialect.name(), dialect.read(text).ok()?));
+    let of_dialect = |dialect: &Dialect| Some((dialect.name(), dialect.read_loosely(text).ok()?));
     let mut meanings: Vec<_> = Dialect::ALL.iter().filter_map(of_dialect).collect();
     if let Ok(triple) = tool_names::read(text) {
         meanings.insert(0, ("triple", triple));
@@ -103,11 +103,11 @@ pub fn dialects_note(command: &str, name: &str) -> Option<String> {
     // GNU's names are spelled like triples.
     let dialects = || Dialect::ALL.iter().filter(|it| **it != Dialect::Gnu);
     let options: Vec<_> = dialects()
-        .filter(|dialect| dialect.read(name).is_ok())
+        .filter(|dialect| dialect.read_loosely(name).is_ok())
         .map(|dialect| format!("`{command}--from {dialect}`"))
         .collect();
     if options.is_empty() {
-        return dialects().find_map(|dialect| match dialect.read(name) {
+        return dialects().find_map(|dialect| match dialect.read_loosely(name) {
             Err(NameError::WithoutTriple(why)) => {
                 Some(format!("it is a name of {dialect} without a triple: {why}"))
             }
@@ -132,15 +132,20 @@ pub fn name_in<'a>(
         .map_err(|error| Refusal::of_written(text, dialect, error))
 }
 
-/// The name with a version that another tool has for a triple.
+/// The name that another tool has for a triple, with the first of these versions that fits.
 pub fn versioned_name_in<'a>(
     dialect: Dialect,
     text: &'a str,
-    (major, minor): Version,
+    versions: &[Version],
     triple: &TripleRef<'_>,
 ) -> Result<Name, Refusal<'a>> {
-    dialect
-        .write_with_version(triple, major, minor)
+    let named = |(major, minor): &Version| dialect.write_with_version(triple, *major, *minor);
+    let found = versions
+        .iter()
+        .map(named)
+        .find(|it| *it != Err(WriteError::OtherVersion));
+    found
+        .unwrap_or(Err(WriteError::OtherVersion))
         .map_err(|error| Refusal::of_written(text, dialect, error))
 }
 
@@ -221,11 +226,24 @@ fn key_of(field: Field) -> Option<&'static str> {
 }
 
 impl Refusal<'_> {
+    /// What is wrong with a name that a dialect doesn't have.
+    pub fn mistake(&self) -> Option<String> {
+        match self.names {
+            Names::OfDialect(dialect, name) => dialect.mistake(name).map(|it| it.to_string()),
+            Names::OfAll(name) => {
+                let mut dialects = Dialect::ALL.iter();
+                let nearest = dialects.find(|it| it.suggestion(name).is_some())?;
+                nearest.mistake(name).map(|it| it.to_string())
+            }
+            _ => None,
+        }
+    }
+
     /// What is suggested for a part of this target.
     pub fn suggestion(&self, target: &str) -> Option<String> {
         let found = match &self.names {
             Names::OfParts(refusal) => refusal.suggestion_in(target),
-            Names::OfVendors(vendor) => tool_names::suggestion(Field::Vendor, vendor),
+            Names::OfVendors(triple) => triple.vendor_suggestion(),
             Names::OfAll(name) => {
                 let mut names = Dialect::ALL.iter().filter_map(|it| it.suggestion(name));
                 return names.next().map(str::to_string);

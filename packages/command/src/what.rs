@@ -5,7 +5,7 @@ use crate::input::{Place, Target};
 use crate::json::{Json, Object};
 use crate::refusal::{reason, Refusal};
 use std::io::{self, Write};
-use target_lexicon::tool_names::{complete, read, Dialect, LinuxLibc, Name, NameError, WriteError};
+use target_lexicon::tool_names::{read, Dialect, LinuxLibc, Name, NameError, WriteError};
 use target_lexicon::TripleRef;
 
 /// What stands around the names of a list: in YAML, JSON, or a line of words with commas.
@@ -45,6 +45,8 @@ pub struct What<'a> {
     meanings: Vec<(TripleRef<'a>, Vec<&'static str>)>,
     without_triple: Vec<(&'static str, &'static str)>,
     libc: Option<LinuxLibc>,
+    /// Whether a meaning states no C library, and has that of `libc` here.
+    pub is_completed: bool,
 }
 
 impl<'a> What<'a> {
@@ -53,9 +55,10 @@ impl<'a> What<'a> {
             meanings: Vec::new(),
             without_triple: Vec::new(),
             libc,
+            is_completed: false,
         };
         for dialect in Dialect::ALL {
-            match dialect.read(text) {
+            match dialect.read_loosely(text) {
                 Ok(triple) => what.add(triple, dialect.name()),
                 Err(NameError::WithoutTriple(why)) => {
                     what.without_triple.push((dialect.name(), why))
@@ -77,10 +80,12 @@ impl<'a> What<'a> {
     }
 
     fn add(&mut self, triple: TripleRef<'a>, tool: &'static str) {
-        let triple = canonical(match self.libc {
-            Some(libc) => complete(&triple, libc),
+        let completed = match self.libc {
+            Some(libc) => triple.with_c_library(libc),
             None => triple,
-        });
+        };
+        self.is_completed |= completed != triple;
+        let triple = canonical(completed);
         match self.meanings.iter_mut().find(|(it, _)| *it == triple) {
             Some((_, tools)) => tools.push(tool),
             None => self.meanings.push((triple, vec![tool])),

@@ -277,6 +277,10 @@ fn json_has_the_same_names_everywhere() {
     assert_eq!(facts[0]["is_unix"], true);
     assert_eq!(facts[0]["long_double_size"], 8);
     assert_eq!(facts[0]["wchar_alignment"], 4);
+    assert_eq!(facts[0]["llvm_target"], "arm64-apple-ios17.0.0");
+    assert_eq!(facts[0]["multiarch_tuple"], Value::Null);
+    facts = json_of(&["facts", "--json", "i686-unknown-linux-gnu"]);
+    assert_eq!(facts[0]["multiarch_tuple"], "i386-linux-gnu");
     facts = json_of(&["facts", "--json", "avr-none"]);
     assert_eq!(facts[0]["float_abi"], Value::Null);
     assert_eq!(facts[0]["data_model"], Value::Null);
@@ -869,7 +873,7 @@ fn the_manual_has_the_name_of_the_command() {
     assert!(page.starts_with(".TH TARGET\\-LEXICON 1 "), "{page}");
 }
 
-/// A shell that isn't there is left out; `packages/command/test` asks for both.
+/// A shell that isn't there is left out; `packages/command/test` says which must be there.
 #[test]
 fn shells_take_the_completions() {
     let zsh = "autoload -U compinit && compinit -u -D && source <($0 completions zsh) && echo $_comps[target-lexicon]";
@@ -881,7 +885,11 @@ fn shells_take_the_completions() {
         let program = env!("CARGO_BIN_EXE_target-lexicon");
         let ran = Command::new(shell).args(["-c", script, program]).output();
         let Ok(ran) = ran else {
-            assert!(std::env::var_os("WITH_SHELLS").is_none(), "no {shell}");
+            let asked = std::env::var("WITH_SHELLS").unwrap_or_default();
+            assert!(
+                !asked.split_whitespace().any(|it| it == shell),
+                "no {shell}"
+            );
             continue;
         };
         let (out, errors, _) = texts(&ran);
@@ -1074,4 +1082,205 @@ fn names_are_translated() {
             _ => assert!(errors.contains(expected), "{row}: {errors}"),
         }
     }
+}
+
+/// How people go from tool to tool: a call, its input, and what it writes.
+const WAYS: [(&[&str], &str, &str); 8] = [
+    (
+        &["translate", "--from", "docker", "--to", "rust", "--libc", "glibc", "linux/amd64,linux/arm64,linux/arm/v7"],
+        "",
+        "x86_64-unknown-linux-gnu\naarch64-unknown-linux-gnu\narmv7-unknown-linux-gnueabihf\n",
+    ),
+    (
+        &["translate", "--from", "docker", "--to", "debian", "--libc", "glibc", "linux/amd64,linux/arm64,linux/arm/v7"],
+        "",
+        "amd64\narm64\narmhf\n",
+    ),
+    (
+        &["translate", "--from", "docker", "--to", "gnu", "--libc", "glibc", "linux/amd64,linux/arm64,linux/arm/v7"],
+        "",
+        "x86_64-linux-gnu\naarch64-linux-gnu\narm-linux-gnueabihf\n",
+    ),
+    (
+        &["translate", "--from", "rust", "--to", "npm"],
+        "x86_64-unknown-linux-gnu\nx86_64-unknown-linux-musl\nx86_64-pc-windows-msvc\naarch64-apple-darwin\n",
+        "linux-x64-gnu\nlinux-x64-musl\nwin32-x64-msvc\ndarwin-arm64\n",
+    ),
+    (
+        &["write", "--to", "python", "--with-version", "2.17,1.2,11.0"],
+        "x86_64-unknown-linux-gnu\naarch64-unknown-linux-gnu\nx86_64-unknown-linux-musl\naarch64-unknown-linux-musl\n\
+         armv7-unknown-linux-gnueabihf\nx86_64-apple-darwin\naarch64-apple-darwin\nx86_64-pc-windows-msvc\n\
+         aarch64-pc-windows-msvc\ni686-pc-windows-msvc\n",
+        "manylinux_2_17_x86_64\nmanylinux_2_17_aarch64\nmusllinux_1_2_x86_64\nmusllinux_1_2_aarch64\n\
+         manylinux_2_17_armv7l\nmacosx_11_0_x86_64\nmacosx_11_0_arm64\nwin_amd64\nwin_arm64\nwin32\n",
+    ),
+    (
+        &["translate", "--from", "uname", "--to", "rust", "--libc", "glibc", "Linux\nx86_64", "Darwin arm64"],
+        "",
+        "x86_64-unknown-linux-gnu\naarch64-apple-darwin\n",
+    ),
+    (
+        &["translate", "--from", "debian", "--to", "rust", "amd64", "armhf"],
+        "",
+        "x86_64-unknown-linux-gnu\narmv7-unknown-linux-gnueabihf\n",
+    ),
+    (
+        &["translate", "--from", "dotnet", "--to", "rust", "--libc", "msvc", "linux-x64", "linux-musl-arm64", "win-x64", "osx-arm64"],
+        "",
+        "x86_64-unknown-linux-gnu\naarch64-unknown-linux-musl\nx86_64-pc-windows-msvc\naarch64-apple-darwin\n",
+    ),
+];
+
+#[test]
+fn one_call_leads_from_tool_to_tool() {
+    for (words, input, expected) in WAYS {
+        let (out, errors, status) = answers_on(words, input);
+        assert_eq!(
+            (out.as_str(), errors.as_str(), status),
+            (expected, "", 0),
+            "{words:?}"
+        );
+    }
+    // Of a list with names that the other tool doesn't have, each of these is refused for a reason.
+    let list = "x86_64-unknown-linux-gnu\nthumbv6m-none-eabi\n";
+    let (out, errors, status) = answers_on(&["translate", "--from", "rust", "--to", "npm"], list);
+    assert_eq!((out.as_str(), status), ("linux-x64-gnu\n", 1));
+    assert!(
+        errors.contains("the tool has no name for the system"),
+        "{errors}"
+    );
+}
+
+#[test]
+fn a_c_library_that_changes_nothing_is_noted() {
+    let note =
+        |libc| format!("note: `--libc {libc}` isn't needed: without it the answers are the same\n");
+    for words in [
+        &[
+            "translate",
+            "--from",
+            "debian",
+            "--to",
+            "rust",
+            "--libc",
+            "glibc",
+            "amd64",
+            "arm64",
+        ] as &[&str],
+        &[
+            "translate",
+            "--from",
+            "oci",
+            "--to",
+            "go",
+            "--libc",
+            "glibc",
+            "linux/amd64",
+        ],
+        &[
+            "write",
+            "--to",
+            "debian",
+            "--libc",
+            "glibc",
+            "x86_64-unknown-linux-gnu",
+        ],
+        &["read", "--from", "go", "--libc", "glibc", "windows/amd64"],
+        &["what", "--libc", "glibc", "darwin/arm64"],
+        &["read", "--json", "--libc", "glibc", "x86_64-linux-gnu"],
+    ] {
+        let (_, errors, status) = answers(words);
+        assert_eq!((errors, status), (note("glibc"), 0), "{words:?}");
+    }
+    // One target that needs it is enough; and where nothing is answered, or nothing asked, nothing is said.
+    for words in [
+        &[
+            "translate",
+            "--from",
+            "oci",
+            "--to",
+            "rust",
+            "--libc",
+            "glibc",
+            "darwin/arm64",
+            "linux/amd64",
+        ] as &[&str],
+        &["write", "--to", "node", "--libc", "musl", "x86_64-linux"],
+        &["read", "--from", "go", "--libc", "msvc", "windows/amd64"],
+        &["what", "--libc", "musl", "linux/amd64"],
+        &["read", "--quiet", "--libc", "glibc", "x86_64-linux-gnu"],
+        &["read", "--libc", "glibc", "foo"],
+        &["read", "x86_64-linux-gnu"],
+    ] {
+        let (_, errors, _) = answers(words);
+        assert!(!errors.contains("isn't needed"), "{words:?}: {errors}");
+    }
+}
+
+/// A dialect, a name that it doesn't have, the name that is suggested or a dash, and the note or a dash.
+const MISTAKES: &str = "\
+go|Linux/AMD64|linux/amd64|capital letters matter
+go|./linux/amd64|linux/amd64|it has a path
+go|linux amd64|linux/amd64|it has a space
+go|x86_64-unknown-linux-gnu|-|it is a name of gnu and rust
+go|linux/amd46|linux/amd64|-
+oci|linux\\amd64|linux/amd64|-
+oci|linux/amd64:latest|-|-
+oci|/usr/lib/linux/amd64|linux/amd64|it has a path
+debian|AMD64|amd64|capital letters matter
+debian|x86-64|amd64|-
+debian|x86_64-linux-gnu|-|it is a name of gnu and zig
+rust|amd64|-|it is a name of debian, gnu and rpm
+rust|X86_64-unknown-linux-gnu|x86_64-unknown-linux-gnu|capital letters matter
+rust|target/x86_64-unknown-linux-gnu/release|x86_64-unknown-linux-gnu|it has a path
+rust|x86_64|-|it is a part of a name, such as `x86_64-unknown-linux-gnu`
+node|linux/amd64|-|it is a name of go and oci
+node|win32-amd64|win32-x64|-
+node|Linux-x64|linux-x64|capital letters matter
+python|Win_AMD64|win_amd64|capital letters matter
+uname|Linux|-|it is a part of a name, such as `Linux x86_64`
+uname|linux x86_64|Linux x86_64|capital letters matter
+rpm|arm64|aarch64|it is a name of debian and gnu
+dotnet|Win-x64|win-x64|capital letters matter
+conda|linux64|linux-64|-
+zig|x86_64-unknown-linux-gnu|-|it is a name of gnu and rust
+nix|x86_64-macos|-|it is a name of gnu and zig
+gnu|x86_64-linux-gnuu|x86_64-linux-gnu|-";
+
+#[test]
+fn mistakes_in_names_are_explained() {
+    for row in MISTAKES.lines() {
+        let columns: Vec<&str> = row.split('|').collect();
+        let [dialect, name, suggestion, note] = columns[..] else {
+            panic!("{row}");
+        };
+        let (_, errors, status) = answers(&["read", "--from", dialect, name]);
+        let mut lines = errors.lines().skip(2);
+        let carets = lines.next().unwrap();
+        let suggested = match suggestion {
+            "-" => carets.ends_with('^'),
+            _ => carets.ends_with(&format!("^ did you mean `{suggestion}`?")),
+        };
+        assert!(suggested, "{row}: {errors}");
+        let noted = lines.next().map(|line| line.trim_start().to_string());
+        let expected = (note != "-").then(|| format!("note: {note}"));
+        assert_eq!((noted, status), (expected, 1), "{row}");
+    }
+    // A name that no tool has.
+    let (_, errors, _) = answers(&["what", "Linux-AMD64"]);
+    assert!(errors.contains("did you mean"), "{errors}");
+}
+
+#[test]
+fn facts_without_an_answer_say_why() {
+    let out = answers(&["facts", "avr"]).0;
+    let dashes: Vec<&str> = out.lines().filter(|line| line.contains("  -  ")).collect();
+    assert_eq!(dashes.len(), 12, "{out}");
+    assert!(dashes.contains(&"  version                     -  the target states none"));
+    assert!(dashes.contains(&"  default_calling_convention  -  none is usual on the system"));
+    assert!(dashes.contains(&"  multiarch_tuple             -  Debian has no architecture for it, or it depends on the C library"));
+    // Only the version and the profile aren't stated.
+    let out = answers(&["facts", "armv7-unknown-linux-gnueabihf"]).0;
+    let without: Vec<_> = out.lines().filter(|line| line.contains("  -  ")).collect();
+    assert!(without.iter().map(|line| line.split_whitespace().next().unwrap()).eq(["version", "arm_profile"]), "{out}");
 }

@@ -1,5 +1,5 @@
-// The page: shows the targets of the text field in the table. `build` puts target-lexicon.js and this file into one.
-import { FIELDS, ParseError, Triple, load } from "../src/target-lexicon.js";
+// The page: shows the targets and names of the text field in the table. `build` puts target-lexicon.js, the module and this file into one script.
+import { FIELDS, ParseError, Triple, load, meanings } from "../src/target-lexicon.js";
 
 const LABELS = {
   architecture: "Architecture", vendor: "Vendor", operatingSystem: "System", environment: "Environment", binaryFormat: "Format",
@@ -8,8 +8,12 @@ const LABELS = {
 const READ = ["debian", "go", "oci", "node", "gnu", "python", "rust", "uname", "rpm", "apk", "pacman", "dotnet", "conda", "zig", "nix"];
 const WRITTEN = ["debian", "go", "oci", "node", "gnu", "python", "rust", "rpm", "apk", "pacman", "dotnet", "conda", "zig", "nix"];
 // end of what is written
-const TOOLS = { oci: "Container images", gnu: "GNU prefix" };
-const toolName = (dialect) => TOOLS[dialect] ?? dialect[0].toUpperCase() + dialect.slice(1);
+// The tools as they write themselves, where that isn't the dialect's name with a capital. A string that is only spelled like a triple is LLVM's.
+const TOOLS = { oci: "containers", gnu: "GNU", rust: "rustc", uname: "uname", rpm: "RPM", apk: "apk", pacman: "pacman", dotnet: ".NET", conda: "conda",
+  spelling: "LLVM", triple: "a triple" };
+const toolName = (tool) => TOOLS[tool] ?? tool[0].toUpperCase() + tool.slice(1);
+// The linkers of an object format, as docs/RECIPES.md lists them.
+const LINKERS = { elf: "ld, ld.lld, mold", macho: "ld64, ld64.lld", coff: "link.exe, lld-link", wasm: "wasm-ld", xcoff: "AIX's ld" };
 // The targets of which there are chips, with the word for one and for more. Those of a kind that is a mistake come first.
 const KINDS = { all: ["target", "targets"], refused: ["refused"], suspicious: ["suspicious"], duplicate: ["duplicate", "duplicates"] };
 const ORDER = ["refused", "suspicious", "other"];
@@ -38,6 +42,7 @@ function shown(text) {
 }
 const code = (text) => element("code", {}, shown(text));
 const small = (...inside) => element("small", {}, ...inside);
+const dim = (...inside) => element("span", { class: "dim" }, ...inside);
 const cell = (label, ...inside) => {
   const value = element("div", {}, ...inside);
   return element("td", { role: "cell", "data-label": label }, value);
@@ -52,6 +57,7 @@ const bare = (item) => item.replace(AROUND, "").replace(/^- /, "").replace(AROUN
 
 function markOf({ origin, part }, text, isCustom) {
   if (isCustom) return [small("custom")];
+  if (origin === "chosen") return [small("chosen")];
   if (origin === "alias") return [part === text && part.includes("-") ? small("from the whole") : small("alias ", code(part))];
   return origin === "implied" ? [element("span", { class: "aside" }, " implied")] : [];
 }
@@ -64,7 +70,7 @@ function fieldCell(triple, name, source, text) {
   return cell(LABELS[name], value, ...markOf(source, text, name === "vendor" && triple.hasCustomVendor));
 }
 
-const answerCell = (label, answer) => cell(label, answer === null ? element("span", { class: "dim" }, "none") : `${answer}`);
+const answerCell = (label, answer) => cell(label, answer === null ? dim("none") : `${answer}`);
 
 function offer(name, text, fixed) {
   const button = element("button", { type: "button", class: "offer", "aria-label": `${shown(name)}: replace ${shown(text)} by ${shown(fixed)}` }, shown(name));
@@ -79,11 +85,11 @@ const question = (name, text, { start, end }) =>
 const header = (text, ...inside) => element("th", { role: "rowheader", scope: "row" },
   element("div", { class: "target" }, ...inside.map((it) => typeof it === "string" ? shown(it) : it)));
 
-/** The printed and the canonical form, where they aren't the target. */
+/** The printed form, where that is neither the target nor its key, and the key. */
 function* forms(triple, text) {
   const printed = `${triple}`, { canonical } = triple;
   if (printed !== text && printed !== canonical) yield small("prints ", code(printed));
-  if (canonical !== text) yield small("is ", code(canonical));
+  yield canonical === text ? small("is its key") : small("key ", code(canonical));
 }
 
 function foldButton(row, text) {
@@ -92,62 +98,141 @@ function foldButton(row, text) {
     row.classList.toggle("folded", isFolded);
     button.setAttribute("aria-expanded", !isFolded);
   };
-  button.addEventListener("click", () => row.fold(!row.classList.contains("folded")));
+  button.addEventListener("click", () => {
+    row.fold(!row.classList.contains("folded"));
+    if (!row.classList.contains("folded")) row.showNames(true);
+  });
   return button;
 }
 
+const listOf = (words) => words.length < 2 ? words.join() : `${words.slice(0, -1).join(", ")} and ${words[words.length - 1]}`;
+const toolsOf = (tools) => listOf(tools.map(toolName));
+
+/** A triple with the environment that is chosen for those that state none. */
+const CHOICES = ["linux", "windows"];
+const completed = (triple) => CHOICES.map((id) => byId(id).value).filter(Boolean).reduce((it, library) => it.complete(library), triple);
+
+const pair = (term, ...answer) => element("div", {}, element("dt", {}, term), element("dd", {}, ...answer));
+
+/** What each tool calls a triple, and for those that have no name why. */
+function toolNames(triple) {
+  const list = element("dl"), without = new Map();
+  for (const dialect of WRITTEN) {
+    const name = triple.nameIn(dialect);
+    if (name !== null) list.append(pair(toolName(dialect), code(name)));
+    else without.set(triple.reasonWithoutName(dialect), [...without.get(triple.reasonWithoutName(dialect)) ?? [], dialect]);
+  }
+  return [list, ...[...without].map(([reason, tools]) => element("p", {}, dim(`None in ${toolsOf(tools)}: `), `${reason}.`))];
+}
+
+/** What a driver asks, where there is an answer. */
+function factsOf(triple) {
+  const facts = triple.facts(), list = element("dl"), isMingw = triple.operatingSystem === "windows" && triple.environment.startsWith("gnu");
+  const sizes = ["short", "int", "long", "longLong", "float", "double"].filter((it) => facts[`${it}Size`] !== null)
+    .map((it) => `${it === "longLong" ? "long long" : it} ${facts[`${it}Size`]}`);
+  const layout = (size, alignment) => size && `${size}, aligned to ${alignment}`;
+  for (const [term, answer] of Object.entries({
+    "object format": facts.objectFormat, linker: isMingw ? "ld of mingw-w64, ld.lld" : LINKERS[facts.objectFormat], "C library": facts.cLibrary,
+    "floating point": facts.floatAbi, "C types in bytes": sizes.join(", "), "long double": layout(facts.longDoubleSize, facts.longDoubleAlignment),
+    wchar_t: layout(facts.wcharSize, facts.wcharAlignment), "family": facts.family,
+    "Arm version": facts.armVersion, "Arm profile": facts.armProfile, "like Unix": facts.isUnix ? "yes" : "no", "LLVM target": triple.llvmTarget(),
+    "Debian's multiarch tuple": triple.multiarchTuple(),
+  })) if (answer) list.append(pair(term, answer));
+  return list;
+}
+
+/** The cell with the button for names and facts, and the cell of these, which are looked up when they are shown. */
+function detailCells(triple, text) {
+  const inside = element("div"), details = element("td", { role: "cell", class: "names", colspan: 11, "aria-colspan": 11, hidden: "" }, inside);
+  const button = element("button", { type: "button", "aria-label": `Names and facts: ${shown(text)}` }, element("span", {}, "names"));
+  const show = (isOpen) => {
+    details.hidden = !isOpen;
+    button.setAttribute("aria-expanded", isOpen);
+    if (!isOpen || inside.firstChild) return;
+    inside.append(element("h2", {}, "In each tool"), ...toolNames(triple), element("h2", {}, "For a linker and a driver"), factsOf(triple));
+  };
+  button.addEventListener("click", () => show(details.hidden));
+  return [show, element("td", { role: "cell", class: "elsewhere" }, button), details];
+}
+
+/** What a name means. That a single word is a bare machine to GNU nobody means who has the name from another tool. */
+function meaningsOf(text) {
+  const { meanings: found, withoutTriple } = meanings(text), isBare = ({ tools }) => !text.includes("-") && tools.every((it) => it === "gnu");
+  const isNamed = Object.keys(withoutTriple).length > 0 || found.some((it) => !isBare(it));
+  return { found: isNamed ? found.filter((it) => !isBare(it)) : found, withoutTriple };
+}
+
 /** The canonical form of what a target means to tools of GNU and LLVM, if that has a known vendor. */
-function meaningElsewhere(text) {
+function spelledTriple(text) {
   try {
     const triple = Triple.read(text);
-    return triple.hasCustomVendor ? null : triple.canonical;
+    return triple.hasCustomVendor ? null : triple.settle();
   } catch (error) {
     if (!(error instanceof ParseError)) throw error;
     return null;
   }
 }
 
-const meaning = (meant, text) => ["Other tools mean ", offer(meant, text, meant), "."];
-
-/** The cell with the button for the names in other tools, and the cell of these, which are looked up when they are shown. */
-function namesCells(triple, text) {
-  const list = element("dl"), cell = element("td", { role: "cell", class: "names", colspan: 11, "aria-colspan": 11, hidden: "" }, list);
-  const button = element("button", { type: "button", "aria-label": `Names in other tools: ${shown(text)}` }, element("span", {}, "names"));
-  const show = (isOpen) => {
-    cell.hidden = !isOpen;
-    button.setAttribute("aria-expanded", isOpen);
-    if (!isOpen || list.firstChild) return;
-    for (const dialect of WRITTEN) {
-      const name = triple.nameIn(dialect), answer = name === null ? element("span", { class: "dim" }, "none") : code(name);
-      list.append(element("div", {}, element("dt", {}, toolName(dialect)), element("dd", {}, answer)));
-    }
-  };
-  button.addEventListener("click", () => show(cell.hidden));
-  return [show, element("td", { role: "cell", class: "elsewhere" }, button), cell];
+/** What a name means that is a triple with a custom vendor. GNU drops each vendor, so it counts only where LLVM knows the name too. */
+function meaningsOfCustom(text, { found, withoutTriple }) {
+  const others = found.filter(({ tools }) => tools.some((it) => it !== "gnu" && it !== "triple")), spelled = spelledTriple(text);
+  return { found: spelled ? [{ triple: spelled, tools: ["spelling"] }, ...others] : others, withoutTriple };
 }
 
-function parsedRow({ text, triple, fields, suggestion }) {
-  const facts = triple.facts(), { part, start, end } = fields.vendor;
-  const meant = triple.hasCustomVendor ? meaningElsewhere(text) : null, isSuspicious = Boolean(meant || suggestion);
-  const head = isSuspicious && part !== null
-    ? header(text, text.slice(0, start), element("span", { class: "odd" }, shown(part)), text.slice(end)) : header(text, text);
+/** What tools mean by a string, except by the meaning that its row shows: a line for each, or the reason why no triple has the name. */
+function* otherMeanings({ found, withoutTriple }, text, own) {
+  for (const { triple, tools } of found) {
+    const named = tools.filter((it) => it !== "triple");
+    if (named.length && triple.canonical !== own) yield element("p", {}, `In ${toolsOf(named)} it is `, offer(triple.canonical, text, triple.canonical), ".");
+  }
+  const reasons = new Map();
+  for (const [tool, reason] of Object.entries(withoutTriple)) reasons.set(reason, [...reasons.get(reason) ?? [], tool]);
+  for (const [reason, tools] of reasons) yield element("p", {}, `In ${toolsOf(tools)} no triple means it: ${reason}.`);
+}
+
+/** A row of what a triple is; `fields` says where each value comes from. */
+function tripleRow(head, given, fields, text, isSuspicious, others) {
+  const triple = completed(given), facts = triple.facts();
+  const sources = triple.environment === given.environment ? fields : { ...fields, environment: { origin: "chosen", part: triple.environment } };
   const row = element("tr", { role: "row", class: isSuspicious ? "suspicious" : "" }, head);
   head.classList.add("folds");
   head.append(...forms(triple, text));
-  if (meant) head.append(small(...meaning(meant, text)));
-  else if (suggestion) head.append(small(...question(suggestion, text, fields.vendor)));
-  row.append(...FIELDS.map((name) => fieldCell(triple, name, fields[name], text)));
+  row.append(...FIELDS.map((name) => fieldCell(triple, name, sources[name], text)));
   if (isSuspicious) row.children[2].querySelector("code").className = "odd";
   if (facts.objectFormat !== triple.binaryFormat) row.lastChild.append(small("objects ", code(facts.objectFormat)));
-  const [showNames, ...names] = namesCells(triple, text);
+  const [showNames, ...details] = detailCells(triple, text);
   row.append(answerCell("Byte order", facts.endianness),
     answerCell("Pointers", facts.pointerWidth && `${facts.pointerWidth} bits`), answerCell("Convention", facts.defaultCallingConvention),
-    answerCell("Data model", facts.dataModel), ...names);
+    answerCell("Data model", facts.dataModel), details[0]);
+  if (others.length) row.append(element("td", { role: "cell", class: "others", colspan: 11, "aria-colspan": 11 }, ...others));
+  row.append(details[1]);
   row.canonical = triple.canonical;
   row.kind = isSuspicious ? "suspicious" : "other";
   row.showNames = showNames;
   row.double = head.appendChild(small());
   head.append(foldButton(row, text));
+  return row;
+}
+
+function parsedRow({ text, triple, fields, suggestion }, all) {
+  const meant = triple.hasCustomVendor ? meaningsOfCustom(text, all) : all;
+  const { part, start, end } = fields.vendor, known = triple.hasCustomVendor && meant.found.length > 0;
+  const isSuspicious = Boolean(known || suggestion);
+  const head = isSuspicious && part !== null
+    ? header(text, text.slice(0, start), element("span", { class: "odd" }, shown(part)), text.slice(end)) : header(text, text);
+  const others = [...otherMeanings(meant, text, triple.canonical)];
+  if (suggestion && !known) head.append(small(...question(suggestion, text, fields.vendor)));
+  return tripleRow(head, triple, fields, text, isSuspicious, others);
+}
+
+/** A row of a name of tools that is no triple: its first meaning is shown. */
+function namedRow(text, meant) {
+  const [{ triple, tools }] = meant.found, head = header(text, text);
+  const fields = Object.fromEntries(FIELDS.map((name) =>
+    [name, name === "binaryFormat" ? { origin: "implied", part: null } : { origin: "given", part: triple[name] === "unknown" ? null : triple[name] }]));
+  head.append(small("a name of ", toolsOf(tools)));
+  const row = tripleRow(head, triple, fields, text, false, [...otherMeanings(meant, text, triple.canonical)]);
+  row.isName = true;
   return row;
 }
 
@@ -158,36 +243,26 @@ function soFar(fields) {
   return [small("Before it: ", ...parts)];
 }
 
-const listOf = (words) => words.length < 2 ? words.join() : `${words.slice(0, -1).join(", ")} and ${words[words.length - 1]}`;
-
-/** What a refused target is as a name of other tools: for each meaning, which tools have the name, and the triple or the reason why there is none. */
-function* knownNames(text) {
+/** The nearest names of tools for one that nobody knows: for each name, which tools have it. */
+function* nearestNames(text) {
   const found = new Map();
   for (const dialect of READ) {
-    if (dialect === "gnu") continue; // its names are spelled like triples, of which `meaningElsewhere` says what they mean
     try {
-      const meant = Triple.read(text, dialect).canonical;
-      found.set(meant, { meant, tools: [...found.get(meant)?.tools ?? [], dialect] });
+      Triple.read(text, dialect);
     } catch (error) {
       if (!(error instanceof ParseError)) throw error;
-      if (error.reason !== null) found.set(error.reason, { reason: error.reason, tools: [...found.get(error.reason)?.tools ?? [], dialect] });
+      if (error.suggestion !== null && dialect !== "gnu") found.set(error.suggestion, [...found.get(error.suggestion) ?? [], dialect]);
     }
   }
-  for (const { meant, reason, tools } of found.values()) {
-    const known = ["A name of ", listOf(tools.map((it) => it === "oci" ? "container images" : toolName(it)))];
-    yield element("p", {}, ...known, ...(meant ? [", which is ", offer(meant, text, meant), "."] : [`. No triple means it: ${reason}.`]));
-  }
+  for (const [name, tools] of found) yield element("p", {}, "Did you mean ", offer(name, text, name), ` of ${toolsOf(tools)}?`);
 }
 
-function refusedRow({ text, error, fields, suggestion }) {
+function refusedRow({ text, error, fields, suggestion }, meant) {
   const part = element("strong", { class: "wrong" }, shown(error.part) || "(empty)");
   const head = header(text, text.slice(0, error.start), part, text.slice(error.end));
-  const inside = [element("p", { class: "message" }, error.message.replace(error.part, () => shown(error.part)))];
-  const meant = meaningElsewhere(text), names = [...knownNames(text)];
-  if (names.length) inside.push(...names);
-  else if (meant) inside.push(element("p", {}, ...meaning(meant, text)));
-  else if (suggestion) inside.push(element("p", {}, ...question(suggestion, text, error)));
-  inside.push(...soFar(fields));
+  const others = [...otherMeanings(meant, text, null)];
+  const inside = others.length ? others : [element("p", { class: "message" }, error.message.replace(error.part, () => shown(error.part)))];
+  if (!others.length) inside.push(...(suggestion ? [element("p", {}, ...question(suggestion, text, error))] : nearestNames(text)), ...soFar(fields));
   const answer = element("td", { role: "cell", class: "refused", colspan: 10, "aria-colspan": 10 }, ...inside);
   const row = element("tr", { role: "row", class: "refused" }, head, answer);
   row.kind = "refused";
@@ -195,7 +270,8 @@ function refusedRow({ text, error, fields, suggestion }) {
 }
 
 function rowOf(text) {
-  const explained = Triple.explain(text), row = explained.error ? refusedRow(explained) : parsedRow(explained);
+  const explained = Triple.explain(text), meant = meaningsOf(text);
+  const row = !explained.error ? parsedRow(explained, meant) : meant.found.length ? namedRow(text, meant) : refusedRow(explained, meant);
   row.target = text;
   return row;
 }
@@ -284,7 +360,7 @@ function group(kind, index) {
 /** Makes the rows those of the lines, and keeps each row that is there. A later call ends an earlier one. */
 async function show() {
   const run = ++runs, lines = linesOf(field.value), progress = byId("progress"), begin = performance.now();
-  const found = rowsFor(lines), first = new Map(), counts = { all: lines.length, refused: 0, suspicious: 0, other: 0, duplicate: 0 };
+  const found = rowsFor(lines), first = new Map(), counts = { all: lines.length, refused: 0, suspicious: 0, other: 0, duplicate: 0, named: 0 };
   const places = Object.fromEntries(ORDER.map((kind) => [kind, {}]));
   let until = performance.now() + SLICE;
   table.hidden = lines.length === 0;
@@ -303,6 +379,7 @@ async function show() {
     if (row === place.next) place.next = place.next.nextElementSibling;
     else place.body.insertBefore(row, place.next);
     if (row.canonical && markDouble(row, first)) counts.duplicate++;
+    if (row.isName) counts.named++;
     if (performance.now() < until) continue;
     if (performance.now() - begin > 300) {
       progress.hidden = false;
@@ -319,9 +396,10 @@ async function show() {
   showCounts(counts);
   if (lines.length) {
     const more = ["suspicious", "duplicate"].filter((kind) => counts[kind]).map((kind) => `, ${chipOf(kind).textContent}`).join("");
-    say(`${chipOf("all").textContent}: ${countOf(lines.length - counts.refused)} parsed, ${chipOf("refused").textContent}${more}.`, true);
+    const named = counts.named ? `, ${countOf(counts.named)} named by tools` : "";
+    say(`${chipOf("all").textContent}: ${countOf(lines.length - counts.refused - counts.named)} parsed${named}, ${chipOf("refused").textContent}${more}.`, true);
   } else {
-    say("No targets. Paste some above, one a line or as a list, such as what `rustc --print target-list` writes.");
+    say("No targets. Paste some above, or names of any tool: one a line or as a list, such as what `rustc --print target-list` writes.");
   }
   showLink(lines);
 }
@@ -330,6 +408,12 @@ const chipOf = (kind) => byId("chips").querySelector(`[data-show=${kind}]`);
 const countOf = (count) => count.toLocaleString("en");
 
 // ---- the link and the copy
+
+/** What is chosen, as the query of a link. */
+const chosen = () => {
+  const query = new URLSearchParams(CHOICES.filter((id) => byId(id).value).map((id) => [id, byId(id).value])).toString();
+  return query && `?${query}`;
+};
 
 const hashOf = (lines) => "#" + lines.map((line) => encodeURIComponent(line.toWellFormed?.() ?? line)).join(",");
 
@@ -349,7 +433,7 @@ function showLink(lines) {
   const fits = hash.length <= LONGEST_LINK && (hash !== "#" || !lines.length);
   byId("link").hidden = !fits;
   byId("link_status").hidden = fits;
-  byId("link").href = fits ? hash : "#";
+  byId("link").href = fits ? `${location.pathname}${chosen()}${hash}` : "#";
 }
 
 function followLink() {
@@ -370,12 +454,26 @@ function matrixEntry(text) {
     return { ...place, error: reason, part, start: from, end: from + size, field: name, suggestion };
   }
   const fields = FIELDS.flatMap((name) => [[name, triple[name]], ...(name === "operatingSystem" ? [["version", versionOf(triple)]] : [])]);
-  const facts = { ...Object.fromEntries(fields), ...triple.facts(), printed: `${triple}`, canonical: triple.canonical };
+  const facts = { ...Object.fromEntries(fields), ...triple.facts(), llvmTarget: triple.llvmTarget(), multiarchTuple: triple.multiarchTuple(), printed: `${triple}`, canonical: triple.canonical };
   return { ...place, ...Object.fromEntries(Object.entries(facts).map(([name, fact]) => [snakeCase(name), fact])) };
 }
 
-async function copyMatrix() {
-  const text = JSON.stringify(linesOf(field.value).map(matrixEntry), null, 2);
+/** What `target-lexicon what --json` writes of a name, with what is chosen. */
+function nameEntry(text) {
+  const { meanings: found, withoutTriple } = meanings(text), merged = new Map();
+  for (const { triple, tools } of found) {
+    const it = completed(triple), { canonical } = it, none = WRITTEN.filter((dialect) => it.nameIn(dialect) === null);
+    const entry = { canonical, tools: [...merged.get(canonical)?.tools ?? [], ...tools], names: Object.fromEntries(WRITTEN.map((dialect) => [dialect, it.nameIn(dialect)])),
+      reasons: Object.fromEntries(none.map((dialect) => [dialect, it.reasonWithoutName(dialect)])) };
+    merged.set(canonical, entry);
+  }
+  const place = { target: text, file: null, line: null };
+  if (!found.length && !Object.keys(withoutTriple).length) return { ...place, error: "no tool has the name" };
+  return { ...place, meanings: [...merged.values()], without_triple: withoutTriple };
+}
+
+async function copy(button, entryOf) {
+  const text = JSON.stringify(linesOf(field.value).map(entryOf), null, 2);
   try {
     await navigator.clipboard.writeText(text);
   } catch {
@@ -385,7 +483,7 @@ async function copyMatrix() {
     hidden.select();
     document.execCommand("copy");
     hidden.remove();
-    byId("copy").focus();
+    button.focus();
   }
   say(`Copied ${chipOf("all").textContent} as JSON.`);
 }
@@ -401,9 +499,7 @@ function clear() {
 // ---- the beginning
 
 async function begin() {
-  const response = await fetch("target-lexicon.wasm");
-  if (!response.ok) throw new Error(`target-lexicon.wasm: ${response.status} ${response.statusText}`);
-  await load(await response.arrayBuffer());
+  await load(Uint8Array.from(atob(MODULE), (it) => it.charCodeAt(0)));
   let waiting;
   field.addEventListener("input", () => {
     clearTimeout(waiting);
@@ -413,7 +509,16 @@ async function begin() {
     followLink();
     show();
   });
-  byId("copy").addEventListener("click", copyMatrix);
+  for (const [id, entryOf] of [["copy_names", nameEntry], ["copy_facts", matrixEntry]]) byId(id).addEventListener("click", ({ currentTarget }) => copy(currentTarget, entryOf));
+  const query = new URLSearchParams(location.search);
+  for (const id of CHOICES) {
+    byId(id).value = query.get(id) ?? "";
+    if (byId(id).selectedIndex < 0) byId(id).value = "";
+    byId(id).addEventListener("change", () => {
+      for (const body of [...table.tBodies]) body.remove();
+      show();
+    });
+  }
   byId("clear").addEventListener("click", clear);
   byId("chips").addEventListener("click", ({ target }) => target.dataset.show && showOnly(target.dataset.show));
   followLink();

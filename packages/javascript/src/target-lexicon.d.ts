@@ -152,46 +152,67 @@ export type DataModel = "LP32" | "ILP32" | "LLP64" | "LP64" | "ILP64";
 // written by tools/names/write: the answers of c_library for TypeScript
 export type CLibrary = "bionic" | "glibc" | "mingw" | "msvc" | "musl" | "newlib" | "relibc" | "system" | "uclibc";
 // end of what is written
+// written by tools/names/write: the answers of arm_profile for TypeScript
+export type ArmProfile = "A" | "R" | "M";
+// end of what is written
 // written by tools/names/write: the answers of float_abi for TypeScript
 export type FloatAbi = "soft" | "hard";
 // end of what is written
 
 /** What a compiler asks of a triple; null where there is no answer. */
 export interface Facts {
+  // written by tools/names/write: the facts for TypeScript
+  /** The byte order. */
   endianness: Endianness | null;
-  /** In bits. It may be known where there is no data model. */
+  /** The bits of a pointer. They may be known where there is no data model, and the environment `gnux32` counts. */
   pointerWidth: 16 | 32 | 64 | null;
+  /** The default calling convention of C. */
   defaultCallingConvention: CallingConvention | null;
+  /** The data model of C. Sizes of C's types may be known without one. */
   dataModel: DataModel | null;
-  /** The sizes of C's types, in bytes, by the data model. */
+  /** The bytes of C's `short`. */
   shortSize: number | null;
+  /** The bytes of C's `int`. */
   intSize: number | null;
+  /** The bytes of C's `long`. On bare metal and Cygwin, which have no data model, the sizes are those of the compilers. */
   longSize: number | null;
+  /** The bytes of C's `long long`. */
   longLongSize: number | null;
+  /** The bytes of C's `float`. */
   floatSize: number | null;
+  /** The bytes of C's `double`. */
   doubleSize: number | null;
-  /** The binary format that the other fields imply. */
+  /** The binary format that the other fields imply, as upstream has it: ELF for UEFI. */
   impliedFormat: BinaryFormat;
-  /** The format that rustc and LLVM write, where the triple leaves it open: COFF for UEFI, whose `binaryFormat` is ELF. */
+  /** The format that toolchains write, where the triple leaves it open: COFF for UEFI. It gives the linker. */
   objectFormat: BinaryFormat;
-  /** All of 32-bit Arm, Thumb too, is `arm`. */
+  /** The family of the architecture: all of 32-bit Arm, Thumb too, is `arm`; AArch64 is its own. */
   family: Family;
   /** Whether the architecture is one of 32-bit Arm whose name begins with `thumb`. */
   isThumb: boolean;
   /** Whether the system is one of Apple's. Only these may have a version. */
   isLikeDarwin: boolean;
+  /** Whether the vendor is a custom one. */
   hasCustomVendor: boolean;
-  /** The C library that the triple states; `system` is one that no other system has. */
+  /** The C library that the triple states, by its environment or by a system that has only one. */
   cLibrary: CLibrary | null;
-  /** How floating-point arguments are passed: in integer registers, or in floating-point registers. */
+  /** How floating-point arguments are passed: known for 32-bit Arm, and where the triple says `softfloat`. */
   floatAbi: FloatAbi | null;
   /** Whether rustc counts the system to its family `unix`. */
   isUnix: boolean;
-  /** The layouts of C's `long double` and `wchar_t`, in bytes. */
+  /** The bytes of C's `long double`. */
   longDoubleSize: number | null;
+  /** The alignment of C's `long double` in bytes. */
   longDoubleAlignment: number | null;
+  /** The bytes of C's `wchar_t`. */
   wcharSize: number | null;
+  /** The alignment of C's `wchar_t` in bytes. */
   wcharAlignment: number | null;
+  /** The version of a 32-bit Arm architecture. */
+  armVersion: number | null;
+  /** The profile of a 32-bit Arm architecture, where its name states one. */
+  armProfile: ArmProfile | null;
+  // end of what is written
 }
 
 /** A part of a string that `Triple.read` reads as other names, with dashes between them. The range is in units of UTF-16. */
@@ -213,7 +234,7 @@ export class ParseError extends Error {
   readonly end: number;
   /** The known name that the part may mean; of an unknown name in a dialect, the nearest of its names. */
   readonly suggestion: string | null;
-  /** Why a name of a dialect means no triple; null for an unknown name, and for any string that isn't one. */
+  /** Why a name of a dialect means no triple, or isn't translated, and what would help; null for any other string. */
   readonly reason: string | null;
   /** Whether `translate` has a name with a C library that is said. */
   readonly needsLibc: boolean;
@@ -272,6 +293,8 @@ export class Triple {
    * API level. `manylinux_2_17_x86_64` has the version `{ major: 2, minor: 17 }`.
    */
   nameIn(dialect: Dialect, version?: GivenVersion): string | null;
+  /** Why `nameIn` has no name for these arguments, and what would help: `it depends on the C library: say glibc or musl`. Null if it has one. */
+  reasonWithoutName(dialect: Dialect, version?: GivenVersion): string | null;
   /** The names in all dialects, with null for those that have none. */
   names(): Record<(typeof DIALECTS)[number], string | null>;
   /** The triple with the usual environment of a C library, if it is of Linux and states none; any other one as it is. */
@@ -286,6 +309,15 @@ export class Triple {
   /** Whether the canonical forms of both are equal. */
   sameTarget(other: Triple): boolean;
   facts(): Facts;
+  /**
+   * The values of rustc's cfg options, as Cargo's variables such as `CARGO_CFG_TARGET_OS` have them: of several families there is a comma
+   * between them, and an option without a value, such as `unix`, is an empty string.
+   */
+  rustcCfg(): Record<string, string>;
+  /** The string that LLVM and clang take for the target, such as `arm64-apple-macosx` for `aarch64-apple-darwin`. */
+  llvmTarget(): string;
+  /** Debian's multiarch tuple, such as `i386-linux-gnu`, or null if Debian has no architecture for the triple. */
+  multiarchTuple(): string | null;
 }
 
 /**
@@ -294,6 +326,16 @@ export class Triple {
  * latter to one of the former, say `libc`. Throws a ParseError if the name isn't read, or what it means has no name.
  */
 export function translate(name: string, from: Dialect | null, to: Dialect, libc?: LinuxLibc | null): string;
+
+/** What a name means: each triple, with those that mean it, and the reason of each dialect that has the name for no triple. */
+export interface Meanings {
+  /** `triple` is a string that parses, and `spelling` one that is spelled like a triple, as `Triple.read` reads it. */
+  readonly meanings: readonly { readonly triple: Triple; readonly tools: readonly ((typeof DIALECTS)[number] | "triple" | "spelling")[] }[];
+  readonly withoutTriple: Readonly<Partial<Record<(typeof DIALECTS)[number], string>>>;
+}
+
+/** What a name of any tool means, in canonical form; a string that nobody knows has no meaning. `triple.names()` has the other tools' names. */
+export function meanings(text: string): Meanings;
 
 /**
  * The canonical string of each target, or null for one that is refused. It is one call of the module for all targets, so that a long list

@@ -35,14 +35,18 @@ const CONVENTIONS = [null, "SystemV", "WasmBasicCAbi", "WindowsFastcall", "Apple
 const MODELS = [null, "LP32", "ILP32", "LLP64", "LP64", "ILP64"];
 const C_LIBRARIES = [null, "bionic", "glibc", "mingw", "msvc", "musl", "newlib", "relibc", "system", "uclibc"];
 const FLOAT_ABIS = [null, "soft", "hard"];
+const ARM_PROFILES = [null, "A", "R", "M"];
 const LINUX_LIBCS = [null, "glibc", "musl", "msvc", "mingw", "gnullvm"];
 // end of what is written
 
 // Where the structs of target_lexicon.h are, after the module's own data, with pointers and sizes of 32 bits. Strings and buffers
 // follow them. In a triple the numbers are at 0 (16 bits), 2, 3, 4, 5, 6, 7, 8 (8 bits each) and 10 (16 bits); the string of a
 // custom vendor and its size are at 12 and 16.
-const FIRST = 0, SECOND = 20, LENGTH = 40, ANSWER = 44, ERROR = 48, FACTS = 60, SOURCE_TABLE = 84, TEXTS = 144;
-const VENDOR = 12, SOURCE_SIZE = 12, FACTS_SIZE = 23;
+const FIRST = 0, SECOND = 20, LENGTH = 40, ANSWER = 44, ERROR = 48, FACTS = 60, VENDOR = 12, SOURCE_SIZE = 12;
+// written by tools/names/write: the size of the facts for JavaScript
+const FACTS_SIZE = 25;
+// end of what is written
+const SOURCE_TABLE = FACTS + ((FACTS_SIZE + 3) & ~3), TEXTS = SOURCE_TABLE + FIELDS.length * SOURCE_SIZE;
 const RANGE = ERROR + 4; // that of an error, or of a change
 const PAGE = 65536;
 const SHORT = 64; // up to here a loop over ASCII is faster than the encoder and the decoder
@@ -280,6 +284,13 @@ function fullVersion(value) {
   return version;
 }
 
+/** The two numbers of a version that a name states. */
+function statedVersion(value) {
+  const { major, minor, patch } = fullVersion(value);
+  if (patch !== 0) throw new RangeError("a name states at most two numbers of a version");
+  return [major, minor];
+}
+
 /** The values of an argument, of which those that are undefined are as if left out. */
 function givenValues(values) {
   if (typeof values === "string") throw new TypeError("the values are an object; Triple.parse has the triple of a string");
@@ -339,11 +350,10 @@ function rangesAt(it, place, text, size) {
 }
 
 /** The error of the string that was written last; `dialect` is the number of that in which it is a name, and else 0. */
-function errorAt(it, status, text, given, dialect = 0) {
+function errorAt(it, status, text, given, dialect = 0, reason = it.string(it.call("reason", dialect, ...given))) {
   const [range, [start, end]] = rangesAt(it, RANGE, text, given[1]);
   const line = it.written("error_line", given[1], ...given, it.base + ERROR);
   const suggestion = status === UNKNOWN_NAME ? it.string(it.call("name_suggestion", dialect, ...given)) : it.written("suggestion", given[1], ...given, it.base + ERROR);
-  const reason = it.string(it.call("reason", dialect, ...given));
   return new ParseError(reason === null ? line : `${line}: ${reason}`, status, range, text, start, end, suggestion, reason);
 }
 
@@ -463,10 +473,13 @@ export class Triple {
   /** The name in a dialect, which may have to state a version such as `{ major: 2, minor: 17 }`, or null if it has none. */
   nameIn(dialect, version) {
     const it = instance(), number = dialectOf(dialect), { start, used } = it.triple(this);
-    if (version === undefined) return it.written("write", used, number, start);
-    const { major, minor, patch } = fullVersion(version);
-    if (patch !== 0) throw new RangeError("a name states at most two numbers of a version");
-    return it.written("write_versioned", used, number, start, major, minor);
+    return version === undefined ? it.written("write", used, number, start) : it.written("write_versioned", used, number, start, ...statedVersion(version));
+  }
+
+  /** Why `nameIn` has no name for these arguments, and what would help, or null if it has one. */
+  reasonWithoutName(dialect, version) {
+    const it = instance(), number = dialectOf(dialect), { start } = it.triple(this);
+    return it.string(version === undefined ? it.call("write_reason", number, start) : it.call("write_versioned_reason", number, start, ...statedVersion(version)));
   }
 
   /** The triple with the usual environment of a C library, if it is of Linux and states none; any other one as it is. */
@@ -502,12 +515,32 @@ export class Triple {
     return instance().answer("same_target", this, tripleOf(other));
   }
 
+  /** The string that LLVM and clang take for the target. */
+  llvmTarget() {
+    const it = instance(), { start, used } = it.triple(this);
+    return it.written("llvm_target", used, start);
+  }
+
+  /** Debian's multiarch tuple, such as `i386-linux-gnu`, or null if it has none. */
+  multiarchTuple() {
+    const it = instance(), { start, used } = it.triple(this);
+    return it.written("multiarch_tuple", used, start);
+  }
+
+  /** The values of rustc's cfg options, as Cargo's variables such as `CARGO_CFG_TARGET_OS` have them. */
+  rustcCfg() {
+    const it = instance(), { start, used } = it.triple(this), found = {};
+    for (const [, name, value = ""] of it.written("rustc_cfg", used, start).matchAll(/^(\w+)(?:="(.*)")?$/gm)) found[name] = name in found ? `${found[name]},${value}` : value;
+    return found;
+  }
+
   /** What a compiler asks of a triple; null where there is no answer. */
   facts() {
     const it = instance(), status = it.call("facts", it.triple(this).start, it.base + FACTS, FACTS_SIZE);
     if (status !== OK) throw failure(status);
     const n = it.bytes.subarray(it.base + FACTS, it.base + FACTS + FACTS_SIZE);
     return {
+      // written by tools/names/write: the facts for JavaScript
       endianness: ENDIANNESS[n[0]],
       pointerWidth: n[1] || null,
       defaultCallingConvention: CONVENTIONS[n[2]],
@@ -531,6 +564,9 @@ export class Triple {
       longDoubleAlignment: n[20] || null,
       wcharSize: n[21] || null,
       wcharAlignment: n[22] || null,
+      armVersion: n[23] || null,
+      armProfile: ARM_PROFILES[n[24]],
+      // end of what is written
     };
   }
 }
@@ -549,7 +585,32 @@ export function translate(name, from, to, libc = null) {
   const given = it.text(stringOf(name)), out = it.base + TEXTS + given[1];
   const status = it.call("translate", source, ...given, number, target, out, ROOM, it.base + LENGTH, it.base + ERROR);
   if (status === OK) return it.read(out, it.number(LENGTH));
-  throw isRefusal(status) ? errorAt(it, status, name, given, source) : failure(status);
+  throw isRefusal(status) ? errorAt(it, status, name, given, source, it.string(it.call("translate_reason", source, ...given, number, target))) : failure(status);
+}
+
+/**
+ * What a name means: each triple with the dialects that mean it, and for each dialect that has the name for no triple the reason. A string with
+ * a dash, or that no dialect has, is also a `triple` or has its `spelling`.
+ */
+export function meanings(text) {
+  const it = instance(), found = new Map(), withoutTriple = {};
+  const status = (call, ...first) => it.call(call, ...first, ...it.text(stringOf(text)), it.base + FIRST, it.base + ERROR);
+  const add = (tool) => {
+    const triple = it.tripleAt().settle(), key = triple.toString();
+    if (!found.has(key)) found.set(key, { triple, tools: [] });
+    found.get(key).tools.push(tool);
+  };
+  for (const [index, dialect] of DIALECTS.entries()) {
+    const answer = status("read", index + 1);
+    if (answer === OK) add(dialect);
+    else if (answer === NAME_WITHOUT_TRIPLE) withoutTriple[dialect] = it.string(it.call("reason", index + 1, ...it.text(text)));
+    else if (!isRefusal(answer)) throw failure(answer);
+  }
+  if (text.includes("-") || (found.size === 0 && Object.keys(withoutTriple).length === 0)) {
+    if (status("parse") === OK) add("triple");
+    else if (status("read", 0) === OK) add("spelling");
+  }
+  return { meanings: [...found.values()], withoutTriple };
 }
 
 /** The canonical string of each target, or null for one that is refused: one call for all of them, which takes less time than a loop. */

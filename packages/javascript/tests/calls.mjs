@@ -5,7 +5,7 @@ import { pathToFileURL } from "node:url";
 
 const [script, file] = process.argv.slice(2);
 const all = await import(pathToFileURL(script));
-const { DIALECTS, FAMILIES, FIELDS, ParseError, Triple, changes, host, load, namesOf, numberOf, settleAll, translate, version } = all;
+const { DIALECTS, FAMILIES, FIELDS, ParseError, Triple, changes, host, load, meanings, namesOf, numberOf, settleAll, translate, version } = all;
 const fields = (it) => FIELDS.map((field) => it[field]).join(" ");
 const refusal = (text, call = Triple.parse) => {
   try {
@@ -18,10 +18,10 @@ const refusal = (text, call = Triple.parse) => {
   assert.fail(`${text} was not refused`);
 };
 
-const elsewhere = readFileSync(new URL("../../../tools/names/elsewhere.tsv", import.meta.url), "utf8").split("\n")
-  // Stars are numbers: 13 and 2 here.
-  .map((row) => row.split("\t")).map(([dialect, name = "", means = "", ...others]) =>
-    [dialect, name.replace("*", "13").replace("*", "2"), means.replace("*", name.split("*").length > 2 ? "13.2.0" : "13.0.0"), ...others]);
+// The table of names that the package has. Stars are numbers: 13 and 2 here.
+const table = JSON.parse(readFileSync(new URL("names.json", pathToFileURL(script)), "utf8"));
+const rows = table.names.map(({ name, triple, ...others }) => ({
+  name: name.replace("*", "13").replace("*", "2"), triple: triple?.replace("*", name.split("*").length > 2 ? "13.2.0" : "13.0.0"), ...others }));
 
 const tests = {
   "nothing works before the module is loaded": async () => {
@@ -85,14 +85,30 @@ const tests = {
   },
   "names in dialects are those of the table": () => {
     const counts = { read: 0, written: 0, withoutTriple: 0 };
-    for (const line of elsewhere) {
-      const [dialect, name, means, ways, note] = line;
-      if (!DIALECTS.includes(dialect)) continue;
-      if (ways.includes("r")) assert.equal(`${Triple.read(name, dialect)}`, means, line), counts.read++;
-      if (ways.includes("w")) assert.equal(Triple.parse(means).nameIn(dialect), name, line), counts.written++;
-      if (ways === "-") assert.equal(refusal(name, (it) => Triple.read(it, dialect)).reason, note, line), counts.withoutTriple++;
+    for (const { tool, name, triple, read, written, reason } of rows) {
+      if (read) assert.equal(`${Triple.read(name, tool)}`, triple, name), counts.read++;
+      if (written) assert.equal(Triple.parse(triple).nameIn(tool), name, name), counts.written++;
+      if (reason) assert.equal(refusal(name, (it) => Triple.read(it, tool)).reason, reason, name), counts.withoutTriple++;
     }
+    assert.deepEqual(table.tools.map((it) => it.tool), DIALECTS);
+    assert.equal(table.version, version().split(" ")[0]);
     assert(counts.read > 200 && counts.written > 200 && counts.withoutTriple > 30, JSON.stringify(counts));
+  },
+  "what a name means to each tool": () => {
+    const of = (text) => [meanings(text).meanings.map(({ triple, tools }) => `${triple} ${tools}`).join("; "), meanings(text).withoutTriple];
+    assert.deepEqual(of("armhf"), ["armv7-unknown-linux-gnueabihf debian; armv6-unknown-linux-musleabihf apk", {}]);
+    assert.deepEqual(of("aarch64-macos"), ["aarch64-apple-macosx gnu; aarch64-apple-darwin zig; aarch64-macos-unknown-elf triple", {}]);
+    assert.deepEqual(of("x86_64-w64-mingw32"), ["x86_64-pc-windows-gnu gnu,spelling", {}]);
+    assert.deepEqual(of("amd64"), ["x86_64-unknown-linux-gnu debian,rpm; x86_64-unknown-none-elf gnu",
+      { go: "a machine without a system", oci: "half of a platform: containerd adds that of the host" }]);
+    assert.deepEqual(of("x86_64-acme-linux"), ["x86_64-unknown-linux-gnu gnu; x86_64-acme-linux triple", {}]);
+    for (const nobody of ["", "foo/bar", "linx", "\0", "x".repeat(100000), "\ud800"]) assert.deepEqual(of(nobody), ["", {}]);
+    for (const { tool, name, triple, read, reason } of rows) {
+      const { meanings: found, withoutTriple } = meanings(name);
+      if (read) assert(found.some((it) => it.tools.includes(tool) && `${it.triple}` === triple), name);
+      if (reason) assert.equal(withoutTriple[tool], reason, name);
+    }
+    for (const wrong of [1, null, undefined, ["avr"]]) assert.throws(() => meanings(wrong), TypeError);
   },
   "a name that is refused": () => {
     for (const [dialect, name, message, reason, suggestion = null] of [
@@ -133,7 +149,7 @@ const tests = {
     assert.deepEqual(named(`aarch64-${"a".repeat(300)}-linux-musl`).slice(0, 6),
       ["musl-linux-arm64", "linux/arm64", "linux/arm64", "linux-arm64-musl", "aarch64-linux-musl", "linux_aarch64"]);
     assert.equal(Triple.read("linux/arm64", "docker").nameIn("npm"), "linux-arm64");
-    assert.equal(Triple.parse("x86_64-apple-ios65535.255-sim").nameIn("python"), "ios_65535_255_x86_64_iphonesimulator");
+    assert.equal(Triple.parse("x86_64-apple-ios65535.255").nameIn("python"), "ios_65535_255_x86_64_iphonesimulator");
   },
   "a name with a version": () => {
     for (const [text, major, minor, name] of [
@@ -188,10 +204,15 @@ const tests = {
     assert.equal(translate("windows/amd64", "oci", "rust", "msvc"), "x86_64-pc-windows-msvc");
     const why = (...words) => refusal(words[0], () => translate(...words));
     const unsaid = why("linux/arm64", "oci", "debian"), none = why("windows/amd64", "oci", "debian", "musl");
-    assert.deepEqual([unsaid.needsLibc, unsaid.message], [true, "The name in the other dialect depends on the C library: linux/arm64"]);
+    assert.deepEqual([unsaid.needsLibc, unsaid.message, unsaid.reason],
+      [true, "No name in the other dialect: linux/arm64: it depends on the C library: say glibc or musl", Triple.parse("arm64-linux").reasonWithoutName("debian")]);
     assert.deepEqual([none.needsLibc, none.message, none.field, none.suggestion, none.reason],
-      [false, "No name in the other dialect: windows/amd64", null, null, null]);
-    assert.equal(none.report, "No name in the other dialect: windows/amd64\n  windows/amd64\n  ^^^^^^^^^^^^^");
+      [false, "No name in the other dialect: windows/amd64: the tool has no name for the system", null, null, "the tool has no name for the system"]);
+    assert.equal(none.report, "No name in the other dialect: windows/amd64\n  windows/amd64\n  ^^^^^^^^^^^^^ the tool has no name for the system");
+    assert.match(why("windows/amd64", "oci", "rust").reason, /say msvc, mingw or gnullvm$/);
+    assert.match(Triple.parse("arm64-apple-darwin").reasonWithoutName("python", { major: 2, minor: 17 }), /macOS 10\.x or later$/);
+    assert.deepEqual([Triple.parse("arm64-linux").reasonWithoutName("go"), Triple.parse("arm64-linux-gnu").reasonWithoutName("python", { major: 2, minor: 17 })], [null, null]);
+    assert.throws(() => Triple.parse("arm64-linux").reasonWithoutName("podman"), TypeError);
     assert.deepEqual([why("linux/amd46", "go", "oci").suggestion, why("linx", null, "oci").field], ["linux/amd64", "architecture"]);
     assert.match(why("js/wasm", "go", "oci").reason, /^a module for Go's/);
     for (const it of [["amd64", "Debian", "go"], ["amd64", "debian", null], ["amd64", "debian", "go", "gnu"], [1, "debian", "go"]]) {
@@ -281,18 +302,25 @@ const tests = {
     assert.throws(() => { it.canonical = "x"; }, TypeError);
   },
   facts: () => {
-    assert.deepEqual(Triple.parse("x86_64-acme-windows-msvc").facts(), {
+    const windows = Triple.parse("x86_64-acme-windows-msvc").facts();
+    assert.deepEqual({ ...windows, ...{
       endianness: "little", pointerWidth: 64, defaultCallingConvention: "WindowsFastcall", dataModel: "LLP64",
       shortSize: 2, intSize: 4, longSize: 4, longLongSize: 8, floatSize: 4, doubleSize: 8, impliedFormat: "coff", objectFormat: "coff",
       family: "x86_64", isThumb: false, isLikeDarwin: false, hasCustomVendor: true,
       cLibrary: "msvc", floatAbi: null, isUnix: false, longDoubleSize: 8, longDoubleAlignment: 8, wcharSize: 2, wcharAlignment: 2,
-    });
+    } }, windows);
     const arm = Triple.parse("armv7-linux-gnueabihf").facts();
     assert.deepEqual([arm.cLibrary, arm.floatAbi, arm.isUnix, arm.wcharSize], ["glibc", "hard", true, 4]);
     const thumb = Triple.parse("thumbv7em-none-eabihf").facts(), uefi = Triple.parse("x86_64-unknown-uefi").facts();
     assert.deepEqual([thumb.family, thumb.isThumb, thumb.pointerWidth], ["arm", true, 32]);
     assert.deepEqual([uefi.impliedFormat, uefi.objectFormat], ["elf", "coff"]);
     assert.deepEqual(Object.values(Triple.parse("unknown").facts()).slice(0, 10), Array(10).fill(null));
+    assert.deepEqual(["arm64-apple-darwin", "riscv64gc-linux-gnu"].map((it) => Triple.parse(it).llvmTarget()), ["arm64-apple-macosx", "riscv64-unknown-linux-gnu"]);
+    assert.equal(Triple.parse(`x86_64-${"a".repeat(500)}-linux`).llvmTarget(), `x86_64-${"a".repeat(500)}-linux`);
+    assert.deepEqual(["i686-linux-gnu", "armv7-linux-gnueabihf", "x86_64-linux"].map((it) => Triple.parse(it).multiarchTuple()), ["i386-linux-gnu", "arm-linux-gnueabihf", null]);
+    const cfg = Triple.parse("wasm32-unknown-emscripten").rustcCfg();
+    assert.deepEqual([cfg.target_os, cfg.target_family, cfg.unix, cfg.windows, cfg.target_env], ["emscripten", "unix,wasm", "", undefined, ""]);
+    assert.equal(Triple.parse(`x86_64-${"a".repeat(500)}-linux`).rustcCfg().target_vendor.length, 500);
   },
   "names and numbers": () => {
     for (const field of FIELDS) namesOf(field).forEach((name, number) => assert.equal(numberOf(field, name), number, name));
@@ -356,7 +384,7 @@ const tests = {
       ["aarch64-apple-darwin", "arm64", "darwin"], ["i686-pc-windows-msvc", "ia32", "win32"], ["x86_64-unknown-unknown-elf", "x64", "beos"],
       ["x86_64-unknown-unknown-elf", "x64", "sunos"], ["riscv64gc-unknown-freebsd", "riscv64", "freebsd"], ["unknown-unknown-linux", "vax", "linux"],
     ]) assert.equal(hostOf(...given), wanted);
-    for (const [, name] of elsewhere.filter(([dialect, , , ways]) => dialect === "node" && ways === "rw")) {
+    for (const { name } of rows.filter((it) => it.tool === "node" && it.read && it.written)) {
       if (name === "wasm32-wasi") continue; // napi-rs's, of no host
       const [platform, arch, library] = name.split("-"), named = Triple.read(name, "node");
       const found = Triple.parse(hostOf(arch, platform, {}, { gnu: glibc, gnueabihf: glibc, gnuabi64: glibc, musl: {}, musleabihf: {}, muslabi64: {} }[library] ?? null));

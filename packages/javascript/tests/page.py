@@ -1,6 +1,7 @@
 """The tests of the page: each opens it in Chromium, and types, presses and reads as a user does."""
 import functools
 import json
+import re
 import subprocess
 import time
 import urllib.parse
@@ -59,7 +60,7 @@ def typed(page, text):
     else:
         page.keys(text)
     if text:
-        page.until(f"{STATUS}.startsWith('{len(text.split()):,} target')")
+        page.until(f"{STATUS}.startsWith('{len([it for it in text.splitlines() if it.strip()]):,} target')")
 
 
 def opened(url, before, test):
@@ -70,10 +71,10 @@ def opened(url, before, test):
         return said
 
 
-def asks_for_two_files(page):
+def asks_for_one_script(page):
     page.size(1280, 900)
     holds(page.run(ROWS + ".length") > 3, "there are no rows at the beginning")
-    same([it.rsplit("/", 1)[1] for it in page.requests() if not it.startswith("data:")], ["", "page.js", "target-lexicon.wasm"])
+    same([it.rsplit("/", 1)[1] for it in page.requests() if not it.startswith("data:")], ["", "page.js"])
 
 
 CHIPS = "[...document.querySelectorAll('#chips button')].map((it) => [it.textContent, it.getAttribute('aria-pressed')])"
@@ -109,17 +110,17 @@ def shows_fields(page):
     typed(page, "arm64-linux-gnu\n\n  armv7a-nuttx-eabi \nclever-unknown-unknown-none\naarch64-apple-ios17.1\naarch64-unknown-linux-gnu-elf")
     same(page.run(STATUS), "5 targets: 5 parsed, 0 refused, 1 duplicate.")
     rows = page.run(CELLS)
-    same(rows[0], ["arm64-linux-gnu is aarch64-unknown-linux-gnu", "aarch64 alias arm64", "unknown", "linux", "gnu", "elf implied",
+    same(rows[0], ["arm64-linux-gnu key aarch64-unknown-linux-gnu", "aarch64 alias arm64", "unknown", "linux", "gnu", "elf implied",
                    "little", "64 bits", "SystemV", "LP64", "names", ""])
     same(rows[1][2:4], ["nuttx custom", "unknown"])
     same(rows[1][8:10], ["none", "none"])
-    same(rows[2][0], "clever-unknown-unknown-none is clever-unknown-none-elf")
-    same([rows[3][0], rows[3][3]], ["aarch64-apple-ios17.1 is aarch64-apple-ios17.1.0", "ios17.1.0 alias ios17.1"])
-    same([rows[4][0], rows[4][5]], ["aarch64-unknown-linux-gnu-elf is aarch64-unknown-linux-gnu the same target as arm64-linux-gnu", "elf"])
+    same(rows[2][0], "clever-unknown-unknown-none key clever-unknown-none-elf")
+    same([rows[3][0], rows[3][3]], ["aarch64-apple-ios17.1 key aarch64-apple-ios17.1.0", "ios17.1.0 alias ios17.1"])
+    same([rows[4][0], rows[4][5]], ["aarch64-unknown-linux-gnu-elf key aarch64-unknown-linux-gnu the same target as arm64-linux-gnu", "elf"])
     page.run("document.getElementById('targets').setSelectionRange(0, 16)")
     page.keys(Keys.DELETE)
     page.until(f"{STATUS} === '4 targets: 4 parsed, 0 refused.'")
-    same(page.run(CELLS)[3][0], "aarch64-unknown-linux-gnu-elf is aarch64-unknown-linux-gnu")
+    same(page.run(CELLS)[3][0], "aarch64-unknown-linux-gnu-elf key aarch64-unknown-linux-gnu")
 
 
 def shows_special_strings_and_formats(page):
@@ -166,22 +167,22 @@ def takes_lists(page):
 
 def refuses_and_suggests(page):
     page.size(1280, 900)
-    typed(page, "x86_64-pc-windws-msvc\nx86_64--linux\nx86_64-<b>-linux\nx86_64-pc-\u4e2d\u6587\namd64-linux\nx86_64-linx-gnu")
+    typed(page, "x86_64-pc-windws-msvc\nx86_64-<b>-linux\nx86_64-pc-\u4e2d\u6587\nx86_64-linux-gnu--\nlinux/amd46\nx86_64-linx-gnu")
     same(page.run(STATUS), "6 targets: 1 parsed, 5 refused, 1 suspicious.")
     rows = page.run(CELLS)
     same(rows[0], ["x86_64-pc-windws-msvc", "Unrecognized operating system: windwsDid you mean windows?Before it: architecture x86_64, vendor pc"])
     same([it.strip() for it in page.run(ROWS + ".map((row) => row.querySelector('strong')?.textContent ?? '')")],
-         ["windws", "(empty)", "<b>", "\u4e2d\u6587", "amd64", ""])
+         ["windws", "<b>", "\u4e2d\u6587", "(empty)", "linux/amd46", ""])
     same(page.run("document.querySelector('tbody b')"), None)
-    same(page.run("[...document.querySelectorAll('.offer')].map((it) => it.textContent)"),
-         ["windows", "x86_64-unknown-linux", "x86_64-unknown-linux", "linux"])
-    same(rows[5][0], "x86_64- linx -gnu is x86_64-linx-unknown-gnu-elf Did you mean linux ?")
+    same(page.run("[...document.querySelectorAll('.offer')].map((it) => it.textContent)"), ["windows", "x86_64-linux-gnu", "linux/amd64", "linux"])
+    same(rows[4][1], "Unrecognized architecture: linux/amd46Did you mean linux/amd64 of Go and containers?")
+    same(rows[5][0], "x86_64- linx -gnu Did you mean linux ? key x86_64-linx-unknown-gnu-elf")
     same(page.run("[...document.querySelectorAll('tbody .odd')].map((it) => it.textContent)"), ["linx", "linx"])
     page.run("document.querySelector('tbody .offer').focus()")
     page.keys(Keys.ENTER)
     page.until(f"{STATUS} === '6 targets: 2 parsed, 4 refused, 1 suspicious.'")
     same(page.run("document.getElementById('targets').value.split('\\n')[0]"), "x86_64-pc-windows-msvc")
-    same(page.run(FOCUSED), "x86_64-(empty)-linux")
+    same(page.run(FOCUSED), "x86_64-<b>-linux")
     page.run("document.querySelector('.suspicious .offer').focus()")
     page.keys(Keys.ENTER)
     page.until(f"{STATUS} === '6 targets: 2 parsed, 4 refused.'")
@@ -247,29 +248,108 @@ def is_cleared(page):
 
 def links_to_pages(page):
     links = page.run("[...document.querySelectorAll('.do p a')].map((it) => it.href)")
-    same([it.rsplit("/", 1)[1] for it in links], ["TOOL_NAMES.txt", "DIFFERENCES.txt", "SPEC.txt", "JAVASCRIPT.txt"])
+    same([it.rsplit("/", 1)[1] for it in links], ["TOOL_NAMES.txt", "names.csv", "names.json", "DIFFERENCES.txt", "SPEC.txt", "JAVASCRIPT.txt"])
     for link in links:
+        begin = {"csv": b"tool,name,", "json": b"{\n  \"$sch"}.get(link.rsplit(".", 1)[1], b"# ")
         with urllib.request.urlopen(link) as answer:
-            holds(answer.read(2) == b"# ", f"{link} isn't a page")
+            same(answer.read()[:len(begin)], begin)
 
 
-def names_other_tools(page):
-    """The names of more than three targets are folded, until each is opened. At any width they are in sight, and no wider than the page."""
-    shown = ("[...document.querySelectorAll('td.names')].map((cell) => [...cell.querySelectorAll('dl > div')].slice(0, 6)"
-             ".filter((it) => it.checkVisibility({ contentVisibilityAuto: true })).map((it) => it.textContent).join('; '))")
+# What is unfolded in sight: the terms and answers of the lists, and the lines below them.
+DETAILS = ("[...document.querySelectorAll('td.names')].map((cell) => [...cell.querySelectorAll('dl > div, p')]"
+           ".filter((it) => it.checkVisibility({ contentVisibilityAuto: true })).map((it) => [...it.childNodes].map((part) => part.textContent).join(' ')))")
+# A name of each of ten tools; its key, who has the name, a tool's name with glibc and MSVC, and a line below the row.
+TEN_NAMES = {
+    "armhf": ("armv7-unknown-linux-gnueabihf", "Debian", "rustc armv7-unknown-linux-gnueabihf", "In apk it is armv6-unknown-linux-musleabihf."),
+    "windows/arm64": ("aarch64-pc-windows-msvc", "Go and containers", "rustc aarch64-pc-windows-msvc", None),
+    "linux/arm/v6": ("armv6-unknown-linux-gnueabihf", "containers", "RPM armv6hl", None),
+    "linux-x64-musl": ("x86_64-unknown-linux-musl", "Node", "apk x86_64", None),
+    "x86_64-w64-mingw32": ("x86_64-pc-windows-gnu", "GNU and LLVM", "Go windows/amd64", None),
+    "manylinux_2_17_x86_64": ("x86_64-unknown-linux-gnu", "Python", ".NET linux-x64", None),
+    "Linux x86_64": ("x86_64-unknown-linux-gnu", "uname", "pacman x86_64", None),
+    "armv7hl": ("armv7-unknown-linux-gnueabihf", "RPM", "containers linux/arm/v7", None),
+    "osx-arm64": ("aarch64-apple-darwin", ".NET and conda", "Zig aarch64-macos", None),
+    "win-64": ("x86_64-pc-windows-msvc", "conda", "Node win32-x64-msvc", None),
+}
+
+
+def unfolded(page):
+    """The details of each target, when those that are unfolded are laid out."""
+    page.until("[...document.querySelectorAll('td.names:not([hidden])')].every((it) => it.checkVisibility({ contentVisibilityAuto: true })"
+               " || it.getBoundingClientRect().top > innerHeight)")
+    return page.run(DETAILS)
+
+
+def choose(page, **values):
+    for name, value in values.items():
+        page.run(f"(document.getElementById('{name}').value = '{value}', document.getElementById('{name}').dispatchEvent(new Event('change')))")
+        page.until("!document.querySelector('table[aria-busy]')")
+
+
+def says_what_ten_names_mean(page):
+    """A name of each of ten tools, as a list: what it means with a chosen C library and ABI, and what another tool calls it. At any width it is in sight."""
+    for width in 1280, 390:
+        page.size(width, 900)
+        typed(page, "arm64")
+        choose(page, linux="glibc", windows="msvc")
+        page.run("document.getElementById('targets').focus()")
+        page.control("a")
+        page.paste("".join(f'- "{name}"\n' for name in TEN_NAMES))
+        page.until(f"{STATUS} === '10 targets: 0 parsed, 10 named by tools, 0 refused, 2 duplicates.'")
+        same(page.run(ROWS + ".map((row) => row.target)"), list(TEN_NAMES))
+        for number, (name, (key, tools, answer, other)) in enumerate(TEN_NAMES.items()):
+            row = ROWS + f"[{number}]"
+            page.run(f"{row}.querySelector({'.fold' if width == 390 else '.elsewhere button'!r}).click()")
+            page.run(f"{row}.scrollIntoView()")
+            head, details = page.run(f"{row}.firstChild.innerText"), unfolded(page)[number]
+            holds(head.startswith(f"{name}\na name of {tools}\nkey {key}"), f"at {width} pixels {name} has {head!r}")
+            holds(answer in details, f"at {width} pixels {name} has no {answer}: {details}")
+            holds(any(it.startswith("object format") for it in details) and any(it.startswith("linker") for it in details), f"{details}")
+            same(page.run(f"{row}.querySelector('.others')?.innerText ?? null"), other)
+        holds(page.run("document.documentElement.scrollWidth") <= width, f"at {width} pixels the page scrolls sideways")
+        choose(page, linux="", windows="")
+
+
+def says_what_a_driver_asks(page):
+    page.size(1280, 900)
+    typed(page, "thumbv7m-none-eabi\ni686-linux-gnu")
+    thumb, linux = unfolded(page)
+    holds({"Arm version 7", "Arm profile M", "floating point soft", "LLVM target thumbv7m-none-eabi"} <= set(thumb), f"{thumb}")
+    holds({"LLVM target i686-unknown-linux-gnu", "Debian's multiarch tuple i386-linux-gnu"} <= set(linux), f"{linux}")
+    holds(not any(it.startswith(("Arm", "floating point")) for it in linux) and not any(it.startswith("Debian's") for it in thumb), f"{linux}, {thumb}")
+
+
+def says_why_there_is_no_name(page):
+    page.size(1280, 900)
+    typed(page, "linux/arm64\nx86_64-pc-windows\njs/wasm")
+    same(page.run(CELLS)[0], ["js/wasm", "In Go and containers no triple means it: a module for Go's own JavaScript; rustc's nearest target is wasm32-unknown-unknown."])
+    linux, windows = unfolded(page)
+    holds("None in Debian, GNU, rustc, RPM, apk, pacman, .NET and conda:  it depends on the C library: say glibc or musl." in linux, f"{linux}")
+    holds(any(re.match("None in .*rustc.*say msvc, mingw or gnullvm", it) for it in windows), f"{windows}")
+    choose(page, linux="musl", windows="mingw")
+    linux, windows = unfolded(page)
+    holds("rustc aarch64-unknown-linux-musl" in linux and "rustc x86_64-pc-windows-gnu" in windows, f"{linux}, {windows}")
+    same(page.run(CELLS)[1][4], "musl chosen")
+    choose(page, linux="", windows="")
+
+
+def names_are_folded(page):
+    """The names and facts of more than three targets are folded, until each is opened. At any width they are no wider than the page."""
     typed(page, "arm64-linux-musl\navr-unknown")
     for width in 400, 1280:
         page.size(width, 900)
-        same(page.run(shown), ["Debianmusl-linux-arm64; Golinux/arm64; Container imageslinux/arm64; Nodelinux-arm64-musl; GNU prefixaarch64-linux-musl; "
-                               "Pythonlinux_aarch64", "Debiannone; Gonone; Container imagesnone; Nodenone; GNU prefixnone; Pythonnone"])
+        first, second = unfolded(page)
+        same(first[:6], ["Debian musl-linux-arm64", "Go linux/arm64", "containers linux/arm64", "Node linux-arm64-musl", "GNU aarch64-linux-musl", "Python linux_aarch64"])
+        holds("linker ld, ld.lld, mold" in first and "C library musl" in first, f"{first}")
+        holds(second[0].startswith("None in Debian, Go, containers, "), f"{second}")
         holds(page.run("document.documentElement.scrollWidth") <= width, f"at {width} pixels the page scrolls sideways")
     typed(page, "arm64\nx86_64-pc-windows-msvc\nx86_64-linx\nwasm32-wasi")
-    same(page.run(shown), [""] * 4)
+    same(unfolded(page), [[]] * 4)
     page.run("document.querySelectorAll('.elsewhere button')[2].focus()")
     page.keys(Keys.ENTER)
     page.until("document.querySelectorAll('.names dl > div').length > 0")
     same(page.run("[...document.querySelectorAll('.elsewhere button')].map((it) => it.getAttribute('aria-expanded'))"), ["false", "false", "true", "false"])
-    same(page.run(shown), ["", "", "Debiannone; Gowindows/amd64; Container imageswindows/amd64; Nodewin32-x64-msvc; GNU prefixnone; Pythonwin_amd64", ""])
+    same(unfolded(page)[2][:3], ["Go windows/amd64", "containers windows/amd64", "Node win32-x64-msvc"])
     # The button is on the line of the target.
     same(page.run(ROWS + "[3].getClientRects().length && [...new Set([" + ROWS + "[3].cells[1], " + ROWS + "[3].cells[10]].map((it) =>"
                          " Math.round(it.getBoundingClientRect().top)))].length"), 1)
@@ -277,22 +357,38 @@ def names_other_tools(page):
 
 def says_what_other_tools_mean(page):
     page.size(1280, 900)
-    typed(page, "x86_64-w64-mingw32\namd64-unknown-freebsd13.2\ni686-w64-windows-gnu\nlinux/amd64")
-    rows = page.run(CELLS)
-    same(rows[0][1].split("mingw32")[1], "Other tools mean x86_64-pc-windows-gnu.Before it: architecture x86_64, vendor w64")
-    same(rows[1][1].split("Other")[1], " tools mean x86_64-unknown-freebsd.")
-    same(rows[2][1], "Unrecognized architecture: linux/amd64A name of Go and container images, which is x86_64-unknown-linux.")
-    holds(rows[3][0].endswith("Other tools mean i686-pc-windows-gnu ."), rows[3][0])
-    page.run("document.querySelector('tbody .offer').focus()")
+    typed(page, "aarch64-macos\narm-unknown-linux-gnueabihf\ni686-w64-windows-gnu\namd64")
+    same(page.run(STATUS), "4 targets: 3 parsed, 1 named by tools, 0 refused, 2 suspicious.")
+    same(page.run(ROWS + ".map((row) => row.querySelector('.others')?.innerText ?? null)"), [
+        "In LLVM it is aarch64-unknown-macosx.\n\nIn Zig it is aarch64-apple-darwin.", "In LLVM it is i686-pc-windows-gnu.",
+        "In rustc it is armv6-unknown-linux-gnueabihf.",
+        "In Go no triple means it: a machine without a system.\n\nIn containers no triple means it: half of a platform: containerd adds that of the host."])
+    page.run("document.querySelectorAll('tbody .offer')[1].focus()")
     page.keys(Keys.ENTER)
-    page.until(f"{STATUS} === '4 targets: 2 parsed, 2 refused, 1 suspicious.'")
-    same(page.run("document.getElementById('targets').value.split('\\n')[0]"), "x86_64-pc-windows-gnu")
-    same(page.run(FOCUSED), "amd64-unknown-freebsd13.2")
-    typed(page, "js/wasm\nlinux-x64-musl\nmusllinux_1_2_x86_64")
-    same([it[1] for it in page.run(CELLS)], [
-        "Unrecognized architecture: js/wasmA name of Go and container images. No triple means it: a module for Go's own JavaScript; rustc's nearest target is wasm32-unknown-unknown.",
-        "Unrecognized architecture: linuxA name of Node, which is x86_64-unknown-linux-musl.",
-        "Unrecognized architecture: musllinux_1_2_x86_64A name of Python, which is x86_64-unknown-linux-musl."])
+    page.until(f"{STATUS} === '4 targets: 3 parsed, 1 named by tools, 0 refused, 1 suspicious.'")
+    same(page.run("document.getElementById('targets').value.split('\\n')[0]"), "aarch64-apple-darwin")
+    same(page.run(FOCUSED), "i686-w64-windows-gnu")
+
+
+def has_large_touch_targets(page):
+    """Each control is at least 24 pixels wide and high."""
+    typed(page, "linux/arm64\nx86_64-pc-windws-msvc\namd64")
+    for width in 1280, 390:
+        page.size(width, 900)
+        small = page.run("[...document.querySelectorAll('button, select, textarea, a')].filter((it) => it.getClientRects().length > 0)"
+                         ".map((it) => [it.innerText, it.getBoundingClientRect()]).filter(([, it]) => it.width < 24 || it.height < 24).map(([text, it]) => `${text} ${it.width} ${it.height}`)")
+        same(small, [])
+
+
+def opens_from_a_folder(folder):
+    """Without a server the page works too."""
+    with Page(f"file://{folder}/index.html?linux=musl#linux/arm64,armhf") as page:
+        loaded(page)
+        same(page.run(STATUS), "2 targets: 0 parsed, 2 named by tools, 0 refused.")
+        same(page.run(CELLS)[0][4], "musl chosen")
+        page.run("document.getElementById('clear').click()")
+        page.until(f"{STATUS}.startsWith('No targets.')")
+        same(page.errors(), [])
 
 
 def is_a_card(page):
@@ -332,21 +428,21 @@ def folds_on_a_phone(page):
     shown = ROWS + ".map((row) => [...row.cells].filter((it) => it.getClientRects().length > 0).length)"
     page.size(400, 900)
     typed(page, "wasm32-wasi\narm64\nx86_64-foo-bar")
-    same(page.run(shown), [2, 12, 12])
+    same(page.run(shown), [2, 13, 13])
     typed(page, "wasm32-wasi\narm64\nx86_64-linux\nx86_64-foo-bar")
     same(page.run(shown), [2, 1, 1, 1])
     page.run("document.querySelector('.fold').focus()")
     page.keys(Keys.ENTER)
-    same(page.run(shown), [2, 11, 1, 1])
+    same(page.run(shown), [2, 13, 1, 1])
     same(page.run("[...document.querySelectorAll('.fold')].map((it) => it.getAttribute('aria-expanded'))"), ["true", "false", "false"])
     page.size(1280, 900)
-    same(page.run(shown), [2, 11, 11, 11])
+    same(page.run(shown), [2, 13, 12, 12])
 
 
 def says_what_to_paste(page):
     typed(page, "")
     same(page.run("document.getElementById('table').hidden"), True)
-    same(page.run(STATUS), "No targets. Paste some above, one a line or as a list, such as what `rustc --print target-list` writes.")
+    same(page.run(STATUS), "No targets. Paste some above, or names of any tool: one a line or as a list, such as what `rustc --print target-list` writes.")
 
 
 def complete_roles(page):
@@ -364,7 +460,8 @@ def is_accessible(page):
         page.size(width, 900)
         typed(page, "x86_64-unknown-linux-gnu\nx86_64-pc-windws-msvc")
         roles = complete_roles(page)
-        for wanted in [("heading", "Target triples"), ("textbox", "Targets"), ("button", "Copy as JSON"), ("button", "Clear"), ("link", "Link to these targets"),
+        for wanted in [("heading", "Names of targets"), ("textbox", "Targets, or names of any tool"), ("button", "Copy names"), ("button", "Copy facts"), ("button", "Clear"),
+                       ("combobox", "Linux C library"), ("combobox", "Windows ABI"), ("link", "Link to these targets"),
                        ("group", "Which targets are shown"), ("button", "2 targets"), ("button", "1 refused"),
                        ("table", "What each target is"), ("columnheader", "Byte order"),
                        ("button", "windows: replace x86_64-pc-windws-msvc by x86_64-pc-windows-msvc")]:
@@ -375,10 +472,10 @@ def is_accessible(page):
         holds("status" in [role for role, _ in roles], "there is no status")
     page.run("document.getElementById('targets').focus()")
     reached = []
-    for _ in range(11):
+    for _ in range(16):
         page.keys(Keys.TAB)
-        reached.append(page.run("document.activeElement.textContent"))
-    same(reached[:3] + reached[7:], ["Copy as JSON", "Clear", "Link to these targets", "2 targets", "1 refused", "windows", "names"])
+        reached.append(page.run("document.activeElement.id || document.activeElement.textContent"))
+    same(reached[:6] + reached[12:], ["linux", "windows", "copy_names", "copy_facts", "clear", "link", "2 targets", "1 refused", "windows", "names"])
 
 
 def has_a_link(page):
@@ -403,16 +500,35 @@ def opens_a_link(url):
 
 def copies_the_matrix(program, page):
     """What is copied is what `target-lexicon facts --json` writes."""
-    targets = ["arm64-apple-ios17.1", "avr-unknown", "x86_64-pc-linx", "x86_64-\u4e2d\u6587-linux", "x86_64-elf-linux"]
+    targets = ["arm64-apple-ios17.1", "avr-unknown", "x86_64-pc-linx", "x86_64-\u4e2d\u6587-linux", "x86_64-elf-linux", "i686-linux-gnu"]
     typed(page, "\n".join(targets))
-    page.run("document.getElementById('copy').focus()")
+    page.run("document.getElementById('copy_facts').focus()")
     page.keys(Keys.ENTER)
     page.until(f"{STATUS}.startsWith('Copied')")
-    same(page.run(STATUS), "Copied 5 targets as JSON.")
+    same(page.run(STATUS), "Copied 6 targets as JSON.")
     copied = json.loads(page.run("navigator.clipboard.readText()"))
     same([it["target"] for it in copied], targets)
     wanted = subprocess.run([program, "facts", "--json", *targets], capture_output=True, check=False).stdout
     same([list(it.items()) for it in copied], [list(it.items()) for it in json.loads(wanted)])
+    return "the same as the command's"
+
+
+def copies_names(program, page):
+    """What is copied is what `target-lexicon what --json` writes."""
+    names = [*TEN_NAMES, "js/wasm", "x86_64-unknown-linux", "aarch64-macos"]
+    for libc in "", "glibc":
+        typed(page, "\n".join(names))
+        choose(page, linux=libc)
+        page.run("document.getElementById('copy_names').focus()")
+        page.keys(Keys.ENTER)
+        page.until(f"{STATUS}.startsWith('Copied 13 targets')")
+        copied = json.loads(page.run("navigator.clipboard.readText()"))
+        wanted = subprocess.run([program, "what", "--json", *(["--libc", libc] if libc else []), *names], capture_output=True, check=True).stdout
+        for ours, theirs in zip(copied, json.loads(wanted), strict=True):
+            for it in [*ours["meanings"], *theirs["meanings"]]:  # a reason of the command speaks of its option `--libc`
+                it["reasons"] = {tool: re.sub("use `--libc.*", "say", reason).partition(": say")[0] for tool, reason in it["reasons"].items()}
+            same(ours, theirs)
+    choose(page, linux="")
     return "the same as the command's"
 
 
@@ -436,14 +552,15 @@ def stays_responsive(page):
     return f"10,000 lines, with {chances[0]} and {chances[1]} chances for input"
 
 
-def page_tests(url, program):
-    """The name of each test of the page at a URL, and the test; `program` is the command `target-lexicon`."""
-    tests = [asks_for_two_files, forbids_what_it_does_not_need, shows_fields, shows_special_strings_and_formats, escapes_and_shortens, takes_lists,
+def page_tests(url, folder, program):
+    """The name of each test of the page at a URL, which is in a folder, and the test; `program` is the command `target-lexicon`."""
+    tests = [asks_for_one_script, forbids_what_it_does_not_need, shows_fields, shows_special_strings_and_formats, escapes_and_shortens, takes_lists,
              refuses_and_suggests,
              mistakes_come_first, has_a_head_that_stays, is_typed_in_a_column_of_60, is_cleared, links_to_pages,
-             names_other_tools, says_what_other_tools_mean, is_a_card, breaks_no_name, folds_on_a_phone,
-             says_what_to_paste, is_accessible, has_a_link, functools.partial(copies_the_matrix, program), stays_responsive]
+             says_what_ten_names_mean, says_what_a_driver_asks, says_why_there_is_no_name, names_are_folded, says_what_other_tools_mean, has_large_touch_targets, is_a_card, breaks_no_name, folds_on_a_phone,
+             says_what_to_paste, is_accessible, has_a_link, functools.partial(copies_the_matrix, program), functools.partial(copies_names, program), stays_responsive]
     for test in tests:
         name = getattr(test, "func", test).__name__
         yield name.replace("_", " "), functools.partial(opened, f"{url}/", "", test)
     yield "opens a link", functools.partial(opens_a_link, url)
+    yield "opens from a folder", functools.partial(opens_from_a_folder, folder)

@@ -1,7 +1,7 @@
 // For `tsc --strict`: each line after `@ts-expect-error` is an error, and no other one is.
-import { DIALECTS, FAMILIES, FIELDS, ParseError, Triple, changes, host, load, namesOf, numberOf, settleAll, translate, version } from "target-lexicon";
+import { DIALECTS, FAMILIES, FIELDS, ParseError, Triple, changes, host, load, meanings, namesOf, numberOf, settleAll, translate, version } from "target-lexicon";
 import type {
-  Architecture, BinaryFormat, Change, Dialect, Environment, Explained, Explanation, Facts, Family, Field, Given, GivenVersion, KnownVendor, OperatingSystem, Values, Vendor, Version,
+  Architecture, BinaryFormat, Change, Dialect, Environment, Explained, Explanation, Facts, Family, Field, Given, GivenVersion, KnownVendor, Meanings, OperatingSystem, Values, Vendor, Version,
 } from "target-lexicon";
 
 const triple: Triple = Triple.parse("arm64-apple-ios17");
@@ -39,15 +39,14 @@ const parts: Each<Field> = { architecture: true, vendor: true, operatingSystem: 
 // `Same` is true only for two types that are the same, so that no answer's type is too wide.
 type Same<One, Other> = (<T>() => T extends One ? 1 : 2) extends (<T>() => T extends Other ? 1 : 2) ? true : false;
 type Size = number | null;
-const answers: {
-  [Name in keyof Facts]: Same<Facts[Name], {
+type Answers = {
     endianness: "little" | "big" | null; pointerWidth: 16 | 32 | 64 | null; defaultCallingConvention: keyof typeof conventions | null;
     dataModel: keyof typeof models | null; shortSize: Size; intSize: Size; longSize: Size; longLongSize: Size; floatSize: Size; doubleSize: Size;
     impliedFormat: BinaryFormat; objectFormat: BinaryFormat; family: Family; isThumb: boolean; isLikeDarwin: boolean; hasCustomVendor: boolean;
     cLibrary: keyof typeof libraries | null; floatAbi: "soft" | "hard" | null; isUnix: boolean; longDoubleSize: Size; longDoubleAlignment: Size;
     wcharSize: Size; wcharAlignment: Size;
-  }[Name]>
-} = {
+};
+const answers: { [Name in keyof Answers]: Same<Facts[Name], Answers[Name]> } = {
   endianness: true, pointerWidth: true, defaultCallingConvention: true, dataModel: true, shortSize: true, intSize: true, longSize: true,
   longLongSize: true, floatSize: true, doubleSize: true, impliedFormat: true, objectFormat: true, family: true, isThumb: true, isLikeDarwin: true,
   hasCustomVendor: true, cLibrary: true, floatAbi: true, isUnix: true, longDoubleSize: true, longDoubleAlignment: true, wcharSize: true,
@@ -57,13 +56,14 @@ const members: {
   [Name in keyof Triple]: Same<Triple[Name], {
     architecture: Architecture; vendor: Values["vendor"]; operatingSystem: OperatingSystem; environment: Environment; binaryFormat: BinaryFormat;
     version: Version | null; hasCustomVendor: boolean; numbers: Readonly<Record<Field, number>>; with: (values: Given) => Triple;
-    toString: () => string; toJSON: () => string; nameIn: (dialect: Dialect, version?: GivenVersion) => string | null; names: () => Record<(typeof DIALECTS)[number], string | null>; settle: () => Triple; comesBack: () => boolean;
-    equals: (other: Triple) => boolean; sameTarget: (other: Triple) => boolean; facts: () => Facts;
+    toString: () => string; toJSON: () => string; nameIn: (dialect: Dialect, version?: GivenVersion) => string | null;
+    reasonWithoutName: (dialect: Dialect, version?: GivenVersion) => string | null; names: () => Record<(typeof DIALECTS)[number], string | null>; settle: () => Triple; comesBack: () => boolean;
+    equals: (other: Triple) => boolean; sameTarget: (other: Triple) => boolean; facts: () => Facts; rustcCfg: () => Record<string, string>; llvmTarget: () => string; multiarchTuple: () => string | null;
     canonical: string; complete: (libc: "glibc" | "musl" | "msvc" | "mingw" | "gnullvm") => Triple;
   }[Name]>
 } = {
   architecture: true, vendor: true, operatingSystem: true, environment: true, binaryFormat: true, version: true, hasCustomVendor: true,
-  numbers: true, with: true, toString: true, toJSON: true, nameIn: true, names: true, settle: true, comesBack: true, equals: true, sameTarget: true, facts: true,
+  numbers: true, with: true, toString: true, toJSON: true, nameIn: true, reasonWithoutName: true, names: true, settle: true, comesBack: true, equals: true, sameTarget: true, facts: true, rustcCfg: true, llvmTarget: true, multiarchTuple: true,
   canonical: true, complete: true,
 };
 const errors: {
@@ -85,8 +85,8 @@ const calls: [
   Same<typeof host, () => Triple>, Same<typeof version, () => string>, Same<typeof numberOf, (field: Field, text: string) => number | null>,
   Same<typeof load, (module: ArrayBuffer | ArrayBufferView | WebAssembly.Module) => Promise<void>>, Same<typeof FAMILIES, readonly Family[]>,
   Same<typeof translate, (name: string, from: Dialect | null, to: Dialect, libc?: "glibc" | "musl" | "msvc" | "mingw" | "gnullvm" | null) => string>,
-  Same<typeof changes, (text: string) => Change[]>, Same<typeof settleAll, (targets: Iterable<string>) => (string | null)[]>,
-] = [true, true, true, true, true, true, true, true, true, true, true, true];
+  Same<typeof changes, (text: string) => Change[]>, Same<typeof meanings, (text: string) => Meanings>, Same<typeof settleAll, (targets: Iterable<string>) => (string | null)[]>,
+] = [true, true, true, true, true, true, true, true, true, true, true, true, true];
 
 function text(explanation: Explanation): string {
   if (explanation.error) return explanation.error.report;

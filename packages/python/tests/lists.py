@@ -1,5 +1,7 @@
 """The lists of this repository that the tests go by, and what the test program was given."""
 import collections
+import importlib.resources
+import json
 import os
 import re
 import sys
@@ -10,7 +12,6 @@ PROGRAM = os.environ.get("LEXICON_TEST_PROGRAM") or None
 
 FIELDS = ("architecture", "vendor", "operating_system", "environment", "binary_format")
 Row = collections.namedtuple("Row", "field variant name family")
-Name = collections.namedtuple("Name", "dialect name triple ways note")
 
 
 #: The folder of the package, which an sdist has at its top.
@@ -32,16 +33,20 @@ def table():
     return [Row(*row[:3], row[4] if len(row) > 4 else "") for row in rows]
 
 
-def elsewhere():
-    """The lines of the table of other tools' names: the dialect, the name, what it means, the ways, and a note that may be empty.
+def other_tools():
+    """The table of other tools' names that the package has."""
+    return json.loads(importlib.resources.files("target_lexicon").joinpath("names.json").read_text(encoding="utf-8"))
 
-    The numbers are 13 and 2 where the table has stars.
-    """
-    rows = [line.split("\t") for line in read("tools/names/elsewhere.tsv").splitlines() if not line.startswith("#")]
-    rows = [Name(*row, *[""] * (5 - len(row))) for row in rows]
+
+def names():
+    """The rows of that table, with the numbers 13 and 2 where it has stars."""
     version = {1: "13.0.0", 2: "13.2.0"}
-    return [it._replace(name=it.name.replace("*", "13", 1).replace("*", "2"), triple=it.triple.replace("*", version.get(it.name.count("*"), "*")))
-            for it in rows]
+    rows = other_tools()["names"]
+    for row in rows:
+        stars, row["name"] = row["name"].count("*"), row["name"].replace("*", "13", 1).replace("*", "2")
+        row["triple"] = row["triple"] and row["triple"].replace("*", version.get(stars, "*"))
+    Name = collections.namedtuple("Name", rows[0])
+    return [Name(**row) for row in rows]
 
 
 def rows(file, name):

@@ -13,7 +13,7 @@ import lists
 from target_lexicon import CustomVendor, Dialect, LinuxLibc, ParseError, Triple, _dialects, _library
 
 UNKNOWN, WITHOUT = "Unknown name: ", "No triple has this name: "
-NAMES = [it for it in lists.elsewhere() if it.dialect not in ("first", "second", "hard", "later", "maker", "kernel", "system")]
+NAMES = lists.names()
 
 
 class Names(unittest.TestCase):
@@ -23,41 +23,66 @@ class Names(unittest.TestCase):
         return caught.exception
 
     def test_dialects_are_those_of_the_table(self):
-        self.assertEqual({it.value for it in Dialect}, {it.dialect for it in NAMES})
+        tools = lists.other_tools()["tools"]
+        self.assertEqual([it.value for it in Dialect], [it["tool"] for it in tools])
+        self.assertEqual({it["tool"] for it in tools}, {it.tool for it in NAMES})
         others = set(_dialects.OTHER_NAMES)
+        self.assertEqual(others, {name for it in tools for name in it["also"]})
         self.assertEqual(set(typing.get_args(_dialects.DialectName)), {*Dialect, *others})
-        for way, of in ("r", _dialects.READ), ("w", _dialects.WRITTEN):
-            self.assertEqual(set(of), {it.dialect for it in NAMES if way in it.ways})
+        for way, of in ("read", _dialects.READ), ("written", _dialects.WRITTEN):
+            self.assertEqual(set(of), {it["tool"] for it in tools if it[way]})
+            self.assertEqual(set(of), {it.tool for it in NAMES if getattr(it, way)})
+        self.assertIs(Dialect("docker"), Dialect.OCI)
         self.assertEqual((Triple.read("linux/arm64", "docker").name_in("npm"), "docker" in list(Dialect)), ("linux-arm64", False))
 
     def test_read_rows(self):
-        rows = [it for it in NAMES if "r" in it.ways]
+        rows = [it for it in NAMES if it.read]
         for row in rows:
-            triple = Triple.read(row.name, row.dialect)
+            triple = Triple.read(row.name, row.tool)
             self.assertEqual((str(triple), triple), (row.triple, Triple(row.triple)), row)
-            self.assertEqual((triple, triple.canonical), (Triple.read(row.name, Dialect(row.dialect)), row.triple), row)
+            self.assertEqual((triple, triple.canonical), (Triple.read(row.name, Dialect(row.tool)), row.triple), row)
         self.assertGreater(len(rows), 200)
 
     def test_written_rows(self):
-        rows = [it for it in NAMES if "w" in it.ways]
+        rows = [it for it in NAMES if it.written]
         for row in rows:
             triple = Triple(row.triple)
-            self.assertEqual((triple.name_in(row.dialect), triple.name_in(Dialect(row.dialect))), (row.name, row.name), row)
+            self.assertEqual((triple.name_in(row.tool), triple.name_in(Dialect(row.tool))), (row.name, row.name), row)
         self.assertGreater(len(rows), 200)
+
+    def test_other_names(self):
+        """A name that is written has beside it those that are read as the same triple, and no other row has any."""
+        count = 0
+        for row in NAMES:
+            self.assertTrue(row.written or not row.other_names, row)
+            for name in row.other_names:
+                triple = Triple.read(name.replace("*", "13", 1).replace("*", "2"), row.tool)
+                self.assertEqual((triple if "*" not in name else triple.replace(version=Triple(row.triple).version)), Triple(row.triple), row)
+                count += 1
+        self.assertGreater(count, 150)
+
+    def test_rows_that_state_a_version(self):
+        """The name of such a triple with a version is one of the rows that state it."""
+        table = [it for it in lists.other_tools()["names"] if it["states_version_of"] and it["triple"] and it["name"].count("*") == 2]
+        for row in table:
+            version = (next((number for word, number in (("glibc", 2), ("musl", 1)) if word in row["states_version_of"]), 13), 5)
+            same = [it["name"].replace("*", str(version[0]), 1).replace("*", "5") for it in table if (it["tool"], it["triple"]) == (row["tool"], row["triple"])]
+            self.assertIn(Triple(row["triple"].replace("*", "")).name_in(row["tool"], version), same)
+        self.assertGreater(len(table), 40)
 
     def test_rows_that_are_not_read(self):
         """Those that no triple means, with the table's reason."""
-        rows = [it for it in NAMES if it.ways == "-"]
+        rows = [it for it in NAMES if it.triple is None]
         for row in rows:
-            error = self.refusal(row.name, row.dialect)
-            self.assertEqual((error.line, error.reason), (WITHOUT + row.name, row.note))
+            error = self.refusal(row.name, row.tool)
+            self.assertEqual((error.line, error.reason), (WITHOUT + row.name, row.reason))
             self.assertEqual((error.field, error.suggestion, error.text, error.part, error.start, error.end),
                              (None, None, row.name, row.name, 0, len(row.name)))
-            self.assertEqual(str(error), f"{WITHOUT}{row.name}\n  {row.name}\n  {'^' * len(row.name)} {row.note}")
+            self.assertEqual(str(error), f"{WITHOUT}{row.name}\n  {row.name}\n  {'^' * len(row.name)} {row.reason}")
         self.assertGreater(len(rows), 100)
 
     def test_names_of_another_dialect_are_unknown(self):
-        known = {dialect: {it.name for it in NAMES if it.dialect == dialect.value} for dialect in Dialect}
+        known = {dialect: {it.name for it in NAMES if it.tool == dialect.value} for dialect in Dialect}
         count = 0
         for dialect, other in itertools.permutations(Dialect, 2):
             if dialect is Dialect.GNU:
@@ -75,7 +100,7 @@ class Names(unittest.TestCase):
     def test_platforms_of_python(self):
         self.assertEqual(Triple.read(sysconfig.get_platform(), "python").operating_system, Triple.host().operating_system)
         for name, tag, triple in (("macosx-11.0-arm64", "macosx_11_0_arm64", "aarch64-apple-macosx11.0.0"), ("win-amd64", "win_amd64", "x86_64-pc-windows"),
-                                  ("ios-65535.255-x86_64-iphonesimulator", "ios_65535_255_x86_64_iphonesimulator", "x86_64-apple-ios65535.255.0-sim"),
+                                  ("ios-65535.255-x86_64-iphonesimulator", "ios_65535_255_x86_64_iphonesimulator", "x86_64-apple-ios65535.255.0"),
                                   ("linux-armv7l", "linux_armv7l", "armv7-unknown-linux"), ("macosx-0.0-ppc", "macosx_0_0_ppc", "powerpc-apple-macosx0.0.0")):
             for spelled in name, tag:
                 self.assertEqual(str(Triple.read(spelled, Dialect.PYTHON)), triple)
@@ -86,6 +111,9 @@ class Names(unittest.TestCase):
                                     ("aarch64-linux-android", (24, 1), None), ("x86_64-linux", (2, 17), None), ("x86_64-pc-windows-msvc", (10,), "win_amd64"),
                                     ("aarch64-apple-darwin", (2, 17), None), ("aarch64-linux-musl", (11, 0), None)]:
             self.assertEqual(Triple(text).name_in("python", version), name)
+            self.assertEqual(Triple(text).reason_without_name("python", version) is None, name is not None)
+        self.assertRegex(Triple("aarch64-apple-darwin").reason_without_name("python", (2, 17)), "macOS 10.x or later$")
+        self.assertRegex(Triple("x86_64-pc-windows").reason_without_name("rust"), "say msvc, mingw or gnullvm$")
         for wrong in ((2, 17, 1), (), (1, 2, 3, 4), (2, 256), (-1,), (65536,)):
             self.assertRaises(ValueError, Triple("x86_64-linux-gnu").name_in, "python", wrong)
         self.assertRaises(TypeError, Triple("x86_64-linux-gnu").name_in, "python", "2.17")
@@ -97,12 +125,12 @@ class Names(unittest.TestCase):
             self.assertEqual(self.refusal(name, "python").line, UNKNOWN + name)
 
     def test_first_parts(self):
-        rows = [it for it in lists.elsewhere() if it.dialect == "first"]
+        rows = [it for it in lists.other_tools()["parts"] if it["place"] == "first"]
         for row in rows:
-            name = row.name.rstrip("!")  # which says that the architecture states hard floats
+            name = row["part"].rstrip("!")  # which says that the architecture states hard floats
             self.assertRaises(ParseError, Triple, f"{name}-unknown-linux-gnu")
-            if name == row.name:
-                self.assertEqual(Triple.read(f"{name}-unknown-linux-gnu"), Triple(f"{row.triple}-unknown-linux-gnu"))
+            if name == row["part"]:
+                self.assertEqual(Triple.read(f"{name}-unknown-linux-gnu"), Triple(f"{row['read_as']}-unknown-linux-gnu"))
         self.assertGreater(len(rows), 20)
 
     def test_spelled_like_triples(self):
@@ -142,9 +170,20 @@ class Names(unittest.TestCase):
                                        ("rust", "x86_64-apple-darwn", "x86_64-apple-darwin")):
             error = self.refusal(name, dialect)
             self.assertEqual((error.suggestion, error.reason, str(error).endswith(f"^ did you mean `{nearest}`?")), (nearest, None, nearest is not None))
-        rows = [it for it in NAMES if "r" in it.ways and it.dialect != "gnu" and "13_2" not in it.name]
-        found = sum(self.refusal(it.name[0] + it.name, it.dialect).suggestion == it.name for it in rows)
-        self.assertGreater(found, len(rows) * 8 // 9)  # some of the others have a nearer name
+        # A name with a number isn't suggested, and nothing is where two edits give another machine too: `arm64` for `aamd64`.
+        rows = [it for it in NAMES if it.read and it.tool != "gnu" and "13" not in it.name]
+        found = [(self.refusal(it.name[0] + it.name, it.tool).suggestion, it.name) for it in rows]
+        self.assertEqual([it for it in found if it[0] not in (it[1], None)], [])
+        self.assertLess(sum(suggested is None for suggested, _ in found), len(rows) // 50)
+
+    def test_what_is_around_names(self):
+        for dialect, text, triple in (("npm", "@rollup/rollup-linux-x64-gnu", "x86_64-unknown-linux-gnu"), ("npm", "@esbuild/win32-arm64@0.21.5", "aarch64-pc-windows"),
+                                      ("python", "numpy-1.26-cp311-cp311-manylinux_2_17_x86_64.manylinux2014_x86_64.whl", "x86_64-unknown-linux-gnu"),
+                                      ("uname", "Linux\nx86_64\n", "x86_64-unknown-linux"), ("oci", "windows(10.0.25398.709)/amd64", "x86_64-pc-windows")):
+            self.assertEqual(str(Triple.read(text, dialect)), triple)
+        self.assertEqual(target_lexicon.translate("@swc/core-linux-arm64-musl", "npm", "rust"), "aarch64-unknown-linux-musl")
+        self.assertEqual(self.refusal("six-1.16.0-py2.py3-none-any.whl", "python").reason, "no machine")
+        self.assertEqual(self.refusal("@types/node", "npm").reason, None)
 
     def test_names_are_whole(self):
         for name in "", "linux", "linux/amd64 ", "Linux/amd64", "linux/amd64\0", "\0", "linux/\u00e9", "x" * 1_000_000:
@@ -202,24 +241,26 @@ class Names(unittest.TestCase):
             name = row.name.replace("*", "13")
             for target, libc in itertools.product(Dialect, (None, *LinuxLibc)):
                 try:
-                    triple = Triple.read(name, row.dialect)
+                    triple = Triple.read(name, row.tool)
                 except ParseError as error:
                     with self.assertRaises(ParseError) as caught:
-                        target_lexicon.translate(name, row.dialect, target, libc)
+                        target_lexicon.translate(name, row.tool, target, libc)
                     self.assertEqual(str(caught.exception), str(error))
                     break
                 completed = triple.complete(libc) if libc else triple
                 expected = completed.name_in(target)
                 try:
-                    self.assertEqual(target_lexicon.translate(name, row.dialect, target, libc), expected)
+                    self.assertEqual(target_lexicon.translate(name, row.tool, target, libc), expected)
                 except target_lexicon.TranslationError as error:
                     with_libc = [completed.complete(it).name_in(target) for it in LinuxLibc]
                     self.assertEqual((expected, error.needs_libc), (None, any(with_libc)), name)
+                    self.assertEqual(error.reason, completed.reason_without_name(target), name)
+                    self.assertTrue(error.reason and str(error).endswith(f": {error.reason}"), name)
 
     def test_translations_that_fail(self):
-        for words, line in ((("linux/arm64", "oci", "debian"), "The name in the other dialect depends on the C library: linux/arm64"),
-                            (("windows/amd64", "oci", Dialect.DEBIAN, "musl"), "No name in the other dialect: windows/amd64"),
-                            (("avr-none", None, "go"), "No name in the other dialect: avr-none")):
+        for words, line in ((("linux/arm64", "oci", "debian"), "No name in the other dialect: linux/arm64: it depends on the C library: say glibc or musl"),
+                            (("windows/amd64", "oci", Dialect.DEBIAN, "musl"), "No name in the other dialect: windows/amd64: the tool has no name for the system"),
+                            (("avr-none", None, "go"), "No name in the other dialect: avr-none: the tool has no name for the system")):
             with self.assertRaises(target_lexicon.TranslationError) as caught:
                 target_lexicon.translate(*words)
             for error in caught.exception, pickle.loads(pickle.dumps(caught.exception)), copy.deepcopy(caught.exception):

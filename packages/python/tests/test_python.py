@@ -133,7 +133,9 @@ class Fields(unittest.TestCase):
             self.assertEqual(Triple.from_dict(json.loads(json.dumps(triple.to_dict()))), triple)
         self.assertEqual(Triple.from_dict({}), Triple.from_fields())
         self.assertEqual(Triple.from_dict({"operating_system": OperatingSystem.IOS, "vendor": "acme", "version": [17]}), Triple("unknown-acme-ios17"))
-        for values in ({"cpu": "arm"}, {"architecture": "arm64"}, {"architecture": None}, {"operating_system": "ios17"}, {"vendor": "ACME"},
+        self.assertEqual((Triple.from_dict({"architecture": "arm64"}), Triple("x86_64-linux").replace(architecture="arm64")), (Triple("arm64"), Triple("arm64-linux")))
+        self.assertRaises(TypeError, Triple.from_dict, {"architecture": None})
+        for values in ({"cpu": "arm"}, {"architecture": "arm65"}, {"operating_system": "ios17"}, {"vendor": "ACME"},
                        {"binary_format": "pe"}, {"operating_system": "linux", "version": "1"}, {"operating_system": "ios", "version": "x"}):
             self.assertRaises(ValueError, Triple.from_dict, values)
 

@@ -1,5 +1,7 @@
 """The worked rows of the crates' tests, and the known triples."""
 import re
+import shutil
+import subprocess
 import unittest
 
 import target_lexicon
@@ -113,10 +115,32 @@ class Rows(unittest.TestCase):
         for text, expected in lists.rows("queries", "ANSWERS"):
             it = Triple(text)
             self.assertEqual(" ".join(map(shown, (it.endianness, it.pointer_width, it.default_calling_convention, it.data_model))), expected)
-            self.assertEqual(it.long_size is None, it.data_model is None)
+            self.assertTrue(it.long_size or not it.data_model)
+
+    @unittest.skipUnless(shutil.which("rustc"), "no rustc")
+    def test_rustc_cfg(self):
+        """What rustc prints of its targets, of the names that are options of the target."""
+        for target in "x86_64-unknown-linux-gnu", "aarch64-apple-darwin", "i686-pc-windows-msvc", "wasm32-wasip1":
+            ran = subprocess.run(["rustc", "--print", "cfg", "--target", target], capture_output=True, text=True, check=True)
+            theirs = dict(re.findall(r'^(target_(?:arch|os|env|abi|family|vendor|pointer_width|endian)|unix|windows)(?:="(.*)")?$', ran.stdout, re.M))
+            ours = Triple(target).rustc_cfg
+            self.assertEqual({name: value for name, value in ours.items() if name in theirs}, theirs, target)
+            self.assertEqual({value for name, value in ours.items() if name not in theirs} - {""}, set(), target)
+        self.assertEqual(len(Triple(f"x86_64-{'a' * 500}-linux").rustc_cfg["target_vendor"]), 500)
+
+    def test_strings_of_llvm_and_debian(self):
+        wanted = {"arm64-apple-darwin": ("arm64-apple-macosx", None), "riscv64gc-linux-gnu": ("riscv64-unknown-linux-gnu", "riscv64-linux-gnu"),
+                  "i686-pc-linux-gnu": ("i686-pc-linux-gnu", "i386-linux-gnu"), f"x86_64-{'a' * 500}-linux": (f"x86_64-{'a' * 500}-linux", None)}
+        self.assertEqual({text: (it.llvm_target, it.multiarch_tuple) for text, it in zip(wanted, map(Triple, wanted))}, wanted)
+        self.assertEqual([(it.llvm_target, it.multiarch_tuple) for it in target_lexicon.facts_all([*wanted, "linx"])], [*wanted.values(), (None, None)])
+
+    def test_arm(self):
+        found = [(it.arm_version, it.arm_profile) for it in map(Triple, ("thumbv6m-none-eabi", "armv8r-none-eabihf", "armv7-linux-gnueabihf", "arm-linux", "arm64-linux"))]
+        self.assertEqual(found, [(6, "M"), (8, "R"), (7, None), (None, None), (None, None)])
 
     def test_sizes(self):
-        sizes = {"x86_64-linux": (2, 4, 8, 8, 4, 8), "x86_64-windows": (2, 4, 4, 8, 4, 8), "i686-linux": (2, 4, 4, 8, 4, 8), "avr": (None,) * 6}
+        sizes = {"x86_64-linux": (2, 4, 8, 8, 4, 8), "x86_64-windows": (2, 4, 4, 8, 4, 8), "i686-linux": (2, 4, 4, 8, 4, 8), "avr": (2, 2, 4, 8, 4, 4),
+                 "x86_64-pc-cygwin": (2, 4, 8, 8, 4, 8), "thumbv7m-none-eabi": (2, 4, 4, 8, 4, 8), "x86_64-unknown-uefi": (None,) * 6}
         for text, expected in sizes.items():
             it = Triple(text)
             self.assertEqual((it.short_size, it.int_size, it.long_size, it.long_long_size, it.float_size, it.double_size), expected)

@@ -1,12 +1,11 @@
 //! How a target is linked: the interface of the linker, as in rustc's `linker-flavor`, and the end of a program's name.
 //!
 //! cargo run --example linkers --features tool_names -- x86_64-unknown-uefi wasm32-wasip1
-use target_lexicon::tool_names::object_format;
 use target_lexicon::{Architecture, BinaryFormat, Environment, OperatingSystem, TripleRef};
 
 pub fn linker(triple: &TripleRef<'_>) -> &'static str {
     match (
-        object_format(triple),
+        triple.object_format(),
         triple.operating_system,
         triple.architecture,
     ) {

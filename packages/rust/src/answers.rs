@@ -1,36 +1,58 @@
 //! What other tools and drivers say of a triple, as calls of both types.
+use crate::proved::tool_names::{complete, object_format};
 use crate::tool_names::{
-    complete, is_unix, object_format, CLibrary, Dialect, FloatAbi, LinuxLibc, Name, RustcCfg,
-    TypeLayout, WriteError,
+    arm_version, is_unix, ArmProfile, CLibrary, FloatAbi, LinuxLibc, LlvmTarget, MultiarchTuple,
+    RustcCfg, TypeLayout, TypeSizes,
 };
 use crate::{BinaryFormat, Triple, TripleRef};
 
-/// Each call of `TripleRef`, and of `Triple` with the same documentation.
+/// Each call of `TripleRef`, and of `Triple` with the same documentation; `const` is before those that don't look at the vendor.
 macro_rules! answers {
-    ($($(#[$documentation:meta])* $name:ident($($argument:ident: $type:ty),*) -> $answer:ty, $triple:ident => $body:expr;)*) => {
-        impl<'a> TripleRef<'a> {
+    ($($(#[$documentation:meta])* const $name:ident() -> $answer:ty, $body:path;)*) => {
+        impl TripleRef<'_> {
             $($(#[$documentation])*
+            #[must_use]
             #[inline]
-            pub fn $name(&self, $($argument: $type),*) -> $answer {
-                let $triple = self;
-                $body
+            pub const fn $name(&self) -> $answer {
+                $body(self)
             })*
         }
 
         impl Triple {
             $($(#[$documentation])*
-            // One of them gives a triple that borrows.
-            #[allow(clippy::needless_lifetimes)]
+            #[must_use]
             #[inline]
-            pub fn $name<'a>(&'a self, $($argument: $type),*) -> $answer {
-                self.as_triple_ref().$name($($argument),*)
+            pub const fn $name(&self) -> $answer {
+                $body(&self.without_vendor())
+            })*
+        }
+    };
+    ($($(#[$documentation:meta])* $name:ident($($argument:ident: $type:ty)?) -> $answer:ty, $body:path;)*) => {
+        impl<'a> TripleRef<'a> {
+            $($(#[$documentation])*
+            #[must_use]
+            #[inline]
+            pub fn $name(&self, $($argument: $type)?) -> $answer {
+                $body(self, $($argument)?)
+            })*
+        }
+
+        impl Triple {
+            $($(#[$documentation])*
+            // Two of them give what borrows from the triple.
+            #[allow(clippy::needless_lifetimes)]
+            #[must_use]
+            #[inline]
+            pub fn $name<'a>(&'a self, $($argument: $type)?) -> $answer {
+                $body(&self.as_triple_ref(), $($argument)?)
             })*
         }
     };
 }
 
 answers! {
-    /// The values of rustc's cfg options, as [`RustcCfg::of`] says.
+    /// The values of rustc's cfg options. They are rustc's for each of its targets that parses; the targets whose triples the
+    /// library can't represent have none. What rustc has no target of keeps its name, such as the architecture `pulley64`.
     ///
     /// # Examples
     ///
@@ -43,116 +65,232 @@ answers! {
     /// for line in triple.rustc_cfg().to_string().lines() {
     ///     println!("cargo:rustc-cfg=guest_{line}");
     /// }
+    ///
+    /// for (string, os, env, abi, vendor) in [
+    ///     ("arm-linux-androideabi", "android", "", "eabi", "unknown"),
+    ///     ("armv7-unknown-linux-musleabihf", "linux", "musl", "eabihf", "unknown"),
+    ///     ("thumbv7em-nuttx-eabihf", "nuttx", "", "eabihf", "unknown"),
+    ///     ("wasm32-wasip1-threads", "wasi", "p1", "", "unknown"),
+    ///     ("x86_64-apple-ios", "ios", "sim", "sim", "apple"),
+    ///     ("x86_64-uwp-windows-gnu", "windows", "gnu", "uwp", "uwp"),
+    /// ] {
+    ///     let triple = triple!(string);
+    ///     let cfg = triple.rustc_cfg();
+    ///     let values = (cfg.target_os, cfg.target_env, cfg.target_abi, cfg.target_vendor);
+    ///     assert_eq!(values, (os, env, abi, vendor), "{string}");
+    /// }
     /// ```
-    #[must_use]
-    rustc_cfg() -> RustcCfg<'a>, triple => RustcCfg::of(triple);
+    rustc_cfg() -> RustcCfg<'a>, RustcCfg::of;
 
-    /// The name in a dialect, as [`Dialect::write`] says.
+    /// The string that LLVM and clang take for the target, which is displayed: rustc's `llvm-target` for each of its targets that
+    /// parses. It states no extension of RISC-V and no C library that LLVM doesn't know: those are options.
     ///
     /// # Examples
     ///
     /// ```
-    /// use target_lexicon::{tool_names::Dialect, triple};
+    /// use target_lexicon::triple;
     ///
-    /// assert_eq!(triple!("aarch64-apple-darwin").name_in(Dialect::Go).unwrap(), "darwin/arm64");
+    /// for (string, target) in [
+    ///     ("riscv64gc-unknown-linux-gnu", "riscv64-unknown-linux-gnu"),
+    ///     ("aarch64-apple-darwin", "arm64-apple-macosx"),
+    ///     ("x86_64-unknown-uefi", "x86_64-unknown-windows"),
+    ///     ("armv7-unknown-linux-gnueabihf", "armv7-unknown-linux-gnueabihf"),
+    /// ] {
+    ///     assert_eq!(triple!(string).llvm_target().to_string(), target);
+    /// }
     /// ```
-    #[must_use]
-    name_in(dialect: Dialect) -> Option<Name>, triple => dialect.write(triple);
+    llvm_target() -> LlvmTarget<'a>, LlvmTarget::of;
 
-    /// The name in a dialect of the triple with a C library, or why there is none, as [`Dialect::write_with`] says.
+    /// Debian's multiarch tuple. `None` if Debian has no architecture for the triple, or it depends on a C library that the triple doesn't
+    /// state.
     ///
     /// # Examples
     ///
     /// ```
-    /// use target_lexicon::{tool_names::{Dialect, LinuxLibc}, triple};
+    /// use target_lexicon::triple;
     ///
-    /// let triple = triple!("aarch64-unknown-linux");
-    /// assert_eq!(triple.name_with(Dialect::Debian, Some(LinuxLibc::Musl)).unwrap(), "musl-linux-arm64");
+    /// let tuple = |string| triple!(string).multiarch_tuple().map(|it| it.to_string());
+    /// assert_eq!(tuple("armv7-unknown-linux-gnueabihf").as_deref(), Some("arm-linux-gnueabihf"));
+    /// assert_eq!([tuple("x86_64-unknown-linux"), tuple("x86_64-pc-windows-gnu")], [None, None]);
     /// ```
-    name_with(dialect: Dialect, c_library: Option<LinuxLibc>) -> Result<Name, WriteError>, triple => dialect.write_with(triple, c_library);
+    multiarch_tuple() -> Option<MultiarchTuple>, MultiarchTuple::of;
 
-    /// The triple with the usual environment of a C library, as [`complete`] says.
+    /// The triple with the usual environment of a C library, if it is of the library's system and its environment is unknown.
+    /// Every other triple is returned as it is, so that a list of targets may be completed for Linux and then for Windows.
+    /// Nothing is allocated.
+    ///
+    /// Names of Go, OCI and Python don't state the C library, so that what they mean has no name of Debian, of GNU or of
+    /// rustc. Nothing is guessed: the caller says which C library it is. With glibc the environment is `gnueabihf` on `arm`,
+    /// `armv6`, `armv7` and `armv8`, `gnueabi` on `armv5te`, `gnuabi64` on 64-bit MIPS, and `gnu` on every other architecture;
+    /// with musl it is `musleabihf`, `musleabi`, `muslabi64` or `musl`. A name of one Arm that stands for a version, such as
+    /// `armv7a`, counts as that version. On Windows it is `msvc`, with MinGW `gnu`, and with that of LLVM's tools `gnullvm`.
     ///
     /// # Examples
     ///
     /// ```
-    /// use target_lexicon::{tool_names::LinuxLibc, triple};
+    /// use target_lexicon::tool_names::{Dialect, LinuxLibc};
     ///
-    /// let triple = triple!("aarch64-unknown-linux");
-    /// assert_eq!(triple.with_c_library(LinuxLibc::Musl).to_string(), "aarch64-unknown-linux-musl");
+    /// let platform = Dialect::Oci.read("linux/arm/v7").unwrap();
+    /// assert_eq!(Dialect::Debian.write(&platform), None);
+    /// let triple = platform.with_c_library(LinuxLibc::Glibc);
+    /// assert_eq!(triple.to_string(), "armv7-unknown-linux-gnueabihf");
+    /// assert_eq!(Dialect::Debian.write(&triple).unwrap(), "armhf");
     /// ```
-    #[must_use]
-    with_c_library(c_library: LinuxLibc) -> TripleRef<'a>, triple => complete(triple, c_library);
+    with_c_library(c_library: LinuxLibc) -> TripleRef<'a>, complete;
 
-    /// The format of object files that toolchains write, as [`object_format`] says.
-    ///
-    /// # Examples
-    ///
-    /// ```
-    /// use target_lexicon::{triple, BinaryFormat};
-    ///
-    /// assert_eq!(triple!("x86_64-unknown-uefi").object_format(), BinaryFormat::Coff);
-    /// ```
-    #[must_use]
-    object_format() -> BinaryFormat, triple => object_format(triple);
-
-    /// The C library that the triple states, as [`CLibrary::of`] says.
+    /// The C library that the triple states: by its environment, or by a system that has only one.
     ///
     /// # Examples
     ///
     /// ```
     /// use target_lexicon::{tool_names::CLibrary, triple};
     ///
-    /// assert_eq!(triple!("x86_64-pc-windows-msvc").c_library(), Some(CLibrary::Msvc));
+    /// for (string, library) in [
+    ///     ("x86_64-unknown-linux-gnux32", Some(CLibrary::Glibc)),
+    ///     ("x86_64-pc-windows-gnu", Some(CLibrary::Mingw)),
+    ///     ("x86_64-pc-windows-msvc", Some(CLibrary::Msvc)),
+    ///     ("aarch64-linux-android", Some(CLibrary::Bionic)),
+    ///     ("aarch64-unknown-linux-ohos", Some(CLibrary::Musl)),
+    ///     ("aarch64-apple-darwin", Some(CLibrary::System)),
+    ///     ("aarch64-unknown-linux", None),
+    /// ] {
+    ///     assert_eq!(triple!(string).c_library(), library, "{string}");
+    /// }
     /// ```
-    #[must_use]
-    c_library() -> Option<CLibrary>, triple => CLibrary::of(triple);
+    c_library() -> Option<CLibrary>, CLibrary::of;
 
-    /// How floating-point arguments are passed, as [`FloatAbi::of`] says.
+    /// Whether rustc counts the system to the family `unix`.
+    ///
+    /// # Examples
+    ///
+    /// ```
+    /// use target_lexicon::triple;
+    ///
+    /// assert!(triple!("aarch64-apple-ios").is_unix() && triple!("x86_64-pc-cygwin").is_unix());
+    /// assert!(!triple!("x86_64-unknown-uefi").is_unix() && !triple!("wasm32-wasip1").is_unix());
+    /// ```
+    is_unix() -> bool, is_unix;
+}
+
+answers! {
+    /// The format of the object files that rustc and LLVM write for a target. It differs from the field `binary_format`,
+    /// which is upstream's answer, in these cases:
+    ///
+    /// - UEFI and Cygwin have COFF, as Windows does. Upstream says ELF.
+    /// - WebAssembly has its own format on every system. Upstream says ELF on those that it doesn't list, such as `wasip1`.
+    /// - A target with the system `none` has ELF, or the format of WebAssembly. Upstream knows no format.
+    /// - An unknown format is the one that the other fields give.
+    ///
+    /// A given format that isn't the implied one is kept. The answer is `Unknown` only for the architecture `Unknown`.
+    ///
+    /// # Examples
+    ///
+    /// ```
+    /// use target_lexicon::{triple, BinaryFormat};
+    ///
+    /// for (string, upstreams, format) in [
+    ///     ("x86_64-unknown-linux-gnu", BinaryFormat::Elf, BinaryFormat::Elf),
+    ///     ("x86_64-unknown-none", BinaryFormat::Unknown, BinaryFormat::Elf),
+    ///     ("wasm32-wasip1", BinaryFormat::Elf, BinaryFormat::Wasm),
+    ///     ("x86_64-unknown-uefi", BinaryFormat::Elf, BinaryFormat::Coff),
+    ///     ("x86_64-pc-cygwin", BinaryFormat::Elf, BinaryFormat::Coff),
+    ///     ("x86_64-pc-cygwin-macho", BinaryFormat::Macho, BinaryFormat::Macho),
+    ///     ("powerpc64-ibm-aix", BinaryFormat::Xcoff, BinaryFormat::Xcoff),
+    /// ] {
+    ///     let triple = triple!(string);
+    ///     assert_eq!((triple.binary_format, triple.object_format()), (upstreams, format), "{string}");
+    /// }
+    /// ```
+    const object_format() -> BinaryFormat, object_format;
+
+    /// The way to pass floating-point arguments that the triple states: on Arm by the environment, or by a system that has
+    /// only one; elsewhere only by the environment `softfloat`.
     ///
     /// # Examples
     ///
     /// ```
     /// use target_lexicon::{tool_names::FloatAbi, triple};
     ///
-    /// assert_eq!(triple!("armv7-unknown-linux-gnueabihf").float_abi(), Some(FloatAbi::Hard));
+    /// for (string, floats) in [
+    ///     ("arm-unknown-linux-gnueabihf", Some(FloatAbi::Hard)),
+    ///     ("armv7-linux-androideabi", Some(FloatAbi::Soft)),
+    ///     ("armv7-unknown-freebsd", Some(FloatAbi::Hard)),
+    ///     ("aarch64-unknown-none-softfloat", Some(FloatAbi::Soft)),
+    ///     ("armv7-unknown-linux", None),
+    ///     ("x86_64-unknown-linux-gnu", None),
+    /// ] {
+    ///     assert_eq!(triple!(string).float_abi(), floats, "{string}");
+    /// }
     /// ```
-    #[must_use]
-    float_abi() -> Option<FloatAbi>, triple => FloatAbi::of(triple);
+    const float_abi() -> Option<FloatAbi>, FloatAbi::of;
 
-    /// Whether rustc counts the system to its family `unix`, as [`is_unix`] says.
+    /// The version of a 32-bit Arm architecture. `None` where its name states none, and for any other architecture.
     ///
     /// # Examples
     ///
     /// ```
     /// use target_lexicon::triple;
     ///
-    /// assert!(triple!("aarch64-apple-ios").is_unix() && !triple!("x86_64-unknown-uefi").is_unix());
+    /// assert_eq!(triple!("thumbv7em-none-eabihf").arm_version(), Some(7));
+    /// assert_eq!(triple!("arm-unknown-linux-gnueabi").arm_version(), None);
     /// ```
-    #[must_use]
-    is_unix() -> bool, triple => is_unix(triple);
+    const arm_version() -> Option<u8>, arm_version;
 
-    /// The layout of C's `long double`, as [`TypeLayout::of_long_double`] says.
+    /// The profile of a 32-bit Arm architecture. `None` where its name states none, such as `armv7`, which LLVM takes for `armv7-a`.
     ///
     /// # Examples
     ///
     /// ```
     /// use target_lexicon::triple;
     ///
-    /// assert_eq!(triple!("i686-unknown-linux-gnu").long_double_layout().unwrap().size, 12);
+    /// let profile = |string| triple!(string).arm_profile().map(|it| it.name());
+    /// assert_eq!(["thumbv8m.main-none-eabi", "armv7r-none-eabi", "armv7a-none-eabi"].map(profile), [Some("M"), Some("R"), Some("A")]);
+    /// assert_eq!(["arm-unknown-linux-gnueabi", "aarch64-unknown-linux-gnu"].map(profile), [None, None]);
     /// ```
-    #[must_use]
-    long_double_layout() -> Option<TypeLayout>, triple => TypeLayout::of_long_double(triple);
+    const arm_profile() -> Option<ArmProfile>, ArmProfile::of;
 
-    /// The layout of C's `wchar_t`, as [`TypeLayout::of_wchar`] says.
+    /// The sizes of C's arithmetic types: those of the data model. A triple without one, such as of bare metal and Cygwin, has those of
+    /// its compilers; `None` where no source is sure, such as on UEFI and VxWorks.
     ///
     /// # Examples
     ///
     /// ```
     /// use target_lexicon::triple;
     ///
-    /// assert_eq!(triple!("x86_64-pc-windows-msvc").wchar_layout().unwrap().size, 2);
+    /// let int_and_long = |string| triple!(string).type_sizes().map(|it| (it.int, it.long));
+    /// assert_eq!(int_and_long("x86_64-pc-windows-msvc"), Some((4, 4)));
+    /// assert_eq!(int_and_long("thumbv7em-none-eabihf"), Some((4, 4)));
+    /// assert_eq!(int_and_long("avr-none"), Some((2, 4)));
+    /// assert_eq!(int_and_long("x86_64-unknown-uefi"), None);
     /// ```
-    #[must_use]
-    wchar_layout() -> Option<TypeLayout>, triple => TypeLayout::of_wchar(triple);
+    const type_sizes() -> Option<TypeSizes>, TypeSizes::of;
+
+    /// The layout of C's `long double`. `None` where no source is sure, such as on UEFI, VxWorks and AIX.
+    ///
+    /// # Examples
+    ///
+    /// ```
+    /// use target_lexicon::triple;
+    ///
+    /// let size = |string| triple!(string).long_double_layout().map(|it| it.size);
+    /// assert_eq!(size("x86_64-unknown-linux-gnu"), Some(16));
+    /// assert_eq!(size("i686-unknown-linux-gnu"), Some(12));
+    /// assert_eq!(size("x86_64-pc-windows-msvc"), Some(8));
+    /// assert_eq!(size("x86_64-unknown-uefi"), None);
+    /// ```
+    const long_double_layout() -> Option<TypeLayout>, TypeLayout::of_long_double;
+
+    /// The layout of C's `wchar_t`. `None` where no source is sure, such as on VxWorks and AIX.
+    ///
+    /// # Examples
+    ///
+    /// ```
+    /// use target_lexicon::triple;
+    ///
+    /// let size = |string| triple!(string).wchar_layout().map(|it| it.size);
+    /// assert_eq!(size("x86_64-unknown-linux-gnu"), Some(4));
+    /// assert_eq!(size("x86_64-pc-windows-msvc"), Some(2));
+    /// assert_eq!(size("powerpc64-ibm-aix"), None);
+    /// ```
+    const wchar_layout() -> Option<TypeLayout>, TypeLayout::of_wchar;
 }

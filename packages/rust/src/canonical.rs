@@ -1,5 +1,7 @@
 //! Canonical forms of triples whose vendor may be any text.
-use crate::{Triple, TripleRef};
+use crate::Triple;
+#[cfg(feature = "alloc")]
+use crate::TripleRef;
 use core::fmt;
 
 /// No string parses as the vendor of the triple, so its printed string is refused or parses with another vendor: the
@@ -15,7 +17,7 @@ use core::fmt;
 /// let NotPlain(same) = triple.clone().settle().unwrap_err();
 /// assert_eq!(same, triple);
 /// ```
-#[derive(Clone, Debug, PartialEq, Eq)]
+#[derive(Clone, Debug, PartialEq, Eq, Hash)]
 pub struct NotPlain(pub Triple);
 
 impl fmt::Display for NotPlain {
@@ -83,6 +85,7 @@ impl Triple {
     }
 }
 
+#[cfg(feature = "alloc")]
 impl<'a> TripleRef<'a> {
     /// The triple that this triple's printed string parses as, the same as [`settle`](TripleRef::settle) gives. A triple
     /// that [`comes_back`](TripleRef::comes_back) is unchanged.

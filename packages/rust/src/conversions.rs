@@ -1,9 +1,9 @@
 //! Conversions. Those into a [`Triple`] or a [`Vendor`] copy the string of a custom vendor, and so allocate. No other one does.
 use core::str::FromStr;
 
-use crate::{
-    DeploymentTarget, KnownVendor, ParseTripleError, Triple, TripleRef, Vendor, VendorRef,
-};
+#[cfg(feature = "alloc")]
+use crate::ParseTripleError;
+use crate::{DeploymentTarget, KnownVendor, Triple, TripleRef, Vendor, VendorRef};
 
 impl<'a> From<&'a Triple> for TripleRef<'a> {
     /// The same as [`Triple::as_triple_ref`], which allocates nothing.
@@ -13,6 +13,15 @@ impl<'a> From<&'a Triple> for TripleRef<'a> {
     }
 }
 
+impl<'a> From<&TripleRef<'a>> for TripleRef<'a> {
+    /// A copy. So a call that takes `impl Into<TripleRef>` takes either type of triple by reference.
+    #[inline]
+    fn from(triple: &TripleRef<'a>) -> Self {
+        *triple
+    }
+}
+
+#[cfg(feature = "alloc")]
 impl From<TripleRef<'_>> for Triple {
     /// The same as [`TripleRef::to_triple`], which copies the string of a custom vendor.
     #[inline]
@@ -29,6 +38,7 @@ impl<'a> From<&'a Vendor> for VendorRef<'a> {
     }
 }
 
+#[cfg(feature = "alloc")]
 impl From<VendorRef<'_>> for Vendor {
     /// The same as [`VendorRef::to_vendor`], which copies the string of a custom vendor.
     #[inline]
@@ -52,6 +62,7 @@ impl From<KnownVendor> for VendorRef<'_> {
     }
 }
 
+#[cfg(feature = "alloc")]
 impl TryFrom<&str> for Triple {
     type Error = ParseTripleError;
 
@@ -62,6 +73,7 @@ impl TryFrom<&str> for Triple {
     }
 }
 
+#[cfg(feature = "alloc")]
 impl<'a> TryFrom<&'a str> for TripleRef<'a> {
     type Error = ParseTripleError;
 

@@ -17,7 +17,13 @@ macro_rules! display {
     )*};
 }
 
-display!(CDataModel, CallingConvention, Endianness, KnownVendor, PointerWidth);
+display!(
+    CDataModel,
+    CallingConvention,
+    Endianness,
+    KnownVendor,
+    PointerWidth
+);
 
 impl fmt::Display for Field {
     /// The words for the field in errors, such as `operating system`.

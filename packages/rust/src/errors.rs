@@ -1,9 +1,6 @@
 //! The errors as those of Rust: `Display` where the proved source has none, and `Error`.
 #[cfg(feature = "tool_names")]
-use {
-    crate::tool_names::NameError,
-    core::fmt,
-};
+use {crate::tool_names::NameError, core::fmt};
 
 #[cfg(feature = "tool_names")]
 impl fmt::Display for NameError {
@@ -24,7 +21,9 @@ mod impls {
     use std::error::Error;
 
     impl Error for crate::NotPlain {}
+    #[cfg(feature = "alloc")]
     impl Error for crate::ParseError {}
+    #[cfg(feature = "alloc")]
     impl Error for crate::ParseTripleError {}
     impl Error for crate::Refusal<'_> {}
     #[cfg(feature = "tool_names")]
@@ -33,8 +32,8 @@ mod impls {
     impl Error for crate::tool_names::WriteError {}
     #[cfg(feature = "tool_names")]
     impl Error for crate::tool_names::TranslateError {}
-    #[cfg(feature = "tool_names")]
+    #[cfg(all(feature = "alloc", feature = "tool_names"))]
     impl Error for crate::tool_names::ParseNameError {}
-    #[cfg(feature = "tool_names")]
+    #[cfg(all(feature = "alloc", feature = "tool_names"))]
     impl Error for crate::tool_names::UnknownWord {}
 }

@@ -1,3 +1,4 @@
+// SPDX-License-Identifier: Apache-2.0 WITH LLVM-exception
 //! LLVM target triples: what the crate `target-lexicon` 0.13.5 (upstream) has, with the Rust source of a verified port.
 //!
 //! The types and their methods are the proved source, without the parts that only proofs need. What needs another form in
@@ -21,15 +22,17 @@
 //!
 //! # Features
 //!
-//! None is on by default.
+//! Only `alloc` is on by default.
 //!
+//! - `alloc`: what owns a string, such as the errors of [`Triple::parse`]. Without it no allocator is linked: [`TripleRef`] has its
+//!   calls except `parse`, `normal`, `settle` and those that make an owned value.
 //! - `tool_names`: names of targets in other tools, and what toolchains write.
 //! - `serde_support`: a triple and each field is its string in serde.
 //! - `upstream_printing`: each triple is printed as upstream does.
 //! - `std`: the errors implement `Error` before Rust 1.81 too.
 //! - `arch_zkasm` and `arch_z80` change nothing.
 //!
-//! The crate needs Rust 1.65, is `no_std` with `alloc`, and has no dependency except `serde`. Its README says what differs
+//! The crate needs Rust 1.65, is `no_std`, and has no dependency except `serde`. Its README says what differs
 //! from upstream, and what is proved.
 #![no_std]
 #![forbid(unsafe_code)]
@@ -43,11 +46,14 @@
     clippy::match_like_matches_macro,
     clippy::incompatible_msrv
 )]
+// What only the calls that allocate use.
+#![cfg_attr(not(feature = "alloc"), allow(dead_code, unused_imports))]
 // docs.rs marks what needs a feature.
 #![cfg_attr(docsrs, feature(doc_cfg))]
 #![cfg_attr(docsrs, doc(auto_cfg(hide(core_error, feature = "std"))))]
 #![cfg_attr(not(lexicon_internal), warn(missing_docs))]
 
+#[cfg(feature = "alloc")]
 extern crate alloc;
 #[cfg(all(feature = "std", not(core_error)))]
 extern crate std;
@@ -61,10 +67,16 @@ mod conversions;
 mod dialects;
 mod display;
 mod errors;
+mod explain;
 mod host;
 mod order;
+#[cfg(feature = "alloc")]
 mod owned;
+#[cfg(feature = "alloc")]
 mod parse_error;
+#[cfg(all(feature = "alloc", feature = "tool_names"))]
+mod parse_name_error;
+#[cfg(feature = "alloc")]
 mod parse_triple_error;
 #[cfg(not(lexicon_internal))]
 mod proved;
@@ -81,7 +93,9 @@ mod tool_names;
 
 pub use canonical::NotPlain;
 pub use host::HOST;
+#[cfg(feature = "alloc")]
 pub use parse_error::ParseError;
+#[cfg(feature = "alloc")]
 pub use parse_triple_error::ParseTripleError;
 pub use proved::{
     default_binary_format, Aarch64Architecture, Architecture, ArmArchitecture, BinaryFormat,
@@ -108,6 +122,7 @@ struct Readme;
 ///
 /// assert_eq!(triple!("x86_64-pc-windows-msvc").vendor, Vendor::Pc);
 /// ```
+#[cfg(feature = "alloc")]
 #[macro_export]
 macro_rules! triple {
     ($text:tt) => {

@@ -5,7 +5,7 @@
 use crate::tool_names::{CLibrary, Dialect, FloatAbi, LinuxLibc, Name};
 use crate::{
     Aarch64Architecture, Architecture, ArmArchitecture, BinaryFormat, CDataModel,
-    CallingConvention, CleverArchitecture, CustomVendor, Endianness, Environment, Field,
+    CallingConvention, CleverArchitecture, CustomVendor, Endianness, Environment, Family, Field,
     KnownVendor, Mips32Architecture, Mips64Architecture, OperatingSystem, PointerWidth,
     Riscv32Architecture, Riscv64Architecture, Size, Triple, TripleRef, Vendor, VendorRef,
     X86_32Architecture, Z80Architecture,
@@ -46,6 +46,7 @@ order! {
     PointerWidth, it => it.bits();
     Size, it => it.bits();
     Field, it => *it as u8;
+    Family, it => *it as u8;
     Aarch64Architecture, it => it.name();
     ArmArchitecture, it => it.name();
     CleverArchitecture, it => it.name();

@@ -14,7 +14,7 @@ use core::fmt;
 /// assert_eq!(error, ParseError::UnrecognizedOperatingSystem("foo".to_string()));
 /// assert_eq!(error.to_string(), "Unrecognized operating system: foo");
 /// ```
-#[derive(Clone, Debug, PartialEq, Eq)]
+#[derive(Clone, Debug, PartialEq, Eq, Hash)]
 pub enum ParseError {
     /// The first part is not an architecture.
     UnrecognizedArchitecture(String),

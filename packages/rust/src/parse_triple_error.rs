@@ -28,7 +28,7 @@ use core::ops::Range;
 ///             ^^^^^ did you mean `linux`?",
 /// );
 /// ```
-#[derive(Clone, Debug, PartialEq, Eq)]
+#[derive(Clone, Debug, PartialEq, Eq, Hash)]
 pub struct ParseTripleError {
     text: Box<str>,
     expected: Option<Field>,

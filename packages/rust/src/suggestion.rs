@@ -1,6 +1,8 @@
 //! The known names of a field, and the one that was perhaps meant.
 use crate::proved::tool_names::known_names;
-use crate::{tool_names, Field, ParseError, Refusal, Suggestion};
+use crate::{tool_names, Architecture, Field, Refusal, Suggestion, TripleRef, VendorRef};
+#[cfg(feature = "alloc")]
+use crate::{ParseError, Triple};
 
 impl Field {
     /// The known names of the field, each once. A system like Darwin has its name without a version.
@@ -65,6 +67,50 @@ impl<'a> Refusal<'a> {
     }
 }
 
+impl<'a> TripleRef<'a> {
+    /// The name that was perhaps meant by a custom vendor: a vendor, or a name of a later field. It may be an environment of the
+    /// triple's architecture. For a known vendor it is `None`.
+    ///
+    /// # Examples
+    ///
+    /// ```
+    /// use target_lexicon::TripleRef;
+    ///
+    /// let suggested = |text| TripleRef::from_str(text).unwrap().vendor_suggestion().map(|it| it.names);
+    /// assert_eq!(suggested("x86_64-linx"), Some("linux"));
+    /// assert_eq!(suggested("armv7-gnueabihff"), Some("gnueabihf"));
+    /// assert_eq!(suggested("x86_64-gnueabihff"), None);
+    /// assert_eq!(suggested("x86_64-pc-linux"), None);
+    /// ```
+    #[must_use]
+    #[inline]
+    pub fn vendor_suggestion(&self) -> Option<Suggestion<'a>> {
+        let machine = Some(self.architecture).filter(|it| *it != Architecture::Unknown);
+        match self.vendor {
+            VendorRef::Custom(vendor) => tool_names::suggestion_on(machine, Field::Vendor, vendor),
+            VendorRef::Known(_) => None,
+        }
+    }
+}
+
+#[cfg(feature = "alloc")]
+impl Triple {
+    /// The name that was perhaps meant by a custom vendor, as [`TripleRef::vendor_suggestion`] says.
+    ///
+    /// # Examples
+    ///
+    /// ```
+    /// use target_lexicon::triple;
+    ///
+    /// assert_eq!(triple!("x86_64-linx").vendor_suggestion().unwrap(), "linux");
+    /// ```
+    #[must_use]
+    #[inline]
+    pub fn vendor_suggestion(&self) -> Option<Suggestion<'_>> {
+        self.as_triple_ref().vendor_suggestion()
+    }
+}
+
 impl PartialEq<str> for Suggestion<'_> {
     /// Whether the suggestion is displayed as this string.
     #[inline]
@@ -81,6 +127,7 @@ impl PartialEq<&str> for Suggestion<'_> {
     }
 }
 
+#[cfg(feature = "alloc")]
 impl ParseError {
     /// The name that was perhaps meant, as [`Refusal::suggestion`] says.
     ///

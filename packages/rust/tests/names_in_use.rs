@@ -1,56 +1,76 @@
 //! Names from real files of configuration, and what three other tools call each; and lists that go from tool to tool.
 use std::collections::BTreeSet;
 use target_lexicon::tool_names::{
-    complete, Dialect, LinuxLibc, NameError, TranslateError, WriteError,
+    Dialect, LinuxLibc, NameError, TranslateError, WriteError,
 };
 use target_lexicon::TripleRef;
 
 /// A line has the dialect, the name, the C library that is said or a dash, where the name is from, and three answers, each
-/// after its dialect and `=`: a name; after `!` why there is none, as a variant of `WriteError`; `!reading` if no triple has the
-/// name, for a reason; or `!unknown`, which is an answer that doesn't help.
+/// after its dialect and `=`: a name; or after `!` why there is none, as a variant of `WriteError` or as the reason why no triple
+/// has the name; `!unknown` is an answer that doesn't help.
 const NAMES: &str = include_str!("names_in_use.tsv");
+
+/// The same without a source, and with any number of answers.
+const FORMS: &str = include_str!("names_in_each_form.tsv");
+
+fn rows(text: &str) -> impl Iterator<Item = Vec<&str>> {
+    let lines = text.lines().filter(|line| !line.starts_with('#'));
+    lines.map(|line| line.split('\t').collect())
+}
+
+/// Asks for each answer to a name.
+fn check(dialect: &str, name: &str, libc: &str, answers: &[&str]) {
+    let from: Dialect = dialect.parse().unwrap();
+    let libc = (libc != "-").then(|| libc.parse::<LinuxLibc>().unwrap());
+    for answer in answers {
+        let (to, expected) = answer.split_once('=').unwrap();
+        let found = match from.translate(name, libc, to.parse().unwrap()) {
+            Ok(found) => found.to_string(),
+            Err(TranslateError::Read(NameError::Unknown)) => "!unknown".into(),
+            Err(TranslateError::Read(NameError::WithoutTriple(why))) => format!("!{why}"),
+            Err(TranslateError::Write(why)) => {
+                assert!(!why.reason().is_empty());
+                format!("!{why:?}")
+            }
+        };
+        assert_eq!(found, expected, "{dialect} {name}");
+    }
+}
 
 #[test]
 fn names_in_use_lead_to_other_tools() {
     let (mut names, mut helped) = (BTreeSet::new(), 0);
-    for line in NAMES.lines().filter(|line| !line.starts_with('#')) {
-        let columns: Vec<&str> = line.split('\t').collect();
-        let [dialect, name, libc, _source, answers @ ..] = columns.as_slice() else {
-            panic!("{line}");
+    for row in rows(NAMES) {
+        let [dialect, name, libc, source, answers @ ..] = row.as_slice() else {
+            panic!("{row:?}");
         };
-        assert_eq!(answers.len(), 3, "{line}");
-        let from: Dialect = dialect.parse().unwrap();
-        let libc = (*libc != "-").then(|| libc.parse::<LinuxLibc>().unwrap());
-        for answer in answers {
-            let (to, expected) = answer.split_once('=').unwrap();
-            let found = match from.translate(name, libc, to.parse().unwrap()) {
-                Ok(found) => found.to_string(),
-                Err(TranslateError::Read(NameError::Unknown)) => "!unknown".into(),
-                Err(TranslateError::Read(NameError::WithoutTriple(why))) => {
-                    assert!(!why.is_empty());
-                    "!reading".into()
-                }
-                Err(TranslateError::Write(why)) => {
-                    assert!(!why.reason().is_empty());
-                    format!("!{why:?}")
-                }
-            };
-            assert_eq!(found, expected, "{line}");
-        }
-        assert!(names.insert((*dialect, *name)), "{line}");
-        helped += usize::from(!line.contains("!unknown"));
+        assert!(!source.is_empty() && answers.len() == 3, "{row:?}");
+        check(dialect, name, libc, answers);
+        assert!(names.insert((*dialect, *name)), "{row:?}");
+        helped += usize::from(answers.iter().all(|it| !it.ends_with("=!unknown")));
     }
     assert!(names.len() >= 150);
     // Of 150 names 145 lead to the right name, or to a reason.
     assert!(150 * helped >= 145 * names.len(), "{helped} of {}", names.len());
 }
 
+#[test]
+fn names_in_each_form_lead_to_other_tools() {
+    for row in rows(FORMS) {
+        let [dialect, name, libc, answers @ ..] = row.as_slice() else {
+            panic!("{row:?}");
+        };
+        assert!(!answers.is_empty(), "{row:?}");
+        check(dialect, &name.replace("\\n", "\n"), libc, answers);
+    }
+}
+
 /// Each name of a list in another dialect, with spaces between them.
 fn list(from: Dialect, names: &[&str], libcs: &[LinuxLibc], to: Dialect) -> String {
     let named = |name: &&str| {
         let triple = from.read(name).unwrap();
-        let triple = libcs.iter().fold(triple, |it, libc| complete(&it, *libc));
-        to.write_with(&triple, None).unwrap().to_string()
+        let triple = libcs.iter().fold(triple, |it, libc| it.with_c_library(*libc));
+        to.write_with(triple, None).unwrap().to_string()
     };
     names.iter().map(named).collect::<Vec<_>>().join(" ")
 }
@@ -100,7 +120,7 @@ fn targets_of_cargo_dist_lead_to_tags_of_wheels() {
             _ if target.contains("apple") => (11, 0),
             _ => (2, 17),
         };
-        let tag = Dialect::Python.write_with_version(&triple, major, minor);
+        let tag = Dialect::Python.write_with_version(triple, major, minor);
         tag.map_or_else(|why| format!("{why:?}"), |it| it.to_string())
     };
     for (target, expected) in [
@@ -123,7 +143,7 @@ fn targets_of_cargo_dist_lead_to_tags_of_wheels() {
 fn versions_are_those_of_the_system_or_c_library() {
     let tag = |text: &str, major, minor| {
         let triple = TripleRef::from_str(text).unwrap();
-        Dialect::Python.write_with_version(&triple, major, minor).map(|it| it.to_string())
+        Dialect::Python.write_with_version(triple, major, minor).map(|it| it.to_string())
     };
     for (text, major, minor) in [
         ("aarch64-apple-darwin", 2, 17),
@@ -202,6 +222,24 @@ fn windows_is_asked_for_its_abi() {
     assert_eq!(found.unwrap().as_str(), "x86_64-pc-windows-gnu");
 }
 
+/// A version is asked for only where a name that states one means the triple: that of FreeBSD means none with musl. Of a
+/// triple that has a version none is asked for.
+#[test]
+fn a_version_is_asked_for_where_a_name_states_one() {
+    for (text, expected) in [
+        ("aarch64-unknown-freebsd", WriteError::NeedsVersion),
+        ("aarch64-unknown-freebsd-musl", WriteError::OnlyReadNames),
+        ("wasm32-unknown-emscripten", WriteError::OnlyReadNames),
+        ("x86_64-apple-darwin", WriteError::NeedsVersion),
+        ("aarch64-apple-ios", WriteError::NeedsVersion),
+        ("x86_64-apple-ios17.2-sim", WriteError::Simulator),
+    ] {
+        let triple = TripleRef::from_str(text).unwrap();
+        let found = Dialect::Python.write_with(triple, None);
+        assert_eq!(found, Err(expected), "{text}");
+    }
+}
+
 /// From rustc to rustc each target that parses is itself, or has no name, for a reason.
 #[test]
 fn targets_of_rustc_are_themselves() {
@@ -214,7 +252,7 @@ fn targets_of_rustc_are_themselves() {
         "x86_64-pc-windows-gnullvm",
     ] {
         let triple = TripleRef::from_str(target).unwrap();
-        assert_eq!(Dialect::Rust.write(&triple).unwrap().as_str(), target);
+        assert_eq!(Dialect::Rust.write(triple).unwrap().as_str(), target);
     }
     for target in [
         "wasm32-wasip3",
@@ -224,7 +262,7 @@ fn targets_of_rustc_are_themselves() {
         "armv7a-nuttx-eabi",
     ] {
         let triple = TripleRef::from_str(target).unwrap();
-        let found = Dialect::Rust.write_with(&triple, None);
+        let found = Dialect::Rust.write_with(triple, None);
         assert_eq!(found, Err(WriteError::OtherTarget), "{target}");
         let found = Dialect::Rust.translate(target, None, Dialect::Rust);
         assert!(matches!(found, Err(TranslateError::Read(_))), "{target}");

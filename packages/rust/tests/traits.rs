@@ -235,7 +235,7 @@ mod of_tool_names {
     #[test]
     fn names_have_the_width_that_is_asked_for() {
         let triple = TripleRef::from_str("x86_64-unknown-linux-gnu").unwrap();
-        let name = Dialect::Debian.write(&triple).unwrap();
+        let name = Dialect::Debian.write(triple).unwrap();
         assert_eq!(
             format!(
                 "{:>6}|{:<6}|{:^7}|{name:>7}|{:6}|",
@@ -253,7 +253,7 @@ mod of_tool_names {
         let triple = TripleRef::from_str("x86_64-unknown-linux-gnu").unwrap();
         let names: Vec<Name> = Dialect::ALL
             .iter()
-            .filter_map(|it| it.write(&triple))
+            .filter_map(|it| it.write(triple))
             .collect();
         assert!(names
             .iter()

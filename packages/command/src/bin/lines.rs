@@ -15,7 +15,7 @@ use serde_json::Value;
 use std::fmt::Write as _;
 use std::io::{self, Read};
 use std::process::ExitCode;
-use target_lexicon::tool_names::{CLibrary, FloatAbi, RustcCfg, TypeLayout};
+use target_lexicon::tool_names::{CLibrary, FloatAbi, TypeLayout};
 use target_lexicon::TripleRef;
 
 /// What mode `json` writes, or why the input is no list.
@@ -46,17 +46,18 @@ fn each(show: fn(&TripleRef) -> String, end: &str) -> io::Result<()> {
 }
 
 /// The C library, how floating-point arguments are passed, and the size and alignment of `long double` and `wchar_t`; `-`
-/// where there is no answer. Then how the target is linked.
+/// where there is no answer. Then how the target is linked, and its string for LLVM.
 fn driver(triple: &TripleRef) -> String {
     let layout = |it: Option<TypeLayout>| it.map_or("- -".to_string(), |it| format!("{} {}", it.size, it.alignment));
     format!(
-        "{} {} {} {} {} program{}\n",
-        CLibrary::of(triple).map_or("-", CLibrary::name),
-        FloatAbi::of(triple).map_or("-", FloatAbi::name),
-        layout(TypeLayout::of_long_double(triple)),
-        layout(TypeLayout::of_wchar(triple)),
+        "{} {} {} {} {} program{} {}\n",
+        triple.c_library().map_or("-", CLibrary::name),
+        triple.float_abi().map_or("-", FloatAbi::name),
+        layout(triple.long_double_layout()),
+        layout(triple.wchar_layout()),
         linkers::linker(triple),
         linkers::program_suffix(triple),
+        triple.llvm_target(),
     )
 }
 
@@ -64,7 +65,7 @@ fn main() -> io::Result<ExitCode> {
     match std::env::args().nth(1).as_deref() {
         Some("json") => {}
         Some("cfg") => {
-            each(|triple| RustcCfg::of(triple).to_string(), "\n")?;
+            each(|triple| triple.rustc_cfg().to_string(), "\n")?;
             return Ok(ExitCode::SUCCESS);
         }
         Some("driver") => {

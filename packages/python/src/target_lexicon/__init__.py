@@ -1,3 +1,4 @@
+# SPDX-License-Identifier: Apache-2.0 WITH LLVM-exception
 """Target triples such as `x86_64-unknown-linux-gnu`, with a verified library.
 
 >>> triple = Triple("wasm32-unknown-wasi")
@@ -12,7 +13,7 @@ from ._columns import Facts, facts_all, settle_all
 from ._dialects import Dialect, LinuxLibc
 from ._errors import ParseError
 from ._explain import Explanation, Origin, Source, explain
-from ._facts import CallingConvention, CLibrary, DataModel, Endianness, FloatAbi
+from ._facts import ArmProfile, CallingConvention, CLibrary, DataModel, Endianness, FloatAbi
 from ._fields import CustomVendor
 from ._library import LIBRARY_PATH, LIBRARY_VERSION, LibraryError
 from ._library import VERSION as __version__
@@ -24,6 +25,7 @@ __all__ = [
     "LIBRARY_PATH",
     "LIBRARY_VERSION",
     "Architecture",
+    "ArmProfile",
     "BinaryFormat",
     "CLibrary",
     "CallingConvention",

@@ -10,10 +10,11 @@ import io
 import json
 import sys
 from contextlib import suppress
-from typing import Any, Dict, Iterator, List, Optional, Tuple
+from typing import Any, Dict, Iterator, List, Optional, Tuple, Union
 
-from . import LIBRARY_VERSION, Dialect, LinuxLibc, OperatingSystem, ParseError, Triple, _library, explain
-from ._dialects import OTHER_NAMES, READ, WRITTEN, dialect_number
+from . import LIBRARY_VERSION, Dialect, LinuxLibc, OperatingSystem, ParseError, Triple, explain
+from ._dialects import OTHER_NAMES, READ, WRITTEN
+from ._facts import NO_ANSWER
 from ._named import members
 from ._triple import _version_text
 
@@ -30,7 +31,8 @@ _COMMANDS = {
 }
 # As the command orders them: those that are only written are the last.
 _DIALECTS = [*READ, *(it for it in WRITTEN if it not in READ)]
-_NEEDS_LIBC = "it depends on the C library: use `--libc glibc` or `--libc musl`, on Windows `--libc msvc` or `--libc mingw`"
+# What a reason says would help, as an option.
+_OPTIONS = {"say glibc or musl": "use `--libc glibc` or `--libc musl`", "say msvc, mingw or gnullvm": "use `--libc msvc`, `mingw` or `gnullvm`"}
 
 
 def _places(targets: List[str]) -> Iterator[Answer]:
@@ -66,11 +68,12 @@ def _answer(command: str, dialect: Optional[Dialect], libc: Optional[LinuxLibc],
         return {str(dialect): triple.name_in(dialect) for dialect in WRITTEN}
     if dialect is None:
         return {"canonical": triple.canonical}
-    status, name = _library.write(dialect_number(dialect), triple._struct)
-    if name is not None:
-        return {"name": name}
-    reason = f" it: {_NEEDS_LIBC}" if status == _library.NEEDS_C_LIBRARY else ""
-    return _refused(f"no name of {dialect} for{reason}", target)
+    reason = triple.reason_without_name(dialect)
+    if reason is None:
+        return {"name": triple.name_in(dialect)}
+    for said, option in _OPTIONS.items():
+        reason = reason.replace(said, option)
+    return _refused(f"no name of {dialect} for it: {reason}", target)
 
 
 def _completed(triple: Triple, libc: Optional[LinuxLibc]) -> Triple:
@@ -115,9 +118,15 @@ def _lines(command: str, target: str, answer: Answer) -> str:
     if command not in ("facts", "elsewhere"):
         return "".join(answer.values())
     width = max(map(len, answer))
-    words = {True: "yes", False: "no", None: "-  no answer" if command == "facts" else "-"}
-    lines = [f"  {name:{width}}  {words[it] if it is None or isinstance(it, bool) else it}" for name, it in answer.items()]
+    lines = [f"  {name:{width}}  {_shown(name, it)}" for name, it in answer.items()]
     return "\n".join([target, *lines])
+
+
+def _shown(name: str, answer: Union[str, int, bool, None]) -> str:
+    """An answer, or why a fact has none."""
+    if answer is None:
+        return f"-  {NO_ANSWER[name]}" if name in NO_ANSWER else "-"
+    return {True: "yes", False: "no"}[answer] if isinstance(answer, bool) else str(answer)
 
 
 def _note(name: str) -> List[str]:

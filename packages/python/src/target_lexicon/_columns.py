@@ -7,7 +7,7 @@ from itertools import islice
 from typing import Any, Callable, Dict, Iterable, List, NamedTuple, Optional, Sequence, Tuple, TypeVar
 
 from . import _library
-from ._facts import CallingConvention, CLibrary, DataModel, Endianness, FloatAbi
+from ._facts import ArmProfile, CallingConvention, CLibrary, DataModel, Endianness, FloatAbi
 from ._named import members
 from ._triple import Triple
 from ._values import Architecture, BinaryFormat, Environment, Family, OperatingSystem, Vendor
@@ -20,8 +20,8 @@ _AT_ONCE, _REMEMBERED = 1 << 12, 1 << 16
 # The names of values by number; those of facts begin with None, for no answer.
 _ARCHITECTURES, _VENDORS, _SYSTEMS, _ENVIRONMENTS, _FORMATS, _FAMILIES = (
     [it.value for it in members(of)] for of in (Architecture, Vendor, OperatingSystem, Environment, BinaryFormat, Family))
-_ORDERS, _CONVENTIONS, _MODELS, _C_LIBRARIES, _FLOAT_ABIS = (
-    [None, *(it.value for it in members(of))] for of in (Endianness, CallingConvention, DataModel, CLibrary, FloatAbi))
+_ENDIANNESS, _CONVENTIONS, _MODELS, _C_LIBRARIES, _FLOAT_ABIS, _ARM_PROFILES = (
+    [None, *(it.value for it in members(of))] for of in (Endianness, CallingConvention, DataModel, CLibrary, FloatAbi, ArmProfile))
 
 
 class Facts(NamedTuple):
@@ -36,6 +36,7 @@ class Facts(NamedTuple):
     version: Optional[str] = None
     environment: Optional[str] = None
     binary_format: Optional[str] = None
+    # written by tools/names/write: the answers of columns
     endianness: Optional[str] = None
     pointer_width: Optional[int] = None
     default_calling_convention: Optional[str] = None
@@ -59,6 +60,11 @@ class Facts(NamedTuple):
     long_double_alignment: Optional[int] = None
     wchar_size: Optional[int] = None
     wchar_alignment: Optional[int] = None
+    arm_version: Optional[int] = None
+    arm_profile: Optional[str] = None
+    # end of what is written
+    llvm_target: Optional[str] = None
+    multiarch_tuple: Optional[str] = None
     printed: Optional[str] = None
     canonical: Optional[str] = None
 
@@ -136,11 +142,75 @@ class _Answered(ctypes.Structure):
     _fields_ = [("triple", _library.TripleStruct), ("facts", _library.FactsStruct)]
 
 
+# written by tools/names/write: the facts of columns
+_FACTS = "BBBBBBBBBB???BBBBB?BBBBBB"
+
+
+def _answers(numbers: Sequence[Any]) -> Tuple[Any, ...]:
+    """The facts of the numbers in C."""
+    (
+        endianness,
+        pointer_width,
+        default_calling_convention,
+        data_model,
+        short_size,
+        int_size,
+        long_size,
+        long_long_size,
+        float_size,
+        double_size,
+        is_thumb,
+        is_like_darwin,
+        has_custom_vendor,
+        implied_format,
+        object_format,
+        family,
+        c_library,
+        float_abi,
+        is_unix,
+        long_double_size,
+        long_double_alignment,
+        wchar_size,
+        wchar_alignment,
+        arm_version,
+        arm_profile,
+    ) = numbers
+    return (
+        _ENDIANNESS[endianness],
+        pointer_width or None,
+        _CONVENTIONS[default_calling_convention],
+        _MODELS[data_model],
+        short_size or None,
+        int_size or None,
+        long_size or None,
+        long_long_size or None,
+        float_size or None,
+        double_size or None,
+        _FORMATS[implied_format],
+        _FORMATS[object_format],
+        _FAMILIES[family],
+        is_thumb,
+        is_like_darwin,
+        has_custom_vendor,
+        _C_LIBRARIES[c_library],
+        _FLOAT_ABIS[float_abi],
+        is_unix,
+        long_double_size or None,
+        long_double_alignment or None,
+        wchar_size or None,
+        wchar_alignment or None,
+        arm_version or None,
+        _ARM_PROFILES[arm_profile],
+    )
+# end of what is written
+
+
 # The numbers that are in it: those of the triple, its custom vendor's pointer and size, and those of the facts.
-_NUMBERS = struct.Struct("@HBBBBBBBHPN10B3?5B?4B")
+_NUMBERS = struct.Struct(f"@HBBBBBBBHPN{_FACTS}")
 
 # Calls whose arguments are values of `ctypes`, which takes half the time.
-_parse, _facts, _print = map(_library.undeclared, ("lexicon_parse", "lexicon_facts", "lexicon_print"))
+_parse, _facts, _print, _llvm_target, _multiarch_tuple = map(
+    _library.undeclared, ("lexicon_parse", "lexicon_facts", "lexicon_print", "lexicon_llvm_target", "lexicon_multiarch_tuple"))
 
 
 def _facts_of_texts(targets: Sequence[str]) -> List[Facts]:
@@ -161,26 +231,24 @@ def _facts_of_texts(targets: Sequence[str]) -> List[Facts]:
             answers.append(facts_of(Triple(text)))
             continue
         _library.check(status)
-        answers.append(_facts_from(_NUMBERS.unpack_from(answered), None, out.value.decode(), canonical))
+        printed = out.value.decode()
+        _library.check(_llvm_target(to_triple, to_out, room, None))
+        llvm_target = out.value.decode()
+        multiarch_tuple = None if _multiarch_tuple(to_triple, to_out, room, None) == _library.TRIPLE_WITHOUT_NAME else out.value.decode()
+        answers.append(_facts_from(_NUMBERS.unpack_from(answered), None, llvm_target, multiarch_tuple, printed, canonical))
     return answers
 
 
 def facts_of(it: Triple) -> Facts:
     """All answers about a triple."""
     numbers = _NUMBERS.unpack(bytes(it._struct) + bytes(it._facts or it._ask()))
-    return _facts_from(numbers, str(it.vendor), str(it), it.canonical)
+    return _facts_from(numbers, str(it.vendor), it.llvm_target, it.multiarch_tuple, str(it), it.canonical)
 
 
-def _facts_from(numbers: Tuple[Any, ...], vendor: Optional[str], printed: str, canonical: str) -> Facts:
-    """All answers, from the numbers and the strings. Only a custom vendor must be given."""
-    (architecture, known, system, environment, form, has_version, minor, patch, major, _, _, order, width, convention, model, short,
-     int_, long, long_long, float_, double, is_thumb, is_like_darwin, is_custom, implied, written, family, library, floats, is_unix,
-     long_double, long_double_alignment, wchar, wchar_alignment) = numbers
+def _facts_from(numbers: Tuple[Any, ...], vendor: Optional[str], *strings: Optional[str]) -> Facts:
+    """All answers, from the numbers and the strings, of which those that end the answers are last. Only a custom vendor must be given."""
+    architecture, known, system, environment, form, has_version, minor, patch, major, _, _, *facts = numbers
     return Facts._make((
         _ARCHITECTURES[architecture], vendor or _VENDORS[known], _SYSTEMS[system],
-        f"{major}.{minor}.{patch}" if has_version else None, _ENVIRONMENTS[environment], _FORMATS[form], _ORDERS[order],
-        width or None, _CONVENTIONS[convention], _MODELS[model], short or None, int_ or None, long or None, long_long or None,
-        float_ or None, double or None, _FORMATS[implied], _FORMATS[written], _FAMILIES[family], is_thumb, is_like_darwin,
-        is_custom, _C_LIBRARIES[library], _FLOAT_ABIS[floats], is_unix, long_double or None, long_double_alignment or None,
-        wchar or None, wchar_alignment or None, printed, canonical,
+        f"{major}.{minor}.{patch}" if has_version else None, _ENVIRONMENTS[environment], _FORMATS[form], *_answers(facts), *strings,
     ))

@@ -1,7 +1,7 @@
 """The tools whose names of targets are read and written."""
 from __future__ import annotations
 
-from typing import List, Literal, Type, Union
+from typing import List, Literal, Optional, Type, Union
 
 from ._named import NamedValue
 
@@ -41,6 +41,11 @@ class Dialect(NamedValue):
     #: Systems of Nix and nixpkgs: `x86_64-linux`, `aarch64-darwin`.
     NIX = "nix"
     # end of what is written
+
+    @classmethod
+    def _missing_(cls, value: object) -> Optional[Dialect]:
+        """The dialect of another name, such as `docker`."""
+        return cls(OTHER_NAMES[value]) if isinstance(value, str) and value in OTHER_NAMES else None
 
 
 #: The names of the dialects; the other names; and those that are only read, or only written.

@@ -70,3 +70,43 @@ class FloatAbi(NamedValue):
     #: In floating-point registers.
     HARD = "hard"
     # end of what is written
+
+
+class ArmProfile(NamedValue):
+    """The profile of a 32-bit Arm architecture: for what its processors are made."""
+
+    # written by tools/names/write: the answers of arm_profile for Python
+    #: Applications, such as phones and servers.
+    APPLICATION = "A"
+    #: Real-time systems.
+    REAL_TIME = "R"
+    #: Microcontrollers.
+    MICROCONTROLLER = "M"
+    # end of what is written
+
+
+#: Why a fact has no answer.
+NO_ANSWER = {
+    # written by tools/names/write: the reasons for Python
+    "version": "the target states none",
+    "endianness": "the architecture doesn't say it",
+    "pointer_width": "the architecture doesn't say it",
+    "default_calling_convention": "none is usual on the system",
+    "data_model": "none is known for the machine and the system",
+    "short_size": "no source says it of the machine and the system",
+    "int_size": "no source says it of the machine and the system",
+    "long_size": "no source says it of the machine and the system",
+    "long_long_size": "no source says it of the machine and the system",
+    "float_size": "no source says it of the machine and the system",
+    "double_size": "no source says it of the machine and the system",
+    "c_library": "neither the environment nor the system says it",
+    "float_abi": "neither an environment of 32-bit Arm nor softfloat says it",
+    "long_double_size": "no source says it of the system and the C library",
+    "long_double_alignment": "no source says it of the system and the C library",
+    "wchar_size": "no source says it of the system and the C library",
+    "wchar_alignment": "no source says it of the system and the C library",
+    "arm_version": "the architecture is no 32-bit Arm that states it",
+    "arm_profile": "the architecture is no 32-bit Arm that states it",
+    "multiarch_tuple": "Debian has no architecture for it, or it depends on the C library",
+    # end of what is written
+}

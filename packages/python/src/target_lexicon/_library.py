@@ -91,6 +91,7 @@ class SourcesStruct(Structure):
 class FactsStruct(Structure):
     """`struct lexicon_triple_facts`."""
 
+    # written by tools/names/write: the members of facts for Python
     endianness: int
     pointer_width: int
     default_calling_convention: int
@@ -114,12 +115,36 @@ class FactsStruct(Structure):
     long_double_alignment: int
     wchar_size: int
     wchar_alignment: int
-    _fields_ = [(name, c_bool if name.startswith(("is_", "has_")) else c_uint8) for name in (
-        "endianness", "pointer_width", "default_calling_convention", "data_model", "short_size", "int_size", "long_size",
-        "long_long_size", "float_size", "double_size", "is_thumb", "is_like_darwin", "has_custom_vendor", "implied_format",
-        "object_format", "family", "c_library", "float_abi", "is_unix", "long_double_size", "long_double_alignment", "wchar_size",
-        "wchar_alignment",
-    )]
+    arm_version: int
+    arm_profile: int
+    _fields_ = [
+        ("endianness", c_uint8),
+        ("pointer_width", c_uint8),
+        ("default_calling_convention", c_uint8),
+        ("data_model", c_uint8),
+        ("short_size", c_uint8),
+        ("int_size", c_uint8),
+        ("long_size", c_uint8),
+        ("long_long_size", c_uint8),
+        ("float_size", c_uint8),
+        ("double_size", c_uint8),
+        ("is_thumb", c_bool),
+        ("is_like_darwin", c_bool),
+        ("has_custom_vendor", c_bool),
+        ("implied_format", c_uint8),
+        ("object_format", c_uint8),
+        ("family", c_uint8),
+        ("c_library", c_uint8),
+        ("float_abi", c_uint8),
+        ("is_unix", c_bool),
+        ("long_double_size", c_uint8),
+        ("long_double_alignment", c_uint8),
+        ("wchar_size", c_uint8),
+        ("wchar_alignment", c_uint8),
+        ("arm_version", c_uint8),
+        ("arm_profile", c_uint8),
+    ]
+    # end of what is written
 
 
 class ChangeStruct(Structure):
@@ -201,6 +226,9 @@ equal = _declare("lexicon_equal", _TRIPLE, _TRIPLE, POINTER(c_bool))
 same_target = _declare("lexicon_same_target", _TRIPLE, _TRIPLE, POINTER(c_bool))
 facts = _declare("lexicon_facts", _TRIPLE, POINTER(FactsStruct), c_size_t)
 print_into = _declare("lexicon_print", _TRIPLE, c_void_p, c_size_t, _SIZE)
+_llvm_target = _declare("lexicon_llvm_target", _TRIPLE, c_void_p, c_size_t, _SIZE)
+_multiarch_tuple = _declare("lexicon_multiarch_tuple", _TRIPLE, c_void_p, c_size_t, _SIZE)
+_rustc_cfg = _declare("lexicon_rustc_cfg", _TRIPLE, c_void_p, c_size_t, _SIZE)
 read = _declare("lexicon_read", c_uint32, c_char_p, c_size_t, _TRIPLE, _ERROR)
 _write = _declare("lexicon_write", c_uint32, _TRIPLE, c_void_p, c_size_t, _SIZE)
 _write_versioned = _declare("lexicon_write_versioned", c_uint32, _TRIPLE, c_uint32, c_uint32, c_void_p, c_size_t, _SIZE)
@@ -208,6 +236,9 @@ complete = _declare("lexicon_complete", _TRIPLE, c_uint32)
 _translate = _declare("lexicon_translate", c_uint32, c_char_p, c_size_t, c_uint32, c_uint32, c_void_p, c_size_t, _SIZE, _ERROR)
 _changes = _declare("lexicon_changes", c_char_p, c_size_t, c_size_t, POINTER(ChangeStruct), c_void_p, c_size_t, _SIZE)
 _reason = _declare("lexicon_reason", c_uint32, c_char_p, c_size_t, result=c_char_p)
+_write_reason = _declare("lexicon_write_reason", c_uint32, _TRIPLE, result=c_char_p)
+_write_versioned_reason = _declare("lexicon_write_versioned_reason", c_uint32, _TRIPLE, c_uint32, c_uint32, result=c_char_p)
+_translate_reason = _declare("lexicon_translate_reason", c_uint32, c_char_p, c_size_t, c_uint32, c_uint32, result=c_char_p)
 _name_suggestion = _declare("lexicon_name_suggestion", c_uint32, c_char_p, c_size_t, result=c_char_p)
 _number = _declare("lexicon_number", c_uint32, c_char_p, c_size_t, POINTER(c_uint32))
 _error_line = _declare("lexicon_error_line", c_char_p, c_size_t, _ERROR, c_void_p, c_size_t, _SIZE)
@@ -258,6 +289,26 @@ def printed(triple: TripleStruct) -> str:
     if print_into(triple, out, FIRST_SIZE, None) == OK:
         return out.value.decode()
     return text_of(print_into, triple).decode()
+
+
+def llvm_target(triple: TripleStruct) -> str:
+    """The string that LLVM takes for a triple."""
+    return text_of(_llvm_target, triple).decode()
+
+
+def multiarch_tuple(triple: TripleStruct) -> Optional[str]:
+    """Debian's multiarch tuple of a triple, which has at most 36 bytes, or None if it has none."""
+    out = TextBuffer()
+    status = _multiarch_tuple(triple, out, FIRST_SIZE, None)
+    if status == TRIPLE_WITHOUT_NAME:
+        return None
+    check(status)
+    return out.value.decode()
+
+
+def rustc_cfg(triple: TripleStruct) -> str:
+    """The lines of `rustc --print cfg` for a triple."""
+    return text_of(_rustc_cfg, triple).decode()
 
 
 def error_line(status: int, part: bytes) -> str:
@@ -311,14 +362,28 @@ def changes(text: bytes) -> Iterator[Tuple[int, int, str]]:
 
 def reason(dialect: int, text: bytes) -> Optional[str]:
     """Why a name of a dialect has no triple, or None if it has one, or if it is no name."""
-    found: Optional[bytes] = _reason(dialect, text, len(text))
+    return _decoded(_reason(dialect, text, len(text)))
+
+
+def write_reason(dialect: int, triple: TripleStruct, version: Optional[Tuple[int, int]] = None) -> Optional[str]:
+    """Why `write` has no name, and what would help; None if it has one."""
+    if version is None:
+        return _decoded(_write_reason(dialect, triple))
+    return _decoded(_write_versioned_reason(dialect, triple, *version))
+
+
+def translate_reason(text: bytes, from_dialect: int, libc: int, to_dialect: int) -> Optional[str]:
+    """Why `translate` has no name, and what would help; None if it has one, or if the text isn't read."""
+    return _decoded(_translate_reason(from_dialect, text, len(text), libc, to_dialect))
+
+
+def _decoded(found: Optional[bytes]) -> Optional[str]:
     return None if found is None else found.decode()
 
 
 def name_suggestion(dialect: int, text: bytes) -> Optional[str]:
     """The nearest of the names that a dialect reads, if it doesn't know this one; None if it does, or if none is near."""
-    found: Optional[bytes] = _name_suggestion(dialect, text, len(text))
-    return None if found is None else found.decode()
+    return _decoded(_name_suggestion(dialect, text, len(text)))
 
 
 def number(field: int, text: bytes) -> Tuple[int, int]:
@@ -329,8 +394,7 @@ def number(field: int, text: bytes) -> Tuple[int, int]:
 
 def name(field: int, value: int) -> Optional[str]:
     """The name of the value with this number, or None if there is none."""
-    found: Optional[bytes] = _name(field, value)
-    return None if found is None else found.decode()
+    return _decoded(_name(field, value))
 
 
 def check_names(field: int, names: Sequence[str]) -> None:

@@ -12,16 +12,17 @@ class TranslationError(ValueError):
 
     >>> translate("linux/arm64", "oci", "debian")
     Traceback (most recent call last):
-    target_lexicon.TranslationError: The name in the other dialect depends on the C library: linux/arm64
+    target_lexicon.TranslationError: No name in the other dialect: linux/arm64: it depends on the C library: say glibc or musl
 
-    `needs_libc` says whether there is one with `libc`. `text` is the name that is read, `source` and `target` are the dialects.
+    `reason` says why, and what would help, and `needs_libc` whether that is `libc`. `text` is the name that is read, `source` and `target`
+    are the dialects.
     """
 
     # The name by which tracebacks and callers know it.
     __module__ = "target_lexicon"
 
-    def __init__(self, text: str, source: Optional[str], target: str, needs_libc: bool) -> None:
-        super().__init__(text, source, target, needs_libc)
+    def __init__(self, text: str, source: Optional[str], target: str, needs_libc: bool, reason: str) -> None:
+        super().__init__(text, source, target, needs_libc, reason)
         #: The name that is read.
         self.text = text
         #: The dialect in which it is read, or None.
@@ -30,10 +31,11 @@ class TranslationError(ValueError):
         self.target = target
         #: Whether it has one with a C library that is said.
         self.needs_libc = needs_libc
+        #: Why there is none, and what would help.
+        self.reason = reason
 
     def __str__(self) -> str:
-        status = _library.NEEDS_C_LIBRARY if self.needs_libc else _library.TRIPLE_WITHOUT_NAME
-        return _library.error_line(status, self.text.encode())
+        return f"{_library.error_line(_library.TRIPLE_WITHOUT_NAME, self.text.encode())}: {self.reason}"
 
 
 def translate(
@@ -51,13 +53,15 @@ def translate(
     """
     from_number = NO_DIALECT if source is None else dialect_number(source)
     numbers = from_number, 0 if libc is None else libc_number(libc), dialect_number(target)
-    status, translated = _library.translate(encoded(name, "the name of a target"), *numbers)
+    utf8 = encoded(name, "the name of a target")
+    status, translated = _library.translate(utf8, *numbers)
     if status == _library.OK:
         return translated
     if status not in (_library.TRIPLE_WITHOUT_NAME, _library.NEEDS_C_LIBRARY):
         Triple.read(name, source)  # which says why it isn't read
         _library.check(status)
-    raise TranslationError(name, source and str(source), str(target), status == _library.NEEDS_C_LIBRARY)
+    reason = _library.translate_reason(utf8, *numbers) or ""
+    raise TranslationError(name, source and str(source), str(target), status == _library.NEEDS_C_LIBRARY, reason)
 
 
 class Change(NamedTuple):

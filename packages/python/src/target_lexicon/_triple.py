@@ -4,13 +4,14 @@ from __future__ import annotations
 import ctypes
 import enum
 import operator
+from contextlib import suppress
 from struct import Struct
 from typing import TYPE_CHECKING, Any, Callable, Dict, Mapping, Optional, Sequence, Tuple, Type, Union, final
 
 from . import _library
 from ._dialects import NO_DIALECT, Dialect, DialectName, LinuxLibc, LinuxLibcName, dialect_number, libc_number
-from ._errors import FIELDS, encoded, refusal
-from ._facts import CallingConvention, CLibrary, DataModel, Endianness, FloatAbi
+from ._errors import FIELDS, ParseError, encoded, refusal
+from ._facts import ArmProfile, CallingConvention, CLibrary, DataModel, Endianness, FloatAbi
 from ._fields import CustomVendor
 from ._named import NamedValue, members
 from ._values import Architecture, BinaryFormat, Environment, Family, OperatingSystem, Vendor
@@ -33,6 +34,7 @@ _CONVENTIONS: Tuple[Optional[CallingConvention], ...] = (None, *members(CallingC
 _MODELS: Tuple[Optional[DataModel], ...] = (None, *members(DataModel))
 _C_LIBRARIES: Tuple[Optional[CLibrary], ...] = (None, *members(CLibrary))
 _FLOAT_ABIS: Tuple[Optional[FloatAbi], ...] = (None, *members(FloatAbi))
+_ARM_PROFILES: Tuple[Optional[ArmProfile], ...] = (None, *members(ArmProfile))
 
 for _field, _values in enumerate((_ARCHITECTURES, _VENDORS, _SYSTEMS, _ENVIRONMENTS, _FORMATS)):
     _library.check_names(_field, [str(it) for it in _values])
@@ -187,8 +189,7 @@ class Triple:
         architecture, vendor, system, environment = (values.get(it, "unknown") for it in FIELDS[:4])
         form, version = values.get("binary_format"), values.get("version")
         return cls.from_fields(
-            Architecture(architecture), Vendor.parse(vendor), OperatingSystem(system), Environment(environment),
-            None if form is None else BinaryFormat(form), [int(it) for it in version.split(".")] if isinstance(version, str) else version,
+            architecture, vendor, system, environment, form, [int(it) for it in version.split(".")] if isinstance(version, str) else version,
         )
 
     @classmethod
@@ -235,58 +236,55 @@ class Triple:
         it = self._struct
         return (it.major, it.minor, it.patch) if it.has_version else None
 
+    # written by tools/names/write: the facts for Python
     @property
     def endianness(self) -> Optional[Endianness]:
-        """The order of bytes, or None if it isn't known."""
+        """The byte order. None if it isn't known."""
         return _ENDIANNESS[(self._facts or self._ask()).endianness]
 
     @property
     def pointer_width(self) -> Optional[int]:
-        """The bits of a pointer, 16, 32 or 64, or None if they aren't known. The environment `gnux32` counts."""
+        """The bits of a pointer. They may be known where there is no data model, and the environment `gnux32` counts. None if it isn't known."""
         return (self._facts or self._ask()).pointer_width or None
 
     @property
     def default_calling_convention(self) -> Optional[CallingConvention]:
-        """The default calling convention of C, or None if it isn't known."""
+        """The default calling convention of C. None if it isn't known."""
         return _CONVENTIONS[(self._facts or self._ask()).default_calling_convention]
 
     @property
     def data_model(self) -> Optional[DataModel]:
-        """The data model of C, or None if it isn't known. Then the sizes of C's types are None too."""
+        """The data model of C. Sizes of C's types may be known without one. None if it isn't known."""
         return _MODELS[(self._facts or self._ask()).data_model]
 
     @property
     def short_size(self) -> Optional[int]:
-        """The bytes of C's `short`, or None without a data model."""
+        """The bytes of C's `short`. None if it isn't known."""
         return (self._facts or self._ask()).short_size or None
 
     @property
     def int_size(self) -> Optional[int]:
-        """The bytes of C's `int`, or None without a data model."""
+        """The bytes of C's `int`. None if it isn't known."""
         return (self._facts or self._ask()).int_size or None
 
     @property
     def long_size(self) -> Optional[int]:
-        """The bytes of C's `long`, or None without a data model.
-
-        >>> Triple("x86_64-pc-windows-msvc").long_size
-        4
-        """
+        """The bytes of C's `long`. On bare metal and Cygwin, which have no data model, the sizes are those of the compilers. None if it isn't known."""
         return (self._facts or self._ask()).long_size or None
 
     @property
     def long_long_size(self) -> Optional[int]:
-        """The bytes of C's `long long`, or None without a data model."""
+        """The bytes of C's `long long`. None if it isn't known."""
         return (self._facts or self._ask()).long_long_size or None
 
     @property
     def float_size(self) -> Optional[int]:
-        """The bytes of C's `float`, or None without a data model."""
+        """The bytes of C's `float`. None if it isn't known."""
         return (self._facts or self._ask()).float_size or None
 
     @property
     def double_size(self) -> Optional[int]:
-        """The bytes of C's `double`, or None without a data model."""
+        """The bytes of C's `double`. None if it isn't known."""
         return (self._facts or self._ask()).double_size or None
 
     @property
@@ -301,18 +299,64 @@ class Triple:
 
     @property
     def family(self) -> Family:
-        """The family of the architecture: all of 32-bit Arm, Thumb too, is `Family.ARM`; AArch64 is its own."""
+        """The family of the architecture: all of 32-bit Arm, Thumb too, is `arm`; AArch64 is its own."""
         return _FAMILIES[(self._facts or self._ask()).family]
 
     @property
     def is_thumb(self) -> bool:
-        """Whether the architecture is Arm's with the instructions Thumb."""
+        """Whether the architecture is one of 32-bit Arm whose name begins with `thumb`."""
         return (self._facts or self._ask()).is_thumb
 
     @property
     def is_like_darwin(self) -> bool:
-        """Whether the operating system is one of Apple's. Only these have a version."""
+        """Whether the system is one of Apple's. Only these may have a version."""
         return (self._facts or self._ask()).is_like_darwin
+
+    @property
+    def c_library(self) -> Optional[CLibrary]:
+        """The C library that the triple states, by its environment or by a system that has only one. None if it isn't known."""
+        return _C_LIBRARIES[(self._facts or self._ask()).c_library]
+
+    @property
+    def float_abi(self) -> Optional[FloatAbi]:
+        """How floating-point arguments are passed: known for 32-bit Arm, and where the triple says `softfloat`. None if it isn't known."""
+        return _FLOAT_ABIS[(self._facts or self._ask()).float_abi]
+
+    @property
+    def is_unix(self) -> bool:
+        """Whether rustc counts the system to its family `unix`."""
+        return (self._facts or self._ask()).is_unix
+
+    @property
+    def long_double_size(self) -> Optional[int]:
+        """The bytes of C's `long double`. None if it isn't known."""
+        return (self._facts or self._ask()).long_double_size or None
+
+    @property
+    def long_double_alignment(self) -> Optional[int]:
+        """The alignment of C's `long double` in bytes. None if it isn't known."""
+        return (self._facts or self._ask()).long_double_alignment or None
+
+    @property
+    def wchar_size(self) -> Optional[int]:
+        """The bytes of C's `wchar_t`. None if it isn't known."""
+        return (self._facts or self._ask()).wchar_size or None
+
+    @property
+    def wchar_alignment(self) -> Optional[int]:
+        """The alignment of C's `wchar_t` in bytes. None if it isn't known."""
+        return (self._facts or self._ask()).wchar_alignment or None
+
+    @property
+    def arm_version(self) -> Optional[int]:
+        """The version of a 32-bit Arm architecture. None if it isn't known."""
+        return (self._facts or self._ask()).arm_version or None
+
+    @property
+    def arm_profile(self) -> Optional[ArmProfile]:
+        """The profile of a 32-bit Arm architecture, where its name states one. None if it isn't known."""
+        return _ARM_PROFILES[(self._facts or self._ask()).arm_profile]
+    # end of what is written
 
     @property
     def has_custom_vendor(self) -> bool:
@@ -320,47 +364,39 @@ class Triple:
         return self._owner is not None
 
     @property
-    def c_library(self) -> Optional[CLibrary]:
-        """The C library that the triple states, or None if it states none.
+    def llvm_target(self) -> str:
+        """The string that LLVM and clang take for the target: rustc's `llvm-target` for each of its targets that parses.
 
-        >>> Triple("armv7-unknown-linux-musleabihf").c_library, Triple("aarch64-unknown-linux").c_library
-        (CLibrary.MUSL, None)
+        >>> Triple("aarch64-apple-darwin").llvm_target, Triple("riscv64gc-unknown-linux-gnu").llvm_target
+        ('arm64-apple-macosx', 'riscv64-unknown-linux-gnu')
         """
-        return _C_LIBRARIES[(self._facts or self._ask()).c_library]
+        return _library.llvm_target(self._struct)
 
     @property
-    def float_abi(self) -> Optional[FloatAbi]:
-        """How floating-point arguments are passed, or None if the triple doesn't say."""
-        return _FLOAT_ABIS[(self._facts or self._ask()).float_abi]
+    def multiarch_tuple(self) -> Optional[str]:
+        """Debian's multiarch tuple, as `dpkg-architecture -qDEB_HOST_MULTIARCH` prints it. None if Debian has no architecture for the triple.
 
-    @property
-    def is_unix(self) -> bool:
-        """Whether rustc counts the operating system to its family `unix`."""
-        return (self._facts or self._ask()).is_unix
-
-    @property
-    def long_double_size(self) -> Optional[int]:
-        """The bytes of C's `long double`, or None if they aren't known.
-
-        >>> Triple("i686-unknown-linux-gnu").long_double_size, Triple("x86_64-pc-windows-msvc").long_double_size
-        (12, 8)
+        >>> Triple("i686-unknown-linux-gnu").multiarch_tuple, Triple("x86_64-unknown-linux").multiarch_tuple
+        ('i386-linux-gnu', None)
         """
-        return (self._facts or self._ask()).long_double_size or None
+        return _library.multiarch_tuple(self._struct)
 
     @property
-    def long_double_alignment(self) -> Optional[int]:
-        """The alignment of C's `long double` in bytes, or None if it isn't known."""
-        return (self._facts or self._ask()).long_double_alignment or None
+    def rustc_cfg(self) -> Dict[str, str]:
+        """The values of rustc's cfg options, as Cargo's variables such as `CARGO_CFG_TARGET_OS` have them.
 
-    @property
-    def wchar_size(self) -> Optional[int]:
-        """The bytes of C's `wchar_t`, or None if they aren't known."""
-        return (self._facts or self._ask()).wchar_size or None
+        >>> cfg = Triple("wasm32-unknown-emscripten").rustc_cfg
+        >>> cfg["target_os"], cfg["target_family"], "unix" in cfg, "windows" in cfg
+        ('emscripten', 'unix,wasm', True, False)
 
-    @property
-    def wchar_alignment(self) -> Optional[int]:
-        """The alignment of C's `wchar_t` in bytes, or None if it isn't known."""
-        return (self._facts or self._ask()).wchar_alignment or None
+        Of several families there is a comma between them, and an option without a value, such as `unix`, is an empty string.
+        """
+        found: Dict[str, str] = {}
+        for line in _library.rustc_cfg(self._struct).splitlines():
+            name, _, value = line.partition("=")
+            value = value.strip('"')
+            found[name] = f"{found[name]},{value}" if name in found else value
+        return found
 
     @property
     def canonical(self) -> str:
@@ -390,10 +426,18 @@ class Triple:
         The vendor doesn't matter, nor what the dialect doesn't name. A version, of one or two numbers, is that of glibc, musl,
         macOS or Android's API level, which names of Python state; with it, names without one are not written.
         """
-        full = _full_version(version)
-        if full and full[2]:
-            raise ValueError(f"a name states at most two numbers of a version, not {full}")
-        return _library.write(dialect_number(dialect), self._struct, full and full[:2])[1]
+        return _library.write(dialect_number(dialect), self._struct, _stated_version(version))[1]
+
+    def reason_without_name(self, dialect: Union[Dialect, DialectName], version: Optional[Sequence[int]] = None) -> Optional[str]:
+        """Why `name_in` has no name for these arguments, and what would help. None if it has one.
+
+        >>> triple = Triple("aarch64-unknown-linux")
+        >>> triple.reason_without_name("debian"), triple.reason_without_name("python", version=(2, 17))
+        ('it depends on the C library: say glibc or musl', 'it depends on the C library: say glibc or musl')
+        >>> Triple("avr-unknown-none").reason_without_name("go"), triple.reason_without_name("go")
+        ('the tool has no name for the system', None)
+        """
+        return _library.write_reason(dialect_number(dialect), self._struct, _stated_version(version))
 
     def complete(self, libc: Union[LinuxLibc, LinuxLibcName]) -> Triple:
         """The triple with the usual environment of a C library, if it is of Linux and states none; any other one as it is.
@@ -452,7 +496,8 @@ class Triple:
 
         A binary format that the fields imply becomes the one that the new ones imply; another one stays, unless it is
         given. None is the implied one. A new operating system has no version, unless that is given. An environment is one
-        value, so `MUSL` instead of `GNUEABIHF` loses the hard floats; `MUSLEABIHF` keeps them. A field is a member or its name.
+        value, so `MUSL` instead of `GNUEABIHF` loses the hard floats; `MUSLEABIHF` keeps them. A field is a member or its name, an architecture
+        an alias too, such as `arm64`.
 
         >>> linux = Triple("x86_64-unknown-linux-gnu")
         >>> linux.replace(environment=Environment.MUSL), linux.replace(environment="musl")
@@ -603,7 +648,18 @@ def _number(value: Any, of: Type[NamedValue], name: str) -> int:
     try:
         return of(value).number
     except ValueError:
+        if of is Architecture:
+            with suppress(ParseError):
+                return Architecture.parse(value).number  # an alias, such as arm64
         raise ValueError(f"no {name} has the name {value!r}") from None
+
+
+def _stated_version(version: Optional[Sequence[int]]) -> Optional[Tuple[int, int]]:
+    """The version that a name states, which has two numbers."""
+    full = _full_version(version)
+    if full and full[2]:
+        raise ValueError(f"a name states at most two numbers of a version, not {full}")
+    return full and full[:2]
 
 
 def _full_version(version: Optional[Sequence[int]]) -> Optional[Version]:

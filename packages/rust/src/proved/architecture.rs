@@ -14,6 +14,7 @@ use crate::proved::endianness::Endianness;
 use crate::proved::pointer_width::PointerWidth;
 use crate::proved::table::fixed_row;
 pub use aarch64::Aarch64Architecture;
+#[cfg(feature = "alloc")]
 use alloc::borrow::Cow;
 pub use arm::ArmArchitecture;
 pub use clever::CleverArchitecture;
@@ -264,6 +265,7 @@ impl Architecture {
     /// assert_eq!(target_lexicon::Architecture::Bpfel.into_str(), "bpfel");
     /// ```
     #[must_use]
+    #[cfg(feature = "alloc")]
     pub fn into_str(self) -> Cow<'static, str> {
         Cow::Borrowed(self.name())
     }

@@ -2,6 +2,7 @@
 //! The binary formats.
 
 use crate::proved::table::fixed_row;
+#[cfg(feature = "alloc")]
 use alloc::borrow::Cow;
 use core::fmt;
 use core::str::FromStr;
@@ -50,6 +51,7 @@ impl BinaryFormat {
     /// assert_eq!(target_lexicon::BinaryFormat::Elf.into_str(), "elf");
     /// ```
     #[must_use]
+    #[cfg(feature = "alloc")]
     pub fn into_str(self) -> Cow<'static, str> {
         Cow::Borrowed(self.name())
     }

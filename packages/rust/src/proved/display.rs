@@ -5,8 +5,8 @@
 use crate::proved::triple::Triple;
 use crate::proved::triple_ref::TripleRef;
 use crate::proved::{
-    version_text, Architecture, ArmArchitecture, BinaryFormat, DeploymentTarget, Environment,
-    KnownVendor, OperatingSystem, VendorRef, MAX_VERSION_LENGTH,
+    version_text, Architecture, ArmArchitecture, BinaryFormat, Environment, KnownVendor,
+    OperatingSystem, VendorRef, MAX_VERSION_LENGTH,
 };
 use core::fmt;
 
@@ -71,23 +71,27 @@ impl<'a> TripleRef<'a> {
     #[inline(always)]
     fn pieces(&self, shows_last_three: bool) -> Pieces<'a> {
         if let Some(text) = self.special_text() {
-            return Pieces::of_special_text(text);
+            return Pieces {
+                first: text,
+                vendor: None,
+                operating_system: None,
+                environment: None,
+                binary_format: None,
+            };
         }
-
         let system = shows_last_three | self.shows_operating_system();
         let environment = shows_last_three | self.shows_environment();
         let binary_format = shows_last_three | self.shows_binary_format();
         Pieces {
             first: self.architecture.name(),
-            vendor: Piece::name_if(self.shows_vendor(), self.vendor.as_str()),
-            operating_system: Piece::name_if(system, self.operating_system.prefix()),
-            version: version_if(system, self.operating_system),
-            environment: Piece::name_if(environment, self.environment.name()),
-            binary_format: Piece::name_if(binary_format, self.binary_format.name()),
+            vendor: self.shows_vendor().then_some(self.vendor.as_str()),
+            operating_system: system.then_some(self.operating_system),
+            environment: environment.then_some(self.environment.name()),
+            binary_format: binary_format.then_some(self.binary_format.name()),
         }
     }
 
-    /// Whether the vendor is shown.
+    /// Whether the vendor is shown: unless it is unknown, and the triple omits an unknown one.
     #[inline(always)]
     fn shows_vendor(&self) -> bool {
         match self.vendor {
@@ -110,11 +114,25 @@ impl<'a> TripleRef<'a> {
                 Environment::Android | Environment::Androideabi | Environment::Kernel
             ),
             OperatingSystem::Wasi | OperatingSystem::WasiP1 | OperatingSystem::WasiP2 => true,
-            OperatingSystem::None_ => match self.architecture {
-                Architecture::Msp430 => true,
-                Architecture::Arm(sub) => is_bare_arm(sub),
-                _ => false,
-            },
+            OperatingSystem::None_ => matches!(
+                self.architecture,
+                Architecture::Msp430
+                    | Architecture::Arm(
+                        ArmArchitecture::Armv4t
+                            | ArmArchitecture::Armv5te
+                            | ArmArchitecture::Armebv7r
+                            | ArmArchitecture::Armv7a
+                            | ArmArchitecture::Armv7r
+                            | ArmArchitecture::Armv8r
+                            | ArmArchitecture::Thumbv4t
+                            | ArmArchitecture::Thumbv5te
+                            | ArmArchitecture::Thumbv6m
+                            | ArmArchitecture::Thumbv7em
+                            | ArmArchitecture::Thumbv7m
+                            | ArmArchitecture::Thumbv8mBase
+                            | ArmArchitecture::Thumbv8mMain
+                    )
+            ),
             _ => false,
         }
     }
@@ -127,27 +145,22 @@ impl<'a> TripleRef<'a> {
         )
     }
 
-    /// Whether the environment is shown.
+    /// Whether the environment is shown: unless it is unknown, or a `Newlib` that vendor and system imply.
     fn shows_environment(&self) -> bool {
         match self.environment {
             Environment::Unknown => false,
-            Environment::Newlib => !self.implies_newlib(),
+            Environment::Newlib => !matches!(
+                (self.vendor, self.operating_system),
+                (
+                    VendorRef::Known(KnownVendor::Nintendo),
+                    OperatingSystem::Horizon
+                ) | (
+                    VendorRef::Known(KnownVendor::Espressif),
+                    OperatingSystem::Espidf
+                )
+            ),
             _ => true,
         }
-    }
-
-    /// Whether the environment `Newlib` is omitted.
-    pub(crate) fn implies_newlib(&self) -> bool {
-        matches!(
-            (self.vendor, self.operating_system),
-            (
-                VendorRef::Known(KnownVendor::Nintendo),
-                OperatingSystem::Horizon
-            ) | (
-                VendorRef::Known(KnownVendor::Espressif),
-                OperatingSystem::Espidf
-            )
-        )
     }
 
     /// Whether the binary format is shown: if it isn't the implied one, or `shows_implied_format` holds.
@@ -188,103 +201,18 @@ fn architecture_implies_format(architecture: Architecture) -> bool {
     )
 }
 
-/// Whether a triple of this architecture without a system omits an unknown vendor.
-fn is_bare_arm(architecture: ArmArchitecture) -> bool {
-    matches!(
-        architecture,
-        ArmArchitecture::Armv4t
-            | ArmArchitecture::Armv5te
-            | ArmArchitecture::Armebv7r
-            | ArmArchitecture::Armv7a
-            | ArmArchitecture::Armv7r
-            | ArmArchitecture::Armv8r
-            | ArmArchitecture::Thumbv4t
-            | ArmArchitecture::Thumbv5te
-            | ArmArchitecture::Thumbv6m
-            | ArmArchitecture::Thumbv7em
-            | ArmArchitecture::Thumbv7m
-            | ArmArchitecture::Thumbv8mBase
-            | ArmArchitecture::Thumbv8mMain
-    )
-}
-
-/// A dash and a name, or nothing.
-#[derive(Clone, Copy)]
-enum Piece<'a> {
-    Hidden,
-    Name(&'a str),
-}
-
-impl<'a> Piece<'a> {
-    /// The piece of a name, if it is shown.
-    fn name_if(is_shown: bool, name: &'a str) -> Piece<'a> {
-        if is_shown {
-            Piece::Name(name)
-        } else {
-            Piece::Hidden
-        }
-    }
-
-    /// The length of the string.
-    #[inline]
-    fn text_length(self) -> usize {
-        match self {
-            Piece::Hidden => 0,
-            Piece::Name(name) => 1 + name.len(),
-        }
-    }
-
-    /// Writes the string, as [`put`] writes a string.
-    #[inline]
-    fn put(self, out: &mut [u8], at: usize) -> usize {
-        match self {
-            Piece::Hidden => at,
-            Piece::Name(name) => {
-                let at = put(out, at, b"-");
-                put(out, at, name.as_bytes())
-            }
-        }
-    }
-}
-
-impl fmt::Display for Piece<'_> {
-    #[inline(always)]
-    fn fmt(&self, f: &mut fmt::Formatter<'_>) -> fmt::Result {
-        match *self {
-            Piece::Hidden => Ok(()),
-            Piece::Name(name) => {
-                f.write_str("-")?;
-                f.write_str(name)
-            }
-        }
-    }
-}
-
-/// What is shown of a triple: the name of the architecture, or the special string, and a piece for each of the other
-/// fields. The version of the operating system follows its name without a dash.
+/// What is shown of a triple: the name of the architecture, or the special string; and each other field that is shown,
+/// after a dash.
 #[derive(Clone, Copy)]
 struct Pieces<'a> {
     first: &'static str,
-    vendor: Piece<'a>,
-    operating_system: Piece<'a>,
-    version: Option<DeploymentTarget>,
-    environment: Piece<'a>,
-    binary_format: Piece<'a>,
+    vendor: Option<&'a str>,
+    operating_system: Option<OperatingSystem>,
+    environment: Option<&'static str>,
+    binary_format: Option<&'static str>,
 }
 
 impl Pieces<'_> {
-    /// The pieces of a special string, of which it is the only one.
-    fn of_special_text(text: &'static str) -> Self {
-        Pieces {
-            first: text,
-            vendor: Piece::Hidden,
-            operating_system: Piece::Hidden,
-            version: None,
-            environment: Piece::Hidden,
-            binary_format: Piece::Hidden,
-        }
-    }
-
     /// Writes the string at the front of the buffer if it fits there, and returns its length. If it doesn't fit, the
     /// buffer is unchanged.
     #[inline]
@@ -300,44 +228,20 @@ impl Pieces<'_> {
     #[inline]
     fn text_length(&self) -> usize {
         self.first.len()
-            + self.vendor.text_length()
-            + self.operating_system.text_length()
-            + self.version_length()
-            + self.environment.text_length()
-            + self.binary_format.text_length()
-    }
-
-    /// The length of the version's string.
-    #[inline]
-    fn version_length(&self) -> usize {
-        match self.version {
-            Some(version) => version_text(version, &mut [0; MAX_VERSION_LENGTH]).len(),
-            None => 0,
-        }
-    }
-
-    /// Writes the version's string, as [`put`] writes a string.
-    #[inline]
-    fn put_version(&self, out: &mut [u8], at: usize) -> usize {
-        match self.version {
-            Some(version) => put(
-                out,
-                at,
-                version_text(version, &mut [0; MAX_VERSION_LENGTH]).as_bytes(),
-            ),
-            None => at,
-        }
+            + piece_length(self.vendor)
+            + system_length(self.operating_system)
+            + piece_length(self.environment)
+            + piece_length(self.binary_format)
     }
 
     /// Writes the string at the front of a buffer that has room for it, and returns its end.
     #[inline]
     fn put(&self, out: &mut [u8]) -> usize {
         let at = put(out, 0, self.first.as_bytes());
-        let at = self.vendor.put(out, at);
-        let at = self.operating_system.put(out, at);
-        let at = self.put_version(out, at);
-        let at = self.environment.put(out, at);
-        self.binary_format.put(out, at)
+        let at = put_piece(out, at, self.vendor);
+        let at = put_system(out, at, self.operating_system);
+        let at = put_piece(out, at, self.environment);
+        put_piece(out, at, self.binary_format)
     }
 }
 
@@ -345,23 +249,90 @@ impl fmt::Display for Pieces<'_> {
     #[inline(always)]
     fn fmt(&self, f: &mut fmt::Formatter<'_>) -> fmt::Result {
         f.write_str(self.first)?;
-        self.vendor.fmt(f)?;
-        self.operating_system.fmt(f)?;
-        if let Some(version) = self.version {
-            f.write_str(version_text(version, &mut [0; MAX_VERSION_LENGTH]))?;
+        write_piece(f, self.vendor)?;
+        if let Some(system) = self.operating_system {
+            f.write_str("-")?;
+            system.fmt(f)?;
         }
-        self.environment.fmt(f)?;
-        self.binary_format.fmt(f)
+        write_piece(f, self.environment)?;
+        write_piece(f, self.binary_format)
     }
 }
 
-/// The version of a system, if the system is shown and has one. By its type it is in range.
+/// Writes a dash and the name, if there is one.
 #[inline(always)]
-fn version_if(is_shown: bool, system: OperatingSystem) -> Option<DeploymentTarget> {
-    if is_shown {
-        system.version()
-    } else {
-        None
+fn write_piece(f: &mut fmt::Formatter<'_>, name: Option<&str>) -> fmt::Result {
+    match name {
+        Some(name) => {
+            f.write_str("-")?;
+            f.write_str(name)
+        }
+        None => Ok(()),
+    }
+}
+
+/// The length of a dash and the name, if there is one.
+#[inline]
+fn piece_length(name: Option<&str>) -> usize {
+    match name {
+        Some(name) => 1 + name.len(),
+        None => 0,
+    }
+}
+
+/// The length of a dash and the name of the system, if there is one.
+#[inline]
+fn system_length(system: Option<OperatingSystem>) -> usize {
+    match system {
+        Some(system) => 1 + system.prefix().len() + system_version_length(system),
+        None => 0,
+    }
+}
+
+/// The length of the version's string, if the system has a version.
+#[inline]
+fn system_version_length(system: OperatingSystem) -> usize {
+    match system.version() {
+        Some(version) => version_text(version, &mut [0; MAX_VERSION_LENGTH]).len(),
+        None => 0,
+    }
+}
+
+/// Writes a dash and the name, if there is one, as [`put`] writes a string.
+#[inline]
+fn put_piece(out: &mut [u8], at: usize, name: Option<&str>) -> usize {
+    match name {
+        Some(name) => {
+            let at = put(out, at, b"-");
+            put(out, at, name.as_bytes())
+        }
+        None => at,
+    }
+}
+
+/// Writes a dash and the name of the system, if there is one, as [`put`] writes a string.
+#[inline]
+fn put_system(out: &mut [u8], at: usize, system: Option<OperatingSystem>) -> usize {
+    match system {
+        Some(system) => {
+            let at = put(out, at, b"-");
+            let at = put(out, at, system.prefix().as_bytes());
+            put_system_version(out, at, system)
+        }
+        None => at,
+    }
+}
+
+/// Writes the version's string, if the system has a version, as [`put`] writes a string.
+#[inline]
+fn put_system_version(out: &mut [u8], at: usize, system: OperatingSystem) -> usize {
+    match system.version() {
+        Some(version) => put(
+            out,
+            at,
+            version_text(version, &mut [0; MAX_VERSION_LENGTH]).as_bytes(),
+        ),
+        None => at,
     }
 }
 

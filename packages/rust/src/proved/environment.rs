@@ -2,6 +2,7 @@
 //! The environments.
 
 use crate::proved::table::fixed_row;
+#[cfg(feature = "alloc")]
 use alloc::borrow::Cow;
 use core::fmt;
 use core::str::FromStr;
@@ -108,6 +109,7 @@ impl Environment {
     /// assert_eq!(target_lexicon::Environment::Msvc.into_str(), "msvc");
     /// ```
     #[must_use]
+    #[cfg(feature = "alloc")]
     pub fn into_str(self) -> Cow<'static, str> {
         Cow::Borrowed(self.name())
     }

@@ -132,8 +132,11 @@ impl TripleRef<'_> {
     /// assert_eq!(triple.data_model(), Ok(CDataModel::LLP64));
     /// ```
     #[inline]
-    pub fn data_model(&self) -> Result<CDataModel, ()> {
-        match self.pointer_width()? {
+    pub const fn data_model(&self) -> Result<CDataModel, ()> {
+        match match self.pointer_width() {
+            Ok(it) => it,
+            Err(error) => return Err(error),
+        } {
             PointerWidth::U64 => self.data_model_64(),
             PointerWidth::U32 => self.data_model_32(),
             PointerWidth::U16 => Err(()),
@@ -142,12 +145,15 @@ impl TripleRef<'_> {
 
     /// The data model for pointers of 64 bits.
     #[inline]
-    fn data_model_64(&self) -> Result<CDataModel, ()> {
+    const fn data_model_64(&self) -> Result<CDataModel, ()> {
         match self.operating_system {
             OperatingSystem::Windows => Ok(CDataModel::LLP64),
             _ => match self.architecture {
                 Architecture::Wasm64 => Ok(CDataModel::LP64),
-                _ => match self.default_calling_convention()? {
+                _ => match match self.default_calling_convention() {
+                    Ok(it) => it,
+                    Err(error) => return Err(error),
+                } {
                     CallingConvention::SystemV | CallingConvention::AppleAarch64 => {
                         Ok(CDataModel::LP64)
                     }
@@ -159,12 +165,15 @@ impl TripleRef<'_> {
 
     /// The data model for pointers of 32 bits.
     #[inline]
-    fn data_model_32(&self) -> Result<CDataModel, ()> {
+    const fn data_model_32(&self) -> Result<CDataModel, ()> {
         match self.operating_system {
             OperatingSystem::Windows => Ok(CDataModel::ILP32),
             _ => match self.architecture {
                 Architecture::Wasm32 => Ok(CDataModel::ILP32),
-                _ => match self.default_calling_convention()? {
+                _ => match match self.default_calling_convention() {
+                    Ok(it) => it,
+                    Err(error) => return Err(error),
+                } {
                     CallingConvention::SystemV => Ok(CDataModel::ILP32),
                     _ => Err(()),
                 },
@@ -176,7 +185,7 @@ impl TripleRef<'_> {
 impl Triple {
     /// The same triple with an unknown vendor, at which no query looks.
     #[inline]
-    const fn without_vendor(&self) -> TripleRef<'static> {
+    pub(crate) const fn without_vendor(&self) -> TripleRef<'static> {
         TripleRef {
             architecture: self.architecture,
             vendor: VendorRef::Known(KnownVendor::Unknown),
@@ -261,7 +270,7 @@ impl Triple {
     /// assert_eq!(triple!("avr-unknown-none").data_model(), Err(()));
     /// ```
     #[inline]
-    pub fn data_model(&self) -> Result<CDataModel, ()> {
+    pub const fn data_model(&self) -> Result<CDataModel, ()> {
         self.without_vendor().data_model()
     }
 }

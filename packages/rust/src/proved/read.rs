@@ -6,7 +6,6 @@ use crate::proved::explanation::{Explanation, Source, Sources, TextPart};
 use crate::proved::reading::Reading;
 use crate::proved::refusal::Refusal;
 use crate::proved::triple_ref::TripleRef;
-use crate::proved::Field;
 
 /// The first part of a string, and what follows its dash, if it has one.
 #[must_use]
@@ -15,17 +14,6 @@ pub fn first_part(text: &str) -> (&str, Option<&str>) {
     match text.as_bytes().iter().position(|&byte| byte == b'-') {
         Some(at) => (&text[..at], Some(&text[at + 1..])),
         None => (text, None),
-    }
-}
-
-/// The field that is expected after this one is filled, if any is left.
-pub(crate) fn expected_after(last: Field) -> Option<Field> {
-    match last {
-        Field::Architecture => Some(Field::Vendor),
-        Field::Vendor => Some(Field::OperatingSystem),
-        Field::OperatingSystem => Some(Field::Environment),
-        Field::Environment => Some(Field::BinaryFormat),
-        Field::BinaryFormat => None,
     }
 }
 

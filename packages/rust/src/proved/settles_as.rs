@@ -19,8 +19,9 @@ impl Triple {
     /// ```
     #[must_use]
     #[inline]
-    pub fn settles_as(&self, other: &Triple) -> bool {
-        self.as_triple_ref().settles_as(&other.as_triple_ref())
+    pub fn settles_as<'t>(&self, other: impl Into<TripleRef<'t>>) -> bool {
+        let other: &TripleRef<'_> = &other.into();
+        self.as_triple_ref().settles_as(other)
     }
 }
 
@@ -38,7 +39,9 @@ impl TripleRef<'_> {
     /// ```
     #[must_use]
     #[inline]
-    pub fn settles_as(&self, other: &TripleRef<'_>) -> bool {
+    pub fn settles_as<'t>(&self, other: impl Into<TripleRef<'t>>) -> bool {
+        let other: &TripleRef<'_> = &other.into();
+
         self.step() == other.step()
     }
 }

@@ -1,8 +1,8 @@
 // @generated: erased from crates/lexicon_fields/src/vendor.rt by tools/erase. Don't edit it here.
 //! The vendors.
 
-use alloc::boxed::Box;
-use alloc::string::String;
+#[cfg(feature = "alloc")]
+use alloc::{boxed::Box, string::String};
 use core::fmt;
 use core::hash::{Hash, Hasher};
 
@@ -16,9 +16,11 @@ use core::hash::{Hash, Hasher};
 /// let owned = CustomVendor::Owned(Box::new("acme".to_string()));
 /// assert_eq!(owned, CustomVendor::Static("acme"));
 /// ```
+#[cfg_attr(not(feature = "alloc"), non_exhaustive)]
 #[derive(Debug, Clone)]
 pub enum CustomVendor {
     /// An owned string.
+    #[cfg(feature = "alloc")]
     Owned(Box<String>),
     /// A static string.
     Static(&'static str),
@@ -35,6 +37,7 @@ impl CustomVendor {
     #[must_use]
     pub fn as_str(&self) -> &str {
         match self {
+            #[cfg(feature = "alloc")]
             CustomVendor::Owned(text) => text.as_str(),
             CustomVendor::Static(text) => text,
         }

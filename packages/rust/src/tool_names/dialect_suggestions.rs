@@ -1,5 +1,4 @@
 //! The name that is suggested for an unknown name of a dialect.
-use crate::proved::tool_names::pattern::star_count;
 use crate::proved::tool_names::tables::{Row, Way};
 use crate::tool_names::misspellings::meant;
 use crate::tool_names::suggestions::{architecture_of, machine_of, Abi, Machine};
@@ -11,7 +10,8 @@ impl Dialect {
     /// The name that is suggested for an unknown one, of those without a version that [`read`](Dialect::read) knows. Nothing is
     /// allocated.
     ///
-    /// It is the name that differs only in the word for the same machine: `linux-x64` of Node for `linux-amd64`. Otherwise it is
+    /// It is the name that is the same but for capital letters, white space around it or a path. Otherwise it is the name that
+    /// differs only in the word for the same machine: `linux-x64` of Node for `linux-amd64`. Otherwise it is
     /// the nearest name, if the unknown one may be a misspelling of it, and states no other machine or way to pass floating-point
     /// arguments. Where two edits give names of another machine too, width, byte order or such a way, nothing is suggested.
     ///
@@ -25,13 +25,13 @@ impl Dialect {
     /// assert_eq!(Dialect::Node.suggestion("linux-arm-gnueabi"), None); // only `gnueabihf` is known
     /// ```
     #[must_use]
+    #[inline]
     pub fn suggestion(self, name: &str) -> Option<&'static str> {
-        let tables = self.tables();
-        let rows = tables.iter().flat_map(|rows| rows.iter());
-        let read = [Way::Both, Way::Read].into_iter().flat_map(|way| {
-            let used = rows.clone().filter(move |row| row.2 == way);
-            used.filter(|row| star_count(row.0.as_bytes()) == 0)
-        });
+        let found = self.name_in_other_letters(name);
+        if let Some(known) = found.or_else(|| self.name_inside(name)) {
+            return Some(known);
+        }
+        let read = self.rows_read();
         let stated = Stated::of(name);
         if let Some(word) = &stated.machine {
             let mut others = read.clone().filter(|row| word.is_in(name, row));
@@ -48,7 +48,7 @@ impl Dialect {
         }
         // the lengths first: all others are farther than a misspelling
         let is_near = |row: &&Row| row.0.len().abs_diff(name.len()) <= 2;
-        let only_written = rows.clone().filter(|row| row.2 == Way::Written);
+        let only_written = self.rows().filter(|row| row.2 == Way::Written);
         meant(
             name.as_bytes(),
             name.as_bytes(),
@@ -67,10 +67,17 @@ struct Said {
     floats: Option<FloatAbi>,
 }
 
+/// The triple of a row.
+#[inline(never)]
+fn triple_of(row: &Row) -> Option<TripleRef<'static>> {
+    TripleRef::from_str(row.1).ok()
+}
+
 impl Said {
     /// What the triple of a row says.
+    #[inline]
     fn of(row: &Row) -> Option<Said> {
-        let triple = TripleRef::from_str(row.1).ok()?;
+        let triple = triple_of(row)?;
         let (machine, _, order) = machine_of(triple.architecture);
         Some(Said {
             machine: (machine, triple.pointer_width().ok(), order),
@@ -86,6 +93,7 @@ struct Stated {
 }
 
 impl Stated {
+    #[inline]
     fn of(name: &str) -> Stated {
         Stated {
             machine: words(name).find_map(|range| MachineWord::at(range, name)),
@@ -94,6 +102,7 @@ impl Stated {
     }
 
     /// Whether a row says nothing else.
+    #[inline]
     fn allows(&self, row: &Row) -> bool {
         let has = |said: Said| {
             let machine = self.machine.as_ref().map_or(said.machine, |it| it.machine);
@@ -111,6 +120,7 @@ struct MachineWord {
 }
 
 impl MachineWord {
+    #[inline]
     fn at(range: Range<usize>, name: &str) -> Option<MachineWord> {
         let word = name.get(range.clone())?;
         let known = WORDS.iter().find(|it| it.0 == word).map_or(word, |it| it.1);
@@ -130,6 +140,7 @@ impl MachineWord {
     }
 
     /// Whether a row has the name with another word for this machine.
+    #[inline]
     fn is_in(&self, name: &str, row: &Row) -> bool {
         let (before, after) = (&name[..self.range.start], &name[self.range.end..]);
         let rest = row.0.strip_prefix(before);
@@ -143,18 +154,19 @@ impl MachineWord {
         // A version of Arm or x86 is a machine of its own.
         let is_version = |word: &str| WORDS.iter().all(|it| it.0 != word);
         let are_versions = is_version(word) && is_version(&name[self.range.clone()]);
-        match (TripleRef::from_str(row.1), self.architecture) {
-            (Ok(triple), Architecture::Arm(_)) => triple.architecture == self.architecture,
-            (Ok(triple), Architecture::X86_32(_)) => {
+        match (triple_of(row), self.architecture) {
+            (Some(triple), Architecture::Arm(_)) => triple.architecture == self.architecture,
+            (Some(triple), Architecture::X86_32(_)) => {
                 !are_versions || triple.architecture == self.architecture
             }
-            (triple, _) => triple.is_ok(),
+            (triple, _) => triple.is_some(),
         }
     }
 }
 
 /// The words of a name, and two of them with `_` or `-` between, as in `x86_64`: two before the first of them, which isn't a word
 /// by itself before a number.
+#[inline]
 fn words(name: &str) -> impl Iterator<Item = Range<usize>> + '_ {
     let bytes = name.as_bytes();
     let end = move |start: usize| {
@@ -186,6 +198,7 @@ const WORDS: [(&str, &str); 9] = [
 ];
 
 /// How floating-point arguments are passed, by a word.
+#[inline]
 fn floats_of(word: &str) -> Option<FloatAbi> {
     match (word, Abi::of(word)) {
         ("armel", _) | (_, Some(Abi::Soft | Abi::Embedded | Abi::Softfloat)) => {

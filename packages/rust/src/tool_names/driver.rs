@@ -1,7 +1,7 @@
 //! What a compiler's driver asks of a triple besides the queries. `checks/compare llvm` asks rustc and clang of each of rustc's targets.
 
 use crate::tool_names::rustc_cfg::UnlistedSystem;
-use crate::{Architecture, Environment, OperatingSystem, TripleRef};
+use crate::{Architecture, CDataModel, Environment, OperatingSystem, PointerWidth, TripleRef};
 use core::fmt;
 
 /// The C library of a target.
@@ -9,10 +9,9 @@ use core::fmt;
 /// # Examples
 ///
 /// ```
-/// use target_lexicon::{tool_names::CLibrary, TripleRef};
+/// use target_lexicon::{tool_names::CLibrary, triple};
 ///
-/// let triple = TripleRef::from_str("armv7-unknown-linux-musleabihf").unwrap();
-/// assert_eq!(CLibrary::of(&triple), Some(CLibrary::Musl));
+/// assert_eq!(triple!("armv7-unknown-linux-musleabihf").c_library(), Some(CLibrary::Musl));
 /// ```
 #[cfg_attr(not(lexicon_internal), non_exhaustive)]
 #[derive(Clone, Copy, Debug, PartialEq, Eq, Hash)]
@@ -44,10 +43,9 @@ pub enum CLibrary {
 /// # Examples
 ///
 /// ```
-/// use target_lexicon::{tool_names::FloatAbi, TripleRef};
+/// use target_lexicon::{tool_names::FloatAbi, triple};
 ///
-/// let triple = TripleRef::from_str("armv7-unknown-linux-gnueabi").unwrap();
-/// assert_eq!(FloatAbi::of(&triple), Some(FloatAbi::Soft));
+/// assert_eq!(triple!("armv7-unknown-linux-gnueabi").float_abi(), Some(FloatAbi::Soft));
 /// ```
 #[cfg_attr(not(lexicon_internal), non_exhaustive)]
 #[derive(Clone, Copy, Debug, PartialEq, Eq, Hash)]
@@ -63,10 +61,7 @@ pub enum FloatAbi {
 /// # Examples
 ///
 /// ```
-/// use target_lexicon::{tool_names::TypeLayout, TripleRef};
-///
-/// let triple = TripleRef::from_str("i686-unknown-linux-gnu").unwrap();
-/// let layout = TypeLayout::of_long_double(&triple).unwrap();
+/// let layout = target_lexicon::triple!("i686-unknown-linux-gnu").long_double_layout().unwrap();
 /// assert_eq!((layout.size, layout.alignment), (12, 4));
 /// ```
 #[derive(Clone, Copy, Debug, PartialEq, Eq, Hash)]
@@ -77,27 +72,36 @@ pub struct TypeLayout {
     pub alignment: u8,
 }
 
+/// The sizes of C's arithmetic types, in bytes.
+///
+/// # Examples
+///
+/// ```
+/// use target_lexicon::triple;
+///
+/// let sizes = triple!("x86_64-pc-cygwin").type_sizes().unwrap();
+/// assert_eq!((sizes.int, sizes.long), (4, 8));
+/// ```
+#[cfg_attr(not(lexicon_internal), non_exhaustive)]
+#[derive(Clone, Copy, Debug, PartialEq, Eq, Hash)]
+pub struct TypeSizes {
+    /// The bytes of `short`.
+    pub short: u8,
+    /// The bytes of `int`.
+    pub int: u8,
+    /// The bytes of `long`.
+    pub long: u8,
+    /// The bytes of `long long`.
+    pub long_long: u8,
+    /// The bytes of `float`.
+    pub float: u8,
+    /// The bytes of `double`.
+    pub double: u8,
+}
+
 impl CLibrary {
-    /// The C library that a triple states: by its environment, or by a system that has only one.
-    ///
-    /// # Examples
-    ///
-    /// ```
-    /// use target_lexicon::{tool_names::CLibrary, TripleRef};
-    ///
-    /// for (string, library) in [
-    ///     ("x86_64-unknown-linux-gnux32", Some(CLibrary::Glibc)),
-    ///     ("x86_64-pc-windows-gnu", Some(CLibrary::Mingw)),
-    ///     ("aarch64-linux-android", Some(CLibrary::Bionic)),
-    ///     ("aarch64-unknown-linux-ohos", Some(CLibrary::Musl)),
-    ///     ("aarch64-apple-darwin", Some(CLibrary::System)),
-    ///     ("aarch64-unknown-linux", None),
-    /// ] {
-    ///     assert_eq!(CLibrary::of(&TripleRef::from_str(string).unwrap()), library, "{string}");
-    /// }
-    /// ```
-    #[must_use]
-    pub fn of(triple: &TripleRef<'_>) -> Option<CLibrary> {
+    /// The answer of [`TripleRef::c_library`].
+    pub(crate) fn of(triple: &TripleRef<'_>) -> Option<CLibrary> {
         use {Environment::*, OperatingSystem::*};
         match (triple.environment, triple.operating_system) {
             (Android | Androideabi, _) => Some(CLibrary::Bionic),
@@ -170,27 +174,8 @@ fn library_of_system(triple: &TripleRef<'_>) -> Option<CLibrary> {
 }
 
 impl FloatAbi {
-    /// The way to pass floating-point arguments that a triple states: on Arm by the environment, or by a system that
-    /// has only one; elsewhere only by the environment `softfloat`.
-    ///
-    /// # Examples
-    ///
-    /// ```
-    /// use target_lexicon::{tool_names::FloatAbi, TripleRef};
-    ///
-    /// for (string, floats) in [
-    ///     ("arm-unknown-linux-gnueabihf", Some(FloatAbi::Hard)),
-    ///     ("armv7-linux-androideabi", Some(FloatAbi::Soft)),
-    ///     ("armv7-unknown-freebsd", Some(FloatAbi::Hard)),
-    ///     ("aarch64-unknown-none-softfloat", Some(FloatAbi::Soft)),
-    ///     ("armv7-unknown-linux", None),
-    ///     ("x86_64-unknown-linux-gnu", None),
-    /// ] {
-    ///     assert_eq!(FloatAbi::of(&TripleRef::from_str(string).unwrap()), floats, "{string}");
-    /// }
-    /// ```
-    #[must_use]
-    pub fn of(triple: &TripleRef<'_>) -> Option<FloatAbi> {
+    /// The answer of [`TripleRef::float_abi`].
+    pub(crate) const fn of(triple: &TripleRef<'_>) -> Option<FloatAbi> {
         use Environment::*;
         let is_arm = matches!(triple.architecture, Architecture::Arm(_));
         match (triple.environment, triple.operating_system) {
@@ -229,23 +214,8 @@ impl fmt::Display for FloatAbi {
 }
 
 impl TypeLayout {
-    /// The layout of `long double`. `None` where no source is sure, such as on UEFI, VxWorks and AIX.
-    ///
-    /// # Examples
-    ///
-    /// ```
-    /// use target_lexicon::{tool_names::TypeLayout, TripleRef};
-    ///
-    /// let size = |string| {
-    ///     let layout = TypeLayout::of_long_double(&TripleRef::from_str(string).unwrap());
-    ///     layout.map(|it| it.size)
-    /// };
-    /// assert_eq!(size("x86_64-unknown-linux-gnu"), Some(16));
-    /// assert_eq!(size("x86_64-pc-windows-msvc"), Some(8));
-    /// assert_eq!(size("x86_64-unknown-uefi"), None);
-    /// ```
-    #[must_use]
-    pub fn of_long_double(triple: &TripleRef<'_>) -> Option<TypeLayout> {
+    /// The answer of [`TripleRef::long_double_layout`].
+    pub(crate) const fn of_long_double(triple: &TripleRef<'_>) -> Option<TypeLayout> {
         use {Architecture::*, OperatingSystem::*};
         let (size, alignment) = match (triple.architecture, triple.operating_system) {
             (_, Uefi | VxWorks) => return None,
@@ -262,29 +232,15 @@ impl TypeLayout {
             (S390x, _) => (16, 8),
             (Wasm32 | Wasm64, Emscripten) => (16, 8),
             (Wasm32 | Wasm64, _) => (16, 16),
-            (X86_32(_), _) if triple.environment == Environment::Android => (8, 4),
+            (X86_32(_), _) if matches!(triple.environment, Environment::Android) => (8, 4),
             (X86_32(_), _) => (12, 4),
             _ => return None,
         };
         Some(TypeLayout { size, alignment })
     }
 
-    /// The layout of `wchar_t`. `None` where no source is sure, such as on VxWorks and AIX.
-    ///
-    /// # Examples
-    ///
-    /// ```
-    /// use target_lexicon::{tool_names::TypeLayout, TripleRef};
-    ///
-    /// let size = |string| {
-    ///     TypeLayout::of_wchar(&TripleRef::from_str(string).unwrap()).map(|it| it.size)
-    /// };
-    /// assert_eq!(size("x86_64-unknown-linux-gnu"), Some(4));
-    /// assert_eq!(size("x86_64-pc-windows-msvc"), Some(2));
-    /// assert_eq!(size("powerpc64-ibm-aix"), None);
-    /// ```
-    #[must_use]
-    pub fn of_wchar(triple: &TripleRef<'_>) -> Option<TypeLayout> {
+    /// The answer of [`TripleRef::wchar_layout`].
+    pub(crate) const fn of_wchar(triple: &TripleRef<'_>) -> Option<TypeLayout> {
         use {Architecture::*, OperatingSystem::*};
         let size = match (triple.architecture, triple.operating_system) {
             (_, Windows | Cygwin | Uefi) => 2,
@@ -302,7 +258,62 @@ impl TypeLayout {
     }
 }
 
-fn windows_long_double(triple: &TripleRef<'_>) -> Option<TypeLayout> {
+impl TypeSizes {
+    /// The answer of [`TripleRef::type_sizes`].
+    pub(crate) const fn of(triple: &TripleRef<'_>) -> Option<TypeSizes> {
+        match triple.data_model() {
+            Ok(model) => Some(TypeSizes::in_model(model)),
+            Err(()) => TypeSizes::without_model(triple),
+        }
+    }
+
+    /// The sizes in a data model.
+    ///
+    /// # Examples
+    ///
+    /// ```
+    /// use target_lexicon::{tool_names::TypeSizes, CDataModel};
+    ///
+    /// assert_eq!(TypeSizes::in_model(CDataModel::LLP64).long, 4);
+    /// ```
+    #[must_use]
+    pub const fn in_model(model: CDataModel) -> TypeSizes {
+        TypeSizes {
+            short: model.short_size().bytes(),
+            int: model.int_size().bytes(),
+            long: model.long_size().bytes(),
+            long_long: model.long_long_size().bytes(),
+            float: model.float_size().bytes(),
+            double: model.double_size().bytes(),
+        }
+    }
+
+    /// The sizes of a triple without a data model: on machines of 32 and 64 bits where the size of `wchar_t` is sure.
+    #[cold]
+    const fn without_model(triple: &TripleRef<'_>) -> Option<TypeSizes> {
+        use {Architecture::*, OperatingSystem::*};
+        // An `int` of two bytes.
+        let of_16_bits = TypeSizes::in_model(CDataModel::LP32);
+        match (triple.architecture, triple.operating_system) {
+            (_, Uefi | VxWorks) => return None,
+            (Msp430, _) => return Some(of_16_bits),
+            (Avr, _) => {
+                return Some(TypeSizes {
+                    double: 4,
+                    ..of_16_bits
+                })
+            }
+            _ => {}
+        }
+        match (TypeLayout::of_wchar(triple), triple.pointer_width()) {
+            (Some(_), Ok(PointerWidth::U32)) => Some(TypeSizes::in_model(CDataModel::ILP32)),
+            (Some(_), Ok(PointerWidth::U64)) => Some(TypeSizes::in_model(CDataModel::LP64)),
+            _ => None,
+        }
+    }
+}
+
+const fn windows_long_double(triple: &TripleRef<'_>) -> Option<TypeLayout> {
     use {Architecture::*, Environment::*};
     let (size, alignment) = match (triple.environment, triple.architecture) {
         (Msvc, Arm(_) | Aarch64(_) | X86_32(_) | X86_64) => (8, 8),
@@ -314,7 +325,7 @@ fn windows_long_double(triple: &TripleRef<'_>) -> Option<TypeLayout> {
     Some(TypeLayout { size, alignment })
 }
 
-fn powerpc_long_double(triple: &TripleRef<'_>) -> Option<TypeLayout> {
+const fn powerpc_long_double(triple: &TripleRef<'_>) -> Option<TypeLayout> {
     use {Environment::*, OperatingSystem::*};
     let size = match (triple.operating_system, triple.environment) {
         (Linux, Gnu | Gnuspe) => 16,

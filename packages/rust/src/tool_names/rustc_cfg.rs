@@ -14,10 +14,8 @@ use core::fmt;
 /// # Examples
 ///
 /// ```
-/// use target_lexicon::{tool_names::RustcCfg, TripleRef};
-///
-/// let triple = TripleRef::from_str("aarch64-apple-darwin").unwrap();
-/// let cfg = RustcCfg::of(&triple);
+/// let triple = target_lexicon::triple!("aarch64-apple-darwin");
+/// let cfg = triple.rustc_cfg();
 /// assert_eq!((cfg.target_arch, cfg.target_os, cfg.target_env), ("aarch64", "macos", ""));
 /// assert_eq!(cfg.target_family, ["unix"]);
 /// ```
@@ -43,31 +41,9 @@ pub struct RustcCfg<'a> {
 }
 
 impl<'a> RustcCfg<'a> {
-    /// The values for a triple. They are rustc's for each of its targets that parses; the targets whose triples the
-    /// library can't represent have none. What rustc has no target of keeps its name, such as the architecture
-    /// `pulley64`.
-    ///
-    /// # Examples
-    ///
-    /// ```
-    /// use target_lexicon::{tool_names::RustcCfg, TripleRef};
-    ///
-    /// for (string, os, env, abi, vendor) in [
-    ///     ("arm-linux-androideabi", "android", "", "eabi", "unknown"),
-    ///     ("armv7-unknown-linux-musleabihf", "linux", "musl", "eabihf", "unknown"),
-    ///     ("thumbv7em-nuttx-eabihf", "nuttx", "", "eabihf", "unknown"),
-    ///     ("wasm32-wasip1-threads", "wasi", "p1", "", "unknown"),
-    ///     ("x86_64-apple-ios", "ios", "sim", "sim", "apple"),
-    ///     ("x86_64-uwp-windows-gnu", "windows", "gnu", "uwp", "uwp"),
-    /// ] {
-    ///     let triple = TripleRef::from_str(string).unwrap();
-    ///     let cfg = RustcCfg::of(&triple);
-    ///     let values = (cfg.target_os, cfg.target_env, cfg.target_abi, cfg.target_vendor);
-    ///     assert_eq!(values, (os, env, abi, vendor), "{string}");
-    /// }
-    /// ```
-    #[must_use]
-    pub fn of(triple: &TripleRef<'a>) -> RustcCfg<'a> {
+    /// The answer of [`TripleRef::rustc_cfg`].
+    #[inline]
+    pub(crate) fn of(triple: &TripleRef<'a>) -> RustcCfg<'a> {
         let is_unix = is_unix(triple);
         RustcCfg {
             target_arch: target_arch(triple.architecture),
@@ -101,6 +77,7 @@ impl<'a> RustcCfg<'a> {
     /// assert!(cfg.options().any(|it| it == ("target_os", Some("macos"))));
     /// assert!(cfg.options().any(|it| it == ("unix", None)));
     /// ```
+    #[inline]
     pub fn options(&self) -> impl Iterator<Item = (&'static str, Option<&'a str>)> {
         let families = self.target_family;
         let one = |name, value| core::iter::once((name, Some(value)));
@@ -129,6 +106,7 @@ impl<'a> RustcCfg<'a> {
 }
 
 impl fmt::Display for RustcCfg<'_> {
+    #[inline]
     fn fmt(&self, f: &mut fmt::Formatter<'_>) -> fmt::Result {
         self.options().try_for_each(|option| match option {
             (name, Some(value)) => writeln!(f, "{name}=\"{value}\""),
@@ -146,6 +124,7 @@ pub(super) enum UnlistedSystem {
 
 impl UnlistedSystem {
     /// The unlisted system of a triple.
+    #[inline]
     pub(super) fn of(triple: &TripleRef<'_>) -> Option<UnlistedSystem> {
         match (triple.vendor, triple.operating_system) {
             (VendorRef::Custom("nuttx"), OperatingSystem::Unknown) => Some(UnlistedSystem::Nuttx),
@@ -156,6 +135,7 @@ impl UnlistedSystem {
     }
 }
 
+#[inline]
 fn target_arch(architecture: Architecture) -> &'static str {
     use {Mips32Architecture::*, Mips64Architecture::*};
     match architecture {
@@ -177,6 +157,7 @@ fn target_arch(architecture: Architecture) -> &'static str {
     }
 }
 
+#[inline]
 fn target_os(triple: &TripleRef<'_>) -> &'static str {
     use OperatingSystem::*;
     match UnlistedSystem::of(triple) {
@@ -194,6 +175,7 @@ fn target_os(triple: &TripleRef<'_>) -> &'static str {
     }
 }
 
+#[inline]
 fn target_env(triple: &TripleRef<'_>) -> &'static str {
     use Environment::*;
     match triple.environment {
@@ -211,6 +193,7 @@ fn target_env(triple: &TripleRef<'_>) -> &'static str {
 }
 
 /// The value of a system where the environment states none.
+#[inline]
 fn env_of_system(triple: &TripleRef<'_>) -> &'static str {
     match UnlistedSystem::of(triple) {
         Some(UnlistedSystem::Nuttx) => return "",
@@ -230,7 +213,8 @@ fn env_of_system(triple: &TripleRef<'_>) -> &'static str {
 }
 
 /// Whether this is a system of Apple's devices on x86, which only simulators have.
-fn is_simulator(triple: &TripleRef<'_>) -> bool {
+#[inline]
+pub(super) fn is_simulator(triple: &TripleRef<'_>) -> bool {
     use {Architecture::*, OperatingSystem::*};
     matches!(triple.architecture, X86_32(_) | X86_64 | X86_64h)
         && matches!(
@@ -239,6 +223,7 @@ fn is_simulator(triple: &TripleRef<'_>) -> bool {
         )
 }
 
+#[inline]
 fn target_abi(triple: &TripleRef<'_>) -> &'static str {
     use Environment::*;
     match (triple.vendor, triple.operating_system, triple.environment) {
@@ -259,6 +244,7 @@ fn target_abi(triple: &TripleRef<'_>) -> &'static str {
 }
 
 /// The ABI where neither vendor nor environment states one.
+#[inline]
 fn abi_of_system(triple: &TripleRef<'_>) -> &'static str {
     use OperatingSystem::*;
     let is_musl = matches!(triple.environment, Environment::Musl); // the others state their ABI
@@ -276,18 +262,9 @@ fn abi_of_system(triple: &TripleRef<'_>) -> &'static str {
     }
 }
 
-/// Whether rustc counts the system to the family `unix`.
-///
-/// # Examples
-///
-/// ```
-/// use target_lexicon::{tool_names::is_unix, TripleRef};
-///
-/// assert!(is_unix(&TripleRef::from_str("x86_64-pc-cygwin").unwrap()));
-/// assert!(!is_unix(&TripleRef::from_str("wasm32-wasip1").unwrap()));
-/// ```
-#[must_use]
-pub fn is_unix(triple: &TripleRef<'_>) -> bool {
+/// The answer of [`TripleRef::is_unix`].
+#[inline]
+pub(crate) fn is_unix(triple: &TripleRef<'_>) -> bool {
     use OperatingSystem::*;
     match UnlistedSystem::of(triple) {
         Some(UnlistedSystem::Nuttx | UnlistedSystem::Rtems) => return true,
@@ -305,6 +282,7 @@ pub fn is_unix(triple: &TripleRef<'_>) -> bool {
     }
 }
 
+#[inline]
 fn target_vendor<'a>(triple: &TripleRef<'a>) -> &'a str {
     match triple.vendor {
         _ if UnlistedSystem::of(triple).is_some() => "unknown",

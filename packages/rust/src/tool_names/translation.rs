@@ -1,7 +1,8 @@
 //! From a name in one dialect to the name in another, and why there is none.
 //!
 //! Reading, completing and writing are proved. This is their composition, and the reason where a triple has no name.
-use super::{complete, Dialect, LinuxLibc, Name, NameError};
+use super::{Dialect, LinuxLibc, Name, NameError};
+use crate::proved::tool_names::stated_version::has_version;
 use crate::proved::tool_names::tables::{Row, Way};
 use crate::proved::tool_names::variant::is_another_target;
 use crate::{
@@ -22,7 +23,7 @@ use core::fmt;
 /// assert_eq!(error, WriteError::NeedsCLibrary);
 /// assert_eq!(error.to_string(), "It depends on the C library: say glibc or musl");
 /// ```
-#[derive(Clone, Copy, Debug, PartialEq, Eq)]
+#[derive(Clone, Copy, Debug, PartialEq, Eq, Hash)]
 #[non_exhaustive]
 pub enum WriteError {
     // written by tools/names/write: the reasons
@@ -118,10 +119,11 @@ impl WriteError {
 }
 
 impl fmt::Display for WriteError {
+    #[inline]
     fn fmt(&self, f: &mut fmt::Formatter<'_>) -> fmt::Result {
-        let reason = self.reason();
-        let (first, others) = reason.split_at(1);
-        write!(f, "{}{others}", first.to_ascii_uppercase())
+        let mut letters = self.reason().chars();
+        let first = letters.next().map_or(' ', |it| it.to_ascii_uppercase());
+        write!(f, "{first}{}", letters.as_str())
     }
 }
 
@@ -137,7 +139,7 @@ impl fmt::Display for WriteError {
 /// assert_eq!(to_debian("linux/amd64"), TranslateError::Write(WriteError::NeedsCLibrary));
 /// assert_eq!(to_debian("windows/amd64"), TranslateError::Write(WriteError::NoSystem));
 /// ```
-#[derive(Clone, Copy, Debug, PartialEq, Eq)]
+#[derive(Clone, Copy, Debug, PartialEq, Eq, Hash)]
 pub enum TranslateError {
     /// The name isn't read.
     Read(NameError),
@@ -146,6 +148,7 @@ pub enum TranslateError {
 }
 
 impl fmt::Display for TranslateError {
+    #[inline]
     fn fmt(&self, f: &mut fmt::Formatter<'_>) -> fmt::Result {
         match self {
             TranslateError::Read(error) => error.fmt(f),
@@ -156,7 +159,7 @@ impl fmt::Display for TranslateError {
 
 impl Dialect {
     /// The name in this dialect of a triple with a C library, if one is said: that of the triple
-    /// [`complete`](crate::tool_names::complete) returns. Nothing is allocated.
+    /// [`with_c_library`](TripleRef::with_c_library) returns. Nothing is allocated.
     ///
     /// # Errors
     ///
@@ -171,13 +174,15 @@ impl Dialect {
     /// let name = Dialect::Node.write_with(&triple, Some(LinuxLibc::Musl)).unwrap();
     /// assert_eq!(name.as_str(), "linux-arm64-musl");
     /// ```
-    pub fn write_with(
+    #[inline]
+    pub fn write_with<'t>(
         self,
-        triple: &TripleRef<'_>,
+        triple: impl Into<TripleRef<'t>>,
         c_library: Option<LinuxLibc>,
     ) -> Result<Name, WriteError> {
-        let triple = c_library.map_or(*triple, |it| complete(triple, it));
-        match self.write(&triple) {
+        let triple = triple.into();
+        let triple = c_library.map_or(triple, |it| triple.with_c_library(it));
+        match self.write(triple) {
             Some(name) => Ok(name),
             None => Err(self.why_unnamed(&triple)),
         }
@@ -204,19 +209,21 @@ impl Dialect {
     /// assert_eq!(tag("aarch64-apple-darwin", 2, 17), Err(WriteError::OtherVersion));
     /// assert_eq!(tag("x86_64-pc-windows-msvc", 2, 17).unwrap(), "win_amd64");
     /// ```
-    pub fn write_with_version(
+    #[inline]
+    pub fn write_with_version<'t>(
         self,
-        triple: &TripleRef<'_>,
+        triple: impl Into<TripleRef<'t>>,
         major: u16,
         minor: u8,
     ) -> Result<Name, WriteError> {
+        let triple = &triple.into();
         if let Some(name) = self.write_versioned(triple, major, minor) {
             return Ok(name);
         }
         if self.states_version(triple) {
             return Err(WriteError::OtherVersion);
         }
-        if self.states_version(&complete(triple, LinuxLibc::Glibc)) {
+        if self.states_version(&triple.with_c_library(LinuxLibc::Glibc)) {
             return Err(WriteError::NeedsCLibrary);
         }
         self.write_with(triple, None)
@@ -225,9 +232,9 @@ impl Dialect {
     /// The name in another dialect of what a name of this one means, with a C library if one is said. Nothing is
     /// allocated.
     ///
-    /// It is read, [completed](crate::tool_names::complete) and written. Names of Debian, of GNU and of rustc state the C
-    /// library of Linux, and those of Go, OCI and Python don't: from one of the latter to one of the former the C library
-    /// has to be said. So has the ABI of Windows. It changes no name that states one.
+    /// It is read [loosely](Dialect::read_loosely), [completed](TripleRef::with_c_library) and written. Names of Debian, of GNU
+    /// and of rustc state the C library of Linux, and those of Go, OCI and Python don't: from one of the latter to one of the
+    /// former the C library has to be said. So has the ABI of Windows. It changes no name that states one.
     ///
     /// # Errors
     ///
@@ -245,18 +252,20 @@ impl Dialect {
     /// let name = Dialect::Debian.translate("arm64", None, Dialect::Oci);
     /// assert_eq!(name.unwrap().as_str(), "linux/arm64");
     /// ```
+    #[inline]
     pub fn translate(
         self,
         name: &str,
         c_library: Option<LinuxLibc>,
         to: Dialect,
     ) -> Result<Name, TranslateError> {
-        let triple = self.read(name).map_err(TranslateError::Read)?;
-        to.write_with(&triple, c_library)
+        let triple = self.read_loosely(name).map_err(TranslateError::Read)?;
+        to.write_with(triple, c_library)
             .map_err(TranslateError::Write)
     }
 
     /// Why a triple without a name has none.
+    #[inline]
     fn why_unnamed(self, triple: &TripleRef<'_>) -> WriteError {
         if !self.rows().any(is_written) {
             return WriteError::OnlyRead;
@@ -264,35 +273,55 @@ impl Dialect {
         if is_another_target(triple.vendor) {
             return WriteError::OtherTarget;
         }
-        if triple.environment == Environment::Unknown {
-            let is_helped = |libc| self.write(&complete(triple, libc)).is_some();
-            match triple.operating_system {
-                OperatingSystem::Linux
-                    if is_helped(LinuxLibc::Glibc) || is_helped(LinuxLibc::Musl) =>
-                {
-                    return WriteError::NeedsCLibrary;
-                }
-                OperatingSystem::Windows
-                    if is_helped(LinuxLibc::Msvc) || is_helped(LinuxLibc::Mingw) =>
-                {
-                    return WriteError::NeedsWindowsAbi;
-                }
-                _ => {}
-            }
+        let why = self.why_rows(triple);
+        // Where no row has the system, only another name of it may help, or another version.
+        let has_other_name = matches!(
+            triple.operating_system,
+            OperatingSystem::Wasi
+                | OperatingSystem::Darwin(_)
+                | OperatingSystem::MacOSX(_)
+                | OperatingSystem::IOS(Some(_))
+        );
+        if why == WriteError::NoSystem && !has_other_name {
+            return why;
         }
-        self.why_machine(triple)
+        self.why_c_library(triple, why)
+            .or_else(|| self.why_machine(triple))
             .or_else(|| self.why_system(triple))
-            .unwrap_or_else(|| self.why_rows(triple))
+            .unwrap_or(why)
+    }
+
+    /// The reason, if with a C library the triple has a name. It is given why without one it has none.
+    #[inline]
+    fn why_c_library(self, triple: &TripleRef<'_>, why: WriteError) -> Option<WriteError> {
+        if triple.environment != Environment::Unknown {
+            return None;
+        }
+        let (c_libraries, reason) = match triple.operating_system {
+            OperatingSystem::Linux => (
+                [LinuxLibc::Glibc, LinuxLibc::Musl],
+                WriteError::NeedsCLibrary,
+            ),
+            // The name would be that of a row with this machine and system. On Linux a C library may change the machine.
+            OperatingSystem::Windows if why != WriteError::NoMachine => (
+                [LinuxLibc::Msvc, LinuxLibc::Mingw],
+                WriteError::NeedsWindowsAbi,
+            ),
+            _ => return None,
+        };
+        let is_helped = |libc: &LinuxLibc| self.has_name(triple.with_c_library(*libc));
+        c_libraries.iter().any(is_helped).then_some(reason)
     }
 
     /// The reason, if another version of the machine has a name.
+    #[inline]
     fn why_machine(self, triple: &TripleRef<'_>) -> Option<WriteError> {
         let is_named = |architecture| {
             let other = TripleRef {
                 architecture,
                 ..*triple
             };
-            self.write(&other).is_some()
+            self.has_name(other)
         };
         let is_helped = match triple.architecture {
             Architecture::Arm(_) => {
@@ -310,6 +339,7 @@ impl Dialect {
     }
 
     /// The reason, if a version of the system, or another name of it, has a name.
+    #[inline]
     fn why_system(self, triple: &TripleRef<'_>) -> Option<WriteError> {
         let is_named = |operating_system, environment| {
             let other = TripleRef {
@@ -317,17 +347,17 @@ impl Dialect {
                 environment,
                 ..*triple
             };
-            self.write(&other).is_some()
+            self.has_name(other)
         };
         let version = Some(DeploymentTarget {
             major: 11,
             minor: 0,
             patch: 0,
         });
+        let is_preview_1 = |row: &Row| row.1 == "wasm32-wasip1" && is_written(row);
         let (is_helped, reason) = match triple.operating_system {
             OperatingSystem::Wasi => (
-                self.rows()
-                    .any(|row| is_written(row) && row.1 == "wasm32-wasip1"),
+                self.tables().iter().copied().flatten().any(is_preview_1),
                 WriteError::NeedsWasiVersion,
             ),
             OperatingSystem::Darwin(_) | OperatingSystem::MacOSX(_) => (
@@ -347,7 +377,9 @@ impl Dialect {
         is_helped.then_some(reason)
     }
 
-    /// The reason, by the machines and systems of the dialect's rows.
+    /// The reason, by the machines and systems of the dialect's rows. Of the rows that are written one that begins as the
+    /// triple does says more than one that only has its system.
+    #[inline]
     fn why_rows(self, triple: &TripleRef<'_>) -> WriteError {
         let shape = self.shape(triple);
         let (mut whole, mut bare) = ([0; MAX_LENGTH], [0; MAX_LENGTH]);
@@ -359,53 +391,81 @@ impl Dialect {
                 ..shape
             },
         );
-        // The system, after the machine.
-        let system = bare.find('-').map_or(bare, |at| &bare[at..]);
-        let begins = |row: &Row, text| {
-            let rest = row.1.strip_prefix(text);
-            rest.map_or(false, |rest| rest.is_empty() || rest.starts_with('-'))
-        };
-        let has_system = |row: &Row| {
-            let at = row.1.find('-').unwrap_or(0);
-            row.1[at..].starts_with(system)
-        };
-        let is_read_as = |row: &&Row| matches!(row.2, Way::Read) && row.1 == whole;
-        if let Some(row) = self.rows().find(is_read_as) {
-            if row.0.contains('*') {
-                WriteError::NeedsVersion
-            } else {
-                WriteError::OnlyReadNames
+        let system = after_machine(bare);
+        let mut why = WriteError::NoSystem;
+        for row in self.tables().iter().copied().flatten() {
+            let text = row.1.as_bytes();
+            if is_written(row) {
+                if why == WriteError::NoSystem && has_system(text, system) {
+                    why = WriteError::NoMachine;
+                }
+                if why != WriteError::NoSystem && begins(text, bare) {
+                    why = WriteError::NoAbi;
+                }
+            } else if text == whole && row.2 == Way::Read {
+                let is_versioned = |major: &u16| {
+                    has_version(*major, 0, row.0)
+                        && self.write_versioned(triple, *major, 0).is_some()
+                };
+                return if FIRST_NUMBERS.iter().any(is_versioned) {
+                    WriteError::NeedsVersion
+                } else {
+                    WriteError::OnlyReadNames
+                };
             }
-        } else if self.rows().any(|row| is_written(row) && begins(row, bare)) {
-            WriteError::NoAbi
-        } else if self.rows().any(|row| is_written(row) && has_system(row)) {
-            WriteError::NoMachine
-        } else {
-            WriteError::NoSystem
         }
+        why
     }
 
     /// Whether names of the triple state a version.
+    #[inline]
     fn states_version(self, triple: &TripleRef<'_>) -> bool {
-        [1, 2, 11, 10240]
+        FIRST_NUMBERS
             .iter()
             .any(|major| self.write_versioned(triple, *major, 0).is_some())
     }
 
-    fn rows(self) -> impl Iterator<Item = &'static Row> {
-        self.tables().into_iter().flatten()
+    /// Whether the triple has a name.
+    #[inline(never)]
+    fn has_name(self, triple: TripleRef<'_>) -> bool {
+        self.write(triple).is_some()
     }
 }
+
+/// First numbers of versions, of which each system and C library has one.
+const FIRST_NUMBERS: [u16; 4] = [1, 2, 11, 10240];
 
 /// The most bytes of a triple's text with a known vendor, and more.
 const MAX_LENGTH: usize = 64;
 
 /// The text of a triple with a known vendor.
-fn text_in<'a>(buffer: &'a mut [u8; MAX_LENGTH], triple: &TripleRef<'_>) -> &'a str {
+#[inline]
+fn text_in<'a>(buffer: &'a mut [u8; MAX_LENGTH], triple: &TripleRef<'_>) -> &'a [u8] {
     let length = triple.write_to(buffer).min(MAX_LENGTH);
-    core::str::from_utf8(&buffer[..length]).unwrap_or("")
+    &buffer[..length]
 }
 
+/// The system of a triple's text, and what follows it, or the text if it is only a machine.
+#[inline]
+fn after_machine(text: &[u8]) -> &[u8] {
+    let at = text.iter().position(|it| *it == b'-').unwrap_or(0);
+    &text[at..]
+}
+
+/// Whether a triple's text has this system after its machine. Of most texts the last byte says that it hasn't.
+#[inline]
+fn has_system(text: &[u8], system: &[u8]) -> bool {
+    let own = after_machine(text).get(..system.len());
+    own.map_or(false, |own| own.last() == system.last() && own == system)
+}
+
+/// Whether a triple's text begins with whole parts of another.
+#[inline]
+fn begins(text: &[u8], parts: &[u8]) -> bool {
+    matches!(text.get(parts.len()), None | Some(b'-')) && text.starts_with(parts)
+}
+
+#[inline]
 fn is_written(row: &Row) -> bool {
     matches!(row.2, Way::Both | Way::Written)
 }

@@ -1,20 +1,25 @@
--- One more table, which has a row for the triple or hasn't.
-use Rattle.std.proofs.Common.{◌<◌, ◌∙◌, ap, arith, length, sym}
+use Rattle.std.proofs.Common.{◌∙◌, ap, arith, sym}
 use Rattle.std.specs.Prelude.{option_map}
-use Rattle.tool_names.specs.{Tables.Row, Wanted.is_wanted}
-use Rattle.tool_names.proofs.TableLemmas.{first_more, no_pattern, pattern_of_first}
+use Rattle.tool_names.specs.{Tables.Row, Tables.first_row, Wanted.is_wanted}
+use Rattle.tool_names.proofs.TableLemmas.{first_here, first_later, table_begun, table_ended}
 use Rattle.tool_names.proofs.names.pattern_for.Goals as goal
 
-pub returns-in-Some : goal.returns-in-Some
-returns-in-Some c =
-    let more : c.loop-rows.rows-index < length c.args.tables.now = omega (arith, c.loop-rows-test.true) in
-    pattern_of_first _ _ c.in-Some.pattern.now c.in-Some.ensures
-    ∙ sym (ap (option_map (λ (row : Row). row.pattern)) (first_more (is_wanted c.args.wanted c.args.text.now) c.args.tables.now c.loop-rows.rows-index more))
-    ∙ ap (option_map (λ (row : Row). row.pattern)) c.loop-rows.invariant
+pub loop-row-init : goal.loop-row-init
+loop-row-init c =
+    sym (ap (first_row (is_wanted c.args.wanted c.args.text.now)) (table_begun c.args.tables.now c.loop-rows.rows-index (omega (arith, c.loop-rows-test.true))))
+    ∙ c.loop-rows.invariant
+
+pub returns-then-is_wanted : goal.returns-then-is_wanted
+returns-then-is_wanted c =
+    let here = first_here c.args.tables.now c.loop-rows.rows-index c.loop-row.row-index (omega (arith, c.loop-row-test.true)) (is_wanted c.args.wanted c.args.text.now) (sym c.is_wanted.ensures ∙ c.if-is_wanted.true) in
+    ap (option_map (λ (row : Row). row.pattern)) (here ∙ c.loop-row.invariant)
+
+pub loop-row-preserved : goal.loop-row-preserved
+loop-row-preserved c =
+    first_later c.args.tables.now c.loop-rows.rows-index c.loop-row.row-index (omega (arith, c.loop-row-test.true)) (is_wanted c.args.wanted c.args.text.now) (sym c.is_wanted.ensures ∙ c.if-is_wanted.false)
+    ∙ c.loop-row.invariant
 
 pub loop-rows-preserved : goal.loop-rows-preserved
 loop-rows-preserved c =
-    let more : c.loop-rows.rows-index < length c.args.tables.now = omega (arith, c.loop-rows-test.true) in
-    no_pattern _ _ c.in_default.ensures
-    ∙ sym (first_more (is_wanted c.args.wanted c.args.text.now) c.args.tables.now c.loop-rows.rows-index more)
-    ∙ c.loop-rows.invariant
+    sym (ap (first_row (is_wanted c.args.wanted c.args.text.now)) (table_ended c.args.tables.now c.loop-rows.rows-index c.loop-row.row-index (omega (arith, c.loop-row-test.false))))
+    ∙ c.loop-row.invariant

@@ -1,18 +1,29 @@
--- One more table, which has a row for the name or hasn't.
-use Rattle.std.proofs.Common.{◌<◌, ◌∙◌, ap, arith, length, sym, drop, ◌+◌}
-use Rattle.std.specs.Option.{option_or}
-use Rattle.tool_names.specs.Tables.{row_named, rows_in}
-use Rattle.tool_names.proofs.TableLemmas.{named_more}
+use Rattle.std.proofs.Common.{◌∙◌, ap, arith, sym}
+use Rattle.tool_names.specs.Patterns.{matched}
+use Rattle.tool_names.specs.Tables.{row_named}
+use Rattle.tool_names.proofs.TableLemmas.{named_here, named_later, row_at, table_begun, table_ended}
 use Rattle.tool_names.proofs.names.row_named.Goals as goal
+
+pub loop-row-init : goal.loop-row-init
+loop-row-init c =
+    sym (ap (λ rows. row_named c.args.tags rows c.args.name.now) (table_begun c.args.tables.now c.loop-rows.rows-index (omega (arith, c.loop-rows-test.true))))
+    ∙ c.loop-rows.invariant
 
 pub returns-in-Some : goal.returns-in-Some
 returns-in-Some c =
-    let more : c.loop-rows.rows-index < length c.args.tables.now = omega (arith, c.loop-rows-test.true) in
-    sym (named_more c.args.tags c.args.tables.now c.loop-rows.rows-index c.args.name.now more
-    ∙ ap (λ o. option_or o (row_named c.args.tags (rows_in (drop (c.loop-rows.rows-index + 1) c.args.tables.now)) c.args.name.now)) (sym c.in-Some.ensures)) ∙ c.loop-rows.invariant
+    let has = c.in-Some.ensures
+    ∙ ap (λ p. matched c.args.tags p c.as_bytes-name.result.now) c.as_bytes.ensures.value
+    ∙ ap (matched c.args.tags (row_at c.args.tables.now c.loop-rows.rows-index c.loop-row.row-index).pattern) c.as_bytes-name.ensures.value in
+    named_here c.args.tables.now c.loop-rows.rows-index c.loop-row.row-index (omega (arith, c.loop-row-test.true)) c.args.tags c.args.name.now _ has ∙ c.loop-row.invariant
+
+pub loop-row-preserved : goal.loop-row-preserved
+loop-row-preserved c =
+    let none = c.in_default.ensures
+    ∙ ap (λ p. matched c.args.tags p c.as_bytes-name.result.now) c.as_bytes.ensures.value
+    ∙ ap (matched c.args.tags (row_at c.args.tables.now c.loop-rows.rows-index c.loop-row.row-index).pattern) c.as_bytes-name.ensures.value in
+    named_later c.args.tables.now c.loop-rows.rows-index c.loop-row.row-index (omega (arith, c.loop-row-test.true)) c.args.tags c.args.name.now none ∙ c.loop-row.invariant
 
 pub loop-rows-preserved : goal.loop-rows-preserved
 loop-rows-preserved c =
-    let more : c.loop-rows.rows-index < length c.args.tables.now = omega (arith, c.loop-rows-test.true) in
-    sym (named_more c.args.tags c.args.tables.now c.loop-rows.rows-index c.args.name.now more
-    ∙ ap (λ o. option_or o (row_named c.args.tags (rows_in (drop (c.loop-rows.rows-index + 1) c.args.tables.now)) c.args.name.now)) (sym c.in_default.ensures)) ∙ c.loop-rows.invariant
+    sym (ap (λ rows. row_named c.args.tags rows c.args.name.now) (table_ended c.args.tables.now c.loop-rows.rows-index c.loop-row.row-index (omega (arith, c.loop-row-test.false))))
+    ∙ c.loop-row.invariant

@@ -4,6 +4,7 @@
 use crate::proved::architecture::Architecture;
 use crate::proved::endianness::Endianness;
 use crate::proved::pointer_width::PointerWidth;
+#[cfg(feature = "alloc")]
 use alloc::borrow::Cow;
 use core::fmt;
 use core::str::FromStr;
@@ -91,6 +92,7 @@ impl Aarch64Architecture {
     /// assert_eq!(target_lexicon::Aarch64Architecture::Aarch64be.into_str(), "aarch64_be");
     /// ```
     #[must_use]
+    #[cfg(feature = "alloc")]
     #[inline]
     pub fn into_str(self) -> Cow<'static, str> {
         Cow::Borrowed(self.name())

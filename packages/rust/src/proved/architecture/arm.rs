@@ -4,6 +4,7 @@
 use crate::proved::architecture::Architecture;
 use crate::proved::endianness::Endianness;
 use crate::proved::pointer_width::PointerWidth;
+#[cfg(feature = "alloc")]
 use alloc::borrow::Cow;
 use core::fmt;
 use core::str::FromStr;
@@ -226,6 +227,7 @@ impl ArmArchitecture {
     /// assert_eq!(target_lexicon::ArmArchitecture::Thumbv7em.into_str(), "thumbv7em");
     /// ```
     #[must_use]
+    #[cfg(feature = "alloc")]
     #[inline]
     pub fn into_str(self) -> Cow<'static, str> {
         Cow::Borrowed(self.name())

@@ -2,6 +2,7 @@
 //! The Clever architectures.
 
 use crate::proved::architecture::Architecture;
+#[cfg(feature = "alloc")]
 use alloc::borrow::Cow;
 use core::fmt;
 use core::str::FromStr;
@@ -43,6 +44,7 @@ impl CleverArchitecture {
     /// assert_eq!(target_lexicon::CleverArchitecture::Clever1_0.into_str(), "clever1.0");
     /// ```
     #[must_use]
+    #[cfg(feature = "alloc")]
     #[inline]
     pub fn into_str(self) -> Cow<'static, str> {
         Cow::Borrowed(self.name())

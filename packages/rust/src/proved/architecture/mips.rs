@@ -2,6 +2,7 @@
 //! The MIPS architectures.
 
 use crate::proved::architecture::Architecture;
+#[cfg(feature = "alloc")]
 use alloc::borrow::Cow;
 use core::fmt;
 use core::str::FromStr;
@@ -47,6 +48,7 @@ impl Mips32Architecture {
     /// assert_eq!(target_lexicon::Mips32Architecture::Mipsel.into_str(), "mipsel");
     /// ```
     #[must_use]
+    #[cfg(feature = "alloc")]
     #[inline]
     pub fn into_str(self) -> Cow<'static, str> {
         Cow::Borrowed(self.name())
@@ -120,6 +122,7 @@ impl Mips64Architecture {
     /// assert_eq!(target_lexicon::Mips64Architecture::Mips64el.into_str(), "mips64el");
     /// ```
     #[must_use]
+    #[cfg(feature = "alloc")]
     #[inline]
     pub fn into_str(self) -> Cow<'static, str> {
         Cow::Borrowed(self.name())

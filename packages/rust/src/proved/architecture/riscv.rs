@@ -2,6 +2,7 @@
 //! The RISC-V architectures.
 
 use crate::proved::architecture::Architecture;
+#[cfg(feature = "alloc")]
 use alloc::borrow::Cow;
 use core::fmt;
 use core::str::FromStr;
@@ -55,6 +56,7 @@ impl Riscv32Architecture {
     /// assert_eq!(target_lexicon::Riscv32Architecture::Riscv32imac.into_str(), "riscv32imac");
     /// ```
     #[must_use]
+    #[cfg(feature = "alloc")]
     #[inline]
     pub fn into_str(self) -> Cow<'static, str> {
         Cow::Borrowed(self.name())
@@ -132,6 +134,7 @@ impl Riscv64Architecture {
     /// assert_eq!(target_lexicon::Riscv64Architecture::Riscv64gc.into_str(), "riscv64gc");
     /// ```
     #[must_use]
+    #[cfg(feature = "alloc")]
     #[inline]
     pub fn into_str(self) -> Cow<'static, str> {
         Cow::Borrowed(self.name())

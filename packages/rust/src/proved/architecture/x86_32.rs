@@ -2,6 +2,7 @@
 //! The 32-bit x86 architectures.
 
 use crate::proved::architecture::Architecture;
+#[cfg(feature = "alloc")]
 use alloc::borrow::Cow;
 use core::fmt;
 use core::str::FromStr;
@@ -45,6 +46,7 @@ impl X86_32Architecture {
     /// assert_eq!(target_lexicon::X86_32Architecture::I686.into_str(), "i686");
     /// ```
     #[must_use]
+    #[cfg(feature = "alloc")]
     #[inline]
     pub fn into_str(self) -> Cow<'static, str> {
         Cow::Borrowed(self.name())

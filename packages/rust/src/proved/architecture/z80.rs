@@ -2,6 +2,7 @@
 //! The architectures of the Z80 family.
 
 use crate::proved::architecture::Architecture;
+#[cfg(feature = "alloc")]
 use alloc::borrow::Cow;
 use core::fmt;
 use core::str::FromStr;
@@ -59,6 +60,7 @@ impl Z80Architecture {
     /// assert_eq!(target_lexicon::Z80Architecture::Z180.into_str(), "z180");
     /// ```
     #[must_use]
+    #[cfg(feature = "alloc")]
     #[inline]
     pub fn into_str(self) -> Cow<'static, str> {
         Cow::Borrowed(self.name())

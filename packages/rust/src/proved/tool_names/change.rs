@@ -41,6 +41,7 @@ impl<'a> Change<'a> {
     /// assert_eq!(changes("x86_64-w64-mingw32").last().unwrap().dropped_version(), None);
     /// ```
     #[must_use]
+    #[inline]
     pub fn dropped_version(&self) -> Option<TextPart<'a>> {
         match dropped_version(self.part.text) {
             Some(version) => Some(TextPart {
@@ -53,6 +54,7 @@ impl<'a> Change<'a> {
 }
 
 /// The version that a part loses by itself.
+#[inline]
 fn dropped_version(part: &str) -> Option<&str> {
     match fit_alone(Place::AfterFirst, part) {
         Some(fit) => match fit.rule.2 {
@@ -100,6 +102,7 @@ pub struct ChangedParts<'a> {
 /// assert!(shown("x86_64-unknown-freebsd").is_empty());
 /// ```
 #[must_use]
+#[inline]
 pub fn changes(text: &str) -> ChangedParts<'_> {
     ChangedParts {
         text,
@@ -110,6 +113,7 @@ pub fn changes(text: &str) -> ChangedParts<'_> {
 impl<'a> Iterator for ChangedParts<'a> {
     type Item = Change<'a>;
 
+    #[inline]
     fn next(&mut self) -> Option<Change<'a>> {
         while let Some(it) = self.parts.next_part() {
             let part = first_at_end(self.text, it.from);

@@ -11,7 +11,7 @@ pub(crate) struct MacOsVersion<'a> {
 }
 
 /// The version of a part that is this prefix with a version.
-#[inline]
+#[cfg_attr(not(feature = "tool_names"), inline)]
 pub(crate) fn macos_version<'a>(prefix: &str, part: &'a str) -> Option<MacOsVersion<'a>> {
     match part.strip_prefix(prefix) {
         Some(text) => match DeploymentTarget::from_text(text) {
@@ -23,7 +23,7 @@ pub(crate) fn macos_version<'a>(prefix: &str, part: &'a str) -> Option<MacOsVers
 }
 
 /// Takes macOS with a version, which a part spells, as [`Reading::take`] takes its name, which is in no string.
-#[inline]
+#[cfg_attr(not(feature = "tool_names"), inline)]
 pub(crate) fn take_macos<'a>(
     reading: &mut Reading<'a>,
     version: MacOsVersion<'_>,

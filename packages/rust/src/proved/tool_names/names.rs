@@ -90,7 +90,8 @@ impl Dialect {
     /// assert_eq!(Dialect::Node.write(&triple).unwrap().to_string(), "darwin-arm64");
     /// ```
     #[must_use]
-    pub fn write(self, triple: &TripleRef<'_>) -> Option<Name> {
+    pub fn write<'t>(self, triple: impl Into<TripleRef<'t>>) -> Option<Name> {
+        let triple: &TripleRef<'_> = &triple.into();
         if is_another_target(triple.vendor) {
             return None;
         }
@@ -123,19 +124,12 @@ impl Dialect {
 
 /// The first row that has a name, or its tag, and the numbers of the name.
 fn row_named(tables: &[&'static [Row]], name: &str, tags: bool) -> Option<(Row, Numbers)> {
+    let name = name.as_bytes();
     for rows in tables {
-        if let Some(found) = row_in(rows, name, tags) {
-            return Some(found);
-        }
-    }
-    None
-}
-
-/// That row of one table.
-fn row_in(rows: &[Row], name: &str, tags: bool) -> Option<(Row, Numbers)> {
-    for row in rows {
-        if let Some(numbers) = matched(row.0.as_bytes(), name.as_bytes(), tags) {
-            return Some((*row, numbers));
+        for row in *rows {
+            if let Some(numbers) = matched(row.0.as_bytes(), name, tags) {
+                return Some((*row, numbers));
+            }
         }
     }
     None
@@ -144,18 +138,10 @@ fn row_in(rows: &[Row], name: &str, tags: bool) -> Option<(Row, Numbers)> {
 /// The pattern of the first row that is wanted for a triple's string.
 fn pattern_for(tables: &[&'static [Row]], wanted: Wanted, text: &[u8]) -> Option<&'static str> {
     for rows in tables {
-        if let Some(pattern) = pattern_in(rows, wanted, text) {
-            return Some(pattern);
-        }
-    }
-    None
-}
-
-/// That pattern in one table.
-fn pattern_in(rows: &[Row], wanted: Wanted, text: &[u8]) -> Option<&'static str> {
-    for row in rows {
-        if is_wanted(wanted, text, *row) {
-            return Some(row.0);
+        for row in *rows {
+            if is_wanted(wanted, text, *row) {
+                return Some(row.0);
+            }
         }
     }
     None
@@ -163,14 +149,13 @@ fn pattern_in(rows: &[Row], wanted: Wanted, text: &[u8]) -> Option<&'static str>
 
 /// Whether a row is wanted for a triple's string.
 fn is_wanted(wanted: Wanted, text: &[u8], row: Row) -> bool {
-    match wanted {
-        Wanted::Written(numbers) => {
-            is_written(row.2) && text == row.1.as_bytes() && star_count(row.0.as_bytes()) == numbers
+    text == row.1.as_bytes()
+        && match wanted {
+            Wanted::Written(numbers) => {
+                is_written(row.2) && star_count(row.0.as_bytes()) == numbers
+            }
+            Wanted::Versioned(major, minor) => is_read(row.2) && has_version(major, minor, row.0),
         }
-        Wanted::Versioned(major, minor) => {
-            is_read(row.2) && text == row.1.as_bytes() && has_version(major, minor, row.0)
-        }
-    }
 }
 
 fn is_written(way: Way) -> bool {

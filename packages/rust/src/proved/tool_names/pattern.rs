@@ -12,7 +12,33 @@ pub(crate) enum Numbers {
 }
 
 /// The numbers that a name, or its tag, has where a pattern has stars. `None` if it doesn't have the pattern.
+#[inline(always)]
 pub(crate) fn matched(pattern: &[u8], name: &[u8], tags: bool) -> Option<Numbers> {
+    if may_match(pattern, name, tags) {
+        matched_bytes(pattern, name, tags)
+    } else {
+        None
+    }
+}
+
+/// Whether a name may have a pattern: their lengths differ by the digits of two numbers at most, and they end alike.
+#[inline(always)]
+fn may_match(pattern: &[u8], name: &[u8], tags: bool) -> bool {
+    pattern.len() <= name.len()
+        && name.len() - pattern.len() <= 8
+        && end_alike(pattern.last().copied(), name.last().copied(), tags)
+}
+
+/// Whether the last byte of a name may be that of a pattern.
+fn end_alike(last: Option<u8>, byte: Option<u8>, tags: bool) -> bool {
+    match (last, byte) {
+        (Some(last), Some(byte)) => last == b'*' || last == key_byte(byte, tags),
+        _ => true,
+    }
+}
+
+/// The numbers of a name, byte by byte.
+fn matched_bytes(pattern: &[u8], name: &[u8], tags: bool) -> Option<Numbers> {
     let mut numbers = Numbers::NoNumber;
     let mut rest = name;
     for byte in pattern {

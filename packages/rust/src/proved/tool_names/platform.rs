@@ -38,35 +38,43 @@ impl<'a> Platform<'a> {
         }
     }
 
+    /// Whether the name of a row, which has no number, has these words.
+    fn is_of(self, row: Row) -> bool {
+        let pattern = row.0.as_bytes();
+        if self.may_be_of(pattern) {
+            star_count(pattern) == 0 && Platform::of(pattern).is(self)
+        } else {
+            false
+        }
+    }
+
+    /// Whether a row's name may have these words: the first ends where it should, and the others are as long.
+    fn may_be_of(self, pattern: &[u8]) -> bool {
+        match pattern.get(self.system.len()..) {
+            Some([slash, rest @ ..]) => {
+                *slash == b'/' && rest.len() == self.machine.len() + self.variant.len()
+            }
+            Some([]) => true,
+            None => false,
+        }
+    }
+
     /// Whether the words are the same, in any case.
     fn is(self, other: Platform<'_>) -> bool {
-        is_word(self.system, other.system)
-            && is_word(self.machine, other.machine)
+        is_word(self.machine, other.machine)
+            && is_word(self.system, other.system)
             && is_word(self.variant, other.variant)
     }
 }
 
 /// The first row without a number whose name has the words of a platform's normal form.
 pub(crate) fn row_of_platform(tables: &[&'static [Row]], name: &str) -> Option<Row> {
-    row_in_tables(tables, Platform::of(name.as_bytes()).normal())
-}
-
-/// The first such row of several tables.
-fn row_in_tables(tables: &[&'static [Row]], platform: Platform<'_>) -> Option<Row> {
+    let platform = Platform::of(name.as_bytes()).normal();
     for rows in tables {
-        if let Some(row) = row_with_words(rows, platform) {
-            return Some(row);
-        }
-    }
-    None
-}
-
-/// That row of one table.
-fn row_with_words(rows: &[Row], platform: Platform<'_>) -> Option<Row> {
-    for row in rows {
-        let pattern = row.0.as_bytes();
-        if star_count(pattern) == 0 && Platform::of(pattern).is(platform) {
-            return Some(*row);
+        for row in *rows {
+            if platform.is_of(*row) {
+                return Some(*row);
+            }
         }
     }
     None

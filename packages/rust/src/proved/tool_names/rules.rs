@@ -35,19 +35,19 @@ pub(crate) enum Form {
 pub(crate) type Rule = (Place, &'static str, Form, &'static str);
 
 /// The rules that look at more than the part.
-#[inline]
+#[cfg_attr(not(feature = "tool_names"), inline)]
 pub(crate) fn wide_rules() -> &'static [Rule] {
     &WIDE_RULES
 }
 
 /// The rules for the first part alone.
-#[inline]
+#[cfg_attr(not(feature = "tool_names"), inline)]
 pub(crate) fn first_rules() -> &'static [Rule] {
     &FIRST_RULES
 }
 
 /// The rules for a later part alone.
-#[inline]
+#[cfg_attr(not(feature = "tool_names"), inline)]
 pub(crate) fn later_rules() -> &'static [Rule] {
     &LATER_RULES
 }

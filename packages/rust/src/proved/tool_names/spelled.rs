@@ -4,7 +4,7 @@
 use crate::proved::tool_names::macos::{macos_version, MacOsVersion};
 use crate::proved::tool_names::rules::{first_rules, later_rules, wide_rules, Form, Place, Rule};
 use crate::proved::tool_names::spelling::{
-    has_dropped_version, is_other_system, Spelling, TripleName,
+    begin_alike, has_dropped_version, is_other_system, Spelling, TripleName,
 };
 use crate::proved::{first_part, fixed_row, Architecture, BinaryFormat, OperatingSystem};
 
@@ -35,7 +35,7 @@ pub(crate) struct Fit<'a> {
 }
 
 impl<'a> RuleNames<'a> {
-    #[inline]
+    #[cfg_attr(not(feature = "tool_names"), inline)]
     fn spelling(self) -> Spelling<'a> {
         match self {
             RuleNames::Known(names) => Spelling::of_rule(names),
@@ -49,7 +49,7 @@ impl<'a> RuleNames<'a> {
 
 impl Standing {
     /// A part of which nothing else is said.
-    #[inline]
+    #[cfg_attr(not(feature = "tool_names"), inline)]
     pub(crate) fn at(place: Place) -> Standing {
         Standing {
             place,
@@ -59,7 +59,7 @@ impl Standing {
     }
 
     /// Whether a rule for this place is one for the part.
-    #[inline]
+    #[cfg_attr(not(feature = "tool_names"), inline)]
     fn may_be_at(&self, place: Place) -> bool {
         match place {
             Place::First => is_first(self.place),
@@ -70,13 +70,13 @@ impl Standing {
     }
 
     /// Whether a rule may fit a part: it is one for this place, and its text begins as the part does.
-    #[inline]
+    #[cfg_attr(not(feature = "tool_names"), inline)]
     fn may_fit(&self, rule: Rule, part: &str) -> bool {
         begin_alike(rule.1, part) && self.may_be_at(rule.0)
     }
 
     /// The first rule that fits a part, with this after its dash, unless the part before has named it.
-    #[inline]
+    #[cfg_attr(not(feature = "tool_names"), inline)]
     pub(crate) fn fit<'a>(&self, part: &'a str, rest: Option<&str>) -> Option<Fit<'a>> {
         if self.name.is_some() {
             None
@@ -95,7 +95,7 @@ impl Standing {
     }
 
     /// The first of the rules for a later part alone that fits.
-    #[inline]
+    #[cfg_attr(not(feature = "tool_names"), inline)]
     fn later_fit<'a>(&self, part: &'a str, rest: Option<&str>) -> Option<Fit<'a>> {
         if is_known_name(part) {
             None
@@ -118,7 +118,7 @@ impl Standing {
     }
 
     /// The names of a part without a rule.
-    #[inline]
+    #[cfg_attr(not(feature = "tool_names"), inline)]
     fn plain_names<'a>(&self, part: &'a str) -> Spelling<'a> {
         match self.name {
             Some(name) => Spelling::of(name),
@@ -133,7 +133,7 @@ impl Standing {
     }
 
     /// What is said of the next part, if no rule fits.
-    #[inline]
+    #[cfg_attr(not(feature = "tool_names"), inline)]
     fn next(&self) -> Standing {
         Standing {
             place: match self.place {
@@ -146,7 +146,7 @@ impl Standing {
     }
 
     /// What is said of the next part by a rule.
-    #[inline]
+    #[cfg_attr(not(feature = "tool_names"), inline)]
     fn next_by(&self, rule: Rule) -> Standing {
         let next = self.next();
         Standing {
@@ -157,50 +157,41 @@ impl Standing {
     }
 }
 
-/// Whether two strings begin with the same byte, if each has one.
-#[inline]
-fn begin_alike(text: &str, part: &str) -> bool {
-    match (text.as_bytes(), part.as_bytes()) {
-        ([first, ..], [other, ..]) => first == other,
-        _ => true,
-    }
-}
-
-#[inline]
+#[cfg_attr(not(feature = "tool_names"), inline)]
 fn is_architecture(part: &str) -> bool {
     Architecture::from_str(part).is_ok()
 }
 
 /// Whether a part is a name of some field, other than a custom vendor.
-#[inline]
+#[cfg_attr(not(feature = "tool_names"), inline)]
 fn is_known_name(part: &str) -> bool {
     fixed_row(part).is_some() || OperatingSystem::from_str(part).is_ok()
 }
 
-#[inline]
+#[cfg_attr(not(feature = "tool_names"), inline)]
 fn is_first(place: Place) -> bool {
     matches!(place, Place::First)
 }
 
-#[inline]
+#[cfg_attr(not(feature = "tool_names"), inline)]
 fn is_second(place: Place) -> bool {
     matches!(place, Place::Second)
 }
 
 /// The first rule that fits a part by itself.
-#[inline]
+#[cfg_attr(not(feature = "tool_names"), inline)]
 pub(crate) fn fit_alone(place: Place, part: &str) -> Option<Fit<'_>> {
     Standing::at(place).fit(part, None)
 }
 
 /// Whether a rule of this form says that floating-point arguments are in floating-point registers.
-#[inline]
+#[cfg_attr(not(feature = "tool_names"), inline)]
 pub(crate) fn states_hard_floats(form: Form) -> bool {
     matches!(form, Form::HardFloats)
 }
 
 /// The name that a rule gives the next part.
-#[inline]
+#[cfg_attr(not(feature = "tool_names"), inline)]
 fn name_of_next(rule: Rule) -> Option<&'static str> {
     match rule.2 {
         Form::Pair | Form::PairWithin => second_name(rule.3),
@@ -209,7 +200,7 @@ fn name_of_next(rule: Rule) -> Option<&'static str> {
 }
 
 /// The second of some names.
-#[inline]
+#[cfg_attr(not(feature = "tool_names"), inline)]
 fn second_name(names: &str) -> Option<&str> {
     match first_part(names).1 {
         Some(others) => Some(first_part(others).0),
@@ -218,7 +209,7 @@ fn second_name(names: &str) -> Option<&str> {
 }
 
 /// The names that a rule gives a part, with this after its dash, if it has the form of the rule.
-#[inline]
+#[cfg_attr(not(feature = "tool_names"), inline)]
 fn names_by<'a>(rule: Rule, part: &'a str, rest: Option<&str>) -> Option<RuleNames<'a>> {
     match rule.2 {
         Form::Whole | Form::HardFloats => {
@@ -257,7 +248,7 @@ fn names_by<'a>(rule: Rule, part: &'a str, rest: Option<&str>) -> Option<RuleNam
 }
 
 /// Whether a text is a part and the first after its dash.
-#[inline]
+#[cfg_attr(not(feature = "tool_names"), inline)]
 fn are_pair(text: &str, part: &str, rest: Option<&str>) -> bool {
     let (first, second) = first_part(text);
     match (second, rest) {
@@ -267,7 +258,7 @@ fn are_pair(text: &str, part: &str, rest: Option<&str>) -> bool {
 }
 
 /// Whether a pair goes on with a part that is no binary format, with this after the first dash.
-#[inline]
+#[cfg_attr(not(feature = "tool_names"), inline)]
 fn goes_on(rest: Option<&str>) -> bool {
     match rest {
         Some(rest) => match first_part(rest).1 {
@@ -295,7 +286,7 @@ pub(crate) struct SpelledParts<'a> {
 
 impl<'a> SpelledParts<'a> {
     /// All parts of a string.
-    #[inline]
+    #[cfg_attr(not(feature = "tool_names"), inline)]
     pub(crate) fn of(text: &'a str) -> SpelledParts<'a> {
         SpelledParts {
             rest: Some(text),
@@ -304,7 +295,7 @@ impl<'a> SpelledParts<'a> {
     }
 
     /// The next part.
-    #[inline]
+    #[cfg_attr(not(feature = "tool_names"), inline)]
     pub(crate) fn next_part(&mut self) -> Option<SpelledPart<'a>> {
         let text = self.rest?;
         let (part, rest) = first_part(text);

@@ -7,7 +7,7 @@ use crate::proved::{first_part, Field, Reading, Refusal, TextPart, VendorRef};
 use core::fmt;
 
 /// The first part of the end of a string, and where it begins in the string.
-#[inline]
+#[cfg_attr(not(feature = "tool_names"), inline)]
 pub(crate) fn first_at_end<'a>(text: &str, end: &'a str) -> TextPart<'a> {
     let part = first_part(end).0;
     TextPart {
@@ -17,7 +17,7 @@ pub(crate) fn first_at_end<'a>(text: &str, end: &'a str) -> TextPart<'a> {
 }
 
 /// The value of the first row with this name.
-#[inline]
+#[cfg_attr(not(feature = "tool_names"), inline)]
 pub(crate) fn look_up<T: Copy>(rows: &[(&'static str, T)], text: &str) -> Option<T> {
     for row in rows {
         if text == row.0 {
@@ -57,7 +57,7 @@ pub struct Spelling<'a> {
 
 impl<'a> TripleName<'a> {
     /// Gives the name, which this part spells, to a reading.
-    #[inline]
+    #[cfg_attr(not(feature = "tool_names"), inline)]
     pub(crate) fn give(
         &self,
         reading: &mut Reading<'a>,
@@ -70,7 +70,7 @@ impl<'a> TripleName<'a> {
     }
 
     /// Whether the name is this part.
-    #[inline]
+    #[cfg_attr(not(feature = "tool_names"), inline)]
     fn is(&self, part: &str) -> bool {
         match *self {
             TripleName::Text(name) => name == part,
@@ -83,7 +83,7 @@ impl<'a> TripleName<'a> {
 }
 
 impl fmt::Display for TripleName<'_> {
-    #[inline]
+    #[cfg_attr(not(feature = "tool_names"), inline)]
     fn fmt(&self, f: &mut fmt::Formatter<'_>) -> fmt::Result {
         match *self {
             TripleName::Text(name) => f.write_str(name),
@@ -96,7 +96,7 @@ impl fmt::Display for TripleName<'_> {
 }
 
 impl fmt::Display for Spelling<'_> {
-    #[inline]
+    #[cfg_attr(not(feature = "tool_names"), inline)]
     fn fmt(&self, f: &mut fmt::Formatter<'_>) -> fmt::Result {
         self.first.fmt(f)?;
         match self.others {
@@ -111,7 +111,7 @@ impl fmt::Display for Spelling<'_> {
 
 impl<'a> Spelling<'a> {
     /// The spelling of one name.
-    #[inline]
+    #[cfg_attr(not(feature = "tool_names"), inline)]
     pub(crate) fn of(name: &'a str) -> Spelling<'a> {
         Spelling {
             first: TripleName::Text(name),
@@ -120,7 +120,7 @@ impl<'a> Spelling<'a> {
     }
 
     /// The spelling of the names of a rule.
-    #[inline]
+    #[cfg_attr(not(feature = "tool_names"), inline)]
     pub(crate) fn of_rule(names: &'static str) -> Spelling<'a> {
         let (first, others) = first_part(names);
         Spelling {
@@ -130,7 +130,7 @@ impl<'a> Spelling<'a> {
     }
 
     /// The spelling of a second part that is no vendor.
-    #[inline]
+    #[cfg_attr(not(feature = "tool_names"), inline)]
     pub(crate) fn of_unknown(part: &'a str) -> Spelling<'a> {
         Spelling {
             first: TripleName::Text("unknown"),
@@ -139,7 +139,7 @@ impl<'a> Spelling<'a> {
     }
 
     /// Whether a part spells only itself.
-    #[inline]
+    #[cfg_attr(not(feature = "tool_names"), inline)]
     pub(crate) fn is_only(&self, part: &str) -> bool {
         match self.others {
             Some(_) => false,
@@ -152,12 +152,12 @@ impl<'a> Spelling<'a> {
 const OTHER_SYSTEMS: [&str; 5] = ["macos", "netbsdelf", "nuttx", "rtems", "wasip"];
 
 /// Whether a part parses as a custom vendor but is a system that isn't known.
-#[inline]
+#[cfg_attr(not(feature = "tool_names"), inline)]
 pub(crate) fn is_other_system(part: &str) -> bool {
     is_custom_vendor(part) && is_like_system(part)
 }
 
-#[inline]
+#[cfg_attr(not(feature = "tool_names"), inline)]
 fn is_custom_vendor(part: &str) -> bool {
     match VendorRef::from_str(part) {
         Ok(vendor) => vendor.is_custom(),
@@ -166,28 +166,41 @@ fn is_custom_vendor(part: &str) -> bool {
 }
 
 /// Whether a part is the name of a system, perhaps with a version.
-#[inline]
+#[cfg_attr(not(feature = "tool_names"), inline)]
 pub(crate) fn is_like_system(part: &str) -> bool {
     is_one_of(part, names(Field::OperatingSystem)) || is_one_of(part, &OTHER_SYSTEMS)
 }
 
 /// Whether a part is one of these names, perhaps with a version.
-#[inline]
+#[cfg_attr(not(feature = "tool_names"), inline)]
 pub(crate) fn is_one_of(part: &str, names: &[&str]) -> bool {
     names.iter().any(|name| may_be_versioned(part, name))
 }
 
+/// Whether two strings begin with the same byte, if each has one.
+#[cfg_attr(not(feature = "tool_names"), inline)]
+pub(crate) fn begin_alike(text: &str, part: &str) -> bool {
+    match (text.as_bytes(), part.as_bytes()) {
+        ([first, ..], [other, ..]) => first == other,
+        _ => true,
+    }
+}
+
 /// Whether a part is this name, or the name with what may be its version.
-#[inline]
+#[cfg_attr(not(feature = "tool_names"), inline)]
 pub(crate) fn may_be_versioned(part: &str, name: &str) -> bool {
-    match part.strip_prefix(name) {
-        Some(version) => may_be_version(version.as_bytes()),
-        None => false,
+    if begin_alike(name, part) {
+        match part.strip_prefix(name) {
+            Some(version) => may_be_version(version.as_bytes()),
+            None => false,
+        }
+    } else {
+        false
     }
 }
 
 /// Whether what follows a name may be a version: it is empty, or begins with a digit or a dot.
-#[inline]
+#[cfg_attr(not(feature = "tool_names"), inline)]
 fn may_be_version(text: &[u8]) -> bool {
     match text {
         [byte, ..] => is_digit_or_dot(*byte),
@@ -196,7 +209,7 @@ fn may_be_version(text: &[u8]) -> bool {
 }
 
 /// Whether a part is this prefix and a version that is dropped.
-#[inline]
+#[cfg_attr(not(feature = "tool_names"), inline)]
 pub(crate) fn has_dropped_version(prefix: &str, part: &str) -> bool {
     match part.strip_prefix(prefix) {
         Some(version) => is_dropped_version(version.as_bytes()),
@@ -205,17 +218,17 @@ pub(crate) fn has_dropped_version(prefix: &str, part: &str) -> bool {
 }
 
 /// Whether a string is digits and dots, at least one.
-#[inline]
+#[cfg_attr(not(feature = "tool_names"), inline)]
 pub(crate) fn is_dropped_version(text: &[u8]) -> bool {
     !text.is_empty() && are_digits_or_dots(text)
 }
 
-#[inline]
+#[cfg_attr(not(feature = "tool_names"), inline)]
 fn are_digits_or_dots(bytes: &[u8]) -> bool {
     bytes.iter().all(|byte| is_digit_or_dot(*byte))
 }
 
-#[inline]
+#[cfg_attr(not(feature = "tool_names"), inline)]
 pub(crate) fn is_digit_or_dot(byte: u8) -> bool {
     byte.is_ascii_digit() || byte == b'.'
 }

@@ -27,7 +27,13 @@ impl Dialect {
     /// assert_eq!(name.as_str(), "manylinux_2_17_x86_64");
     /// ```
     #[must_use]
-    pub fn write_versioned(self, triple: &TripleRef<'_>, major: u16, minor: u8) -> Option<Name> {
+    pub fn write_versioned<'t>(
+        self,
+        triple: impl Into<TripleRef<'t>>,
+        major: u16,
+        minor: u8,
+    ) -> Option<Name> {
+        let triple: &TripleRef<'_> = &triple.into();
         if is_another_target(triple.vendor) {
             return None;
         }

@@ -1,5 +1,5 @@
 // @generated: erased from crates/tool_names/src/tables/apk.rt by tools/erase. Don't edit it here.
-//! Architectures of Alpine's packages, which has musl: `x86_64`, `armhf`. Written by tools/names/write.
+//! Architectures of Alpine's packages, which has musl: `x86_64`, `armhf`.
 
 use crate::proved::tool_names::tables::Way::{Both, NoTriple};
 use crate::proved::tool_names::tables::{Row, Way};

@@ -1,5 +1,5 @@
 // @generated: erased from crates/tool_names/src/tables/conda.rt by tools/erase. Don't edit it here.
-//! Subdirectories of conda's channels, whose packages for Linux have glibc: `linux-64`, `osx-arm64`. Written by tools/names/write.
+//! Subdirectories of conda's channels, whose packages for Linux have glibc: `linux-64`, `osx-arm64`.
 
 use crate::proved::tool_names::tables::Way::{Both, NoTriple};
 use crate::proved::tool_names::tables::{Row, Way};

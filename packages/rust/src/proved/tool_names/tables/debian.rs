@@ -1,5 +1,5 @@
 // @generated: erased from crates/tool_names/src/tables/debian.rt by tools/erase. Don't edit it here.
-//! Debian's architectures, as `dpkg` names them: `amd64`, `armhf`, `musl-linux-arm64`. Written by tools/names/write.
+//! Debian's architectures, as `dpkg` names them: `amd64`, `armhf`, `musl-linux-arm64`.
 
 use crate::proved::tool_names::tables::Way::{Both, NoTriple, Read};
 use crate::proved::tool_names::tables::{Row, Way};

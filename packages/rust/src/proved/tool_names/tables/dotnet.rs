@@ -1,5 +1,5 @@
 // @generated: erased from crates/tool_names/src/tables/dotnet.rt by tools/erase. Don't edit it here.
-//! Identifiers of .NET's runtimes, in its portable list: `linux-x64`, `win-arm64`. Written by tools/names/write.
+//! Identifiers of .NET's runtimes, in its portable list: `linux-x64`, `win-arm64`.
 
 use crate::proved::tool_names::tables::Way::{Both, NoTriple, Read};
 use crate::proved::tool_names::tables::{Row, Way};
@@ -57,8 +57,8 @@ static ROWS: [(&str, &str, Way); 50] = [
     ("osx-x64", "x86_64-apple-darwin", Both),
     ("osx.*.*-x64", "x86_64-apple-macosx", Read),
     ("maccatalyst-x64", "x86_64-apple-ios-macabi", Both),
-    ("iossimulator-x64", "x86_64-apple-ios-sim", Both),
-    ("tvossimulator-x64", "x86_64-apple-tvos-sim", Both),
+    ("iossimulator-x64", "x86_64-apple-ios", Both),
+    ("tvossimulator-x64", "x86_64-apple-tvos", Both),
     ("freebsd-x64", "x86_64-unknown-freebsd", Both),
 ];
 

@@ -1,5 +1,5 @@
 // @generated: erased from crates/tool_names/src/tables/gnu.rt by tools/erase. Don't edit it here.
-//! Prefixes of GNU's cross compilers, and strings that mean the same to config.sub: `x86_64-w64-mingw32`. Written by tools/names/write.
+//! Prefixes of GNU's cross compilers, and strings that mean the same to config.sub: `x86_64-w64-mingw32`.
 
 use crate::proved::tool_names::tables::Way::{Both, NoTriple, Read, Written};
 use crate::proved::tool_names::tables::{Row, Way};
@@ -67,7 +67,7 @@ pub(crate) fn rows_2() -> &'static [Row] {
 }
 
 #[rustfmt::skip]
-static ROWS_2: [(&str, &str, Way); 38] = [
+static ROWS_2: [(&str, &str, Way); 39] = [
     ("mipsisa64r6el-linux-musl", "mipsisa64r6el-unknown-linux-musl", Both),
     ("powerpc--netbsd", "powerpc-unknown-netbsd", Both),
     ("powerpc-linux-gnu", "powerpc-unknown-linux-gnu", Both),
@@ -106,4 +106,5 @@ static ROWS_2: [(&str, &str, Way); 38] = [
     ("x86_64-linux-android", "x86_64-linux-android", Both),
     ("riscv64-linux-android", "riscv64-linux-android", Both),
     ("mingw32", "i686-pc-windows-gnu", Read),
+    ("mingw64", "x86_64-pc-windows-gnu", Read),
 ];

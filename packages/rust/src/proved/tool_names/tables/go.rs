@@ -1,5 +1,5 @@
 // @generated: erased from crates/tool_names/src/tables/go.rt by tools/erase. Don't edit it here.
-//! Go's ports, as `go tool dist list` prints them: `linux/amd64`. Written by tools/names/write.
+//! Go's ports, as `go tool dist list` prints them: `linux/amd64`.
 
 use crate::proved::tool_names::tables::Way::{Both, NoTriple, Read};
 use crate::proved::tool_names::tables::{Row, Way};

@@ -1,5 +1,5 @@
 // @generated: erased from crates/tool_names/src/tables/nix.rt by tools/erase. Don't edit it here.
-//! Systems of Nix and nixpkgs: `x86_64-linux`, `aarch64-darwin`. Written by tools/names/write.
+//! Systems of Nix and nixpkgs: `x86_64-linux`, `aarch64-darwin`.
 
 use crate::proved::tool_names::tables::Way::{Both, NoTriple, Read};
 use crate::proved::tool_names::tables::{Row, Way};

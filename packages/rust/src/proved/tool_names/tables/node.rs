@@ -1,5 +1,5 @@
 // @generated: erased from crates/tool_names/src/tables/node.rt by tools/erase. Don't edit it here.
-//! `process.platform` and `process.arch` of Node, as npm's packages join them, some with a C library: `linux-x64`, `linux-x64-musl`. Written by tools/names/write.
+//! `process.platform` and `process.arch` of Node, as npm's packages join them, some with a C library: `linux-x64`, `linux-x64-musl`.
 
 use crate::proved::tool_names::tables::Way::{Both, NoTriple, Read, Written};
 use crate::proved::tool_names::tables::{Row, Way};
@@ -125,7 +125,7 @@ pub(crate) fn rows_3() -> &'static [Row] {
 }
 
 #[rustfmt::skip]
-static ROWS_3: [(&str, &str, Way); 25] = [
+static ROWS_3: [(&str, &str, Way); 28] = [
     ("linuxmusl-riscv64", "riscv64-unknown-linux-musl", Read),
     ("linuxmusl-s390x", "s390x-unknown-linux-musl", Read),
     ("linuxmusl-ppc64", "powerpc64le-unknown-linux-musl", Read),
@@ -146,9 +146,12 @@ static ROWS_3: [(&str, &str, Way); 25] = [
     ("bun-linux-arm64-musl", "aarch64-unknown-linux-musl", Read),
     ("bun-linux-x64-baseline", "x86_64-unknown-linux-gnu", Read),
     ("bun-linux-x64-modern", "a triple can't state a level of x86-64", NoTriple),
+    ("bun-linux-x64-musl-baseline", "x86_64-unknown-linux-musl", Read),
+    ("bun-linux-x64-musl-modern", "a triple can't state a level of x86-64", NoTriple),
     ("bun-darwin-x64", "x86_64-apple-darwin", Read),
     ("bun-darwin-arm64", "aarch64-apple-darwin", Read),
     ("bun-windows-x64", "x86_64-pc-windows", Read),
+    ("bun-windows-arm64", "aarch64-pc-windows", Read),
     ("bun-windows-x64-baseline", "x86_64-pc-windows", Read),
     ("bun-windows-x64-modern", "a triple can't state a level of x86-64", NoTriple),
 ];

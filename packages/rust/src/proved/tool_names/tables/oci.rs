@@ -1,5 +1,5 @@
 // @generated: erased from crates/tool_names/src/tables/oci.rt by tools/erase. Don't edit it here.
-//! Platforms of container images, as containerd writes them: `linux/arm/v7`. Written by tools/names/write.
+//! Platforms of container images, as containerd writes them: `linux/arm/v7`.
 
 use crate::proved::tool_names::tables::Way::{Both, NoTriple, Read};
 use crate::proved::tool_names::tables::{Row, Way};
@@ -67,7 +67,7 @@ pub(crate) fn rows_2() -> &'static [Row] {
 }
 
 #[rustfmt::skip]
-static ROWS_2: [(&str, &str, Way); 47] = [
+static ROWS_2: [(&str, &str, Way); 43] = [
     ("linux/riscv64/rva20u64", "a triple can't state a profile of RISC-V", NoTriple),
     ("linux/riscv64/rva22u64", "a triple can't state a profile of RISC-V", NoTriple),
     ("linux/riscv64/rva23u64", "a triple can't state a profile of RISC-V", NoTriple),
@@ -111,8 +111,4 @@ static ROWS_2: [(&str, &str, Way); 47] = [
     ("linux/arm32v6", "armv6-unknown-linux", Read),
     ("linux/arm32v7", "armv7-unknown-linux", Read),
     ("windows(10.0.*)/arm64", "aarch64-pc-windows", Read),
-    ("windows(10.0.14393.*)/amd64", "x86_64-pc-windows", Read),
-    ("windows(10.0.17763.*)/amd64", "x86_64-pc-windows", Read),
-    ("windows(10.0.20348.*)/amd64", "x86_64-pc-windows", Read),
-    ("windows(10.0.26100.*)/amd64", "x86_64-pc-windows", Read),
 ];

@@ -1,5 +1,5 @@
 // @generated: erased from crates/tool_names/src/tables/pacman.rt by tools/erase. Don't edit it here.
-//! Architectures of packages of Arch Linux and its ports, which have glibc: `x86_64`, `armv7h`. Written by tools/names/write.
+//! Architectures of packages of Arch Linux and its ports, which have glibc: `x86_64`, `armv7h`.
 
 use crate::proved::tool_names::tables::Way::{Both, NoTriple, Read};
 use crate::proved::tool_names::tables::{Row, Way};

@@ -1,5 +1,5 @@
 // @generated: erased from crates/tool_names/src/tables/python.rt by tools/erase. Don't edit it here.
-//! Platforms of Python, as tags of wheels such as `macosx_11_0_arm64`, and as `sysconfig.get_platform()` prints them. Written by tools/names/write.
+//! Platforms of Python, as tags of wheels such as `macosx_11_0_arm64`, and as `sysconfig.get_platform()` prints them.
 
 use crate::proved::tool_names::tables::Way::{Both, NoTriple, Read};
 use crate::proved::tool_names::tables::{Row, Way};
@@ -19,8 +19,8 @@ static ROWS: [(&str, &str, Way); 50] = [
     ("ios_*_arm64_iphoneos", "aarch64-apple-ios", Read),
     ("ios_*_*_arm64_iphonesimulator", "aarch64-apple-ios-sim", Both),
     ("ios_*_arm64_iphonesimulator", "aarch64-apple-ios-sim", Read),
-    ("ios_*_*_x86_64_iphonesimulator", "x86_64-apple-ios-sim", Both),
-    ("ios_*_x86_64_iphonesimulator", "x86_64-apple-ios-sim", Read),
+    ("ios_*_*_x86_64_iphonesimulator", "x86_64-apple-ios", Both),
+    ("ios_*_x86_64_iphonesimulator", "x86_64-apple-ios", Read),
     ("linux_aarch64", "aarch64-unknown-linux", Both),
     ("linux_armv6l", "armv6-unknown-linux", Both),
     ("linux_armv7l", "armv7-unknown-linux", Both),
@@ -125,7 +125,7 @@ pub(crate) fn rows_3() -> &'static [Row] {
 }
 
 #[rustfmt::skip]
-static ROWS_3: [(&str, &str, Way); 50] = [
+static ROWS_3: [(&str, &str, Way); 21] = [
     ("mingw_x86_64_ucrt_llvm", "x86_64-pc-windows-gnullvm", Read),
     ("mingw_aarch64_ucrt_llvm", "aarch64-pc-windows-gnullvm", Read),
     ("linux_armv5tel", "armv5te-unknown-linux", Both),
@@ -147,33 +147,4 @@ static ROWS_3: [(&str, &str, Way); 50] = [
     ("mingw_x86_64", "x86_64-pc-windows-gnu", Read),
     ("mingw_i686", "i686-pc-windows-gnu", Read),
     ("mingw_aarch64", "aarch64-pc-windows-gnullvm", Read),
-    ("manylinux_2_17_x86_64_manylinux2014_x86_64", "x86_64-unknown-linux-gnu", Read),
-    ("manylinux2014_x86_64_manylinux_2_17_x86_64", "x86_64-unknown-linux-gnu", Read),
-    ("manylinux_2_5_x86_64_manylinux1_x86_64", "x86_64-unknown-linux-gnu", Read),
-    ("manylinux1_x86_64_manylinux_2_5_x86_64", "x86_64-unknown-linux-gnu", Read),
-    ("manylinux_2_12_x86_64_manylinux2010_x86_64", "x86_64-unknown-linux-gnu", Read),
-    ("manylinux2010_x86_64_manylinux_2_12_x86_64", "x86_64-unknown-linux-gnu", Read),
-    ("manylinux_2_5_x86_64_manylinux1_x86_64_manylinux_2_17_x86_64_manylinux2014_x86_64", "x86_64-unknown-linux-gnu", Read),
-    ("manylinux_2_12_x86_64_manylinux2010_x86_64_manylinux_2_17_x86_64_manylinux2014_x86_64", "x86_64-unknown-linux-gnu", Read),
-    ("manylinux_2_27_x86_64_manylinux_2_28_x86_64", "x86_64-unknown-linux-gnu", Read),
-    ("manylinux_2_17_x86_64_manylinux2014_x86_64_manylinux_2_28_x86_64", "x86_64-unknown-linux-gnu", Read),
-    ("manylinux_2_17_i686_manylinux2014_i686", "i686-unknown-linux-gnu", Read),
-    ("manylinux2014_i686_manylinux_2_17_i686", "i686-unknown-linux-gnu", Read),
-    ("manylinux_2_5_i686_manylinux1_i686", "i686-unknown-linux-gnu", Read),
-    ("manylinux1_i686_manylinux_2_5_i686", "i686-unknown-linux-gnu", Read),
-    ("manylinux_2_12_i686_manylinux2010_i686", "i686-unknown-linux-gnu", Read),
-    ("manylinux2010_i686_manylinux_2_12_i686", "i686-unknown-linux-gnu", Read),
-    ("manylinux_2_5_i686_manylinux1_i686_manylinux_2_17_i686_manylinux2014_i686", "i686-unknown-linux-gnu", Read),
-    ("manylinux_2_12_i686_manylinux2010_i686_manylinux_2_17_i686_manylinux2014_i686", "i686-unknown-linux-gnu", Read),
-    ("manylinux_2_17_aarch64_manylinux2014_aarch64", "aarch64-unknown-linux-gnu", Read),
-    ("manylinux2014_aarch64_manylinux_2_17_aarch64", "aarch64-unknown-linux-gnu", Read),
-    ("manylinux_2_27_aarch64_manylinux_2_28_aarch64", "aarch64-unknown-linux-gnu", Read),
-    ("manylinux_2_17_aarch64_manylinux2014_aarch64_manylinux_2_28_aarch64", "aarch64-unknown-linux-gnu", Read),
-    ("manylinux_2_17_armv7l_manylinux2014_armv7l", "armv7-unknown-linux-gnueabihf", Read),
-    ("manylinux2014_armv7l_manylinux_2_17_armv7l", "armv7-unknown-linux-gnueabihf", Read),
-    ("manylinux_2_17_ppc64le_manylinux2014_ppc64le", "powerpc64le-unknown-linux-gnu", Read),
-    ("manylinux2014_ppc64le_manylinux_2_17_ppc64le", "powerpc64le-unknown-linux-gnu", Read),
-    ("manylinux_2_17_s390x_manylinux2014_s390x", "s390x-unknown-linux-gnu", Read),
-    ("manylinux2014_s390x_manylinux_2_17_s390x", "s390x-unknown-linux-gnu", Read),
-    ("macosx_10_9_x86_64_macosx_11_0_arm64_macosx_10_9_universal2", "several machines", NoTriple),
 ];

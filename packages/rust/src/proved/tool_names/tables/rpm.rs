@@ -1,5 +1,5 @@
 // @generated: erased from crates/tool_names/src/tables/rpm.rt by tools/erase. Don't edit it here.
-//! Architectures of packages of RPM, whose distributions have glibc: `x86_64`, `armv7hl`. Written by tools/names/write.
+//! Architectures of packages of RPM, whose distributions have glibc: `x86_64`, `armv7hl`.
 
 use crate::proved::tool_names::tables::Way::{Both, NoTriple, Read};
 use crate::proved::tool_names::tables::{Row, Way};
@@ -9,7 +9,7 @@ pub(crate) fn rows() -> &'static [Row] {
 }
 
 #[rustfmt::skip]
-static ROWS: [(&str, &str, Way); 49] = [
+static ROWS: [(&str, &str, Way); 50] = [
     ("x86_64", "x86_64-unknown-linux-gnu", Both),
     ("amd64", "x86_64-unknown-linux-gnu", Read),
     ("em64t", "x86_64-unknown-linux-gnu", Read),
@@ -20,6 +20,7 @@ static ROWS: [(&str, &str, Way); 49] = [
     ("i686", "i686-unknown-linux-gnu", Both),
     ("athlon", "i686-unknown-linux-gnu", Read),
     ("pentium4", "i686-unknown-linux-gnu", Read),
+    ("geode", "i586-unknown-linux-gnu", Read),
     ("i586", "i586-unknown-linux-gnu", Read),
     ("i486", "i386-unknown-linux-gnu", Read),
     ("i386", "i386-unknown-linux-gnu", Read),

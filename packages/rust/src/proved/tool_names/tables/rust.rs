@@ -1,5 +1,5 @@
 // @generated: erased from crates/tool_names/src/tables/rust.rt by tools/erase. Don't edit it here.
-//! Targets of rustc, as `rustc --print target-list` lists them: `riscv64gc-unknown-linux-gnu`. Written by tools/names/write.
+//! Targets of rustc, as `rustc --print target-list` lists them: `riscv64gc-unknown-linux-gnu`.
 
 use crate::proved::tool_names::tables::Way::{Both, NoTriple, Read};
 use crate::proved::tool_names::tables::{Row, Way};

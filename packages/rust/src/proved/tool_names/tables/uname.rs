@@ -1,5 +1,5 @@
 // @generated: erased from crates/tool_names/src/tables/uname.rt by tools/erase. Don't edit it here.
-//! What `uname -s` and `uname -m` print, with a space between them, which is only read: `Linux x86_64`. Written by tools/names/write.
+//! What `uname -s` and `uname -m` print, with a space between them, which is only read: `Linux x86_64`.
 
 use crate::proved::tool_names::tables::Way::{NoTriple, Read};
 use crate::proved::tool_names::tables::{Row, Way};
@@ -67,7 +67,7 @@ pub(crate) fn rows_2() -> &'static [Row] {
 }
 
 #[rustfmt::skip]
-static ROWS_2: [(&str, &str, Way); 35] = [
+static ROWS_2: [(&str, &str, Way); 33] = [
     ("OpenBSD sparc64", "sparc64-unknown-openbsd", Read),
     ("NetBSD amd64", "x86_64-unknown-netbsd", Read),
     ("NetBSD i386", "i686-unknown-netbsd", Read),
@@ -88,19 +88,17 @@ static ROWS_2: [(&str, &str, Way); 35] = [
     ("MINGW32_NT-10.0-* i686", "i686-pc-windows-gnu", Read),
     ("Windows_NT x86_64", "x86_64-pc-windows", Read),
     ("Windows_NT i686", "i686-pc-windows", Read),
-    ("CYGWIN_NT-6.* x86_64", "x86_64-pc-cygwin", Read),
     ("CYGWIN_NT-10.0 x86_64", "x86_64-pc-cygwin", Read),
-    ("MSYS_NT-6.* x86_64", "triples have no system msys; MINGW64_NT has that of programs for Windows", NoTriple),
     ("MSYS_NT-10.0 x86_64", "triples have no system msys; MINGW64_NT has that of programs for Windows", NoTriple),
-    ("MINGW64_NT-6.* x86_64", "x86_64-pc-windows-gnu", Read),
     ("MINGW64_NT-10.0 x86_64", "x86_64-pc-windows-gnu", Read),
-    ("MINGW32_NT-6.* i686", "i686-pc-windows-gnu", Read),
     ("MINGW32_NT-10.0 i686", "i686-pc-windows-gnu", Read),
-    ("MINGW32_NT-6.* x86_64", "i686-pc-windows-gnu", Read),
     ("MINGW32_NT-10.0 x86_64", "i686-pc-windows-gnu", Read),
     ("UCRT64_NT-10.0-* x86_64", "x86_64-pc-windows-gnu", Read),
     ("CLANG64_NT-10.0-* x86_64", "x86_64-pc-windows-gnullvm", Read),
-    ("MINGW64_NT-10.0-*-ARM64 x86_64", "x86_64-pc-windows-gnu", Read),
-    ("MSYS_NT-10.0-*-ARM64 x86_64", "triples have no system msys; MINGW64_NT has that of programs for Windows", NoTriple),
-    ("CYGWIN_NT-10.0-*-WOW64 i686", "i686-pc-cygwin", Read),
+    ("CLANGARM64_NT-10.0-* aarch64", "aarch64-pc-windows-gnullvm", Read),
+    ("UCRT64_NT-10.0 x86_64", "x86_64-pc-windows-gnu", Read),
+    ("CLANG64_NT-10.0 x86_64", "x86_64-pc-windows-gnullvm", Read),
+    ("CLANGARM64_NT-10.0 aarch64", "aarch64-pc-windows-gnullvm", Read),
+    ("CYGWIN_NT-10.0 i686", "i686-pc-cygwin", Read),
+    ("MSYS_NT-10.0 i686", "triples have no system msys; MINGW64_NT has that of programs for Windows", NoTriple),
 ];

@@ -1,5 +1,5 @@
 // @generated: erased from crates/tool_names/src/tables/zig.rt by tools/erase. Don't edit it here.
-//! Zig's targets: `x86_64-linux-musl`, `aarch64-macos`. Written by tools/names/write.
+//! Zig's targets: `x86_64-linux-musl`, `aarch64-macos`.
 
 use crate::proved::tool_names::tables::Way::{Both, NoTriple, Read};
 use crate::proved::tool_names::tables::{Row, Way};
@@ -50,7 +50,7 @@ static ROWS: [(&str, &str, Way); 50] = [
     ("x86_64-macos.*.*", "x86_64-apple-macosx", Read),
     ("x86_64-macos.*.*-none", "x86_64-apple-macosx", Read),
     ("x86_64-maccatalyst-none", "x86_64-apple-ios-macabi", Read),
-    ("x86_64-ios-simulator", "x86_64-apple-ios-sim", Both),
+    ("x86_64-ios-simulator", "x86_64-apple-ios", Both),
     ("x86_64-freebsd", "x86_64-unknown-freebsd", Both),
     ("x86_64-freebsd-none", "x86_64-unknown-freebsd", Read),
     ("x86_64-netbsd", "x86_64-unknown-netbsd", Both),
@@ -125,7 +125,7 @@ pub(crate) fn rows_3() -> &'static [Row] {
 }
 
 #[rustfmt::skip]
-static ROWS_3: [(&str, &str, Way); 43] = [
+static ROWS_3: [(&str, &str, Way); 45] = [
     ("powerpc64-linux-gnu.*.*", "powerpc64-unknown-linux-gnu", Read),
     ("powerpc-linux-gnu.*.*", "powerpc-unknown-linux-gnu", Read),
     ("s390x-linux-gnu.*.*", "s390x-unknown-linux-gnu", Read),
@@ -157,6 +157,8 @@ static ROWS_3: [(&str, &str, Way); 43] = [
     ("riscv32-freestanding-none", "riscv32-unknown-none-elf", Read),
     ("arm-freestanding-eabi", "arm-unknown-none-eabi", Both),
     ("arm-freestanding-eabihf", "arm-unknown-none-eabihf", Both),
+    ("arm-freestanding", "its ABI is part of the name: say arm-freestanding-eabi or arm-freestanding-eabihf", NoTriple),
+    ("arm-freestanding-none", "its ABI is part of the name: say arm-freestanding-eabi or arm-freestanding-eabihf", NoTriple),
     ("thumb-freestanding-eabi", "the CPU says which Thumb it is: say thumbv6m, thumbv7m or thumbv7em", NoTriple),
     ("thumb-freestanding-eabihf", "the CPU says which Thumb it is: say thumbv6m, thumbv7m or thumbv7em", NoTriple),
     ("wasm64-freestanding", "wasm64-unknown-unknown", Both),
@@ -168,5 +170,5 @@ static ROWS_3: [(&str, &str, Way); 43] = [
     ("x86-netbsd", "i686-unknown-netbsd", Both),
     ("x86_64-haiku", "x86_64-unknown-haiku", Both),
     ("x86_64-dragonfly", "x86_64-unknown-dragonfly", Both),
-    ("x86_64-ios", "x86_64-apple-ios", Both),
+    ("x86_64-ios", "x86_64-apple-ios", Read),
 ];

@@ -1,0 +1,173 @@
+//! Equality, order and hashing. Two values of the crate are equal exactly if those of the definitions are, and what they feed a hasher
+//! is as `HashInjectiveOn` says. Of orders the definitions have only `version_cmp`, and upstream has none but that of versions: the
+//! others are compared with what the crate's `order.rs` says, over the names that the definitions give.
+use crate::inputs::{self, Fields, Random};
+use crate::report::Report;
+use definitions::spec as s;
+use definitions::values::{apply, con, eq, function, library, named, text as v, truth, with, N, TRIED, V, WRITES};
+use std::cmp::Ordering;
+use std::fmt::Debug;
+use std::hash::{Hash, Hasher};
+use target_lexicon::tool_names::LinuxLibc;
+use target_lexicon::{
+    Architecture, CDataModel, CallingConvention, CustomVendor, DeploymentTarget, Endianness, Field, PointerWidth, Size, Triple, TripleRef, Vendor,
+    VendorRef,
+};
+
+/// A hasher that keeps what it is fed.
+#[derive(Default)]
+struct Writes(Vec<Vec<u8>>);
+
+impl Hasher for Writes {
+    fn write(&mut self, bytes: &[u8]) {
+        self.0.push(bytes.to_vec());
+    }
+    fn finish(&self) -> u64 {
+        0
+    }
+}
+
+fn fed(value: &impl Hash) -> V {
+    let mut writes = Writes::default();
+    value.hash(&mut writes);
+    let write = |bytes: &Vec<u8>| library::seq(&bytes.iter().map(|it| N((*it).into())).collect::<Vec<_>>());
+    library::seq(&writes.0.iter().map(write).collect::<Vec<_>>())
+}
+
+/// Compares each two of these values, whose order is this one of the definitions' values.
+fn compared<T: Ord + Hash + Debug>(r: &mut Report, all: &[(V, T)], order: &dyn Fn(V, V) -> Ordering) {
+    for (x, a) in all {
+        for (y, b) in all {
+            let (equal, expected) = (eq(*x, *y), order(*x, *y));
+            r.holds("equality", (a == b) == equal && (a != b) != equal, &(a, b));
+            r.holds("order", a.cmp(b) == expected && a.partial_cmp(b) == Some(expected), &(a, b));
+            r.holds("order of equal values", equal == (expected == Ordering::Equal), &(a, b));
+        }
+    }
+    let values = library::seq(&all.iter().map(|it| it.0).collect::<Vec<_>>());
+    let feeds = library::seq(&all.iter().map(|it| fed(&it.1)).collect::<Vec<_>>());
+    let at = |list: V| function(move |i| list.list()[i.number() as usize]);
+    unsafe {
+        TRIED = Some(library::seq(&(0..all.len() as u64).map(N).collect::<Vec<_>>()));
+        // what may be fed after a value: nothing, and what the first and the last are fed
+        WRITES = Some(library::seq(&[library::seq(&[]), feeds.list()[0], feeds.list()[all.len() - 1]]));
+    }
+    let holds = s::HashInjectiveOn(function(|_| truth(true)), at(values), at(feeds)).yes();
+    r.holds("HashInjectiveOn", holds, &format_args!("{:?}", if holds { vec![] } else { all.iter().map(|it| &it.1).collect() }));
+}
+
+// ---- orders
+
+fn by_name(name: fn(V) -> V) -> impl Fn(V, V) -> Ordering {
+    move |x, y| name(x).bytes().cmp(&name(y).bytes())
+}
+
+fn by_number(number: fn(V) -> V) -> impl Fn(V, V) -> Ordering {
+    move |x, y| number(x).number().cmp(&number(y).number())
+}
+
+fn by_version(x: V, y: V) -> Ordering {
+    match apply(apply(s::version_cmp(), x), y) {
+        V::C(s::Ordering__Less, _) => Ordering::Less,
+        V::C(s::Ordering__Equal, _) => Ordering::Equal,
+        _ => Ordering::Greater,
+    }
+}
+
+/// A custom vendor follows the known one of its name.
+fn by_vendor(x: V, y: V) -> Ordering {
+    by_name(s::vendor_name)(x, y).then(s::is_custom(x).yes().cmp(&s::is_custom(y).yes()))
+}
+
+/// A system without a version precedes those with one.
+fn by_system(x: V, y: V) -> Ordering {
+    let without = |it: V| if let V::C(tag, [_]) = it { con(tag, &[V::C(s::Option__None, &[])]) } else { it };
+    let prefixes = by_name(s::operating_system_name)(without(x), without(y));
+    prefixes.then_with(|| match (s::system_version(x), s::system_version(y)) {
+        (V::C(s::Option__Some, x), V::C(s::Option__Some, y)) => by_version(x[0], y[0]),
+        (V::C(x, _), V::C(y, _)) => (x == s::Option__Some).cmp(&(y == s::Option__Some)),
+        _ => panic!("two options"),
+    })
+}
+
+fn by_fields(x: V, y: V) -> Ordering {
+    by_name(s::architecture_name)(s::get_architecture(x), s::get_architecture(y))
+        .then_with(|| by_vendor(s::get_vendor(x), s::get_vendor(y)))
+        .then_with(|| by_system(s::get_operating_system(x), s::get_operating_system(y)))
+        .then_with(|| by_name(s::environment_name)(s::get_environment(x), s::get_environment(y)))
+        .then_with(|| by_name(s::binary_format_name)(s::get_binary_format(x), s::get_binary_format(y)))
+}
+
+// ---- what is compared
+
+/// Values of a type without arguments, each with the definition's of the same name.
+fn variants<T: Debug + Copy>(kind: &str, all: &[T]) -> Vec<(V, T)> {
+    all.iter().map(|it| (named(kind, &format!("{it:?}")).unwrap_or_else(|| panic!("{kind} has no {it:?}")), *it)).collect()
+}
+
+/// A custom vendor that owns its text, and one that doesn't, have one value.
+fn vendors(x: V, vendor: VendorRef<'static>) -> Vec<(V, Vendor)> {
+    match vendor {
+        VendorRef::Custom(text) => vec![(x, vendor.to_vendor()), (x, Vendor::Custom(CustomVendor::Static(text)))],
+        VendorRef::Known(_) => vec![(x, vendor.to_vendor())],
+    }
+}
+
+/// All values of each field, and of what fields and answers consist of.
+pub fn values(r: &mut Report) {
+    let fields = inputs::fields();
+    compared(r, &fields.architectures, &by_name(s::architecture_name));
+    compared(r, &fields.vendors, &by_vendor);
+    compared(r, &fields.vendors.iter().flat_map(|it| vendors(it.0, it.1)).collect::<Vec<_>>(), &by_vendor);
+    compared(r, &fields.systems, &by_system);
+    compared(r, &fields.environments, &by_name(s::environment_name));
+    compared(r, &fields.formats, &by_name(s::binary_format_name));
+    compared(r, &inputs::dialects(), &by_name(s::dialect_name));
+    let versions = ["0", "9", "13.4", "13.4.255", "13.5", "65535.0.1"].map(|it| (s::version_of(v(it)).at(0), it.parse::<DeploymentTarget>().unwrap()));
+    compared(r, &versions, &by_version);
+    compared(r, &variants("PointerWidth", &[PointerWidth::U16, PointerWidth::U32, PointerWidth::U64]), &by_number(s::width_bits));
+    compared(r, &variants("Size", &[Size::U8, Size::U16, Size::U32, Size::U64]), &by_number(s::size_bits));
+    compared(r, &variants("Endianness", &[Endianness::Little, Endianness::Big]), &by_name(s::endianness_name));
+    compared(r, &variants("LinuxLibc", &[LinuxLibc::Glibc, LinuxLibc::Musl, LinuxLibc::Msvc, LinuxLibc::Mingw, LinuxLibc::Gnullvm]), &by_name(s::c_library_name));
+    use {CDataModel::*, CallingConvention::*};
+    compared(r, &variants("CallingConvention", &[SystemV, WasmBasicCAbi, WindowsFastcall, AppleAarch64]), &by_name(s::convention_name));
+    compared(r, &variants("CDataModel", &[LP32, ILP32, LLP64, LP64, ILP64]), &by_name(s::model_name));
+    let all = [Field::Architecture, Field::Vendor, Field::OperatingSystem, Field::Environment, Field::BinaryFormat];
+    compared(r, &variants("Field", &all), &by_number(s::field_number));
+    macro_rules! parts_of_architectures {
+        ($($tag:ident $variant:ident $name:ident;)*) => {$(
+            let part = |it: &(V, Architecture)| match *it {
+                (V::C(s::$tag, of), Architecture::$variant(part)) => Some((of[0], part)),
+                _ => None,
+            };
+            compared(r, &fields.architectures.iter().filter_map(part).collect::<Vec<_>>(), &by_name(s::$name));
+        )*};
+    }
+    parts_of_architectures! {
+        Architecture__Arm Arm arm_name; Architecture__Aarch64 Aarch64 aarch64_name; Architecture__X86_32 X86_32 x86_32_name;
+        Architecture__Mips32 Mips32 mips32_name; Architecture__Mips64 Mips64 mips64_name; Architecture__Riscv32 Riscv32 riscv32_name;
+        Architecture__Riscv64 Riscv64 riscv64_name; Architecture__Clever Clever clever_name; Architecture__Z80 Z80 z80_name;
+    }
+}
+
+/// A triple, its canonical form, another triple, and the first with each field of the other; borrowed and owned.
+pub fn triples(r: &mut Report, i: usize, fields: &Fields) {
+    let ((t, triple), (u, other)) = (fields.triple(i), fields.triple(Random::new(i).below(fields.count())));
+    let mixed = |name: &str, triple: TripleRef<'static>| (with(t, &[(name, u.field(name))]), triple);
+    let mut all = vec![
+        (t, triple),
+        (u, other),
+        mixed("architecture", TripleRef { architecture: other.architecture, ..triple }),
+        mixed("vendor", TripleRef { vendor: other.vendor, ..triple }),
+        mixed("operating_system", TripleRef { operating_system: other.operating_system, ..triple }),
+        mixed("environment", TripleRef { environment: other.environment, ..triple }),
+        mixed("binary_format", TripleRef { binary_format: other.binary_format, ..triple }),
+    ];
+    all.extend(triple.settle().ok().map(|it| (s::settled_values(t), it)));
+    compared(r, &all, &by_fields);
+    let owned = |(x, triple): &(V, TripleRef<'static>)| {
+        let (x, triple) = (*x, *triple);
+        vendors(s::get_vendor(x), triple.vendor).into_iter().map(move |(_, vendor)| (x, Triple { vendor, ..triple.to_triple() }))
+    };
+    compared(r, &all.iter().flat_map(owned).collect::<Vec<_>>(), &by_fields);
+}

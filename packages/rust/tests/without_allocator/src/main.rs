@@ -1,0 +1,49 @@
+//! Ends with status 0 if a triple is parsed, asked and printed as it should. rustc builds it only if no crate needs an allocator.
+#![no_std]
+#![no_main]
+use target_lexicon::{CDataModel, Field, Source, TripleRef, VendorRef, HOST};
+
+#[link(name = "c")]
+extern "C" {
+    fn abort() -> !;
+}
+
+#[panic_handler]
+fn panic(_: &core::panic::PanicInfo<'_>) -> ! {
+    unsafe { abort() }
+}
+
+/// What the compiled `core` names, and nothing calls.
+#[no_mangle]
+pub extern "C" fn rust_eh_personality() {}
+
+#[no_mangle]
+pub extern "C" fn main() -> i32 {
+    let string = "riscv32imc-esp-espidf-elf";
+    let triple = TripleRef::from_str(string).unwrap();
+    assert!(!triple.comes_back());
+    assert!(triple.settles_as(TripleRef::from_str("riscv32imc-esp-espidf").unwrap()));
+    let custom = TripleRef::from_str("x86_64-acme-linux").unwrap();
+    assert_eq!(custom.vendor, VendorRef::Custom("acme"));
+    assert_eq!(custom.data_model(), Ok(CDataModel::LP64));
+    let mut room = [0; 32];
+    let length = custom.write_to(&mut room);
+    assert_eq!(&room[..length], b"x86_64-acme-linux");
+    let explanation = TripleRef::explain("x86_64-pc-linxu");
+    assert!(matches!(explanation.sources.vendor, Source::Part(part) if part.text == "pc"));
+    let refusal = explanation.triple.unwrap_err();
+    assert_eq!(refusal.expected, Some(Field::OperatingSystem));
+    assert_eq!(refusal.suggestion().unwrap(), "linux");
+    // A `Triple` is there too; only its custom vendor can't own a string.
+    assert_eq!(HOST.pointer_width(), HOST.as_triple_ref().pointer_width());
+    #[cfg(feature = "tool_names")]
+    {
+        use target_lexicon::tool_names::{read, Dialect, LinuxLibc};
+        let platform = Dialect::Oci.read("linux/arm64").unwrap();
+        let triple = platform.with_c_library(LinuxLibc::Musl);
+        assert_eq!(Dialect::Rust.write(triple).unwrap(), "aarch64-unknown-linux-musl");
+        assert_eq!(read("amd64-unknown-linux").unwrap().rustc_cfg().target_arch, "x86_64");
+        assert_eq!(Dialect::Go.suggestion("linux/amd46"), Some("linux/amd64"));
+    }
+    0
+}

@@ -1,0 +1,160 @@
+"""The lists of the facts of a triple, from the lines `fact` of tools/names/answers.tsv, in each language."""
+import re
+from dataclasses import dataclass
+
+GROUPS = {"queries": "queries()", "formats": "formats()", "driver": "facts()"}
+# The variables of which an answer may be a member: their types in the library for C.
+PARTS = {"sizes": "TypeSizes", "long_double": "LayoutNumbers", "wchar": "LayoutNumbers"}
+# What C++ and Python know without asking the library.
+KNOWN = "has_custom_vendor"
+
+
+@dataclass
+class Fact:
+    name: str
+    type: str
+    group: str
+    answer: str
+    about: str
+    numbers: list
+    enums: dict
+    constants: dict
+
+    @property
+    def words(self):
+        """The type of a kind of answers, `BinaryFormat` or `Family`; None of others."""
+        return {"format": "BinaryFormat", "family": "Family", **self.enums}.get(self.type)
+
+    @property
+    def is_optional(self):
+        return self.type not in ("bool", "format", "family")
+
+    @property
+    def part(self):
+        return self.answer.partition(".")[::2] if self.type == "bytes" else None
+
+    @property
+    def camel(self):
+        return re.sub("_(.)", lambda it: it[1].upper(), self.name)
+
+    def of_words(self, form, family, format_):
+        """A number's name from a list."""
+        return family if self.type == "family" else format_ if self.type == "format" else form
+
+    @property
+    def c_about(self):
+        enum = {"format": "enum lexicon_binary_format", "family": "enum lexicon_family", "bool": "", "bytes": "", "number": ""}.get(self.type, f"enum lexicon_{self.type}")
+        return f"/* {f'{enum}: ' * bool(enum)}{self.about[0].lower() + self.about[1:].rstrip('.').replace('`', '')} */"
+
+    @property
+    def number(self):
+        """The answer as a number of C. A variable is one already."""
+        if self.words and self.is_optional:
+            return self.answer if self.answer.isidentifier() else f"{self.answer}.map_or(0, |it| 1 + it as u8)"
+        return {"bool": "{}", "format": "binary_format_number({})", "family": "family_number({})", "number": "{}.unwrap_or(0)"}[self.type].format(self.answer)
+
+    @property
+    def json(self):
+        """The answer as the command writes it."""
+        if self.part:
+            return f"{self.part[0]}.map(|it| it.{self.part[1]}).into()"
+        if self.words and self.is_optional:
+            return f"{self.answer}.map(|it| it.name()).into()"
+        return {"bool": "{}.into()", "format": "{}.to_string().into()", "family": "family({}).into()", "number": "{}.into()"}[self.type].format(self.answer)
+
+    @property
+    def cpp(self):
+        facts = f"{GROUPS[self.group]}.{self.name}"
+        if not self.is_optional and self.words:
+            return f"{self.words} {self.name}() const {{ return static_cast<{self.words}>({facts}); }}"
+        of = self.words or "unsigned"
+        return f"bool {self.name}() const {{ return {facts}; }}" if self.type == "bool" else f"std::optional<{of}> {self.name}() const {{ return detail::answer<{of}>({facts}); }}"
+
+    @property
+    def python_type(self):
+        of = self.words or ("bool" if self.type == "bool" else "int")
+        return f"Optional[{of}]" if self.is_optional else of
+
+    def from_number(self, number, name_of, or_none, is_true="{}"):
+        """The answer from a number: the name from a list, whether it is true, or none where it is 0."""
+        if self.words:
+            return f"{name_of}[{number}]"
+        return (is_true if self.type == "bool" else or_none).format(number)
+
+    @property
+    def typescript(self):
+        of = self.words or {"bool": "boolean"}.get(self.type) or " | ".join(self.numbers) or "number"
+        return f"{self.camel}: {of}{' | null' * self.is_optional};"
+
+
+def facts_of(lines, enums, constants, wrong):
+    found = []
+    for line in lines:
+        name, type_, group, answer, about = (line.split("\t") + [""] * 5)[1:6]
+        type_, *numbers = type_.split()
+        if type_ not in ("bool", "format", "family", "bytes", "number", *enums) or group not in GROUPS or not about:
+            wrong.append(f"answers.tsv: a name, a type, a group, the answer and what it is are wanted: {line}")
+        elif type_ == "bytes" and answer.partition(".")[0] not in PARTS:
+            wrong.append(f"answers.tsv: `bytes` is a member of {', '.join(PARTS)}: {line}")
+        else:
+            found.append(Fact(name, type_, group, answer, about, numbers, enums, constants))
+    return found
+
+
+def lists(facts):
+    """The lists in each language. C has the facts by groups, and the others have them in their order."""
+    by_groups = [it for group in GROUPS for it in facts if it.group == group]
+    numbers = {it.name: f"n[{number}]" for number, it in enumerate(by_groups)}
+    found = {
+        "the facts for C": [f"{'bool' if it.type == 'bool' else 'uint8_t'} {it.name}; {it.c_about}" for it in by_groups],
+        "the size of the facts": [f"const FACT_COUNT: usize = {len(facts)};"],
+        "the facts for C++": [line for it in facts if it.name != KNOWN for line in (f"// {it.about.replace('`', '')}", it.cpp)],
+        "the facts for the command": [f'("{it.name}", {it.json}),' for it in facts],
+        "the members of facts for Python": [
+            *(f"{it.name}: {'bool' if it.type == 'bool' else 'int'}" for it in by_groups), "_fields_ = [",
+            *(f'    ("{it.name}", {"c_bool" if it.type == "bool" else "c_uint8"}),' for it in by_groups), "]"],
+        "the facts for Python": [line for it in facts if it.name != KNOWN for line in (
+            "@property", f"def {it.name}(self) -> {it.python_type}:", f'    """{it.about}{" None if it isn" + chr(39) + "t known." if it.is_optional else ""}"""',
+            "    return " + it.from_number(f"(self._facts or self._ask()).{it.name}", python_list(it), "{} or None"), "")][:-1],
+        "the answers of columns": [f"{it.name}: Optional[{'str' if it.words else 'bool' if it.type == 'bool' else 'int'}] = None" for it in facts],
+        "the facts of columns": [
+            f'_FACTS = "{"".join("?" if it.type == "bool" else "B" for it in by_groups)}"', "", "",
+            "def _answers(numbers: Sequence[Any]) -> Tuple[Any, ...]:", '    """The facts of the numbers in C."""', "    (", *(f"        {it.name}," for it in by_groups), "    ) = numbers",
+            "    return (", *(f"        {it.from_number(it.name, python_list(it), '{} or None')}," for it in facts), "    )"],
+        "the size of the facts for JavaScript": [f"const FACTS_SIZE = {len(facts)};"],
+        "the facts for JavaScript": [
+            f"{it.camel}: {it.from_number(numbers[it.name], it.of_words(it.constants.get(it.type), 'FAMILIES', 'it.names[4]'), '{} || null', '{} === 1')}," for it in facts],
+        "the facts for TypeScript": [line for it in facts for line in (f"/** {it.about} */", it.typescript)],
+    }
+    for group in GROUPS:
+        of = [it for it in facts if it.group == group]
+        parts = list(dict.fromkeys(it.part[0] for it in of if it.part))
+        whole = [it for it in of if not it.part]
+        found[f"the facts of {group} for the library"] = members(of)
+        # The parts are computed last, so that they are copied straight into the struct.
+        found[f"the answers of {group} for the library"] = [*(f"{it.name}: {it.number}," for it in whole), *(f"{it}: {it}()," for it in parts)]
+    return found
+
+
+def lists_of_reasons(lines, facts, wrong):
+    """Why a fact has no answer, from the lines `none`."""
+    reasons = [(names.split(), reason) for _, names, reason in (line.split("\t") for line in lines)]
+    with_reason = [name for names, _ in reasons for name in names]
+    wrong += [f"answers.tsv: a line `none` is wanted for {it.name}" for it in facts if it.is_optional and it.name not in with_reason]
+    return {
+        "the reasons for the command": [f"""{' | '.join(f'"{name}"' for name in names)} => "{reason}",""" for names, reason in reasons],
+        "the reasons for Python": [f'"{name}": "{reason}",' for names, reason in reasons for name in names],
+    }
+
+
+def members(facts):
+    """The members of a group in Rust, of which one that has several answers comes once."""
+    lines = {}
+    for it in facts:
+        name, of = (it.part[0], PARTS[it.part[0]]) if it.part else (it.name, "bool" if it.type == "bool" else "u8")
+        lines.setdefault(name, [f"/// {it.about}", f"pub {name}: {of},"])
+    return [line for member in lines.values() for line in member]
+
+
+def python_list(fact):
+    return fact.of_words(f"_{fact.constants.get(fact.type)}", "_FAMILIES", "_FORMATS")
