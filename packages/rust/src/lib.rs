@@ -85,11 +85,9 @@ mod proved;
 pub mod proved;
 #[cfg(feature = "serde_support")]
 mod serde;
-mod suggestion;
+mod suggestions;
 #[cfg(feature = "tool_names")]
 pub mod tool_names;
-#[cfg(not(feature = "tool_names"))]
-mod tool_names;
 
 pub use canonical::NotPlain;
 pub use host::HOST;
@@ -106,7 +104,7 @@ pub use proved::{
     Vendor, VendorRef, X86_32Architecture, Z80Architecture,
 };
 
-pub use tool_names::Suggestion;
+pub use suggestions::Suggestion;
 
 /// The samples of the page are tested; the first one uses this feature.
 #[cfg(all(doctest, feature = "tool_names"))]

@@ -1,7 +1,7 @@
 //! The name that is suggested for an unknown name of a dialect.
 use crate::proved::tool_names::tables::{Row, Way};
-use crate::tool_names::misspellings::meant;
-use crate::tool_names::suggestions::{architecture_of, machine_of, Abi, Machine};
+use crate::suggestions::misspellings::meant;
+use crate::suggestions::{architecture_of, machine_of, Abi, Machine};
 use crate::tool_names::{Dialect, FloatAbi};
 use crate::{Architecture, PointerWidth, TripleRef};
 use core::ops::Range;

@@ -115,7 +115,8 @@ impl Dialect {
     fn read_version_of_windows(self, text: &str) -> Option<Result<TripleRef<'static>, NameError>> {
         let (system, rest) = text.split_once('(')?;
         let (version, machine) = rest.split_once(')')?;
-        let is_version = version.bytes().all(|it| it.is_ascii_digit() || it == b'.');
+        let is_number = |it: &str| !it.is_empty() && it.bytes().all(|it| it.is_ascii_digit());
+        let is_version = version.split('.').all(is_number);
         if !system.eq_ignore_ascii_case("windows") || !is_version {
             return None;
         }

@@ -1,6 +1,7 @@
 //! The known names of a field, and the one that was perhaps meant.
 use crate::proved::tool_names::known_names;
-use crate::{tool_names, Architecture, Field, Refusal, Suggestion, TripleRef, VendorRef};
+use crate::suggestions::{architecture_in, suggestion, suggestion_on};
+use crate::{Architecture, Field, Refusal, Suggestion, TripleRef, VendorRef};
 #[cfg(feature = "alloc")]
 use crate::{ParseError, Triple};
 
@@ -41,7 +42,7 @@ impl<'a> Refusal<'a> {
     #[must_use]
     #[inline]
     pub fn suggestion(&self) -> Option<Suggestion<'a>> {
-        tool_names::suggestion(self.expected?, self.part.text)
+        suggestion(self.expected?, self.part.text)
     }
 
     /// The name that was perhaps meant in this string, which has the refused part: as [`suggestion`](Refusal::suggestion), and it
@@ -62,8 +63,8 @@ impl<'a> Refusal<'a> {
     #[must_use]
     #[inline]
     pub fn suggestion_in(&self, text: &str) -> Option<Suggestion<'a>> {
-        let machine = tool_names::architecture_in(text);
-        tool_names::suggestion_on(machine, self.expected?, self.part.text)
+        let machine = architecture_in(text);
+        suggestion_on(machine, self.expected?, self.part.text)
     }
 }
 
@@ -87,7 +88,7 @@ impl<'a> TripleRef<'a> {
     pub fn vendor_suggestion(&self) -> Option<Suggestion<'a>> {
         let machine = Some(self.architecture).filter(|it| *it != Architecture::Unknown);
         match self.vendor {
-            VendorRef::Custom(vendor) => tool_names::suggestion_on(machine, Field::Vendor, vendor),
+            VendorRef::Custom(vendor) => suggestion_on(machine, Field::Vendor, vendor),
             VendorRef::Known(_) => None,
         }
     }
@@ -142,6 +143,6 @@ impl ParseError {
     #[must_use]
     #[inline]
     pub fn suggestion(&self) -> Option<Suggestion<'_>> {
-        tool_names::suggestion(self.expected()?, self.part())
+        suggestion(self.expected()?, self.part())
     }
 }
