@@ -1224,6 +1224,8 @@ go|./linux/amd64|linux/amd64|it has a path
 go|linux amd64|linux/amd64|it has a space
 go|x86_64-unknown-linux-gnu|-|it is a name of gnu and rust
 go|linux/amd46|linux/amd64|-
+go|linux/riscv/64|linux/riscv64|-
+go|linux/amd64/bin|-|-
 oci|linux\\amd64|linux/amd64|-
 oci|linux/amd64:latest|-|-
 oci|/usr/lib/linux/amd64|linux/amd64|it has a path

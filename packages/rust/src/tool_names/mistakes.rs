@@ -99,8 +99,7 @@ impl Dialect {
         } else if Dialect::all_with(name).next().is_some() {
             Some(Mistake::OtherTool(name))
         } else {
-            let has_slashes = matches!(self, Dialect::Go | Dialect::Oci);
-            let is_path = !has_slashes && name.contains(['/', '\\']);
+            let is_path = !self.has_slashes() && name.contains(['/', '\\']);
             (is_path || self.name_inside(name).is_some()).then_some(Mistake::Path)
         }
     }
@@ -110,6 +109,12 @@ impl Dialect {
     fn name_with_part(self, word: &str) -> Option<&'static str> {
         let names = self.names_read().filter(|name| is_part(word, name));
         names.min_by_key(|name| (!name.contains("inux"), name.contains("android")))
+    }
+
+    /// Whether slashes stand in its names.
+    #[inline]
+    fn has_slashes(self) -> bool {
+        matches!(self, Dialect::Go | Dialect::Oci)
     }
 
     #[inline]
@@ -123,7 +128,8 @@ impl Dialect {
         self.names_read().find(|it| it.eq_ignore_ascii_case(name))
     }
 
-    /// The name that is in a path or has white space around it.
+    /// The name that is in a path or has white space around it. If names have slashes, it ends the path: what follows may be a
+    /// part of another name.
     #[inline]
     pub(super) fn name_inside(self, text: &str) -> Option<&'static str> {
         let text = text.trim();
@@ -135,7 +141,8 @@ impl Dialect {
             let places = text.match_indices(*name);
             places.clone().any(|(at, _)| {
                 let before = text.as_bytes()[..at].last();
-                is_end(before) && is_end(text.as_bytes().get(at + name.len()))
+                let after = text.as_bytes().get(at + name.len());
+                is_end(before) && is_end(after) && !(self.has_slashes() && after.is_some())
             })
         };
         self.names_read()
