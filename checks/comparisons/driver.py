@@ -1,5 +1,5 @@
-"""Compares what the Rust crate says of C libraries, floating-point arguments and types of C with what rustc and clang say, and the
-rules of packages/rust/examples/linkers.rs with rustc's."""
+"""Compares what the Rust crate says of C libraries, floating-point arguments and types of C with what rustc and clang say, the
+rules of packages/rust/examples/linkers.rs with rustc's, and variants and versions with LLVM's."""
 import concurrent.futures
 import re
 import shutil
@@ -22,6 +22,12 @@ int is_hard = 0;
 """
 
 
+# The variants of an architecture, and where LLVM's differ: in pointers of x32 and its like, in architectures that have no name here, in
+# extensions of RISC-V, which stay here, and in the byte order of Arm, of which clang is asked.
+VARIANTS = {"of 32 bits": "gnux32|gnu_ilp32|'nvptx'|'powerpcle'|riscv64a23", "of 64 bits": "riscv32(i|im|ima|imafc|imc)-",
+            "little-endian": "'arm', '-'|'powerpcle'|'sparcel'", "big-endian": "'armeb', '-'"}
+
+
 def library_of_rustc(spec):
     """The C library by the environment of rustc's target, or nothing if that says none."""
     env, system = spec.get("env", ""), spec.get("os", "none")
@@ -36,11 +42,46 @@ def clang_answer(target):
     return dict(re.findall(r"^@(\w+) = .*global i\d+ (\d+)", text, re.M))
 
 
-def check(report, targets, specs):
-    """`specs` are rustc's descriptions of the targets."""
+def our_answers(targets):
     program = built.cargo_program("compare", "lines", 2)
     lines = output(program, "driver", input="".join(f"{target}\n" for target in targets)).splitlines()
-    ours = {target: line.split() for target, line in zip(targets, lines, strict=True)}
+    return {target: line.split() for target, line in zip(targets, lines, strict=True)}
+
+
+def clang_effective(target, option):
+    """The triple that clang compiles for with an option."""
+    return output("clang", "-target", target, option, "-print-effective-triple")
+
+
+def deployment_target(target):
+    """The version that `rustc --print deployment-target` prints for one of Apple's targets."""
+    return output("rustc", "--print", "deployment-target", "--target", target).strip().rpartition("=")[2]
+
+
+def check_variants(report, targets, asked):
+    """Compares the variants of the targets and of all architectures. `asked` returns what LLVM says of each string."""
+    systems = [f"darwin{major}{minor}" for major in range(1, 25) for minor in ("", ".6")] + [f"macosx{version}" for version in ("10.7", "10.15.7", "11", "15.2")]
+    strings = [*targets, *(f"{it}-unknown-linux-gnu" for it in report.target_lexicon.Architecture), *(f"x86_64-apple-{it}" for it in systems)]
+    ours = our_answers(strings)
+    theirs = asked(sorted({*strings, *(name for it in ours.values() for name in it[8:13])}))
+    known = [(string, it, theirs[it[8]]) for string, it in ours.items() if theirs[it[8]]["machine"] != "-"]
+    for i, (kind, but) in enumerate(VARIANTS.items(), 9):
+        report.fact(f"LLVM's variant {kind} is the same", ((string, theirs[it[i]]["machine"], llvm[kind]) for string, it, llvm in known), but)
+    if report.has("clang", shutil.which("clang")):
+        arm = [(string, option, order) for string, it, llvm in known if llvm["machine"].startswith("arm")
+               for option, order in (("-mlittle-endian", it[11]), ("-mbig-endian", it[12])) if order != "-"]
+        report.fact("clang's other byte order of Arm is the same", ((string, order.startswith("armeb"), clang_effective(string, option).startswith("armeb")) for string, option, order in arm))
+    report.fact("LLVM's version of macOS is the same", ((string, it[13], theirs[string]["version of macOS"]) for string, it, _ in known))
+    report.fact("LLVM's oldest version is the same", ((string, it[14], llvm["oldest version"]) for string, it, llvm in known if llvm["oldest version"] != "-"))
+    apple = [target for target in targets if "-apple-" in target]
+    with concurrent.futures.ThreadPoolExecutor() as pool:
+        report.fact("rustc's oldest version is the same", zip(apple, (ours[target][14] for target in apple), pool.map(deployment_target, apple)))
+    report.fact("and no other system has one", ((string, it[14], "-") for string, it in ours.items() if "-apple-" not in string))
+
+
+def check(report, targets, specs):
+    """`specs` are rustc's descriptions of the targets."""
+    ours = our_answers(targets)
     libraries = {target: library_of_rustc(specs[target]) for target in ours}
     report.fact("the C library is that of rustc's environment", (
         (target, it[0], libraries[target]) for target, it in ours.items() if libraries[target]))

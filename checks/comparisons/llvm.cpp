@@ -1,5 +1,6 @@
-// Writes what LLVM says of the triple on each line: byte order, pointer width, object format, and the version and the profile of 32-bit
-// Arm, or `-` for each that LLVM doesn't know.
+// Writes what LLVM says of the triple on each line: byte order, pointer width, object format, the version and the profile of 32-bit
+// Arm, the architecture and its variants of 32 and 64 bits, little-endian and big-endian, the version of macOS, and the oldest version
+// of its system that LLVM supports; or `-` for each that LLVM doesn't know.
 #if __has_include("llvm/TargetParser/Triple.h")
 #include "llvm/TargetParser/ARMTargetParser.h"
 #include "llvm/TargetParser/Triple.h"
@@ -26,14 +27,31 @@ static std::string armOf(const Triple &triple) {
   return (version ? std::to_string(version) : "-") + " " + profiles[llvm::ARM::parseArchProfile(triple.getArchName())];
 }
 
+static std::string nameOf(const Triple &triple) {
+  return triple.getArch() == Triple::UnknownArch ? "-" : Triple::getArchTypeName(triple.getArch()).str();
+}
+
+static std::string shown(const llvm::VersionTuple &version) {
+  return std::to_string(version.getMajor()) + "." + std::to_string(version.getMinor() ? *version.getMinor() : 0);
+}
+
+static std::string versionsOf(const Triple &triple) {
+  llvm::VersionTuple macos, minimum = triple.getMinimumSupportedOSVersion();
+  bool isStated = triple.isMacOSX() && triple.getOSMajorVersion() != 0 && triple.getMacOSXVersion(macos);
+  return (isStated ? shown(macos) : "-") + " " + (minimum.empty() ? "-" : shown(minimum));
+}
+
 int main() {
   for (std::string line; std::getline(std::cin, line);) {
     Triple triple(Triple::normalize(line));
     if (triple.getArch() == Triple::UnknownArch)
-      std::cout << "- - - - -\n";
+      std::cout << "- - - - - - - - - - - -\n";
     else
       std::cout << (triple.isLittleEndian() ? "little " : "big ")
                 << (triple.isArch64Bit() ? "64 " : triple.isArch32Bit() ? "32 " : triple.isArch16Bit() ? "16 " : "- ")
-                << formats[triple.getObjectFormat()] << ' ' << armOf(triple) << '\n';
+                << formats[triple.getObjectFormat()] << ' ' << armOf(triple) << ' ' << nameOf(triple) << ' '
+                << nameOf(triple.get32BitArchVariant()) << ' ' << nameOf(triple.get64BitArchVariant()) << ' '
+                << nameOf(triple.getLittleEndianArchVariant()) << ' ' << nameOf(triple.getBigEndianArchVariant()) << ' '
+                << versionsOf(triple) << '\n';
   }
 }

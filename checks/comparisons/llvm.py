@@ -1,7 +1,7 @@
 """Compares what the Python package says of rustc's targets with what LLVM, clang and rustc say.
 
 The targets are those of the installed rustc that parse. llvm.cpp asks LLVM for the byte order, the pointer width and the object
-format of each, and for the version and the profile of 32-bit Arm. The macros that clang defines give the first two, and the sizes of C's arithmetic types. rustc's descriptions of targets
+format of each, for the version and the profile of 32-bit Arm, for variants of its architecture, and for versions of macOS. The macros that clang defines give the first two, and the sizes of C's arithmetic types. rustc's descriptions of targets
 have the byte order, the pointer width and the object format, and a name for LLVM, which is read as a string spelled like a triple.
 What a driver asks is compared with rustc's descriptions and with clang: C libraries, floating-point arguments, and layouts of types.
 What a tool doesn't know isn't compared.
@@ -19,6 +19,8 @@ from comparisons.tools import Report, output, rustc_answers, rustc_specs
 
 # Where pointers have 32 bits here, and registers 64; clang 14 compiles for ILP32 on AArch64 as for LP64.
 NARROW = "gnux32|gnu_ilp32"
+# What LLVM is asked of each target.
+KINDS = ("order", "width", "format", "version of Arm", "profile of Arm")
 
 def our_answers(triple):
     sizes = (triple.short_size, triple.int_size, triple.long_size, triple.long_long_size, triple.float_size, triple.double_size)
@@ -27,11 +29,16 @@ def our_answers(triple):
             "version of Arm": str(triple.arm_version or "-"), "profile of Arm": str(triple.arm_profile or "-")}
 
 
-def llvm_answers(targets, folder):
+def llvm_asked(folder):
+    """What asks LLVM about strings. It returns the answers of each."""
     flags = output("llvm-config", "--cxxflags", "--ldflags", "--libs", "--system-libs").split()
     subprocess.run(["c++", f"{upstream.SOURCES}/llvm.cpp", "-o", f"{folder}/llvm", *flags], check=True)
-    lines = output(f"{folder}/llvm", input="".join(f"{target}\n" for target in targets)).splitlines()
-    return {target: dict(zip(("order", "width", "format", "version of Arm", "profile of Arm"), line.split())) for target, line in zip(targets, lines, strict=True)}
+    kinds = (*KINDS, "machine", *driver.VARIANTS, "version of macOS", "oldest version")
+
+    def asked(strings):
+        lines = output(f"{folder}/llvm", input="".join(f"{string}\n" for string in strings)).splitlines()
+        return {string: dict(zip(kinds, line.split(), strict=True)) for string, line in zip(strings, lines, strict=True)}
+    return asked
 
 
 def clang_answer(target):
@@ -61,7 +68,10 @@ def main(options, folder):
     with concurrent.futures.ThreadPoolExecutor() as pool:
         if report.has("llvm-config", shutil.which("llvm-config") and shutil.which("c++")):
             # LLVM 14 knows neither UEFI nor visionOS.
-            compare("LLVM", parsed, llvm_answers(parsed, folder), width=NARROW, format="uefi|visionos")
+            asked = llvm_asked(folder)
+            theirs = {name: {kind: it[kind] for kind in KINDS} for name, it in asked([*parsed]).items()}
+            compare("LLVM", parsed, theirs, width=NARROW, format="uefi|visionos")
+            driver.check_variants(report, [*parsed], asked)
         if report.has("clang", shutil.which("clang")):
             compare("clang", parsed, dict(zip(parsed, pool.map(clang_answer, parsed))), width="gnu_ilp32", sizes="gnu_ilp32")
         report.has("rustc", True)

@@ -86,6 +86,7 @@ enum lexicon_status {
   LEXICON_NO_SUCH_C_LIBRARY = 18, /* the number of a C library of Linux or Windows is above 5; for lexicon_complete also 0 */
   LEXICON_NO_SUCH_CHANGE = 19, /* the string has no change with this number */
   LEXICON_NO_SUGGESTION = 20, /* nothing else may have been meant */
+  LEXICON_NO_ANSWER = 21, /* the triple has no such variant or version */
   /* end of what is written */
 };
 
@@ -540,6 +541,12 @@ struct lexicon_triple_facts {
   /* end of what is written */
 };
 
+/* A version of one of Apple's systems. */
+struct lexicon_os_version {
+  uint16_t major;
+  uint8_t minor, patch;
+};
+
 /* A part of a string that lexicon_read, without a dialect, reads as other names. */
 struct lexicon_change {
   size_t start, end;
@@ -643,6 +650,23 @@ enum lexicon_status lexicon_write_versioned(uint32_t dialect, const struct lexic
    environment changes; any other triple stays as it is. */
 LEXICON_CHECKED LEXICON_NONNULL(1)
 enum lexicon_status lexicon_complete(struct lexicon_triple *triple, uint32_t linux_libc);
+
+/* Replaces a triple by the variant of its architecture whose pointers have 16, 32 or 64 bits, or that has a byte order of enum
+   lexicon_endianness: i686-unknown-linux-gnu for x86_64-unknown-linux-gnu and 32. With other pointers the environment becomes the usual
+   one of the same C library; all else stays. LEXICON_NO_ANSWER if no architecture is such a variant, and LEXICON_NO_SUCH_VALUE for any
+   other number. */
+LEXICON_CHECKED LEXICON_NONNULL(1)
+enum lexicon_status lexicon_set_pointer_width(struct lexicon_triple *triple, uint32_t bits);
+LEXICON_CHECKED LEXICON_NONNULL(1)
+enum lexicon_status lexicon_set_endianness(struct lexicon_triple *triple, uint32_t endianness);
+
+/* The version of macOS that a triple states, 10.15 for x86_64-apple-darwin19.6: that of darwin is the kernel's. And the oldest version of
+   one of Apple's systems that rustc builds programs for unless it is asked for another one, 11.0 for aarch64-apple-darwin.
+   LEXICON_NO_ANSWER if there is none. */
+LEXICON_CHECKED LEXICON_NONNULL(1, 2)
+enum lexicon_status lexicon_macos_version(const struct lexicon_triple *triple, struct lexicon_os_version *version);
+LEXICON_CHECKED LEXICON_NONNULL(1, 2)
+enum lexicon_status lexicon_minimum_os_version(const struct lexicon_triple *triple, struct lexicon_os_version *version);
 
 /* The name in a dialect of what a name of another one means, or a string that is spelled like a triple: it is read, completed with
    a C library unless that is LEXICON_LINUX_LIBC_NONE, and written. The name has at most 36 bytes. If it can't be read, the status
@@ -794,7 +818,7 @@ static inline enum lexicon_status lexicon_number_z(uint32_t field, const char *t
 LEXICON_NAMES(lexicon_status_name, "ok", "unrecognized architecture", "unrecognized vendor", "unrecognized operating system",
   "unrecognized environment", "unrecognized binary format", "unrecognized field", "not UTF-8", "too small a buffer", "no such field",
   "no such value", "no such vendor", "unknown name", "name without a triple", "triple without a name", "no such dialect",
-  "too large a size", "needs a C library", "no such C library", "no such change", "no suggestion")
+  "too large a size", "needs a C library", "no such C library", "no such change", "no suggestion", "no answer")
 LEXICON_NAMES(lexicon_field_name, "architecture", "vendor", "operating system", "environment", "binary format")
 LEXICON_NAMES(lexicon_family_name,
   /* written by tools/names/write: the names of families for C */

@@ -426,6 +426,13 @@ class Triple {
     return lexicon_complete(&triple, static_cast<std::uint32_t>(libc)) == LEXICON_OK ? Triple(triple) : *this;
   }
 
+  // The triple with the variant of its architecture whose pointers have so many bits, or that has a byte order, if there is one: with
+  // 32 bits i686-pc-windows-msvc for x86_64-pc-windows-msvc. With other pointers the environment is the usual one of the same C library.
+  std::optional<Triple> with_pointer_width(unsigned bits) const { return variant(lexicon_set_pointer_width, bits); }
+  std::optional<Triple> with_endianness(Endianness value) const {
+    return variant(lexicon_set_endianness, static_cast<std::uint32_t>(value));
+  }
+
   // The name in the dialect `to` of what a name of the dialect `from` means, with a C library of Linux if one is said. Without
   // `from`, the string is spelled like a triple. If there is none, `error` says why.
   static std::optional<std::string> translate(std::string_view name, std::optional<Dialect> from, Dialect to,
@@ -462,6 +469,10 @@ class Triple {
     if (!numbers_.has_version) return std::nullopt;
     return Version{numbers_.major, numbers_.minor, numbers_.patch};
   }
+  // The version of macOS that the triple states, 10.15 for darwin19.6: that of darwin is the kernel's.
+  std::optional<Version> macos_version() const { return version_by(lexicon_macos_version); }
+  // The oldest version of one of Apple's systems that rustc builds programs for, unless it is asked for another one.
+  std::optional<Version> minimum_os_version() const { return version_by(lexicon_minimum_os_version); }
 
   // What a compiler and its driver ask. Sizes of C's types are in bytes.
   // written by tools/names/write: the facts for C++
@@ -605,6 +616,17 @@ class Triple {
   lexicon_triple_facts formats() const { return facts_up_to(offsetof(lexicon_triple_facts, c_library)); }
   static std::optional<TypeLayout> layout(unsigned size, unsigned alignment) {
     return size == 0 ? std::nullopt : std::make_optional(TypeLayout{size, alignment});
+  }
+
+  template <class Call> std::optional<Triple> variant(Call call, std::uint32_t number) const {
+    lexicon_triple triple = c_triple();
+    return call(&triple, number) == LEXICON_OK ? std::optional<Triple>(Triple(triple)) : std::nullopt;
+  }
+
+  template <class Call> std::optional<Version> version_by(Call call) const {
+    lexicon_triple triple = c_triple();
+    lexicon_os_version it = {};
+    return call(&triple, &it) == LEXICON_OK ? std::make_optional(Version{it.major, it.minor, it.patch}) : std::nullopt;
   }
 
   template <class Call> static std::optional<Triple> parsed(Call call, std::string_view text, ParseError* error) {

@@ -35,10 +35,10 @@ use lines::settle_lines;
 use names::{c_name, c_reason};
 use sources::FieldSources;
 use target_lexicon::tool_names::{self, Dialect, Name, NameError, Suggestion, TranslateError, WriteError};
-use target_lexicon::TripleRef;
+use target_lexicon::{DeploymentTarget, Endianness, PointerWidth, TripleRef};
 use text::{shown, write_text, written, Text};
 use triple::{NumberedTriple, TripleNumbers};
-use values::{c_library_at, dialect_at, field_at, name_at, number_in, CUSTOM_VENDOR};
+use values::{architecture_at, c_library_at, dialect_at, environment_at, field_at, name_at, number_in, operating_system_at, CUSTOM_VENDOR};
 
 /// `enum lexicon_status`. From 1 to 6 a text is refused, where a value of the first to the fifth field was expected, or none.
 pub type Status = u32;
@@ -59,6 +59,7 @@ const NEEDS_C_LIBRARY: Status = 17;
 const NO_SUCH_C_LIBRARY: Status = 18;
 const NO_SUCH_CHANGE: Status = 19;
 const NO_SUGGESTION: Status = 20;
+const NO_ANSWER: Status = 21;
 // end of what is written
 
 /// The greatest size of anything in memory, `PTRDIFF_MAX`. Rust has no slice that is larger.
@@ -77,6 +78,14 @@ const QUERIES: usize = size_of::<QueryFacts>();
 const FIRST: usize = size_of::<FirstFacts>();
 const ALL: usize = size_of::<Facts>();
 
+/// `struct lexicon_os_version`.
+#[repr(C)]
+pub struct Version {
+    major: u16,
+    minor: u8,
+    patch: u8,
+}
+
 /// `struct lexicon_change`.
 #[repr(C)]
 pub struct Change {
@@ -93,6 +102,7 @@ const _: () = {
     let word = size_of::<usize>();
     assert!(size_of::<TripleNumbers>() == 12);
     assert!(size_of::<Triple>() == if word == 8 { 32 } else { 20 });
+    assert!(size_of::<Version>() == 4);
     assert!(size_of::<TextError>() == 3 * word);
     assert!(size_of::<FieldSources>() == 15 * word);
     assert!(ALL == FACT_COUNT);
@@ -103,6 +113,12 @@ impl From<TripleRef<'_>> for Triple {
         let NumberedTriple { numbers, custom_vendor: vendor } = triple.into();
         let custom_vendor = if vendor.is_empty() { null() } else { vendor.as_ptr() };
         Triple { numbers, custom_vendor, custom_vendor_size: vendor.len() }
+    }
+}
+
+impl From<DeploymentTarget> for Version {
+    fn from(it: DeploymentTarget) -> Version {
+        Version { major: it.major, minor: it.minor, patch: it.patch }
     }
 }
 
@@ -334,13 +350,22 @@ unsafe fn write_facts<T: for<'a> From<&'a TripleRef<'a>>>(triple: *const Triple,
     }
 }
 
-/// Writes the sizes of C's types of a triple without a data model. It is the last call, and reads the triple again: otherwise all facts
-/// would take half more instructions, since the triple would be kept for it.
+/// Writes the sizes of C's types of a triple without a data model. It is the last call, and reads again what they depend on: otherwise
+/// all facts would take half more instructions, since the triple would be kept for it.
 #[cold]
 #[inline(never)]
 unsafe fn write_sizes(triple: *const Triple, facts: *mut QueryFacts) -> Status {
     unsafe {
-        if let Some(sizes) = Triple::read(triple).ok().and_then(|it| it.type_sizes()) {
+        let numbers = addr_of!((*triple).numbers);
+        let asked = || {
+            Some(TripleRef {
+                architecture: architecture_at((*numbers).architecture)?,
+                operating_system: operating_system_at((*numbers).operating_system, None)?,
+                environment: environment_at((*numbers).environment)?,
+                ..TripleRef::unknown()
+            })
+        };
+        if let Some(sizes) = asked().and_then(|it| it.type_sizes()) {
             (*facts).sizes = facts::TypeSizes::new(sizes);
         }
     }
@@ -367,6 +392,42 @@ pub unsafe extern "C" fn lexicon_complete(triple: *mut Triple, linux_libc: u32) 
         Some(c_library) => unsafe { answer(triple, Triple::read(triple).map(|it| it.with_c_library(c_library))) },
         None => NO_SUCH_C_LIBRARY,
     }
+}
+
+#[no_mangle]
+pub unsafe extern "C" fn lexicon_set_pointer_width(triple: *mut Triple, bits: u32) -> Status {
+    let width = match bits {
+        16 => PointerWidth::U16,
+        32 => PointerWidth::U32,
+        64 => PointerWidth::U64,
+        _ => return NO_SUCH_VALUE,
+    };
+    unsafe { answer(triple, answer_of(triple, |it| it.with_pointer_width(width))) }
+}
+
+#[no_mangle]
+pub unsafe extern "C" fn lexicon_set_endianness(triple: *mut Triple, endianness: u32) -> Status {
+    let order = match endianness {
+        1 => Endianness::Little,
+        2 => Endianness::Big,
+        _ => return NO_SUCH_VALUE,
+    };
+    unsafe { answer(triple, answer_of(triple, |it| it.with_endianness(order))) }
+}
+
+#[no_mangle]
+pub unsafe extern "C" fn lexicon_macos_version(triple: *const Triple, version: *mut Version) -> Status {
+    unsafe { answer(version, answer_of(triple, |it| it.macos_version())) }
+}
+
+#[no_mangle]
+pub unsafe extern "C" fn lexicon_minimum_os_version(triple: *const Triple, version: *mut Version) -> Status {
+    unsafe { answer(version, answer_of(triple, |it| it.minimum_os_version())) }
+}
+
+/// The answer of a call of the caller's triple, if there is one.
+unsafe fn answer_of<'a, T>(triple: *const Triple, find: impl FnOnce(&TripleRef<'a>) -> Option<T>) -> Result<T, Status> {
+    find(&unsafe { Triple::read(triple) }?).ok_or(NO_ANSWER)
 }
 
 #[no_mangle]

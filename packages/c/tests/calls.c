@@ -195,16 +195,20 @@ static bool are_same(const struct lexicon_triple *a, const struct lexicon_triple
 static void try_bad(struct lexicon_triple bad, enum lexicon_status status, const char *what) {
   struct lexicon_triple good = triple_of("x86_64-linux"), copy = bad;
   struct lexicon_triple_facts facts;
+  struct lexicon_os_version version;
   char out[64];
   size_t length = 77;
   bool answer = true;
   fill(out, sizeof out);
   fill(&facts, sizeof facts);
+  fill(&version, sizeof version);
   expect(lexicon_print(&bad, out, sizeof out, &length) == status && length == 77 && is_filled(out, sizeof out), "bad print", what);
   for (size_t size = 0; size <= sizeof facts; size++)
     expect(lexicon_facts(&bad, &facts, size) == status && is_filled(&facts, sizeof facts), "bad facts", what);
   expect(lexicon_settle(&copy) == status && are_same(&copy, &bad), "bad settle", what);
   expect(lexicon_complete(&copy, LEXICON_LINUX_LIBC_GLIBC) == status && are_same(&copy, &bad), "bad complete", what);
+  expect(lexicon_set_pointer_width(&copy, 32) == status && lexicon_set_endianness(&copy, LEXICON_ENDIANNESS_BIG) == status && are_same(&copy, &bad), "bad variant", what);
+  expect(lexicon_macos_version(&bad, &version) == status && lexicon_minimum_os_version(&bad, &version) == status && is_filled(&version, sizeof version), "bad version", what);
   expect(lexicon_comes_back(&bad, &answer) == status && answer, "bad comes_back", what);
   expect(lexicon_equal(&bad, &good, &answer) == status && lexicon_equal(&good, &bad, &answer) == status && answer, "bad equal", what);
   expect(lexicon_same_target(&bad, &good, &answer) == status && lexicon_same_target(&good, &bad, &answer) == status, "bad target", what);
@@ -508,7 +512,7 @@ static void try_names(void) {
       lexicon_arm_profile_name};
   uint32_t dialects = 0;
   while (lexicon_read(dialects + 1, "", 0, &accepted, NULL) != LEXICON_NO_SUCH_DIALECT) dialects++;
-  const uint32_t last[] = {LEXICON_NO_SUGGESTION, LEXICON_FIELD_BINARY_FORMAT, LEXICON_FAMILY_Z80, dialects, LEXICON_LINUX_LIBC_GNULLVM,
+  const uint32_t last[] = {LEXICON_NO_ANSWER, LEXICON_FIELD_BINARY_FORMAT, LEXICON_FAMILY_Z80, dialects, LEXICON_LINUX_LIBC_GNULLVM,
       LEXICON_ORIGIN_ALIAS, LEXICON_ENDIANNESS_BIG, LEXICON_CALLING_CONVENTION_APPLE_AARCH64, LEXICON_DATA_MODEL_ILP64, LEXICON_C_LIBRARY_UCLIBC, LEXICON_FLOAT_ABI_HARD,
       LEXICON_ARM_PROFILE_MICROCONTROLLER};
   for (size_t i = 0; i < sizeof names / sizeof *names; i++) {
@@ -716,6 +720,57 @@ static const struct { const char *text, *glibc, *musl; } completed[] = {
     {"x86_64-freebsd", "x86_64-unknown-freebsd", "x86_64-unknown-freebsd"},
 };
 
+/* A triple, and what its variants print with pointers of 32 and of 64 bits, little-endian and big-endian, or null. */
+static const struct { const char *text, *variants[4]; } variants[] = {
+    {"x86_64-pc-windows-msvc", {"i686-pc-windows-msvc", "x86_64-pc-windows-msvc", "x86_64-pc-windows-msvc", NULL}},
+    {"armv7-acme-linux-gnueabihf", {"armv7-acme-linux-gnueabihf", "aarch64-acme-linux-gnu", "armv7-acme-linux-gnueabihf", NULL}},
+    {"powerpc64-unknown-linux-musl", {"powerpc-unknown-linux-musl", "powerpc64-unknown-linux-musl", "powerpc64le-unknown-linux-musl", "powerpc64-unknown-linux-musl"}},
+    {"arm64-apple-ios17", {"arm-apple-ios17.0.0", "aarch64-apple-ios17.0.0", "aarch64-apple-ios17.0.0", "aarch64_be-apple-ios17.0.0"}},
+    {"avr-none", {NULL, NULL, "avr-unknown-none", NULL}},
+    {"unknown", {NULL, NULL, NULL, NULL}},
+};
+
+static void try_variants(void) {
+  for (size_t i = 0; i < sizeof variants / sizeof *variants; i++) {
+    for (size_t of = 0; of < 4; of++) {
+      struct lexicon_triple triple = triple_of(variants[i].text), copy = triple;
+      const char *expected = variants[i].variants[of];
+      enum lexicon_status status = of < 2 ? lexicon_set_pointer_width(&triple, of ? 64 : 32) : lexicon_set_endianness(&triple, of - 1);
+      expect(status == (expected ? LEXICON_OK : LEXICON_NO_ANSWER), "variant", variants[i].text);
+      if (expected) try_text(print, &triple, expected, false);
+      else expect(are_same(&triple, &copy), "no variant", variants[i].text);
+    }
+  }
+  struct lexicon_triple triple = triple_of("avr-none"), copy = triple;
+  expect(lexicon_set_pointer_width(&triple, 16) == LEXICON_OK && are_same(&triple, &copy), "16 bits", "avr-none");
+  for (uint32_t number = 0; number < 70; number++) {
+    bool is_width = number == 16 || number == 32 || number == 64, is_order = number == LEXICON_ENDIANNESS_LITTLE || number == LEXICON_ENDIANNESS_BIG;
+    expect((lexicon_set_pointer_width(&triple, number) == LEXICON_NO_SUCH_VALUE) != is_width && are_same(&triple, &copy), "no width", "");
+    expect((lexicon_set_endianness(&triple, number) == LEXICON_NO_SUCH_VALUE) != is_order && are_same(&triple, &copy), "no byte order", "");
+  }
+}
+
+/* A triple, macOS's version that it states, and the oldest version of its system, as 100 * major + minor; 0 for none. */
+static const struct { const char *text; unsigned macos, oldest; } versions[] = {
+    {"x86_64-apple-darwin19.6", 1015, 1012}, {"arm64-apple-darwin20", 1100, 1100}, {"arm64-apple-darwin25.1", 2600, 1100}, {"x86_64-apple-darwin", 0, 1012},
+    {"x86_64-apple-macosx10.7", 1007, 1012}, {"arm64-apple-ios-sim", 0, 1400}, {"x86_64-apple-ios-macabi", 0, 1301}, {"x86_64-linux", 0, 0},
+};
+
+static void try_versions(void) {
+  for (size_t i = 0; i < sizeof versions / sizeof *versions; i++) {
+    struct lexicon_triple triple = triple_of(versions[i].text);
+    struct lexicon_os_version macos, oldest;
+    fill(&macos, sizeof macos);
+    fill(&oldest, sizeof oldest);
+    expect(lexicon_macos_version(&triple, &macos) == (versions[i].macos ? LEXICON_OK : LEXICON_NO_ANSWER), "macos_version", versions[i].text);
+    expect(lexicon_minimum_os_version(&triple, &oldest) == (versions[i].oldest ? LEXICON_OK : LEXICON_NO_ANSWER), "minimum_os_version", versions[i].text);
+    if (versions[i].macos) expect(100u * macos.major + macos.minor == versions[i].macos && macos.patch == 0, "macOS's version", versions[i].text);
+    else expect(is_filled(&macos, sizeof macos), "no version of macOS", versions[i].text);
+    if (versions[i].oldest) expect(100u * oldest.major + oldest.minor == versions[i].oldest && oldest.patch == 0, "the oldest version", versions[i].text);
+    else expect(is_filled(&oldest, sizeof oldest), "no oldest version", versions[i].text);
+  }
+}
+
 /* Two dialects, a C library and a name; the name in the other dialect, or the status, the range, the line and the reason. */
 static const struct { uint32_t from, libc, to; const char *name, *translated; enum lexicon_status status; size_t end; const char *line, *reason; } translated[] = {
     {LEXICON_DIALECT_OCI, LEXICON_LINUX_LIBC_GLIBC, LEXICON_DIALECT_RUST, "linux/arm64/v8", "aarch64-unknown-linux-gnu", LEXICON_OK, 0, NULL, NULL},
@@ -871,6 +926,8 @@ int main(void) {
   try_names();
   try_dialects();
   try_versioned_names();
+  try_variants();
+  try_versions();
   try_translation();
   try_zero_ended();
   fprintf(stderr, "calls: %u right, %u wrong\n", count - failures, failures);

@@ -171,6 +171,11 @@ static void try_driver() {
   EXPECT(parsed("i686-linux-gnu").multiarch_tuple() == "i386-linux-gnu" && !embedded.multiarch_tuple());
   EXPECT(embedded.rustc_cfg().find("target_os=\"none\"\n") != std::string::npos && parsed("x86_64-linux-gnu").rustc_cfg().find("\nunix\n") != std::string::npos);
   EXPECT(!none.c_library() && !none.float_abi() && !none.is_unix() && !none.long_double() && !none.wchar());
+  auto mips = parsed("mips64el-acme-linux-gnuabi64"), mac = parsed("arm64-apple-darwin20.3");
+  EXPECT(mips.with_pointer_width(32) == parsed("mipsel-acme-linux-gnu") && mips.with_pointer_width(64) == mips && !mips.with_pointer_width(16) && !mips.with_pointer_width(0));
+  EXPECT(mips.with_endianness(Endianness::Big) == parsed("mips64-acme-linux-gnuabi64") && !mac.with_endianness(static_cast<Endianness>(3)) && !none.with_endianness(Endianness::Big));
+  EXPECT(mac.macos_version() == (Version{11, 0, 0}) && !parsed("arm64-apple-darwin").macos_version() && mac.macos_version() < (Version{11, 1, 0}) && !none.macos_version());
+  EXPECT(mac.minimum_os_version() == (Version{11, 0, 0}) && parsed("i386-apple-ios").minimum_os_version() == (Version{10, 0, 0}) && !none.minimum_os_version());
 }
 
 // A custom vendor is owned: neither the string that was parsed nor the triple that was copied is needed.

@@ -147,6 +147,22 @@ static void try_triple(const struct lexicon_triple *triple) {
     bool is_open = triple->operating_system == LEXICON_OPERATING_SYSTEM_LINUX && triple->environment == LEXICON_ENVIRONMENT_UNKNOWN;
     CHECK((completed.environment != triple->environment) == is_open);
   }
+  for (uint32_t bits = 16; bits <= 64; bits *= 2) {
+    struct lexicon_triple variant = *triple;
+    uint32_t status = lexicon_set_pointer_width(&variant, bits);
+    CHECK(status == LEXICON_OK ? has_zeros(&variant) : status == LEXICON_NO_ANSWER && facts.pointer_width != bits);
+    CHECK(status != LEXICON_OK || (lexicon_facts(&variant, &same_facts, sizeof same_facts) == LEXICON_OK && same_facts.pointer_width == bits));
+    CHECK(status != LEXICON_OK || (same_facts.endianness == facts.endianness && same_facts.object_format == facts.object_format));
+    CHECK(facts.pointer_width != bits || are_equal(&variant, triple));
+  }
+  for (uint32_t order = LEXICON_ENDIANNESS_LITTLE; order <= LEXICON_ENDIANNESS_BIG; order++) {
+    struct lexicon_triple variant = *triple;
+    uint32_t status = lexicon_set_endianness(&variant, order);
+    CHECK(status == LEXICON_OK ? has_zeros(&variant) : status == LEXICON_NO_ANSWER && facts.endianness != order);
+    CHECK(status != LEXICON_OK || (lexicon_facts(&variant, &same_facts, sizeof same_facts) == LEXICON_OK && same_facts.endianness == order));
+    CHECK(status != LEXICON_OK || (same_facts.pointer_width == facts.pointer_width && same_facts.data_model == facts.data_model));
+    CHECK(status != LEXICON_OK || (lexicon_set_endianness(&variant, facts.endianness) == LEXICON_OK && are_equal(&variant, triple)));
+  }
   try_names(triple);
 }
 

@@ -24,7 +24,7 @@ export const DIALECTS = Object.freeze(["debian", "go", "oci", "node", "gnu", "py
 const OK = 0;
 // written by tools/names/write: the statuses for JavaScript
 const UNRECOGNIZED_FIELD = 6, NOT_UTF8 = 7, TOO_SMALL = 8, NO_SUCH_FIELD = 9, NO_SUCH_VALUE = 10, NO_SUCH_VENDOR = 11, UNKNOWN_NAME = 12;
-const NAME_WITHOUT_TRIPLE = 13, TRIPLE_WITHOUT_NAME = 14, NO_SUCH_DIALECT = 15, TOO_LARGE = 16, NEEDS_C_LIBRARY = 17, NO_SUCH_C_LIBRARY = 18, NO_SUCH_CHANGE = 19, NO_SUGGESTION = 20;
+const NAME_WITHOUT_TRIPLE = 13, TRIPLE_WITHOUT_NAME = 14, NO_SUCH_DIALECT = 15, TOO_LARGE = 16, NEEDS_C_LIBRARY = 17, NO_SUCH_C_LIBRARY = 18, NO_SUCH_CHANGE = 19, NO_SUGGESTION = 20, NO_ANSWER = 21;
 // end of what is written
 const REFUSED = UNRECOGNIZED_FIELD; // the last status of a refused string
 const CUSTOM = 255; // the number of every vendor that has none of its own

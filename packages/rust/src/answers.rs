@@ -1,10 +1,11 @@
 //! What other tools and drivers say of a triple, as calls of both types.
 use crate::proved::tool_names::{complete, object_format};
 use crate::tool_names::{
-    arm_version, is_unix, ArmProfile, CLibrary, FloatAbi, LinuxLibc, LlvmTarget, MultiarchTuple,
-    RustcCfg, TypeLayout, TypeSizes,
+    arm_version, is_unix, macos_version, minimum_os_version, with_endianness, with_pointer_width,
+    ArmProfile, CLibrary, FloatAbi, LinuxLibc, LlvmTarget, MultiarchTuple, RustcCfg, TypeLayout,
+    TypeSizes,
 };
-use crate::{BinaryFormat, Triple, TripleRef};
+use crate::{BinaryFormat, DeploymentTarget, Endianness, PointerWidth, Triple, TripleRef};
 
 /// Each call of `TripleRef`, and of `Triple` with the same documentation; `const` is before those that don't look at the vendor.
 macro_rules! answers {
@@ -138,6 +139,46 @@ answers! {
     /// ```
     with_c_library(c_library: LinuxLibc) -> TripleRef<'a>, complete;
 
+    /// The triple with the variant of its architecture whose pointers have this width: LLVM's `get32BitArchVariant` and
+    /// `get64BitArchVariant`. The environment becomes the usual one of the same C library, as `with_c_library` says. A triple
+    /// whose pointers have this width is returned as it is.
+    ///
+    /// `None` if no architecture of the library is such a variant. Little-endian PowerPC has none in 32 bits, and RISC-V only
+    /// with the same extensions. Arm of every version has the variant AArch64.
+    ///
+    /// # Examples
+    ///
+    /// ```
+    /// use target_lexicon::{triple, PointerWidth};
+    ///
+    /// let narrow = |string| triple!(string).with_pointer_width(PointerWidth::U32).map(|it| it.to_string());
+    /// assert_eq!(narrow("x86_64-pc-windows-msvc").as_deref(), Some("i686-pc-windows-msvc"));
+    /// assert_eq!(narrow("aarch64-unknown-linux-gnu").as_deref(), Some("arm-unknown-linux-gnueabihf"));
+    /// assert_eq!(narrow("powerpc64le-unknown-linux-gnu"), None);
+    ///
+    /// let x32 = triple!("x86_64-unknown-linux-gnux32");
+    /// let wide = x32.with_pointer_width(PointerWidth::U64).unwrap();
+    /// assert_eq!(wide.to_string(), "x86_64-unknown-linux-gnu");
+    /// ```
+    with_pointer_width(width: PointerWidth) -> Option<TripleRef<'a>>, with_pointer_width;
+
+    /// The triple with the variant of its architecture that has this byte order: LLVM's `getLittleEndianArchVariant` and
+    /// `getBigEndianArchVariant`. All else stays. A triple with this byte order is returned as it is.
+    ///
+    /// `None` if no architecture of the library is such a variant, for example of x86 and of Armv7-A.
+    ///
+    /// # Examples
+    ///
+    /// ```
+    /// use target_lexicon::{triple, Endianness};
+    ///
+    /// let big = |string| triple!(string).with_endianness(Endianness::Big).map(|it| it.to_string());
+    /// assert_eq!(big("mipsel-unknown-linux-musl").as_deref(), Some("mips-unknown-linux-musl"));
+    /// assert_eq!(big("s390x-unknown-linux-gnu").as_deref(), Some("s390x-unknown-linux-gnu"));
+    /// assert_eq!(big("x86_64-unknown-linux-gnu"), None);
+    /// ```
+    with_endianness(order: Endianness) -> Option<TripleRef<'a>>, with_endianness;
+
     /// The C library that the triple states: by its environment, or by a system that has only one.
     ///
     /// # Examples
@@ -248,6 +289,43 @@ answers! {
     /// assert_eq!(["arm-unknown-linux-gnueabi", "aarch64-unknown-linux-gnu"].map(profile), [None, None]);
     /// ```
     const arm_profile() -> Option<ArmProfile>, ArmProfile::of;
+
+    /// The version of macOS that the triple states: that of `macosx`, or of `darwin` the one that has this version of the kernel,
+    /// with the number 0 after the first ones. `None` without a version, before Darwin 4, and for any other system.
+    ///
+    /// # Examples
+    ///
+    /// ```
+    /// use target_lexicon::{triple, DeploymentTarget};
+    ///
+    /// let catalina = DeploymentTarget { major: 10, minor: 15, patch: 0 };
+    /// let triple = triple!("x86_64-apple-darwin19.6");
+    /// assert_eq!(triple.macos_version(), Some(catalina));
+    /// assert_eq!(triple!("aarch64-apple-darwin20").macos_version(), "11".parse().ok());
+    /// assert_eq!(triple!("aarch64-apple-darwin").macos_version(), None);
+    ///
+    /// // Versions are in order; a triple without one comes before all, as LLVM's `isMacOSXVersionLT` and `isOSVersionLT` say.
+    /// assert!(triple.macos_version() < "10.15.1".parse().ok());
+    /// assert!(triple!("x86_64-apple-ios").operating_system.version() < Some(catalina));
+    /// ```
+    const macos_version() -> Option<DeploymentTarget>, macos_version;
+
+    /// The oldest version of one of Apple's systems that rustc builds programs for, unless it is asked for another one: what
+    /// `rustc --print deployment-target` prints. It doesn't depend on the version that the triple states, and on `darwin` it is
+    /// macOS's. `None` for any other system.
+    ///
+    /// # Examples
+    ///
+    /// ```
+    /// use target_lexicon::triple;
+    ///
+    /// let oldest = |string| triple!(string).minimum_os_version().map(|it| (it.major, it.minor));
+    /// assert_eq!(oldest("x86_64-apple-darwin"), Some((10, 12)));
+    /// assert_eq!(oldest("aarch64-apple-darwin"), Some((11, 0)));
+    /// assert_eq!(oldest("aarch64-apple-ios-sim"), Some((14, 0)));
+    /// assert_eq!(oldest("x86_64-unknown-linux-gnu"), None);
+    /// ```
+    const minimum_os_version() -> Option<DeploymentTarget>, minimum_os_version;
 
     /// The sizes of C's arithmetic types: those of the data model. A triple without one, such as of bare metal and Cygwin, has those of
     /// its compilers; `None` where no source is sure, such as on UEFI and VxWorks.

@@ -1,8 +1,8 @@
 //! What the plain modules of `tool_names` say: what a compiler's driver asks, the values of rustc's cfg options, and suggestions.
 use target_lexicon::tool_names::{suggestion, CLibrary, Dialect, FloatAbi, TypeLayout};
 use target_lexicon::{
-    Architecture, BinaryFormat, CDataModel, Endianness, Environment, Field, OperatingSystem,
-    PointerWidth, Triple, TripleRef, Vendor, HOST,
+    Architecture, BinaryFormat, CDataModel, DeploymentTarget, Endianness, Environment, Field,
+    OperatingSystem, PointerWidth, Triple, TripleRef, Vendor, HOST,
 };
 
 /// A triple, and after `=` its C library, how floating-point arguments are passed, whether it is like Unix, and the size
@@ -121,6 +121,160 @@ fn versions_and_profiles_of_arm_are_answered() {
         "x86_64-unknown-linux-gnu",
     ] {
         assert_eq!(answers(text), (None, None), "{text}");
+    }
+}
+
+/// A triple, and after `=` its variants with pointers of 32 and of 64 bits, little-endian and big-endian.
+const VARIANTS: &str = "\
+x86_64-unknown-linux-gnu=i686-unknown-linux-gnu x86_64-unknown-linux-gnu x86_64-unknown-linux-gnu -
+i586-unknown-linux-musl=i586-unknown-linux-musl x86_64-unknown-linux-musl i586-unknown-linux-musl -
+x86_64-unknown-linux-gnux32=x86_64-unknown-linux-gnux32 x86_64-unknown-linux-gnu x86_64-unknown-linux-gnux32 -
+x86_64-unknown-hurd-gnu=i686-unknown-hurd-gnu x86_64-unknown-hurd-gnu x86_64-unknown-hurd-gnu -
+x86_64-win7-windows-msvc=i686-win7-windows-msvc x86_64-win7-windows-msvc x86_64-win7-windows-msvc -
+x86_64h-apple-macosx10.7.0=i686-apple-macosx10.7.0 x86_64h-apple-macosx10.7.0 x86_64h-apple-macosx10.7.0 -
+aarch64-unknown-linux-gnu=arm-unknown-linux-gnueabihf aarch64-unknown-linux-gnu aarch64-unknown-linux-gnu aarch64_be-unknown-linux-gnu
+aarch64_be-unknown-linux-gnu_ilp32=aarch64_be-unknown-linux-gnu_ilp32 aarch64_be-unknown-linux-gnu aarch64-unknown-linux-gnu_ilp32 aarch64_be-unknown-linux-gnu_ilp32
+aarch64-unknown-linux-ohos=arm-unknown-linux-ohos aarch64-unknown-linux-ohos aarch64-unknown-linux-ohos aarch64_be-unknown-linux-ohos
+aarch64-linux-android=arm-linux-androideabi aarch64-linux-android aarch64-linux-android aarch64_be-linux-android
+armv7-unknown-linux-musleabihf=armv7-unknown-linux-musleabihf aarch64-unknown-linux-musl armv7-unknown-linux-musleabihf -
+arm-linux-androideabi=arm-linux-androideabi aarch64-linux-android arm-linux-androideabi armeb-linux-androideabi
+armebv7r-none-eabihf=armebv7r-none-eabihf aarch64_be-unknown-none-eabihf armv7r-none-eabihf armebv7r-none-eabihf
+mips64el-unknown-linux-gnuabi64=mipsel-unknown-linux-gnu mips64el-unknown-linux-gnuabi64 mips64el-unknown-linux-gnuabi64 mips64-unknown-linux-gnuabi64
+mipsisa32r6-unknown-linux-musl=mipsisa32r6-unknown-linux-musl mipsisa64r6-unknown-linux-muslabi64 mipsisa32r6el-unknown-linux-musl mipsisa32r6-unknown-linux-musl
+powerpc64le-unknown-linux-gnu=- powerpc64le-unknown-linux-gnu powerpc64le-unknown-linux-gnu powerpc64-unknown-linux-gnu
+powerpc-unknown-linux-gnuspe=powerpc-unknown-linux-gnuspe powerpc64-unknown-linux-gnu - powerpc-unknown-linux-gnuspe
+riscv64gc-unknown-freebsd=riscv32gc-unknown-freebsd riscv64gc-unknown-freebsd riscv64gc-unknown-freebsd -
+riscv32imc-esp-espidf=riscv32imc-esp-espidf - riscv32imc-esp-espidf -
+sparcv9-sun-solaris=sparc-sun-solaris sparcv9-sun-solaris - sparcv9-sun-solaris
+sparc-unknown-netbsd=sparc-unknown-netbsd sparc64-unknown-netbsd - sparc-unknown-netbsd
+s390x-unknown-linux-gnu=- s390x-unknown-linux-gnu - s390x-unknown-linux-gnu
+bpfeb-unknown-none=- bpfeb-unknown-none bpfel-unknown-none bpfeb-unknown-none
+pulley32-unknown-linux=pulley32-unknown-linux pulley64-unknown-linux pulley32-unknown-linux pulley32be-unknown-linux
+wasm32-wasip1-threads=wasm32-wasip1-threads wasm64-wasip1-threads wasm32-wasip1-threads -
+avr-none=- - avr-unknown-none -
+unknown=- - - -";
+
+#[test]
+fn variants_are_answered() {
+    for (text, expected) in VARIANTS.lines().map(row_of) {
+        let triple = parsed(text);
+        let variants = [
+            triple.with_pointer_width(PointerWidth::U32),
+            triple.with_pointer_width(PointerWidth::U64),
+            triple.with_endianness(Endianness::Little),
+            triple.with_endianness(Endianness::Big),
+        ];
+        let found = variants.map(|it| it.map_or("-".to_string(), |it| it.to_string()));
+        assert_eq!(found.join(" "), expected, "{text}");
+    }
+    let avr = parsed("avr-none");
+    assert_eq!(avr.with_pointer_width(PointerWidth::U16), Some(avr));
+    let arm = parsed("armv7-none-eabi");
+    assert_eq!(arm.with_pointer_width(PointerWidth::U16), None);
+}
+
+/// A variant has what was asked for, and the rest of the triple; with the first width or byte order again it has the same variant.
+#[test]
+fn variants_have_what_is_asked_for() {
+    let rows = [VARIANTS, ANSWERS, SIZES, VALUES, LLVM_TARGETS];
+    let triples = rows.iter().flat_map(|rows| rows.lines().map(row_of));
+    let mut count = 0;
+    for triple in triples.map(|(text, _)| parsed(text)) {
+        for width in [PointerWidth::U16, PointerWidth::U32, PointerWidth::U64] {
+            let Some(variant) = triple.with_pointer_width(width) else {
+                continue;
+            };
+            count += 1;
+            assert_eq!(variant.pointer_width(), Ok(width), "{triple}");
+            let (architecture, environment) = (triple.architecture, triple.environment);
+            assert_eq!(
+                TripleRef {
+                    architecture,
+                    environment,
+                    ..variant
+                },
+                triple
+            );
+            assert_eq!(variant.endianness(), triple.endianness(), "{triple}");
+            assert_eq!(variant.object_format(), triple.object_format(), "{triple}");
+            let back = variant.with_pointer_width(triple.pointer_width().unwrap());
+            let again = back.map(|it| it.with_pointer_width(width));
+            // An environment such as `gnux32` isn't the usual one of a C library.
+            assert!(
+                again == Some(Some(variant)) || variant.architecture == triple.architecture,
+                "{triple}"
+            );
+        }
+        for order in [Endianness::Little, Endianness::Big] {
+            let Some(variant) = triple.with_endianness(order) else {
+                continue;
+            };
+            count += 1;
+            assert_eq!(variant.endianness(), Ok(order), "{triple}");
+            assert_eq!(
+                variant.with_endianness(triple.endianness().unwrap()),
+                Some(triple)
+            );
+            assert_eq!(
+                TripleRef {
+                    architecture: triple.architecture,
+                    ..variant
+                },
+                triple
+            );
+            assert_eq!(variant.pointer_width(), triple.pointer_width(), "{triple}");
+        }
+    }
+    assert!(count > 300, "{count}");
+}
+
+#[test]
+fn versions_of_apples_systems_are_answered() {
+    let numbers = |it: Option<DeploymentTarget>| it.map(|it| (it.major, it.minor, it.patch));
+    for (text, macos, oldest) in [
+        (
+            "x86_64-apple-macosx10.7.5",
+            Some((10, 7, 5)),
+            Some((10, 12, 0)),
+        ),
+        ("aarch64-apple-macosx", None, Some((11, 0, 0))),
+        ("aarch64-apple-darwin", None, Some((11, 0, 0))),
+        ("powerpc-apple-darwin3", None, Some((10, 12, 0))),
+        ("powerpc-apple-darwin4", Some((10, 0, 0)), Some((10, 12, 0))),
+        (
+            "x86_64-apple-darwin19.6",
+            Some((10, 15, 0)),
+            Some((10, 12, 0)),
+        ),
+        (
+            "aarch64-apple-darwin20.1",
+            Some((11, 0, 0)),
+            Some((11, 0, 0)),
+        ),
+        ("aarch64-apple-darwin24", Some((15, 0, 0)), Some((11, 0, 0))),
+        ("aarch64-apple-darwin25", Some((26, 0, 0)), Some((11, 0, 0))),
+        (
+            "aarch64-apple-darwin65535",
+            Some((65535, 0, 0)),
+            Some((11, 0, 0)),
+        ),
+        ("aarch64-apple-ios17", None, Some((10, 0, 0))),
+        ("aarch64-apple-ios-sim", None, Some((14, 0, 0))),
+        ("x86_64-apple-ios-macabi", None, Some((13, 1, 0))),
+        ("aarch64-apple-ios-macabi", None, Some((14, 0, 0))),
+        ("x86_64-apple-tvos", None, Some((10, 0, 0))),
+        ("aarch64-apple-tvos-sim", None, Some((14, 0, 0))),
+        ("armv7k-apple-watchos", None, Some((5, 0, 0))),
+        ("aarch64-apple-watchos", None, Some((26, 0, 0))),
+        ("aarch64-apple-watchos-sim", None, Some((7, 0, 0))),
+        ("aarch64-apple-visionos-sim", None, Some((1, 0, 0))),
+        ("aarch64-apple-xros2", None, Some((1, 0, 0))),
+        ("x86_64-unknown-linux-gnu", None, None),
+        ("unknown", None, None),
+    ] {
+        let triple = parsed(text);
+        assert_eq!(numbers(triple.macos_version()), macos, "{text}");
+        assert_eq!(numbers(triple.minimum_os_version()), oldest, "{text}");
     }
 }
 

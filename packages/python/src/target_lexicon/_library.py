@@ -40,6 +40,7 @@ NEEDS_C_LIBRARY = 17
 NO_SUCH_C_LIBRARY = 18
 NO_SUCH_CHANGE = 19
 NO_SUGGESTION = 20
+NO_ANSWER = 21
 # end of what is written
 
 

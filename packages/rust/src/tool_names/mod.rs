@@ -3,8 +3,9 @@
 //!
 //! What other tools' names mean is proved. Suggestions, rustc's cfg options and what a compiler's driver asks are plain Rust,
 //! compared with those tools.
-mod dialect_suggestions;
+mod apple_versions;
 mod arm;
+mod dialect_suggestions;
 mod driver;
 mod llvm_target;
 mod loose;
@@ -12,19 +13,22 @@ mod mistakes;
 mod multiarch;
 mod rustc_cfg;
 mod translation;
+mod variants;
 
-pub use crate::suggestions::{suggestion, Suggestion};
 #[cfg(feature = "alloc")]
 pub use crate::parse_name_error::{ParseNameError, UnknownWord};
 pub use crate::proved::tool_names::{
     changes, read, Change, ChangedParts, Dialect, LinuxLibc, Name, NameError, Spelling,
 };
-pub use driver::{CLibrary, FloatAbi, TypeLayout, TypeSizes};
-pub use llvm_target::LlvmTarget;
-pub use multiarch::MultiarchTuple;
-pub use mistakes::Mistake;
-pub(crate) use rustc_cfg::is_unix;
-pub use rustc_cfg::RustcCfg;
+pub use crate::suggestions::{suggestion, Suggestion};
+pub(crate) use apple_versions::{macos_version, minimum_os_version};
 pub(crate) use arm::arm_version;
 pub use arm::ArmProfile;
+pub use driver::{CLibrary, FloatAbi, TypeLayout, TypeSizes};
+pub use llvm_target::LlvmTarget;
+pub use mistakes::Mistake;
+pub use multiarch::MultiarchTuple;
+pub(crate) use rustc_cfg::is_unix;
+pub use rustc_cfg::RustcCfg;
 pub use translation::{TranslateError, WriteError};
+pub(crate) use variants::{with_endianness, with_pointer_width};
