@@ -2,6 +2,7 @@
 use crate::{Architecture, DeploymentTarget, Environment, OperatingSystem, TripleRef};
 
 /// The answer of [`TripleRef::macos_version`].
+#[inline]
 pub(crate) const fn macos_version(triple: &TripleRef<'_>) -> Option<DeploymentTarget> {
     let kernel = match triple.operating_system {
         OperatingSystem::MacOSX(version) => return version,
@@ -23,6 +24,7 @@ pub(crate) const fn macos_version(triple: &TripleRef<'_>) -> Option<DeploymentTa
 }
 
 /// The answer of [`TripleRef::minimum_os_version`].
+#[inline]
 pub(crate) const fn minimum_os_version(triple: &TripleRef<'_>) -> Option<DeploymentTarget> {
     use {Environment::*, OperatingSystem::*};
     let is_aarch64 = matches!(triple.architecture, Architecture::Aarch64(_));

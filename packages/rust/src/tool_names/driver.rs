@@ -101,6 +101,7 @@ pub struct TypeSizes {
 
 impl CLibrary {
     /// The answer of [`TripleRef::c_library`].
+    #[inline]
     pub(crate) fn of(triple: &TripleRef<'_>) -> Option<CLibrary> {
         use {Environment::*, OperatingSystem::*};
         match (triple.environment, triple.operating_system) {
@@ -131,6 +132,7 @@ impl CLibrary {
     /// assert_eq!(target_lexicon::tool_names::CLibrary::Glibc.name(), "glibc");
     /// ```
     #[must_use]
+    #[inline]
     pub const fn name(self) -> &'static str {
         match self {
             // written by tools/names/write: the names of C libraries
@@ -149,12 +151,14 @@ impl CLibrary {
 }
 
 impl fmt::Display for CLibrary {
+    #[inline]
     fn fmt(&self, f: &mut fmt::Formatter<'_>) -> fmt::Result {
         f.pad(self.name())
     }
 }
 
 /// The library of a system that has only one.
+#[inline]
 fn library_of_system(triple: &TripleRef<'_>) -> Option<CLibrary> {
     use OperatingSystem::*;
     match UnlistedSystem::of(triple) {
@@ -175,6 +179,7 @@ fn library_of_system(triple: &TripleRef<'_>) -> Option<CLibrary> {
 
 impl FloatAbi {
     /// The answer of [`TripleRef::float_abi`].
+    #[inline]
     pub(crate) const fn of(triple: &TripleRef<'_>) -> Option<FloatAbi> {
         use Environment::*;
         let is_arm = matches!(triple.architecture, Architecture::Arm(_));
@@ -199,6 +204,7 @@ impl FloatAbi {
     /// assert_eq!(target_lexicon::tool_names::FloatAbi::Hard.name(), "hard");
     /// ```
     #[must_use]
+    #[inline]
     pub const fn name(self) -> &'static str {
         match self {
             FloatAbi::Soft => "soft",
@@ -208,6 +214,7 @@ impl FloatAbi {
 }
 
 impl fmt::Display for FloatAbi {
+    #[inline]
     fn fmt(&self, f: &mut fmt::Formatter<'_>) -> fmt::Result {
         f.pad(self.name())
     }
@@ -215,6 +222,7 @@ impl fmt::Display for FloatAbi {
 
 impl TypeLayout {
     /// The answer of [`TripleRef::long_double_layout`].
+    #[inline]
     pub(crate) const fn of_long_double(triple: &TripleRef<'_>) -> Option<TypeLayout> {
         use {Architecture::*, OperatingSystem::*};
         let (size, alignment) = match (triple.architecture, triple.operating_system) {
@@ -240,6 +248,7 @@ impl TypeLayout {
     }
 
     /// The answer of [`TripleRef::wchar_layout`].
+    #[inline]
     pub(crate) const fn of_wchar(triple: &TripleRef<'_>) -> Option<TypeLayout> {
         use {Architecture::*, OperatingSystem::*};
         let size = match (triple.architecture, triple.operating_system) {
@@ -260,6 +269,7 @@ impl TypeLayout {
 
 impl TypeSizes {
     /// The answer of [`TripleRef::type_sizes`].
+    #[inline]
     pub(crate) const fn of(triple: &TripleRef<'_>) -> Option<TypeSizes> {
         match triple.data_model() {
             Ok(model) => Some(TypeSizes::in_model(model)),
@@ -277,6 +287,7 @@ impl TypeSizes {
     /// assert_eq!(TypeSizes::in_model(CDataModel::LLP64).long, 4);
     /// ```
     #[must_use]
+    #[inline]
     pub const fn in_model(model: CDataModel) -> TypeSizes {
         TypeSizes {
             short: model.short_size().bytes(),
@@ -313,6 +324,7 @@ impl TypeSizes {
     }
 }
 
+#[inline]
 const fn windows_long_double(triple: &TripleRef<'_>) -> Option<TypeLayout> {
     use {Architecture::*, Environment::*};
     let (size, alignment) = match (triple.environment, triple.architecture) {
@@ -325,6 +337,7 @@ const fn windows_long_double(triple: &TripleRef<'_>) -> Option<TypeLayout> {
     Some(TypeLayout { size, alignment })
 }
 
+#[inline]
 const fn powerpc_long_double(triple: &TripleRef<'_>) -> Option<TypeLayout> {
     use {Environment::*, OperatingSystem::*};
     let size = match (triple.operating_system, triple.environment) {

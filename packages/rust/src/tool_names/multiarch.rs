@@ -20,6 +20,7 @@ pub struct MultiarchTuple {
 
 impl MultiarchTuple {
     /// The answer of [`TripleRef::multiarch_tuple`].
+    #[inline]
     pub(crate) fn of(triple: &TripleRef<'_>) -> Option<MultiarchTuple> {
         Dialect::Debian.write(triple)?;
         let prefix = Dialect::Gnu.write(triple)?;
@@ -28,6 +29,7 @@ impl MultiarchTuple {
 }
 
 impl fmt::Display for MultiarchTuple {
+    #[inline]
     fn fmt(&self, f: &mut fmt::Formatter<'_>) -> fmt::Result {
         let prefix = self.prefix.as_str();
         match prefix.strip_prefix("i686") {

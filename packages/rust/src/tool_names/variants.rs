@@ -40,6 +40,7 @@ const ORDERS: [(&str, &str); 11] = [
 ];
 
 /// The answer of [`TripleRef::with_pointer_width`].
+#[inline]
 pub(crate) fn with_pointer_width<'a>(
     triple: &TripleRef<'a>,
     width: PointerWidth,
@@ -61,6 +62,7 @@ pub(crate) fn with_pointer_width<'a>(
 }
 
 /// The answer of [`TripleRef::with_endianness`].
+#[inline]
 pub(crate) fn with_endianness<'a>(
     triple: &TripleRef<'a>,
     order: Endianness,
@@ -75,6 +77,7 @@ pub(crate) fn with_endianness<'a>(
 }
 
 /// The other architecture of a pair.
+#[inline]
 fn partner(pairs: &[(&str, &str)], architecture: Architecture) -> Option<Architecture> {
     let name = architecture.name();
     let partner = pairs.iter().find_map(|&(first, second)| match name {
@@ -86,6 +89,7 @@ fn partner(pairs: &[(&str, &str)], architecture: Architecture) -> Option<Archite
 }
 
 /// The architecture of the same registers and byte order that [`WIDTHS`] has.
+#[inline]
 fn in_widths(architecture: Architecture) -> Architecture {
     match architecture {
         Architecture::Arm(arm) => Architecture::Arm(match arm.endianness() {
@@ -100,6 +104,7 @@ fn in_widths(architecture: Architecture) -> Architecture {
 }
 
 /// The environment of the same C library on another architecture: on Linux the usual one.
+#[inline]
 fn environment_on(triple: &TripleRef<'_>, architecture: Architecture) -> Environment {
     use Environment::*;
     if triple.operating_system != OperatingSystem::Linux {
