@@ -100,10 +100,10 @@ tables_of dialect.Uname = constant_rows uname.ROWS ∷ constant_rows uname.ROWS_
 tables_of dialect.Rpm = constant_rows rpm.ROWS ∷ []
 tables_of dialect.Apk = constant_rows apk.ROWS ∷ []
 tables_of dialect.Pacman = constant_rows pacman.ROWS ∷ []
-tables_of dialect.Dotnet = constant_rows dotnet.ROWS ∷ constant_rows dotnet.ROWS_2 ∷ []
+tables_of dialect.Dotnet = constant_rows dotnet.ROWS ∷ constant_rows dotnet.ROWS_2 ∷ constant_rows dotnet.ROWS_3 ∷ []
 tables_of dialect.Conda = constant_rows conda.ROWS ∷ []
-tables_of dialect.Zig = constant_rows zig.ROWS ∷ constant_rows zig.ROWS_2 ∷ constant_rows zig.ROWS_3 ∷ []
-tables_of dialect.Nix = constant_rows nix.ROWS ∷ []
+tables_of dialect.Zig = constant_rows zig.ROWS ∷ constant_rows zig.ROWS_2 ∷ constant_rows zig.ROWS_3 ∷ constant_rows zig.ROWS_4 ∷ []
+tables_of dialect.Nix = constant_rows nix.ROWS ∷ constant_rows nix.ROWS_2 ∷ []
 
 -- end of what is written
 

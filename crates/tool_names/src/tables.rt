@@ -91,10 +91,10 @@ impl Dialect {
             Dialect::Rpm => [rpm::rows(), &[], &[], &[], &[], &[], &[]],
             Dialect::Apk => [apk::rows(), &[], &[], &[], &[], &[], &[]],
             Dialect::Pacman => [pacman::rows(), &[], &[], &[], &[], &[], &[]],
-            Dialect::Dotnet => [dotnet::rows(), dotnet::rows_2(), &[], &[], &[], &[], &[]],
+            Dialect::Dotnet => [dotnet::rows(), dotnet::rows_2(), dotnet::rows_3(), &[], &[], &[], &[]],
             Dialect::Conda => [conda::rows(), &[], &[], &[], &[], &[], &[]],
-            Dialect::Zig => [zig::rows(), zig::rows_2(), zig::rows_3(), &[], &[], &[], &[]],
-            Dialect::Nix => [nix::rows(), &[], &[], &[], &[], &[], &[]],
+            Dialect::Zig => [zig::rows(), zig::rows_2(), zig::rows_3(), zig::rows_4(), &[], &[], &[]],
+            Dialect::Nix => [nix::rows(), nix::rows_2(), &[], &[], &[], &[], &[]],
             // end of what is written
         }
     }

@@ -87,6 +87,7 @@ enum lexicon_status {
   LEXICON_NO_SUCH_CHANGE = 19, /* the string has no change with this number */
   LEXICON_NO_SUGGESTION = 20, /* nothing else may have been meant */
   LEXICON_NO_ANSWER = 21, /* the triple has no such variant or version */
+  LEXICON_NO_SUCH_MEANING = 22, /* the string has no meaning with this number */
   /* end of what is written */
 };
 
@@ -685,6 +686,14 @@ LEXICON_CHECKED LEXICON_NONNULL(4)
 enum lexicon_status lexicon_changes(const char *text, size_t text_size, size_t number, struct lexicon_change *change, char *out,
                                     size_t out_size, size_t *length);
 
+/* What a string means to those who have it as a name: the meaning with this number, from 0. The dialects come first, in the order of their
+   numbers; then, with LEXICON_DIALECT_NONE as the dialect, the string as one that is spelled like a triple, unless it is a single word and
+   some dialect has it. The triple is canonical. Where the dialect has the name and no triple means the same, the status is
+   LEXICON_NAME_WITHOUT_TRIPLE, only the dialect is written, and lexicon_reason says why. After the last meaning the status is
+   LEXICON_NO_SUCH_MEANING, and nothing is written. */
+LEXICON_CHECKED LEXICON_NONNULL(4, 5)
+enum lexicon_status lexicon_meaning(const char *text, size_t text_size, size_t number, uint32_t *dialect, struct lexicon_triple *triple);
+
 /* Why a name of a dialect has no triple, where lexicon_read gives LEXICON_NAME_WITHOUT_TRIPLE. Otherwise null. */
 const char *lexicon_reason(uint32_t dialect, const char *name, size_t name_size);
 
@@ -776,6 +785,10 @@ static inline enum lexicon_status lexicon_changes_z(const char *text, size_t num
                                                     size_t out_size, size_t *length) {
   return lexicon_changes(text, strlen(text), number, change, out, out_size, length);
 }
+LEXICON_CHECKED LEXICON_NONNULL(1, 3, 4)
+static inline enum lexicon_status lexicon_meaning_z(const char *text, size_t number, uint32_t *dialect, struct lexicon_triple *triple) {
+  return lexicon_meaning(text, strlen(text), number, dialect, triple);
+}
 LEXICON_NONNULL(2)
 static inline const char *lexicon_reason_z(uint32_t dialect, const char *name) {
   return lexicon_reason(dialect, name, strlen(name));
@@ -818,7 +831,7 @@ static inline enum lexicon_status lexicon_number_z(uint32_t field, const char *t
 LEXICON_NAMES(lexicon_status_name, "ok", "unrecognized architecture", "unrecognized vendor", "unrecognized operating system",
   "unrecognized environment", "unrecognized binary format", "unrecognized field", "not UTF-8", "too small a buffer", "no such field",
   "no such value", "no such vendor", "unknown name", "name without a triple", "triple without a name", "no such dialect",
-  "too large a size", "needs a C library", "no such C library", "no such change", "no suggestion", "no answer")
+  "too large a size", "needs a C library", "no such C library", "no such change", "no suggestion", "no answer", "no such meaning")
 LEXICON_NAMES(lexicon_field_name, "architecture", "vendor", "operating system", "environment", "binary format")
 LEXICON_NAMES(lexicon_family_name,
   /* written by tools/names/write: the names of families for C */

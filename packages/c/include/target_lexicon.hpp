@@ -315,6 +315,7 @@ struct Source {
   std::size_t start = 0, end = 0;  // the part, in bytes; 0 if no part gives the value
 };
 struct Explanation;
+struct Meaning;
 
 class Triple {
   // What is compared.
@@ -395,6 +396,9 @@ class Triple {
   static std::optional<Triple> read(std::string_view name, Dialect dialect, ParseError* error = nullptr) {
     return read_in(static_cast<std::uint32_t>(dialect), name, error);
   }
+
+  // What a string means to each dialect that has it as a name, and as one that is spelled like a triple, as `lexicon_meaning` says.
+  static std::vector<Meaning> meanings(std::string_view text);
 
   // The name in a dialect, if there is one. If there is none, `reason` says why, and what would help.
   std::optional<std::string> name_in(Dialect dialect, std::string* reason = nullptr) const {
@@ -756,6 +760,27 @@ inline std::optional<Explanation> Triple::explain(std::string_view text, ParseEr
   auto of = [](const lexicon_source& it) { return Source{static_cast<Origin>(it.origin), it.start, it.end}; };
   return Explanation{Triple(triple), of(sources.architecture), of(sources.vendor), of(sources.operating_system), of(sources.environment),
                      of(sources.binary_format)};
+}
+
+// Whose name a string is, and the canonical triple that it means there.
+struct Meaning {
+  std::optional<Dialect> dialect;  // none of a string that is spelled like a triple
+  std::optional<Triple> triple;
+  std::string reason;  // why no triple means the same; empty if one does
+};
+
+inline std::vector<Meaning> Triple::meanings(std::string_view text) {
+  std::vector<Meaning> found;
+  for (lexicon_triple triple = {};;) {
+    std::uint32_t number = LEXICON_DIALECT_NONE;
+    lexicon_status status = lexicon_meaning(text.data(), text.size(), found.size(), &number, &triple);
+    if (status != LEXICON_OK && status != LEXICON_NAME_WITHOUT_TRIPLE) return found;
+    Meaning it;
+    if (number != LEXICON_DIALECT_NONE) it.dialect = static_cast<Dialect>(number);
+    if (status == LEXICON_OK) it.triple = Triple(triple);
+    else it.reason = detail::text_of(lexicon_reason(number, text.data(), text.size()));
+    found.push_back(std::move(it));
+  }
 }
 
 // What `Triple::read` reads as other names in a string that is spelled like a triple, from its start to its end.

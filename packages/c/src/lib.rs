@@ -38,7 +38,7 @@ use target_lexicon::tool_names::{self, Dialect, Name, NameError, Suggestion, Tra
 use target_lexicon::{DeploymentTarget, Endianness, PointerWidth, TripleRef};
 use text::{shown, write_text, written, Text};
 use triple::{NumberedTriple, TripleNumbers};
-use values::{architecture_at, c_library_at, dialect_at, environment_at, field_at, name_at, number_in, operating_system_at, CUSTOM_VENDOR};
+use values::{architecture_at, c_library_at, dialect_at, environment_at, field_at, name_at, name_of_number, number_in, operating_system_at, CUSTOM_VENDOR};
 
 /// `enum lexicon_status`. From 1 to 6 a text is refused, where a value of the first to the fifth field was expected, or none.
 pub type Status = u32;
@@ -60,6 +60,7 @@ const NO_SUCH_C_LIBRARY: Status = 18;
 const NO_SUCH_CHANGE: Status = 19;
 const NO_SUGGESTION: Status = 20;
 const NO_ANSWER: Status = 21;
+const NO_SUCH_MEANING: Status = 22;
 // end of what is written
 
 /// The greatest size of anything in memory, `PTRDIFF_MAX`. Rust has no slice that is larger.
@@ -570,6 +571,27 @@ pub unsafe extern "C" fn lexicon_changes(
 }
 
 #[no_mangle]
+pub unsafe extern "C" fn lexicon_meaning(
+    text: *const u8,
+    text_size: usize,
+    number: usize,
+    dialect: *mut u32,
+    triple: *mut Triple,
+) -> Status {
+    let find = || {
+        let text = unsafe { text_at(text, text_size) }.map_err(|error| error.status)?;
+        tool_names::meanings(text).nth(number).ok_or(NO_SUCH_MEANING)
+    };
+    match find() {
+        Ok(found) => unsafe {
+            dialect.write(name_of_number(found.of));
+            answer(triple, found.triple.map_err(|_| NAME_WITHOUT_TRIPLE))
+        },
+        Err(status) => status,
+    }
+}
+
+#[no_mangle]
 pub unsafe extern "C" fn lexicon_reason(dialect: u32, name: *const u8, name_size: usize) -> *const u8 {
     let dialect = dialect_at(dialect).flatten();
     let name = unsafe { text_at(name, name_size) }.ok();
@@ -605,7 +627,7 @@ pub unsafe extern "C" fn lexicon_translate_reason(from: u32, name: *const u8, na
         let (from, to) = (dialect_at(from)?, dialect_at(to).flatten()?);
         let c_library = c_library_at(linux_libc)?;
         let name = unsafe { text_at(name, name_size) }.ok()?;
-        let triple = match from.map(|from| from.read(name)) {
+        let triple = match from.map(|from| from.read_loosely(name)) {
             None => tool_names::read(name).ok()?,
             Some(Ok(triple)) => triple,
             Some(Err(NameError::WithoutTriple(why))) => return Some(why),

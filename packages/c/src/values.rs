@@ -1,7 +1,7 @@
 //! The numbers of values, fields, dialects and C libraries, each by an ordered list: the number is the index, from 0.
 use core::fmt::{Display, Error, Result, Write};
 use core::str::FromStr as _;
-use target_lexicon::tool_names::{Dialect, LinuxLibc};
+use target_lexicon::tool_names::{Dialect, LinuxLibc, NameOf};
 use target_lexicon::{
     Aarch64Architecture, Architecture, ArmArchitecture, BinaryFormat, CleverArchitecture, DeploymentTarget, Environment, Field,
     KnownVendor, Mips32Architecture, Mips64Architecture, OperatingSystem, Riscv32Architecture, Riscv64Architecture, VendorRef,
@@ -181,6 +181,12 @@ pub(crate) fn field_at(number: u32) -> Option<Field> {
 /// The dialect of this number. 0 is none: that of strings that are spelled like triples.
 pub(crate) fn dialect_at(number: u32) -> Option<Option<Dialect>> {
     none_or_at(number, Dialect::ALL)
+}
+
+/// The number of whose name it is. 0 is that of strings that are spelled like triples.
+pub(crate) fn name_of_number(of: NameOf) -> u32 {
+    let is_it = |it: &Dialect| of == NameOf::Dialect(*it);
+    (1..).zip(Dialect::ALL).find(|(_, it)| is_it(it)).map_or(0, |(number, _)| number)
 }
 
 /// The C library of this number. 0 is none.

@@ -512,7 +512,7 @@ static void try_names(void) {
       lexicon_arm_profile_name};
   uint32_t dialects = 0;
   while (lexicon_read(dialects + 1, "", 0, &accepted, NULL) != LEXICON_NO_SUCH_DIALECT) dialects++;
-  const uint32_t last[] = {LEXICON_NO_ANSWER, LEXICON_FIELD_BINARY_FORMAT, LEXICON_FAMILY_Z80, dialects, LEXICON_LINUX_LIBC_GNULLVM,
+  const uint32_t last[] = {LEXICON_NO_SUCH_MEANING, LEXICON_FIELD_BINARY_FORMAT, LEXICON_FAMILY_Z80, dialects, LEXICON_LINUX_LIBC_GNULLVM,
       LEXICON_ORIGIN_ALIAS, LEXICON_ENDIANNESS_BIG, LEXICON_CALLING_CONVENTION_APPLE_AARCH64, LEXICON_DATA_MODEL_ILP64, LEXICON_C_LIBRARY_UCLIBC, LEXICON_FLOAT_ABI_HARD,
       LEXICON_ARM_PROFILE_MICROCONTROLLER};
   for (size_t i = 0; i < sizeof names / sizeof *names; i++) {
@@ -644,7 +644,7 @@ static void try_dialects(void) {
   expect(lexicon_write(LEXICON_DIALECT_GO, &triple, out, sizeof out, &length) == LEXICON_NO_SUCH_VALUE, "a bad value", "write");
   triple = triple_of("avr-none");
   expect(lexicon_write(LEXICON_DIALECT_GO, &triple, out, sizeof out, &length) == LEXICON_TRIPLE_WITHOUT_NAME, "no name", "avr");
-  try_reason(lexicon_write_reason(LEXICON_DIALECT_GO, &triple), "the tool has no name for the system");
+  try_reason(lexicon_write_reason(LEXICON_DIALECT_GO, &triple), "the tool has no name for this machine on any system");
   triple = triple_of("x86_64-linux");
   expect(lexicon_write(LEXICON_DIALECT_DEBIAN, &triple, out, sizeof out, &length) == LEXICON_NEEDS_C_LIBRARY, "no name", "x86_64-linux");
   try_reason(lexicon_write_reason(LEXICON_DIALECT_DEBIAN, &triple), "it depends on the C library: say glibc or musl");
@@ -783,7 +783,9 @@ static const struct { uint32_t from, libc, to; const char *name, *translated; en
     {LEXICON_DIALECT_OCI, LEXICON_LINUX_LIBC_GLIBC, LEXICON_DIALECT_DEBIAN, "windows/amd64", NULL, LEXICON_TRIPLE_WITHOUT_NAME, 13,
      "No name in the other dialect: windows/amd64", "the tool has no name for the system"},
     {LEXICON_DIALECT_NONE, LEXICON_LINUX_LIBC_NONE, LEXICON_DIALECT_OCI, "avr-none", NULL, LEXICON_TRIPLE_WITHOUT_NAME, 8,
-     "No name in the other dialect: avr-none", "the tool has no name for the system"},
+     "No name in the other dialect: avr-none", "the tool has no name for this machine on any system"},
+    {LEXICON_DIALECT_NODE, LEXICON_LINUX_LIBC_NONE, LEXICON_DIALECT_DEBIAN, "@esbuild/linux-x64", NULL, LEXICON_NEEDS_C_LIBRARY, 18,
+     "No name in the other dialect: @esbuild/linux-x64", "it depends on the C library: say glibc or musl"},
     {LEXICON_DIALECT_GO, LEXICON_LINUX_LIBC_GLIBC, LEXICON_DIALECT_OCI, "linux/amd46", NULL, LEXICON_UNKNOWN_NAME, 11, "Unknown name: linux/amd46", NULL},
     {LEXICON_DIALECT_GO, LEXICON_LINUX_LIBC_GLIBC, LEXICON_DIALECT_OCI, "js/wasm", NULL, LEXICON_NAME_WITHOUT_TRIPLE, 7, "No triple has this name: js/wasm",
      "a module for Go's own JavaScript; rustc's nearest target is wasm32-unknown-unknown"},
@@ -874,6 +876,39 @@ static void try_translation(void) {
   expect(is_filled(&change, sizeof change) && is_filled(out, sizeof out) && length == 77, "changes", "unchanged");
 }
 
+/* A string, and whose name it is: the number, the dialect, the status, and the triple or the reason. */
+static const struct { const char *text; size_t number; uint32_t dialect; enum lexicon_status status; const char *meant; } meanings[] = {
+    {"armhf", 0, LEXICON_DIALECT_DEBIAN, LEXICON_OK, "armv7-unknown-linux-gnueabihf"},
+    {"armhf", 1, LEXICON_DIALECT_APK, LEXICON_OK, "armv6-unknown-linux-musleabihf"},
+    {"amd64", 1, LEXICON_DIALECT_GO, LEXICON_NAME_WITHOUT_TRIPLE, "a machine without a system"},
+    {"x86_64-acme-linux", 0, LEXICON_DIALECT_GNU, LEXICON_OK, "x86_64-unknown-linux-gnu"},
+    {"x86_64-acme-linux", 1, LEXICON_DIALECT_NONE, LEXICON_OK, "x86_64-acme-linux"},
+    {"@esbuild/linux-x64", 0, LEXICON_DIALECT_NODE, LEXICON_OK, "x86_64-unknown-linux"},
+    {"avr", 0, LEXICON_DIALECT_GNU, LEXICON_OK, "avr-unknown-none-elf"},
+};
+
+static void try_meanings(void) {
+  struct lexicon_triple triple;
+  uint32_t dialect;
+  for (size_t i = 0; i < sizeof meanings / sizeof *meanings; i++) {
+    const char *text = meanings[i].text;
+    fill(&triple, sizeof triple);
+    enum lexicon_status status = lexicon_meaning_z(text, meanings[i].number, &dialect, &triple);
+    expect(status == meanings[i].status && dialect == meanings[i].dialect, "meaning", text);
+    expect((status == LEXICON_OK) != is_filled(&triple, sizeof triple), "the triple of a meaning", text);
+    if (status == LEXICON_OK) try_text(print, &triple, meanings[i].meant, false);
+    else try_reason(lexicon_reason_z(dialect, text), meanings[i].meant);
+  }
+  fill(&triple, sizeof triple);
+  fill(&dialect, sizeof dialect);
+  expect(lexicon_meaning_z("armhf", 2, &dialect, &triple) == LEXICON_NO_SUCH_MEANING, "no more meanings", "armhf");
+  expect(lexicon_meaning_z("foo/bar", 0, &dialect, &triple) == LEXICON_NO_SUCH_MEANING, "no meaning", "foo/bar");
+  expect(lexicon_meaning(NULL, 0, 0, &dialect, &triple) == LEXICON_NO_SUCH_MEANING, "no meaning", "");
+  expect(lexicon_meaning("avr-ÿ", 5, 0, &dialect, &triple) == LEXICON_NOT_UTF8, "meaning", "not UTF-8");
+  expect(lexicon_meaning("avr", (size_t)-1, 0, &dialect, &triple) == LEXICON_TOO_LARGE, "too large", "meaning");
+  expect(is_filled(&triple, sizeof triple) && is_filled(&dialect, sizeof dialect), "meaning", "unchanged");
+}
+
 /* The calls without a size do the same as those with one. */
 static void try_zero_ended(void) {
   for (size_t i = 0; i < sizeof refused / sizeof *refused; i++) {
@@ -929,6 +964,7 @@ int main(void) {
   try_variants();
   try_versions();
   try_translation();
+  try_meanings();
   try_zero_ended();
   fprintf(stderr, "calls: %u right, %u wrong\n", count - failures, failures);
   return failures ? 1 : 0;

@@ -312,6 +312,10 @@ static void try_translation() {
   EXPECT(found.size() == 2 && found[0].part == "amd64" && found[0].names == "x86_64" && found[1].start == 14 && found[1].end == 25);
   EXPECT(found[1].part == "freebsd13.2" && found[1].names == "freebsd" && changes("x86_64-linux").empty() && changes("").empty());
   EXPECT(changes("x86_64-w64-mingw32").back().names == "windows-gnu");
+  auto armhf = Triple::meanings("armhf"), plan9 = Triple::meanings("plan9/amd64"), avr = Triple::meanings("avr-none");
+  EXPECT(armhf.size() == 2 && armhf[0].dialect == Dialect::Debian && armhf[1].triple->printed() == "armv6-unknown-linux-musleabihf");
+  EXPECT(plan9.size() == 1 && !plan9[0].triple && plan9[0].dialect == Dialect::Go && plan9[0].reason == "Plan 9 is no known name");
+  EXPECT(!avr.back().dialect && avr.back().triple == Triple::parse("avr-none") && avr.back().reason.empty() && Triple::meanings("foo/bar").empty());
   auto android = parsed("armv7-linux-androideabi"), i686 = parsed("i686-linux-gnu");
   EXPECT(android.c_library() == CLibrary::Bionic && android.float_abi() == FloatAbi::Soft && android.is_unix() && shown(CLibrary::Bionic) == "bionic");
   EXPECT(i686.long_double() == (TypeLayout{12, 4}) && i686.wchar() == (TypeLayout{4, 4}) && shown(FloatAbi::Hard) == "hard");

@@ -317,6 +317,27 @@ static void try_changes(const char *text, size_t size, uint32_t parsed, const st
   CHECK(number == 0 || parsed != LEXICON_OK || triple->vendor == LEXICON_VENDOR_CUSTOM);
 }
 
+/* The meanings of a text are those that the dialects read, in their order, and then at most one without a dialect. */
+static void try_meanings(const char *text, size_t size, uint32_t parsed) {
+  struct lexicon_triple triple, read;
+  uint32_t dialect, last = 0, status;
+  size_t number = 0;
+  for (bool is_last = false;; number++) {
+    memset(&triple, 0xa5, sizeof triple);
+    memset(&dialect, 0xa5, sizeof dialect);
+    status = lexicon_meaning(text, size, number, &dialect, &triple);
+    if (status != LEXICON_OK && status != LEXICON_NAME_WITHOUT_TRIPLE) break;
+    CHECK(!is_last && (dialect == LEXICON_DIALECT_NONE || (dialect > last && dialect <= LAST_DIALECT)));
+    is_last = dialect == LEXICON_DIALECT_NONE;
+    last = dialect;
+    CHECK(lexicon_read(dialect, text, size, &read, NULL) == status || (is_last && parsed == LEXICON_OK));
+    if (status == LEXICON_OK) CHECK(expected_status(&triple) == LEXICON_OK && has_zeros(&triple) && (is_last || are_equal(&triple, &read)));
+    else CHECK(is_unchanged(&triple, sizeof triple) && !is_last);
+  }
+  CHECK(status == LEXICON_NO_SUCH_MEANING || (status == LEXICON_NOT_UTF8 && number == 0));
+  CHECK(is_unchanged(&triple, sizeof triple) && is_unchanged(&dialect, sizeof dialect) && (parsed == LEXICON_NOT_UTF8) == (status == LEXICON_NOT_UTF8));
+}
+
 /* A text as a name of each dialect, and of none, where parsing it gave this status and, if that is LEXICON_OK, this triple. */
 static void try_read(const char *text, size_t size, uint32_t parsed, const struct lexicon_triple *same) {
   for (uint32_t dialect = LEXICON_DIALECT_NONE; dialect <= LAST_DIALECT + 1; dialect++) {
@@ -401,6 +422,7 @@ static void try_text(const char *text, size_t size) {
     try_parsed(text, size, &triple, &explained);
     try_read(text, size, status, &triple);
     try_changes(text, size, status, &triple);
+    try_meanings(text, size, status);
     return;
   }
   CHECK(is_unchanged(&triple, sizeof triple) && is_unchanged(&explained, sizeof explained));
@@ -409,6 +431,7 @@ static void try_text(const char *text, size_t size) {
   try_error(text, size, &error);
   try_read(text, size, status, &triple);
   try_changes(text, size, status, &triple);
+  try_meanings(text, size, status);
 }
 
 int LLVMFuzzerTestOneInput(const uint8_t *data, size_t data_size) {

@@ -200,7 +200,11 @@ impl Run {
         }
         let help = Help {
             suggestion: refusal.suggestion(target.text),
-            note: refusal.mistake().or_else(|| self.note(target)),
+            note: self.triple_note(
+                target.text,
+                refusal,
+                refusal.mistake().or_else(|| self.note(target)),
+            ),
         };
         if self.helps.len() < REMEMBERED
             && target.text.len() <= REMEMBERED_LENGTH
@@ -209,6 +213,28 @@ impl Run {
             self.helps.insert(target.text.to_string(), help.clone());
         }
         help
+    }
+
+    /// A note, and which command takes a triple, if that is what isn't a tool's name.
+    fn triple_note(
+        &self,
+        text: &str,
+        refusal: &Refusal<'_>,
+        note: Option<String>,
+    ) -> Option<String> {
+        let command = match self.call {
+            Call::Translate(_, to) => format!("target-lexicon write --to {to}"),
+            Call::Read(From::Dialect(_)) => "target-lexicon settle".to_string(),
+            _ => return note,
+        };
+        let is_triple = TripleRef::from_str(text).map_or(false, |it| !it.vendor.is_custom());
+        if !refusal.is_unknown_name() || !is_triple || !text.contains('-') {
+            return note;
+        }
+        let before = note.map_or(String::new(), |it| format!("{it}; "));
+        Some(format!(
+            "{before}it is a triple, which `{command}` and `target-lexicon what` take"
+        ))
     }
 
     fn find<'a>(&self, text: &'a str) -> Result<Found<'a>, Refusal<'a>> {
@@ -307,7 +333,7 @@ impl Run {
                 vec![("meanings", meanings)]
             }
             Found::Name(name) => vec![("name", name.as_str().into())],
-            Found::What(what) => what.members(),
+            Found::What(what) => what.members(text),
         }
     }
 

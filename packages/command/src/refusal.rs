@@ -5,9 +5,8 @@ use crate::json::{Json, Object};
 use crate::From;
 use std::io::{self, Write};
 use target_lexicon::tool_names::{
-    self, Dialect, LinuxLibc, Name, NameError, TranslateError, WriteError,
+    self, hint, Dialect, Hint, LinuxLibc, Mistake, Name, NameError, TranslateError, WriteError,
 };
-
 use target_lexicon::{Field, Source, Sources, TextPart, TripleRef, VendorRef};
 
 pub struct Refusal<'a> {
@@ -72,13 +71,12 @@ pub fn read(text: &str, from: From) -> Result<TripleRef<'_>, Refusal<'_>> {
     }
 }
 
-/// What a name means in each dialect that has it, and as a string that is spelled like a triple.
+/// The triple that a name means to each tool that has it.
 pub fn meanings(text: &str) -> Result<Vec<(&'static str, TripleRef<'_>)>, Refusal<'_>> {
-    let of_dialect = |dialect: &Dialect| Some((dialect.name(), dialect.read_loosely(text).ok()?));
-    let mut meanings: Vec<_> = Dialect::ALL.iter().filter_map(of_dialect).collect();
-    if let Ok(triple) = tool_names::read(text) {
-        meanings.insert(0, ("triple", triple));
-    }
+    let found = tool_names::meanings(text);
+    let meanings: Vec<_> = found
+        .filter_map(|it| Some((it.of.name(), it.triple.ok()?)))
+        .collect();
     if meanings.is_empty() {
         return Err(Refusal::unknown_to_all(text));
     }
@@ -218,6 +216,27 @@ impl<'a> Refusal<'a> {
     }
 }
 
+/// The name that the first dialect suggests that suggests one, and what is wrong with the unknown one, as far as it says more. A name after
+/// another is none if all the words together name a triple.
+fn nearest(name: &str) -> Option<(&'static str, Option<Mistake<'_>>)> {
+    let has_triple = matches!(hint(name), Some(Hint::Triple(_)));
+    let mut found = Dialect::ALL.iter().filter_map(|dialect| {
+        let suggestion = dialect.suggestion(name)?;
+        match dialect.mistake(name) {
+            Some(Mistake::Prefix) if has_triple => None,
+            Some(Mistake::NoTriple(_)) => Some((suggestion, None)),
+            mistake => Some((suggestion, mistake)),
+        }
+    });
+    found.next()
+}
+
+/// Whether a name has parts, of which the first is no known word.
+fn may_be_triple(name: &str) -> bool {
+    let (first, _) = name.split_once('-').unwrap_or_default();
+    !first.is_empty() && hint(first).is_none()
+}
+
 fn key_of(field: Field) -> Option<&'static str> {
     FIELDS
         .iter()
@@ -226,15 +245,25 @@ fn key_of(field: Field) -> Option<&'static str> {
 }
 
 impl Refusal<'_> {
+    /// Whether it is a name that a dialect doesn't have.
+    pub fn is_unknown_name(&self) -> bool {
+        matches!(self.names, Names::OfDialect(..))
+    }
+
     /// What is wrong with a name that a dialect doesn't have.
     pub fn mistake(&self) -> Option<String> {
         match self.names {
-            Names::OfDialect(dialect, name) => dialect.mistake(name).map(|it| it.to_string()),
-            Names::OfAll(name) => {
-                let mut dialects = Dialect::ALL.iter();
-                let nearest = dialects.find(|it| it.suggestion(name).is_some())?;
-                nearest.mistake(name).map(|it| it.to_string())
-            }
+            Names::OfDialect(dialect, name) => match dialect.mistake(name)? {
+                Mistake::NoTriple(_) if dialect.suggestion(name).is_some() => None,
+                mistake => Some(mistake.to_string()),
+            },
+            Names::OfAll(name) => match (nearest(name), hint(name)) {
+                (Some((_, mistake)), _) => mistake.map(|it| it.to_string()),
+                (None, Some(Hint::NoMachine) | None) if may_be_triple(name) => {
+                    Dialect::Gnu.mistake(name).map(|it| it.to_string())
+                }
+                (None, hint) => hint.map(|it| it.to_string()),
+            },
             _ => None,
         }
     }
@@ -245,8 +274,10 @@ impl Refusal<'_> {
             Names::OfParts(refusal) => refusal.suggestion_in(target),
             Names::OfVendors(triple) => triple.vendor_suggestion(),
             Names::OfAll(name) => {
-                let mut names = Dialect::ALL.iter().filter_map(|it| it.suggestion(name));
-                return names.next().map(str::to_string);
+                return match (nearest(name), hint(name)) {
+                    (None, Some(Hint::Triple(triple))) => Some(triple.to_string()),
+                    (nearest, _) => nearest.map(|(name, _)| name.to_string()),
+                };
             }
             Names::OfDialect(dialect, name) => return dialect.suggestion(name).map(str::to_string),
             Names::No => None,
@@ -328,6 +359,7 @@ impl Refusal<'_> {
             ("end", self.part.range().end.into()),
             ("field", Json::from(self.field.and_then(key_of))),
             ("suggestion", help.suggestion.clone().into()),
+            ("note", help.note.clone().into()),
         ]
     }
 }

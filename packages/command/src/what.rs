@@ -5,8 +5,8 @@ use crate::input::{Place, Target};
 use crate::json::{Json, Object};
 use crate::refusal::{reason, Refusal};
 use std::io::{self, Write};
-use target_lexicon::tool_names::{read, Dialect, LinuxLibc, Name, NameError, WriteError};
-use target_lexicon::TripleRef;
+use target_lexicon::tool_names::{hint, meanings, Hint, LinuxLibc, Meaning, Name, WriteError};
+use target_lexicon::{TripleRef, VendorRef};
 
 /// What stands around the names of a list: in YAML, JSON, or a line of words with commas.
 const AROUND: &[char] = &[' ', '\t', ',', '"', '\'', '[', ']'];
@@ -57,24 +57,14 @@ impl<'a> What<'a> {
             libc,
             is_completed: false,
         };
-        for dialect in Dialect::ALL {
-            match dialect.read_loosely(text) {
-                Ok(triple) => what.add(triple, dialect.name()),
-                Err(NameError::WithoutTriple(why)) => {
-                    what.without_triple.push((dialect.name(), why))
-                }
-                Err(NameError::Unknown) => {}
+        for Meaning { of, triple } in meanings(text) {
+            match triple {
+                Ok(triple) => what.add(triple, of.name()),
+                Err(why) => what.without_triple.push((of.name(), why)),
             }
         }
-        // One word is spelled like a triple too, but of a name that some tool has nobody means that.
-        let has_name = !what.meanings.is_empty() || !what.without_triple.is_empty();
-        if text.contains('-') || !has_name {
-            match (TripleRef::from_str(text), read(text)) {
-                (Ok(triple), _) => what.add(triple, "triple"),
-                (_, Ok(triple)) => what.add(triple, "spelling"),
-                _ if has_name => {}
-                _ => return Err(Refusal::unknown_to_all(text)),
-            }
+        if what.meanings.is_empty() && what.without_triple.is_empty() {
+            return Err(Refusal::unknown_to_all(text));
         }
         Ok(what)
     }
@@ -92,12 +82,30 @@ impl<'a> What<'a> {
         }
     }
 
-    /// For each meaning a line with the tools that mean it, a line for each tool that has a name for it, and a line for each reason
-    /// why others have none.
+    /// That the vendor of a meaning is custom, which may be a misspelling; and the triple that the words of the name mean, if no tool has it.
+    fn note(&self, text: &str, triple: &TripleRef<'_>) -> Option<String> {
+        let VendorRef::Custom(vendor) = triple.vendor else {
+            return None;
+        };
+        let is_known = self.meanings.iter().any(|(it, _)| !it.vendor.is_custom());
+        let meant = match (triple.vendor_suggestion(), hint(text)) {
+            (Some(name), _) => Some(name.to_string()),
+            (_, Some(Hint::Triple(triple))) if !is_known => Some(triple.to_string()),
+            _ => None,
+        };
+        let meant = meant.map_or(String::new(), |it| format!("; did you mean `{it}`?"));
+        Some(format!("`{vendor}` is a custom vendor{meant}"))
+    }
+
+    /// For each meaning a line with the tools that mean it, a note about its vendor, a line for each tool that has a name for it, and a line
+    /// for each reason why others have none.
     pub fn write(&self, out: &mut dyn Write, text: &str) -> io::Result<()> {
         writeln!(out, "{text}")?;
         for (triple, tools) in &self.meanings {
             writeln!(out, "  is {triple}, as {}", tools.join(", "))?;
+            if let Some(note) = self.note(text, triple) {
+                writeln!(out, "    note    {note}")?;
+            }
             let mut unnamed: Vec<(&str, Vec<&str>)> = Vec::new();
             for dialect in written() {
                 match dialect.write_with(triple, self.libc) {
@@ -120,7 +128,7 @@ impl<'a> What<'a> {
         })
     }
 
-    pub fn members(&self) -> Object {
+    pub fn members(&self, text: &str) -> Object {
         let strings =
             |tools: &[&'static str]| Json::List(tools.iter().map(|it| Json::from(*it)).collect());
         let meaning = |(triple, tools): &(TripleRef<'_>, Vec<&'static str>)| {
@@ -136,6 +144,7 @@ impl<'a> What<'a> {
             Json::Object(vec![
                 ("canonical", triple.to_string().into()),
                 ("tools", strings(tools)),
+                ("note", self.note(text, triple).into()),
                 ("names", Json::Object(names.iter().map(name).collect())),
                 (
                     "reasons",

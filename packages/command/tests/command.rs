@@ -307,6 +307,7 @@ fn json_has_the_same_names_everywhere() {
         json!([{
             "target": "x86_64-pc-linx", "file": null, "line": null, "error": "unrecognized operating system",
             "part": "linx", "start": 10, "end": 14, "field": "operating_system", "suggestion": "linux",
+            "note": null,
         }])
     );
 }
@@ -1026,6 +1027,11 @@ fn any_tool_may_have_a_name() {
         json_of(&["read", "--from", "any", "--json", "linux/arm64"])[0]["meanings"]["oci"],
         "aarch64-unknown-linux"
     );
+    // A string may be spelled like a triple too, and a single word that a tool has isn't taken for one.
+    let (out, _, _) = answers(&["read", "--from", "any", "x86_64-linux"]);
+    assert!(out.ends_with("\ntriple\tx86_64-unknown-linux\n"), "{out}");
+    let (out, _, _) = answers(&["read", "--from", "any", "armhf"]);
+    assert_eq!(out.lines().count(), 2, "{out}");
     let (_, errors, status) = answers(&["read", "--from", "any", "foo/bar"]);
     assert!(
         errors.starts_with("error: no tool has the name `foo/bar`\n"),
@@ -1222,7 +1228,7 @@ const MISTAKES: &str = "\
 go|Linux/AMD64|linux/amd64|capital letters matter
 go|./linux/amd64|linux/amd64|it has a path
 go|linux amd64|linux/amd64|it has a space
-go|x86_64-unknown-linux-gnu|-|it is a name of gnu and rust
+go|x86_64-unknown-linux-gnu|-|it is a name of gnu and rust; TRIPLE
 go|linux/amd46|linux/amd64|-
 go|linux/riscv/64|linux/riscv64|-
 go|linux/amd64/bin|-|-
@@ -1231,12 +1237,15 @@ oci|linux/amd64:latest|-|-
 oci|/usr/lib/linux/amd64|linux/amd64|it has a path
 debian|AMD64|amd64|capital letters matter
 debian|x86-64|amd64|-
-debian|x86_64-linux-gnu|-|it is a name of gnu and zig
+debian|x86_64-linux-gnu|-|it is a name of gnu and zig; TRIPLE
+debian|linux-image-amd64|-|-
 rust|amd64|-|it is a name of debian, gnu and rpm
 rust|X86_64-unknown-linux-gnu|x86_64-unknown-linux-gnu|capital letters matter
 rust|target/x86_64-unknown-linux-gnu/release|x86_64-unknown-linux-gnu|it has a path
 rust|x86_64|-|it is a part of a name, such as `x86_64-unknown-linux-gnu`
 node|linux/amd64|-|it is a name of go and oci
+node|turbo-linux-arm64|linux-arm64|another name comes before it
+node|@foo/bar|-|-
 node|win32-amd64|win32-x64|-
 node|Linux-x64|linux-x64|capital letters matter
 python|Win_AMD64|win_amd64|capital letters matter
@@ -1244,10 +1253,15 @@ uname|Linux|-|it is a part of a name, such as `Linux x86_64`
 uname|linux x86_64|Linux x86_64|capital letters matter
 rpm|arm64|aarch64|it is a name of debian and gnu
 dotnet|Win-x64|win-x64|capital letters matter
-conda|linux64|linux-64|-
-zig|x86_64-unknown-linux-gnu|-|it is a name of gnu and rust
+conda|linux64|linux-64|it is a name of node
+zig|x86_64-unknown-linux-gnu|-|it is a name of gnu and rust; TRIPLE
 nix|x86_64-macos|-|it is a name of gnu and zig
-gnu|x86_64-linux-gnuu|x86_64-linux-gnu|-";
+nix|x86_64-unknown-linux|-|it is a name of gnu; TRIPLE
+gnu|x86_64-linux-gnuu|x86_64-linux-gnu|-
+gnu|alpha-linux-gnu|-|as a triple: Unrecognized architecture: alpha";
+
+/// What a name gets as a note that is a triple.
+const TRIPLE: &str = "it is a triple, which `target-lexicon settle` and `target-lexicon what` take";
 
 #[test]
 fn mistakes_in_names_are_explained() {
@@ -1265,12 +1279,59 @@ fn mistakes_in_names_are_explained() {
         };
         assert!(suggested, "{row}: {errors}");
         let noted = lines.next().map(|line| line.trim_start().to_string());
-        let expected = (note != "-").then(|| format!("note: {note}"));
+        let expected = (note != "-").then(|| format!("note: {}", note.replace("TRIPLE", TRIPLE)));
         assert_eq!((noted, status), (expected, 1), "{row}");
     }
-    // A name that no tool has.
-    let (_, errors, _) = answers(&["what", "Linux-AMD64"]);
-    assert!(errors.contains("did you mean"), "{errors}");
+    let (_, errors, _) = answers(&["translate", "--from", "rust", "--to", "debian", "x86_64-linux-gnu"]);
+    let note = "; it is a triple, which `target-lexicon write --to debian` and `target-lexicon what` take\n";
+    assert!(errors.ends_with(note), "{errors}");
+    assert_eq!(answers(&["write", "--to", "debian", "x86_64-linux-gnu"]).0, "amd64\n");
+    // The note is in JSON too.
+    let refused = &json_of(&["read", "--from", "debian", "--json", "AMD64"])[0];
+    assert_eq!(refused["note"], "capital letters matter");
+}
+
+/// Names that no tool has, the suggestion, and the note, a dash for none.
+const NOBODYS: &str = "\
+Linux-AMD65|-|it names a system, and no single machine
+linux/amd46|linux/amd64|-
+x86_64-linux-gnuu|x86_64-linux-gnu|-
+macosArm64|aarch64-apple-darwin|its words name aarch64-apple-darwin
+alpine-linux-x64|x86_64-unknown-linux-musl|its words name x86_64-unknown-linux-musl
+FreeBSD:14:amd64|x86_64-unknown-freebsd|its words name x86_64-unknown-freebsd
+turbo-darwin-64|darwin-64|another name comes before it
+windows-11-arm|-|it names a system, and no single machine
+aarch64_cortex-a53|-|it names a machine, and no system
+ios-arm64_x86_64-simulator|-|it names several machines
+alpha-linux-gnu|-|as a triple: Unrecognized architecture: alpha
+java|-|-";
+
+#[test]
+fn names_that_no_tool_has_are_explained() {
+    for row in NOBODYS.lines() {
+        let columns: Vec<&str> = row.split('|').collect();
+        let [name, suggestion, note] = columns[..] else {
+            panic!("{row}");
+        };
+        let refused = &json_of(&["what", "--json", name])[0];
+        let said = |key: &str| refused[key].as_str().unwrap_or("-").to_string();
+        assert_eq!((said("suggestion").as_str(), said("note").as_str()), (suggestion, note), "{row}");
+    }
+    // A custom vendor may be a misspelling, or a word of a tool that isn't among the dialects.
+    for (name, note) in [
+        ("x86_64-appel-darwin", "`appel` is a custom vendor; did you mean `apple`?"),
+        ("arm64-osx", "`osx` is a custom vendor; did you mean `aarch64-apple-darwin`?"),
+        ("arm64-v8a", "`v8a` is a custom vendor; did you mean `aarch64-linux-android`?"),
+        ("x86_64-redhat-linux", "`redhat` is a custom vendor"),
+    ] {
+        let meanings = &json_of(&["what", "--json", name])[0]["meanings"];
+        let noted: Vec<_> = meanings.as_array().unwrap().iter().filter_map(|it| it["note"].as_str()).collect();
+        assert_eq!(noted, [note], "{name}");
+        assert!(answers(&["what", name]).0.contains(&format!("\n    note    {note}\n")), "{name}");
+    }
+    // The machine is said where the tool has it on no system.
+    let (_, errors, _) = answers(&["write", "--to", "debian", "wasm32-unknown-unknown"]);
+    assert!(errors.ends_with("^ the tool has no name for this machine on any system\n"), "{errors}");
 }
 
 #[test]

@@ -24,7 +24,7 @@ export const DIALECTS = Object.freeze(["debian", "go", "oci", "node", "gnu", "py
 const OK = 0;
 // written by tools/names/write: the statuses for JavaScript
 const UNRECOGNIZED_FIELD = 6, NOT_UTF8 = 7, TOO_SMALL = 8, NO_SUCH_FIELD = 9, NO_SUCH_VALUE = 10, NO_SUCH_VENDOR = 11, UNKNOWN_NAME = 12;
-const NAME_WITHOUT_TRIPLE = 13, TRIPLE_WITHOUT_NAME = 14, NO_SUCH_DIALECT = 15, TOO_LARGE = 16, NEEDS_C_LIBRARY = 17, NO_SUCH_C_LIBRARY = 18, NO_SUCH_CHANGE = 19, NO_SUGGESTION = 20, NO_ANSWER = 21;
+const NAME_WITHOUT_TRIPLE = 13, TRIPLE_WITHOUT_NAME = 14, NO_SUCH_DIALECT = 15, TOO_LARGE = 16, NEEDS_C_LIBRARY = 17, NO_SUCH_C_LIBRARY = 18, NO_SUCH_CHANGE = 19, NO_SUGGESTION = 20, NO_ANSWER = 21, NO_SUCH_MEANING = 22;
 // end of what is written
 const REFUSED = UNRECOGNIZED_FIELD; // the last status of a refused string
 const CUSTOM = 255; // the number of every vendor that has none of its own
@@ -594,21 +594,17 @@ export function translate(name, from, to, libc = null) {
  */
 export function meanings(text) {
   const it = instance(), found = new Map(), withoutTriple = {};
-  const status = (call, ...first) => it.call(call, ...first, ...it.text(stringOf(text)), it.base + FIRST, it.base + ERROR);
-  const add = (tool) => {
-    const triple = it.tripleAt().settle(), key = triple.toString();
+  for (let number = 0, status; (status = it.call("meaning", ...it.text(stringOf(text)), number, it.base + LENGTH, it.base + FIRST)) !== NO_SUCH_MEANING; number++) {
+    const dialect = it.number(LENGTH);
+    if (status === NAME_WITHOUT_TRIPLE) {
+      withoutTriple[DIALECTS[dialect - 1]] = it.string(it.call("reason", dialect, ...it.text(text)));
+      continue;
+    }
+    if (status !== OK) throw failure(status);
+    const triple = it.tripleAt(), key = triple.toString();
     if (!found.has(key)) found.set(key, { triple, tools: [] });
-    found.get(key).tools.push(tool);
-  };
-  for (const [index, dialect] of DIALECTS.entries()) {
-    const answer = status("read", index + 1);
-    if (answer === OK) add(dialect);
-    else if (answer === NAME_WITHOUT_TRIPLE) withoutTriple[dialect] = it.string(it.call("reason", index + 1, ...it.text(text)));
-    else if (!isRefusal(answer)) throw failure(answer);
-  }
-  if (text.includes("-") || (found.size === 0 && Object.keys(withoutTriple).length === 0)) {
-    if (status("parse") === OK) add("triple");
-    else if (status("read", 0) === OK) add("spelling");
+    const spelled = () => (it.call("parse", ...it.text(text), it.base + FIRST, it.base + ERROR) === OK ? "triple" : "spelling");
+    found.get(key).tools.push(dialect > 0 ? DIALECTS[dialect - 1] : spelled());
   }
   return { meanings: [...found.values()], withoutTriple };
 }

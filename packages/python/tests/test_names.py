@@ -90,6 +90,8 @@ class Names(unittest.TestCase):
             for name in known[other] - known[dialect]:
                 if dialect is Dialect.PYTHON and re.sub("[-.]", "_", name) in known[dialect]:
                     continue
+                if dialect is Dialect.GO and re.sub("[-_]", "/", name, count=1) in known[dialect]:
+                    continue
                 if dialect is Dialect.OCI and name.endswith("/arm"):
                     continue  # containerd adds the variant
                 error = self.refusal(name, dialect)
@@ -174,7 +176,7 @@ class Names(unittest.TestCase):
         rows = [it for it in NAMES if it.read and it.tool != "gnu" and "13" not in it.name]
         found = [(self.refusal(it.name[0] + it.name, it.tool).suggestion, it.name) for it in rows]
         self.assertEqual([it for it in found if it[0] not in (it[1], None)], [])
-        self.assertLess(sum(suggested is None for suggested, _ in found), len(rows) // 50)
+        self.assertLessEqual(sum(suggested is None for suggested, _ in found), len(rows) // 50)
 
     def test_what_is_around_names(self):
         for dialect, text, triple in (("npm", "@rollup/rollup-linux-x64-gnu", "x86_64-unknown-linux-gnu"), ("npm", "@esbuild/win32-arm64@0.21.5", "aarch64-pc-windows"),
@@ -184,6 +186,23 @@ class Names(unittest.TestCase):
         self.assertEqual(target_lexicon.translate("@swc/core-linux-arm64-musl", "npm", "rust"), "aarch64-unknown-linux-musl")
         self.assertEqual(self.refusal("six-1.16.0-py2.py3-none-any.whl", "python").reason, "no machine")
         self.assertEqual(self.refusal("@types/node", "npm").reason, None)
+
+    def test_meanings(self):
+        def meant(text):
+            return [(it.dialect, str(it.triple) if it.triple else it.reason) for it in target_lexicon.meanings(text)]
+        self.assertEqual(meant("armhf"), [(Dialect.DEBIAN, "armv7-unknown-linux-gnueabihf"), (Dialect.APK, "armv6-unknown-linux-musleabihf")])
+        self.assertEqual(meant("plan9/amd64"), [(Dialect.GO, "Plan 9 is no known name")])
+        self.assertEqual(meant("x86_64-acme-linux"), [(Dialect.GNU, "x86_64-unknown-linux-gnu"), (None, "x86_64-acme-linux")])
+        vendor = meant(f"x86_64-{'a' * 500}-linux")
+        self.assertEqual(vendor[-1], (None, f"x86_64-{'a' * 500}-linux"))
+        for nobody in "", "foo/bar", "linx", "\0", "linux/\u00e9", "x" * 100_000:
+            self.assertEqual(meant(nobody), [])
+        for row in NAMES:
+            name = row.name.replace("*", "13")
+            if row.read:
+                self.assertIn((row.tool, str(Triple.read(name, row.tool))), meant(name))
+        for value in None, 3, b"armhf":
+            self.assertRaises(TypeError, target_lexicon.meanings, value)
 
     def test_names_are_whole(self):
         for name in "", "linux", "linux/amd64 ", "Linux/amd64", "linux/amd64\0", "\0", "linux/\u00e9", "x" * 1_000_000:
@@ -260,7 +279,7 @@ class Names(unittest.TestCase):
     def test_translations_that_fail(self):
         for words, line in ((("linux/arm64", "oci", "debian"), "No name in the other dialect: linux/arm64: it depends on the C library: say glibc or musl"),
                             (("windows/amd64", "oci", Dialect.DEBIAN, "musl"), "No name in the other dialect: windows/amd64: the tool has no name for the system"),
-                            (("avr-none", None, "go"), "No name in the other dialect: avr-none: the tool has no name for the system")):
+                            (("avr-none", None, "go"), "No name in the other dialect: avr-none: the tool has no name for this machine on any system")):
             with self.assertRaises(target_lexicon.TranslationError) as caught:
                 target_lexicon.translate(*words)
             for error in caught.exception, pickle.loads(pickle.dumps(caught.exception)), copy.deepcopy(caught.exception):

@@ -351,9 +351,9 @@ class Samples(Folder):
         self.assertTrue(answer("read", "js/wasm")[1].endswith("^\n  note: it is a name of go without a triple: a module for Go's own JavaScript; rustc's nearest target is wasm32-unknown-unknown\n"))
         self.assertEqual([answer(*it)[1].count("note") for it in (["read", "linx"], ["settle", "linux/arm64"], ["read", "--from", "debian", "linux/arm64"])],
                          [0, 0, 0])
-        self.assertEqual(answer("write", "--to", "go", "arm64-linux", "avr-none"), ("linux/arm64\n", "no name of go for avr-none: the tool has no name for the system\n", 1))
+        self.assertEqual(answer("write", "--to", "go", "arm64-linux", "avr-none"), ("linux/arm64\n", "no name of go for avr-none: the tool has no name for this machine on any system\n", 1))
         needs = "no name of debian for x86_64-linux: it depends on the C library: use `--libc glibc` or `--libc musl`\n"
-        self.assertEqual(answer("write", "--to", "debian", "avr-none", "x86_64-linux")[1], f"no name of debian for avr-none: the tool has no name for the system\n{needs}")
+        self.assertEqual(answer("write", "--to", "debian", "avr-none", "x86_64-linux")[1], f"no name of debian for avr-none: the tool has no name for this machine on any system\n{needs}")
         self.assertEqual(answer("write", "--to", "debian", "--libc", "glibc", "x86_64-linux"), ("amd64\n", "", 0))
         self.assertIn("\n  go      linux/arm64\n", answer("elsewhere", "arm64-linux-gnu")[0])
         self.assertEqual(answer("read", "--from", "go", "js/wasm", "--json")[0].count('"error":"no triple means the same: a module for Go'), 1)

@@ -73,7 +73,7 @@ pub(crate) fn rows_2() -> &'static [Row]
 }
 
 #[rattlefmt::skip]
-static ROWS_2: [(&str, &str, Way); 39] = [
+static ROWS_2: [(&str, &str, Way); 50] = [
     ("osx-arm64", "aarch64-apple-darwin", Both),
     ("osx.*.*-arm64", "aarch64-apple-macosx", Read),
     ("maccatalyst-arm64", "aarch64-apple-ios-macabi", Both),
@@ -113,4 +113,29 @@ static ROWS_2: [(&str, &str, Way); 39] = [
     ("sles.*-x64", "x86_64-unknown-linux-gnu", Read),
     ("sles.*.*-x64", "x86_64-unknown-linux-gnu", Read),
     ("ol.*-x64", "x86_64-unknown-linux-gnu", Read),
+    ("linux-bionic-arm", "armv7-linux-androideabi", Read),
+    ("centos-x64", "x86_64-unknown-linux-gnu", Read),
+    ("debian-x64", "x86_64-unknown-linux-gnu", Read),
+    ("fedora-x64", "x86_64-unknown-linux-gnu", Read),
+    ("opensuse-x64", "x86_64-unknown-linux-gnu", Read),
+    ("rhel-x64", "x86_64-unknown-linux-gnu", Read),
+    ("ubuntu-x64", "x86_64-unknown-linux-gnu", Read),
+    ("almalinux.*-x64", "x86_64-unknown-linux-gnu", Read),
+    ("linuxmint.*-x64", "x86_64-unknown-linux-gnu", Read),
+    ("rocky.*-x64", "x86_64-unknown-linux-gnu", Read),
+    ("freebsd.*-x64", "x86_64-unknown-freebsd", Read),
+];
+
+pub(crate) fn rows_3() -> &'static [Row]
+    ensures { plain_rows result.now ≡ constant_rows ROWS_3 }
+{
+    &ROWS_3
+}
+
+#[rattlefmt::skip]
+static ROWS_3: [(&str, &str, Way); 4] = [
+    ("android.*-arm64", "aarch64-linux-android", Read),
+    ("android.*-x64", "x86_64-linux-android", Read),
+    ("unix-arm64", "several systems", NoTriple),
+    ("unix-x64", "several systems", NoTriple),
 ];

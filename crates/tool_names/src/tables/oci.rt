@@ -73,7 +73,7 @@ pub(crate) fn rows_2() -> &'static [Row]
 }
 
 #[rattlefmt::skip]
-static ROWS_2: [(&str, &str, Way); 43] = [
+static ROWS_2: [(&str, &str, Way); 44] = [
     ("linux/riscv64/rva20u64", "a triple can't state a profile of RISC-V", NoTriple),
     ("linux/riscv64/rva22u64", "a triple can't state a profile of RISC-V", NoTriple),
     ("linux/riscv64/rva23u64", "a triple can't state a profile of RISC-V", NoTriple),
@@ -117,4 +117,5 @@ static ROWS_2: [(&str, &str, Way); 43] = [
     ("linux/arm32v6", "armv6-unknown-linux", Read),
     ("linux/arm32v7", "armv7-unknown-linux", Read),
     ("windows(10.0.*)/arm64", "aarch64-pc-windows", Read),
+    ("local", "the machine that asks", NoTriple),
 ];

@@ -73,7 +73,7 @@ pub(crate) fn rows_2() -> &'static [Row]
 }
 
 #[rattlefmt::skip]
-static ROWS_2: [(&str, &str, Way); 33] = [
+static ROWS_2: [(&str, &str, Way); 46] = [
     ("OpenBSD sparc64", "sparc64-unknown-openbsd", Read),
     ("NetBSD amd64", "x86_64-unknown-netbsd", Read),
     ("NetBSD i386", "i686-unknown-netbsd", Read),
@@ -107,4 +107,17 @@ static ROWS_2: [(&str, &str, Way); 33] = [
     ("CLANGARM64_NT-10.0 aarch64", "aarch64-pc-windows-gnullvm", Read),
     ("CYGWIN_NT-10.0 i686", "i686-pc-cygwin", Read),
     ("MSYS_NT-10.0 i686", "triples have no system msys; MINGW64_NT has that of programs for Windows", NoTriple),
+    ("FreeBSD aarch64", "aarch64-unknown-freebsd", Read),
+    ("FreeBSD armv6", "armv6-unknown-freebsd", Read),
+    ("FreeBSD armv7", "armv7-unknown-freebsd", Read),
+    ("FreeBSD powerpc64", "powerpc64-unknown-freebsd", Read),
+    ("FreeBSD powerpc64le", "powerpc64le-unknown-freebsd", Read),
+    ("FreeBSD riscv64", "riscv64-unknown-freebsd", Read),
+    ("NetBSD x86_64", "x86_64-unknown-netbsd", Read),
+    ("NetBSD aarch64", "aarch64-unknown-netbsd", Read),
+    ("NetBSD earmv6hf", "armv6-unknown-netbsd-eabihf", Read),
+    ("NetBSD earmv7hf", "armv7-unknown-netbsd-eabihf", Read),
+    ("OpenBSD aarch64", "aarch64-unknown-openbsd", Read),
+    ("SunOS sun4u", "two systems: Solaris and illumos", NoTriple),
+    ("GNU/kFreeBSD x86_64", "the GNU system on the kernel of FreeBSD is no known name", NoTriple),
 ];

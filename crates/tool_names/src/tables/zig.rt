@@ -133,7 +133,7 @@ pub(crate) fn rows_3() -> &'static [Row]
 }
 
 #[rattlefmt::skip]
-static ROWS_3: [(&str, &str, Way); 45] = [
+static ROWS_3: [(&str, &str, Way); 50] = [
     ("powerpc64-linux-gnu.*.*", "powerpc64-unknown-linux-gnu", Read),
     ("powerpc-linux-gnu.*.*", "powerpc-unknown-linux-gnu", Read),
     ("s390x-linux-gnu.*.*", "s390x-unknown-linux-gnu", Read),
@@ -179,4 +179,46 @@ static ROWS_3: [(&str, &str, Way); 45] = [
     ("x86_64-haiku", "x86_64-unknown-haiku", Both),
     ("x86_64-dragonfly", "x86_64-unknown-dragonfly", Both),
     ("x86_64-ios", "x86_64-apple-ios", Read),
+    ("aarch64-tvos", "aarch64-apple-tvos", Both),
+    ("aarch64-tvos-simulator", "aarch64-apple-tvos-sim", Both),
+    ("aarch64-visionos", "aarch64-apple-visionos", Both),
+    ("aarch64-visionos-simulator", "aarch64-apple-visionos-sim", Both),
+    ("aarch64-watchos", "aarch64-apple-watchos", Both),
+];
+
+pub(crate) fn rows_4() -> &'static [Row]
+    ensures { plain_rows result.now ≡ constant_rows ROWS_4 }
+{
+    &ROWS_4
+}
+
+#[rattlefmt::skip]
+static ROWS_4: [(&str, &str, Way); 27] = [
+    ("aarch64-watchos-simulator", "aarch64-apple-watchos-sim", Both),
+    ("arc-linux-gnu", "its architecture is no known name", NoTriple),
+    ("avr-freestanding", "avr-unknown-none", Both),
+    ("bpfeb-freestanding", "bpfeb-unknown-none", Both),
+    ("bpfel-freestanding", "bpfel-unknown-none", Both),
+    ("csky-linux-gnueabihf", "its architecture is no known name", NoTriple),
+    ("mips-linux-gnueabi", "its ABI without registers of floating-point numbers is no known name", NoTriple),
+    ("mips-linux-gnueabihf", "mips-unknown-linux-gnu", Read),
+    ("mips-linux-musleabi", "its ABI without registers of floating-point numbers is no known name", NoTriple),
+    ("mips-linux-musleabihf", "mips-unknown-linux-musl", Read),
+    ("mips64-linux-gnuabin32", "its ABI n32, with 32-bit pointers, is no known name", NoTriple),
+    ("mips64el-linux-gnuabin32", "its ABI n32, with 32-bit pointers, is no known name", NoTriple),
+    ("mipsel-linux-gnueabi", "its ABI without registers of floating-point numbers is no known name", NoTriple),
+    ("mipsel-linux-gnueabihf", "mipsel-unknown-linux-gnu", Read),
+    ("mipsel-linux-musleabi", "its ABI without registers of floating-point numbers is no known name", NoTriple),
+    ("mipsel-linux-musleabihf", "mipsel-unknown-linux-musl", Read),
+    ("powerpc-linux-gnueabi", "its ABI without registers of floating-point numbers is no known name", NoTriple),
+    ("powerpc-linux-gnueabihf", "powerpc-unknown-linux-gnu", Read),
+    ("powerpc-linux-musleabi", "its ABI without registers of floating-point numbers is no known name", NoTriple),
+    ("powerpc-linux-musleabihf", "powerpc-unknown-linux-musl", Read),
+    ("riscv64-linux-android", "riscv64-linux-android", Both),
+    ("spirv64-vulkan", "its architecture is no known name", NoTriple),
+    ("x86_64-illumos", "x86_64-unknown-illumos", Both),
+    ("x86_64-linux-muslx32", "its environment is no known name", NoTriple),
+    ("x86_64-plan9", "Plan 9 is no known name", NoTriple),
+    ("x86_64-solaris", "x86_64-pc-solaris", Both),
+    ("x86_64-tvos-simulator", "x86_64-apple-tvos", Both),
 ];

@@ -6,8 +6,8 @@
 wasm32-wasi 32 wasm
 
 `Triple` has the fields, the facts and the printed string of a triple. `explain` says which part of a string gave which
-field. `Triple.read` and `Triple.name_in` know the names of other tools, and `translate` leads from one to another. `settle_all`
-and `facts_all` answer for a column of targets.
+field. `Triple.read` and `Triple.name_in` know the names of other tools, `translate` leads from one to another, and `meanings` says
+whose name a string is. `settle_all` and `facts_all` answer for a column of targets.
 """
 from ._columns import Facts, facts_all, settle_all
 from ._dialects import Dialect, LinuxLibc
@@ -17,7 +17,7 @@ from ._facts import ArmProfile, CallingConvention, CLibrary, DataModel, Endianne
 from ._fields import CustomVendor
 from ._library import LIBRARY_PATH, LIBRARY_VERSION, LibraryError
 from ._library import VERSION as __version__
-from ._translation import Change, TranslationError, changes, translate
+from ._translation import Change, Meaning, TranslationError, changes, meanings, translate
 from ._triple import Keep, Triple
 from ._values import Architecture, BinaryFormat, Environment, Family, OperatingSystem, Vendor
 
@@ -42,6 +42,7 @@ __all__ = [
     "Keep",
     "LibraryError",
     "LinuxLibc",
+    "Meaning",
     "OperatingSystem",
     "Origin",
     "ParseError",
@@ -53,6 +54,7 @@ __all__ = [
     "changes",
     "explain",
     "facts_all",
+    "meanings",
     "settle_all",
     "translate",
 ]

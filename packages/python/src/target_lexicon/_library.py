@@ -8,6 +8,7 @@ from __future__ import annotations
 
 import ctypes
 import ctypes.util
+import itertools
 import os
 from ctypes import POINTER, Structure, c_bool, c_char, c_char_p, c_size_t, c_uint8, c_uint16, c_uint32, c_void_p
 from typing import Any, Callable, Iterator, List, Optional, Sequence, Tuple
@@ -41,6 +42,7 @@ NO_SUCH_C_LIBRARY = 18
 NO_SUCH_CHANGE = 19
 NO_SUGGESTION = 20
 NO_ANSWER = 21
+NO_SUCH_MEANING = 22
 # end of what is written
 
 
@@ -236,6 +238,7 @@ _write_versioned = _declare("lexicon_write_versioned", c_uint32, _TRIPLE, c_uint
 complete = _declare("lexicon_complete", _TRIPLE, c_uint32)
 _translate = _declare("lexicon_translate", c_uint32, c_char_p, c_size_t, c_uint32, c_uint32, c_void_p, c_size_t, _SIZE, _ERROR)
 _changes = _declare("lexicon_changes", c_char_p, c_size_t, c_size_t, POINTER(ChangeStruct), c_void_p, c_size_t, _SIZE)
+_meaning = _declare("lexicon_meaning", c_char_p, c_size_t, c_size_t, POINTER(c_uint32), _TRIPLE)
 _reason = _declare("lexicon_reason", c_uint32, c_char_p, c_size_t, result=c_char_p)
 _write_reason = _declare("lexicon_write_reason", c_uint32, _TRIPLE, result=c_char_p)
 _write_versioned_reason = _declare("lexicon_write_versioned_reason", c_uint32, _TRIPLE, c_uint32, c_uint32, result=c_char_p)
@@ -350,6 +353,18 @@ def translate(text: bytes, from_dialect: int, libc: int, to_dialect: int) -> Tup
     """The status, and the name in another dialect, which has at most 36 bytes, if the status is 0."""
     out = TextBuffer()
     return _translate(from_dialect, text, len(text), libc, to_dialect, out, FIRST_SIZE, None, None), out.value.decode()
+
+
+def meanings(text: ctypes.Array[c_char]) -> Iterator[Tuple[int, Optional[TripleStruct]]]:
+    """The number of each dialect that has a text as a name, or 0 for one that is spelled like a triple; and what it means, which is within the text."""
+    for number in itertools.count():
+        dialect, triple = c_uint32(), TripleStruct()
+        status = _meaning(text, len(text), number, dialect, triple)
+        if status == NO_SUCH_MEANING:
+            return
+        if status != NAME_WITHOUT_TRIPLE:
+            check(status)
+        yield dialect.value, None if status == NAME_WITHOUT_TRIPLE else triple
 
 
 def changes(text: bytes) -> Iterator[Tuple[int, int, str]]:

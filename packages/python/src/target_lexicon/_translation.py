@@ -1,10 +1,12 @@
-"""From the name of one tool to that of another, and what is read as other names."""
+"""From the name of one tool to that of another, what a name means to each, and what is read as other names."""
+import ctypes
 from typing import List, NamedTuple, Optional, Union
 
 from . import _library
 from ._dialects import NO_DIALECT, Dialect, DialectName, LinuxLibc, LinuxLibcName, dialect_number, libc_number
 from ._errors import encoded, range_in
-from ._triple import Triple
+from ._named import members
+from ._triple import Triple, _triple_of
 
 
 class TranslationError(ValueError):
@@ -62,6 +64,35 @@ def translate(
         _library.check(status)
     reason = _library.translate_reason(utf8, *numbers) or ""
     raise TranslationError(name, source and str(source), str(target), status == _library.NEEDS_C_LIBRARY, reason)
+
+
+class Meaning(NamedTuple):
+    """What a string means to a tool that has it as a name; or, without a dialect, as one that is spelled like a triple."""
+
+    dialect: Optional[Dialect]
+    #: The canonical triple, or None if no triple means the same.
+    triple: Optional[Triple]
+    #: Why no triple means the same, or None.
+    reason: Optional[str]
+
+
+def meanings(text: str) -> List[Meaning]:
+    """What a name means to each dialect that has it, and then as a string that is spelled like a triple, if it is no single word that one has.
+
+    >>> [(str(it.dialect), str(it.triple)) for it in meanings("armhf")]
+    [('debian', 'armv7-unknown-linux-gnueabihf'), ('apk', 'armv6-unknown-linux-musleabihf')]
+    >>> [(it.dialect, it.triple, it.reason) for it in meanings("plan9/amd64")]
+    [(Dialect.GO, None, 'Plan 9 is no known name')]
+
+    The list is empty if nobody means a target by the string.
+    """
+    utf8 = encoded(text, "the name of a target")
+    owner, dialects, found = ctypes.create_string_buffer(utf8, len(utf8)), members(Dialect), []
+    for number, struct in _library.meanings(owner):
+        dialect = dialects[number - 1] if number != NO_DIALECT else None
+        triple = None if struct is None else _triple_of(struct, owner)
+        found.append(Meaning(dialect, triple, _library.reason(number, utf8)))
+    return found
 
 
 class Change(NamedTuple):

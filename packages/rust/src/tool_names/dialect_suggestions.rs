@@ -13,7 +13,8 @@ impl Dialect {
     /// It is the name that is the same but for capital letters, white space around it or a path. Otherwise it is the name that
     /// differs only in the word for the same machine: `linux-x64` of Node for `linux-amd64`. Otherwise it is
     /// the nearest name, if the unknown one may be a misspelling of it, and states no other machine or way to pass floating-point
-    /// arguments. Where two edits give names of another machine too, width, byte order or such a way, nothing is suggested.
+    /// arguments. Where two edits give names of another machine too, width, byte order or such a way, nothing is suggested, unless
+    /// a name follows another one and a dash.
     ///
     /// # Examples
     ///
@@ -22,6 +23,7 @@ impl Dialect {
     ///
     /// assert_eq!(Dialect::Go.suggestion("linux/amd46"), Some("linux/amd64"));
     /// assert_eq!(Dialect::Node.suggestion("linux-amd64"), Some("linux-x64"));
+    /// assert_eq!(Dialect::Node.suggestion("turbo-linux-arm64"), Some("linux-arm64"));
     /// assert_eq!(Dialect::Node.suggestion("linux-arm-gnueabi"), None); // only `gnueabihf` is known
     /// ```
     #[must_use]
@@ -57,6 +59,7 @@ impl Dialect {
             Said::of,
             |row| stated.allows(row),
         )
+        .or_else(|| self.name_at_end(name))
     }
 }
 
@@ -97,31 +100,37 @@ impl Stated {
     fn of(name: &str) -> Stated {
         Stated {
             machine: words(name).find_map(|range| MachineWord::at(range, name)),
-            floats: words(name).find_map(|range| floats_of(name.get(range)?)),
+            floats: Stated::floats_in(name),
         }
     }
 
-    /// Whether a row says nothing else.
+    #[inline]
+    fn floats_in(name: &str) -> Option<FloatAbi> {
+        words(name).find_map(|range| floats_of(name.get(range)?))
+    }
+
+    /// Whether a row says nothing else. Where its triple says nothing of floating-point arguments, its name may, as Zig's of MIPS do.
     #[inline]
     fn allows(&self, row: &Row) -> bool {
         let has = |said: Said| {
             let machine = self.machine.as_ref().map_or(said.machine, |it| it.machine);
-            machine == said.machine && (self.floats.is_none() || self.floats == said.floats)
+            let floats = said.floats.or_else(|| Stated::floats_in(row.0));
+            machine == said.machine && (self.floats.is_none() || self.floats == floats)
         };
         Said::of(row).map_or(false, has)
     }
 }
 
 /// A word of a name that names a machine.
-struct MachineWord {
+pub(super) struct MachineWord {
     range: Range<usize>,
-    architecture: Architecture,
-    machine: Machine,
+    pub(super) architecture: Architecture,
+    pub(super) machine: Machine,
 }
 
 impl MachineWord {
     #[inline]
-    fn at(range: Range<usize>, name: &str) -> Option<MachineWord> {
+    pub(super) fn at(range: Range<usize>, name: &str) -> Option<MachineWord> {
         let word = name.get(range.clone())?;
         let known = WORDS.iter().find(|it| it.0 == word).map_or(word, |it| it.1);
         let architecture = architecture_of(known).filter(|it| *it != Architecture::Unknown)?;
@@ -167,7 +176,7 @@ impl MachineWord {
 /// The words of a name, and two of them with `_` or `-` between, as in `x86_64`: two before the first of them, which isn't a word
 /// by itself before a number.
 #[inline]
-fn words(name: &str) -> impl Iterator<Item = Range<usize>> + '_ {
+pub(super) fn words(name: &str) -> impl Iterator<Item = Range<usize>> + '_ {
     let bytes = name.as_bytes();
     let end = move |start: usize| {
         let rest = bytes.get(start..).unwrap_or(&[]);
@@ -185,7 +194,7 @@ fn words(name: &str) -> impl Iterator<Item = Range<usize>> + '_ {
 }
 
 /// Words for machines that are neither known names nor spellings of parts.
-const WORDS: [(&str, &str); 9] = [
+const WORDS: [(&str, &str); 14] = [
     ("386", "i386"),
     ("x86", "i386"),
     ("ia32", "i386"),
@@ -195,6 +204,11 @@ const WORDS: [(&str, &str); 9] = [
     ("mipsle", "mipsel"),
     ("mips64le", "mips64el"),
     ("loong64", "loongarch64"),
+    ("aarch_64", "aarch64"),
+    ("ppcle_64", "powerpc64le"),
+    ("s390_64", "s390x"),
+    ("x86_32", "i386"),
+    ("armeabi", "armv7"),
 ];
 
 /// How floating-point arguments are passed, by a word.

@@ -1,5 +1,6 @@
 //! What is wrong with an unknown name of a dialect.
-use super::Dialect;
+use super::{read, Dialect};
+use crate::Refusal;
 use core::fmt;
 
 /// What is wrong with a name that a dialect doesn't have. `Display` says it.
@@ -15,6 +16,8 @@ use core::fmt;
 /// assert_eq!(mistake(Dialect::Rust, "/opt/x86_64-apple-darwin").unwrap(), "it has a path");
 /// assert_eq!(mistake(Dialect::Debian, "linux/arm64").unwrap(), "it is a name of go and oci");
 /// assert_eq!(mistake(Dialect::Uname, "Linux").unwrap(), "it is a part of a name, such as `Linux x86_64`");
+/// assert_eq!(mistake(Dialect::Node, "turbo-linux-x64").unwrap(), "another name comes before it");
+/// assert_eq!(mistake(Dialect::Gnu, "alpha-linux-gnu").unwrap(), "as a triple: Unrecognized architecture: alpha");
 /// assert_eq!(mistake(Dialect::Go, "plan10"), None);
 /// ```
 #[derive(Clone, Copy, Debug, PartialEq, Eq)]
@@ -30,6 +33,10 @@ pub enum Mistake<'a> {
     OtherTool(&'a str),
     /// It has a path.
     Path,
+    /// It has another name and a dash before it, such as that of a package.
+    Prefix,
+    /// Names are spelled like triples, and it isn't.
+    NoTriple(Refusal<'a>),
 }
 
 impl fmt::Display for Mistake<'_> {
@@ -55,6 +62,8 @@ impl fmt::Display for Mistake<'_> {
             }
             Mistake::Path => f.write_str("it has a path"),
             Mistake::Part(name) => write!(f, "it is a part of a name, such as `{name}`"),
+            Mistake::Prefix => f.write_str("another name comes before it"),
+            Mistake::NoTriple(refusal) => write!(f, "as a triple: {refusal}"),
         }
     }
 }
@@ -98,9 +107,18 @@ impl Dialect {
             Some(Mistake::Part(whole))
         } else if Dialect::all_with(name).next().is_some() {
             Some(Mistake::OtherTool(name))
+        } else if self.name_inside(name).is_some() {
+            Some(Mistake::Path)
         } else {
-            let is_path = !self.has_slashes() && name.contains(['/', '\\']);
-            (is_path || self.name_inside(name).is_some()).then_some(Mistake::Path)
+            let has_slashes = self.has_slashes() || name.starts_with('@');
+            let is_path = !has_slashes && name.contains(['/', '\\']);
+            let end = self.name_at_end(name);
+            match read(name) {
+                _ if is_path => Some(Mistake::Path),
+                _ if end.is_some() && end == self.suggestion(name) => Some(Mistake::Prefix),
+                Err(refusal) if self == Dialect::Gnu => Some(Mistake::NoTriple(refusal)),
+                _ => None,
+            }
         }
     }
 
@@ -126,6 +144,16 @@ impl Dialect {
     #[inline]
     pub(super) fn name_in_other_letters(self, name: &str) -> Option<&'static str> {
         self.names_read().find(|it| it.eq_ignore_ascii_case(name))
+    }
+
+    /// The name with a dash in it that ends a text, after a dash.
+    #[inline]
+    pub(super) fn name_at_end(self, text: &str) -> Option<&'static str> {
+        let is_end = |name: &&str| {
+            let before = text.strip_suffix(*name);
+            name.contains('-') && before.map_or(false, |it| it.ends_with('-'))
+        };
+        self.names_read().filter(is_end).max_by_key(|it| it.len())
     }
 
     /// The name that is in a path or has white space around it. If names have slashes, it ends the path: what follows may be a

@@ -31,6 +31,8 @@ pub enum WriteError {
     NoSystem,
     /// The tool has names for the system, and none for this machine.
     NoMachine,
+    /// The tool has no name for this machine on any system.
+    NoMachineOnAnySystem,
     /// The tool has names for the machine and the system, and none with this C library or ABI.
     NoAbi,
     /// The tool's names for it are only read: they are old, or several, or of no release.
@@ -76,6 +78,9 @@ impl WriteError {
             }
             WriteError::NoMachine => {
                 "the tool has names for the system, and none for this machine"
+            }
+            WriteError::NoMachineOnAnySystem => {
+                "the tool has no name for this machine on any system"
             }
             WriteError::NoAbi => {
                 "the tool has names for the machine and the system, and none with this C library or ABI"
@@ -282,7 +287,8 @@ impl Dialect {
                 | OperatingSystem::MacOSX(_)
                 | OperatingSystem::IOS(Some(_))
         );
-        if why == WriteError::NoSystem && !has_other_name {
+        let is_unknown = matches!(why, WriteError::NoSystem | WriteError::NoMachineOnAnySystem);
+        if is_unknown && !has_other_name {
             return why;
         }
         self.why_c_library(triple, why)
@@ -378,7 +384,7 @@ impl Dialect {
     }
 
     /// The reason, by the machines and systems of the dialect's rows. Of the rows that are written one that begins as the
-    /// triple does says more than one that only has its system.
+    /// triple does says more than one that only has its system, and that more than one that only has its machine.
     #[inline]
     fn why_rows(self, triple: &TripleRef<'_>) -> WriteError {
         let shape = self.shape(triple);
@@ -392,16 +398,20 @@ impl Dialect {
             },
         );
         let system = after_machine(bare);
-        let mut why = WriteError::NoSystem;
+        let machine = &bare[..bare.len() - system.len()];
+        let mut why = WriteError::NoMachineOnAnySystem;
         for row in self.tables().iter().copied().flatten() {
             let text = row.1.as_bytes();
             if is_written(row) {
-                if why == WriteError::NoSystem && has_system(text, system) {
-                    why = WriteError::NoMachine;
-                }
-                if why != WriteError::NoSystem && begins(text, bare) {
-                    why = WriteError::NoAbi;
-                }
+                why = match why {
+                    WriteError::NoAbi => why,
+                    _ if has_system(text, system) && begins(text, bare) => WriteError::NoAbi,
+                    _ if has_system(text, system) => WriteError::NoMachine,
+                    WriteError::NoMachineOnAnySystem if has_machine(text, machine) => {
+                        WriteError::NoSystem
+                    }
+                    _ => why,
+                };
             } else if text == whole && row.2 == Way::Read {
                 let is_versioned = |major: &u16| {
                     has_version(*major, 0, row.0)
@@ -450,6 +460,13 @@ fn text_in<'a>(buffer: &'a mut [u8; MAX_LENGTH], triple: &TripleRef<'_>) -> &'a 
 fn after_machine(text: &[u8]) -> &[u8] {
     let at = text.iter().position(|it| *it == b'-').unwrap_or(0);
     &text[at..]
+}
+
+/// Whether a triple's text begins with this machine, or with another Arm of 32 bits.
+#[inline]
+fn has_machine(text: &[u8], machine: &[u8]) -> bool {
+    let is_arm = |it: &[u8]| it.starts_with(b"arm") || it.starts_with(b"thumb");
+    begins(text, machine) || is_arm(text) && is_arm(machine)
 }
 
 /// Whether a triple's text has this system after its machine. Of most texts the last byte says that it hasn't.

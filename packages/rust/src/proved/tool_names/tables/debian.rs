@@ -67,7 +67,7 @@ pub(crate) fn rows_2() -> &'static [Row] {
 }
 
 #[rustfmt::skip]
-static ROWS_2: [(&str, &str, Way); 43] = [
+static ROWS_2: [(&str, &str, Way); 46] = [
     ("musl-linux-arm64", "aarch64-unknown-linux-musl", Both),
     ("musl-linux-armeb", "armeb-unknown-linux-musl", Both),
     ("musl-linux-armhf", "armv7-unknown-linux-musleabihf", Both),
@@ -111,4 +111,7 @@ static ROWS_2: [(&str, &str, Way); 43] = [
     ("tilegx", "its architecture is no known name", NoTriple),
     ("x32", "x86_64-unknown-linux-gnux32", Both),
     ("x86_64", "Debian's name is amd64; in Termux it is Android's", NoTriple),
+    ("freebsd-arm64", "aarch64-unknown-freebsd", Read),
+    ("netbsd-amd64", "x86_64-unknown-netbsd", Read),
+    ("openbsd-amd64", "x86_64-unknown-openbsd", Read),
 ];

@@ -9,7 +9,7 @@ pub(crate) fn rows() -> &'static [Row] {
 }
 
 #[rustfmt::skip]
-static ROWS: [(&str, &str, Way); 30] = [
+static ROWS: [(&str, &str, Way); 50] = [
     ("x86_64-linux", "x86_64-unknown-linux", Both),
     ("i686-linux", "i686-unknown-linux", Both),
     ("aarch64-linux", "aarch64-unknown-linux", Both),
@@ -40,4 +40,40 @@ static ROWS: [(&str, &str, Way); 30] = [
     ("aarch64-none", "aarch64-unknown-none", Read),
     ("wasm32-wasi", "wasm32-wasip1", Both),
     ("javascript-ghcjs", "no machine", NoTriple),
+    ("aarch64-genode", "triples have no system genode", NoTriple),
+    ("aarch64-netbsd", "aarch64-unknown-netbsd", Both),
+    ("arm-none", "arm-unknown-none", Read),
+    ("armv6l-netbsd", "armv6-unknown-netbsd", Both),
+    ("armv7a-linux", "armv7-unknown-linux", Read),
+    ("armv7l-netbsd", "armv7-unknown-netbsd", Both),
+    ("avr-none", "avr-unknown-none", Read),
+    ("i686-cygwin", "i686-pc-cygwin", Both),
+    ("i686-darwin", "i686-apple-darwin", Both),
+    ("i686-freebsd", "i686-unknown-freebsd", Both),
+    ("i686-netbsd", "i686-unknown-netbsd", Both),
+    ("i686-openbsd", "i686-unknown-openbsd", Both),
+    ("m68k-netbsd", "m68k-unknown-netbsd", Both),
+    ("microblaze-linux", "its architecture is no known name", NoTriple),
+    ("mips-linux", "mips-unknown-linux", Both),
+    ("mips64-linux", "mips64-unknown-linux", Both),
+    ("mipsel-netbsd", "mipsel-unknown-netbsd", Both),
+    ("mmix-mmixware", "its architecture is no known name", NoTriple),
+    ("msp430-none", "msp430-none", Read),
+    ("or1k-none", "its architecture is no known name", NoTriple),
+];
+
+pub(crate) fn rows_2() -> &'static [Row] {
+    &ROWS_2
+}
+
+#[rustfmt::skip]
+static ROWS_2: [(&str, &str, Way); 8] = [
+    ("powerpc-linux", "powerpc-unknown-linux", Both),
+    ("powerpc-netbsd", "powerpc-unknown-netbsd", Both),
+    ("riscv32-none", "riscv32-unknown-none", Read),
+    ("riscv64-netbsd", "riscv64-unknown-netbsd", Both),
+    ("riscv64-none", "riscv64-unknown-none", Read),
+    ("s390-linux", "its architecture is no known name", NoTriple),
+    ("x86_64-genode", "triples have no system genode", NoTriple),
+    ("x86_64-redox", "x86_64-unknown-redox", Both),
 ];

@@ -125,7 +125,7 @@ pub(crate) fn rows_3() -> &'static [Row] {
 }
 
 #[rustfmt::skip]
-static ROWS_3: [(&str, &str, Way); 28] = [
+static ROWS_3: [(&str, &str, Way); 44] = [
     ("linuxmusl-riscv64", "riscv64-unknown-linux-musl", Read),
     ("linuxmusl-s390x", "s390x-unknown-linux-musl", Read),
     ("linuxmusl-ppc64", "powerpc64le-unknown-linux-musl", Read),
@@ -154,4 +154,20 @@ static ROWS_3: [(&str, &str, Way); 28] = [
     ("bun-windows-arm64", "aarch64-pc-windows", Read),
     ("bun-windows-x64-baseline", "x86_64-pc-windows", Read),
     ("bun-windows-x64-modern", "a triple can't state a level of x86-64", NoTriple),
+    ("darwin-64", "x86_64-apple-darwin", Read),
+    ("darwin-x64+arm64", "several machines", NoTriple),
+    ("freebsd-ia32", "i686-unknown-freebsd", Both),
+    ("linux-64", "x86_64-unknown-linux", Read),
+    ("linux-arm64-ohos", "aarch64-unknown-linux-ohos", Read),
+    ("linux-i686", "i686-unknown-linux", Read),
+    ("linux-armv6l", "armv6-unknown-linux", Read),
+    ("linux-x64-glibc-217", "x86_64-unknown-linux-gnu", Read),
+    ("linux-x86", "i686-unknown-linux", Read),
+    ("linux64", "x86_64-unknown-linux-gnu", Read),
+    ("mac-arm64", "aarch64-apple-darwin", Read),
+    ("mac-x64", "x86_64-apple-darwin", Read),
+    ("win32-i686", "i686-pc-windows", Read),
+    ("win64", "x86_64-pc-windows", Read),
+    ("windows-64", "x86_64-pc-windows", Read),
+    ("windows-arm64", "aarch64-pc-windows", Read),
 ];
