@@ -48,9 +48,15 @@ def our_answers(targets):
     return {target: line.split() for target, line in zip(targets, lines, strict=True)}
 
 
-def clang_effective(target, option):
-    """The triple that clang compiles for with an option."""
-    return output("clang", "-target", target, option, "-print-effective-triple")
+def clang_machine(target, option):
+    """The machine that clang compiles for with an option."""
+    return output("clang", "-target", target, option, "-print-effective-triple").partition("-")[0]
+
+
+def clang_environment(target, bits):
+    """The environment of the target with other pointers."""
+    option = f"-mabi={bits}" if target.startswith("mips") else f"-m{bits}"
+    return output("clang", "-target", target, option, "-print-target-triple").strip().rpartition("-")[2]
 
 
 def deployment_target(target):
@@ -70,7 +76,12 @@ def check_variants(report, targets, asked):
     if report.has("clang", shutil.which("clang")):
         arm = [(string, option, order) for string, it, llvm in known if llvm["machine"].startswith("arm")
                for option, order in (("-mlittle-endian", it[11]), ("-mbig-endian", it[12])) if order != "-"]
-        report.fact("clang's other byte order of Arm is the same", ((string, order.startswith("armeb"), clang_effective(string, option).startswith("armeb")) for string, option, order in arm))
+        report.fact("clang's other byte order of Arm is the same", (
+            (string, order.startswith("armeb"), clang_machine(string, option).startswith("armeb")) for string, option, order in arm))
+        changed = [(it[8], bits, variant.rpartition("-")[2]) for _, it, _ in known for bits, variant in ((32, it[9]), (64, it[10]))
+                   if "-linux-" in it[8] and variant.rpartition("-")[2] not in ("", it[8].rpartition("-")[2])]
+        report.fact("clang's environment on Linux with other pointers is the same", (
+            (target, bits, ours, clang_environment(target, bits)) for target, bits, ours in changed), "arm|aarch64|thumb|gnuspe")
     report.fact("LLVM's version of macOS is the same", ((string, it[13], theirs[string]["version of macOS"]) for string, it, _ in known))
     report.fact("LLVM's oldest version is the same", ((string, it[14], llvm["oldest version"]) for string, it, llvm in known if llvm["oldest version"] != "-"))
     apple = [target for target in targets if "-apple-" in target]

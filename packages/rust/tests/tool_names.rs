@@ -144,6 +144,7 @@ mipsisa32r6-unknown-linux-musl=mipsisa32r6-unknown-linux-musl mipsisa64r6-unknow
 powerpc64le-unknown-linux-gnu=- powerpc64le-unknown-linux-gnu powerpc64le-unknown-linux-gnu powerpc64-unknown-linux-gnu
 powerpc-unknown-linux-gnuspe=powerpc-unknown-linux-gnuspe powerpc64-unknown-linux-gnu - powerpc-unknown-linux-gnuspe
 riscv64gc-unknown-freebsd=riscv32gc-unknown-freebsd riscv64gc-unknown-freebsd riscv64gc-unknown-freebsd -
+riscv32imac-unknown-none-elf=riscv32imac-unknown-none-elf riscv64imac-unknown-none-elf riscv32imac-unknown-none-elf -
 riscv32imc-esp-espidf=riscv32imc-esp-espidf - riscv32imc-esp-espidf -
 sparcv9-sun-solaris=sparc-sun-solaris sparcv9-sun-solaris - sparcv9-sun-solaris
 sparc-unknown-netbsd=sparc-unknown-netbsd sparc64-unknown-netbsd - sparc-unknown-netbsd
