@@ -37,7 +37,8 @@ SYSTEM_WORDS = {"android": "linux", "win32": "windows", "win": "windows", "manyl
                 "tvossimulator": "tvos", "browser": "emscripten", "freestanding": "none unknown", "pyodide": "emscripten", "mingw": "windows",
                 "gnu": "hurd", "cygwin_nt": "cygwin", "mingw64_nt": "windows", "mingw32_nt": "windows", "windows_nt": "windows",
                 "ucrt64_nt": "windows", "clang64_nt": "windows", "clangarm64_nt": "windows", "wasi": "wasip1 wasi",
-                **dict.fromkeys(("ubuntu", "debian", "rhel", "fedora", "centos", "opensuse", "sles", "ol"), "linux")}
+                "mac": "darwin", "macosx": "darwin macosx",
+                **dict.fromkeys(("ubuntu", "debian", "rhel", "fedora", "centos", "opensuse", "sles", "ol", "almalinux", "linuxmint", "rocky"), "linux")}
 # The dialects whose names have a word for the system, and those whose names are a machine's word, mostly.
 OF_SYSTEMS = ("debian", "go", "oci", "node", "python", "uname", "dotnet", "conda", "zig", "nix")
 DIALECTS = (*OF_SYSTEMS, "rpm", "apk", "pacman")
@@ -49,11 +50,12 @@ ONLY_ONCE = {"arm64ilp32": "aarch64", "powerpcspe": "powerpc", "x32": "x86_64", 
              "octeon": "mips64", "loongson": "mips64el", "i686-at386": "i686", "bepc": "i586", "em64t": "x86_64", "ia32e": "x86_64",
              "athlon": "i686", "geode": "i586", "armv6hl": "armv6", "armv7hl": "armv7", "armv7hnl": "armv7", "armv8hl": "armv8", "ppc64p7": "powerpc64",
              "sparcv9": "sparc", "armv7h": "armv7", "armv6h": "armv6", "thumb": "thumbv7a",
-             "armel": "armv5te", "arm32v5": "armv5te", "arm32v6": "armv6", "arm32v7": "armv7", "arm64/v8.0": "aarch64", "wasm64": "wasm64"}
+             "armel": "armv5te", "arm32v5": "armv5te", "arm32v6": "armv6", "arm32v7": "armv7", "arm64/v8.0": "aarch64", "wasm64": "wasm64",
+             "earmv6hf": "armv6", "earmv7hf": "armv7", "armv7a": "armv7", "msp430": "msp430", "bpfeb": "bpfeb", "bpfel": "bpfel"}
 # Words that mean another machine in one dialect, or there on one system: the little-endian builds of Node on Linux, the versions of Arm that
 # a tool needs, models of the i386 that others don't tell apart, and programs of 32 bits on Windows.
 OWN_WORDS = {"linux ppc64 of node": "powerpc64le", "arm of dotnet": "armv7", "armel of dotnet": "armv7", "armhf of apk": "armv6",
-             "armel of apk": "armv5te", "arm of pacman": "armv5te", "64 of conda": "x86_64", "32 of conda": "i686", "i386 of rpm": "i386",
+             "armel of apk": "armv5te", "arm of pacman": "armv5te", "64 of conda": "x86_64", "64 of node": "x86_64", "32 of conda": "i686", "i386 of rpm": "i386",
              "linux i386 of uname": "i386", "freebsd riscv of uname": "riscv64", "mingw32_nt x86_64 of uname": "i686",
              "linuxmusl ppc64 of node": "powerpc64le", "x86 of apk": "i586",
              **{f"{name} of node": "armv7" for name in ("android-arm-eabi", "linux-arm-gnueabihf", "linux-arm-musleabihf", "linux-arm-glibc", "linux-arm-musl",
@@ -62,6 +64,8 @@ OWN_WORDS = {"linux ppc64 of node": "powerpc64le", "arm of dotnet": "armv7", "ar
 NOT_DPKG = ("aarch64", "i686", "x86_64", "amd64v3", "lpia", "iphoneos-arm", "iphoneos-arm64", "linux-amd64", "any-amd64", "hurd-any", "linux-any")
 # Names of Go without a triple that are no ports.
 NOT_PORTS = ("386", "amd64", "arm64", "linux/s390", "zos/s390x")
+# Names of cargo-zigbuild that are no targets of rustc.
+NOT_RUSTC = ("universal2-apple-darwin",)
 # Other spellings that no rule of `spelled_by_rule` explains, and what they are read as.
 SPELLINGS = {"amd64": "x86_64", "armel": "arm", "i486": "i386", "bpf_be": "bpfeb", "bpf_le": "bpfel", "systemz": "s390x", "thumbv7": "thumbv7a", "w64": "pc",
              "mingw32": "windows-gnu", "mingw64": "windows-gnu", "win32": "windows-msvc", "macos": "macosx", "macos+": "macosx", "mac+": "macosx", "sunos5": "solaris", "sunos5*": "solaris", "gnu*": "hurd-gnu",
@@ -191,7 +195,7 @@ class Comparison(Report):
         environment = {**os.environ, "GOFLAGS": "", "GO111MODULE": "off", "CGO_ENABLED": "0", "GOCACHE": f"{self.folder}/go",
                        "GOPATH": "/usr/share/gocode"}
         theirs = output(go, "tool", "dist", "list", env=environment).split()
-        ours = [row.name for row in self.rows_of("go", ("rw", "-")) if row.name not in NOT_PORTS]
+        ours = [row.name for row in self.rows_of("go", ("rw", "-")) if row.name not in NOT_PORTS and "_" not in row.name]
         newer = {row.name for row in self.rows if row.note.startswith("since")} | {"wasip1/wasm"}
         self.fact("Go's names are those of `go tool dist list`", (
             (name, name in ours, name in theirs) for name in {*ours, *theirs} - (newer - {*theirs})))
@@ -364,7 +368,7 @@ class Comparison(Report):
         if not self.has("rustc", shutil.which("rustc")):
             return
         targets = output("rustc", "--print", "target-list").split()
-        old = [row.name for row in self.rows_of("rust") if row.note.startswith("rustc's name")]
+        old = [*NOT_RUSTC, *(row.name for row in self.rows_of("rust") if row.note.startswith("rustc's name"))]
         ours = [row.name for row in self.rows_of("rust", ("rw", "r", "-")) if row.name not in old]
         meanings, theirs = self.meanings("rust"), rustc_answers(rustc_specs())
         self.fact("rust's names are those of `rustc --print target-list`", (
@@ -449,14 +453,15 @@ def words_of(dialect, name):
     if dialect in ("node", "dotnet", "conda"):
         if name == "wasm32-wasi":
             return "wasi", "wasm32"
+        name = re.sub("^(linux|win)(64)$", r"\1-\2", name)
         system, machine = re.match(r"(?:node\*-|bun-)?([a-z]+\d*)(?:\.[\d.*]+)?(?:-(?:musl|bionic))?-(\w+)", name).groups()
         return (system if system in SYSTEM_WORDS else system.rstrip("0123456789")), machine
     if dialect == "debian":
         return (name.split("-")[0] if "-" in name else "linux"), name.split("-")[-1]
     # Tags with dots between them are those of one file.
     name = re.sub(r"^manylinux.*_(?=manylinux)", "", name)
-    system, word = re.fullmatch(r"(?:cp\*_)?(win|linux|mingw|manylinux|musllinux|macosx|ios|android|freebsd|openbsd|netbsd|dragonfly|haiku|cygwin|emscripten|pyodide|wasi)"
-                                r"[0-9_*]*_?(?:RELEASE_|release_)?(\D.*?)??(?:_iphone\w+|_(?:ucrt|msvcrt)_\w+)?", name).groups()
+    system, word = re.fullmatch(r"(win|linux|mingw|manylinux|musllinux|macosx|ios|android|freebsd|openbsd|netbsd|dragonfly|haiku|cygwin|emscripten|pyodide|wasi)"
+                                r"[0-9_*]*_?(?:RELEASE_|release_)?(\D.*?)??(?:_iphone\w+|_(?:ucrt|msvcrt|clang)(?:_\w+)?)?", name).groups()
     return system, name if name == "win32" else word
 
 
