@@ -200,11 +200,10 @@ def rust_lists(tables):
              "the rules for later parts": spelling_rules(tables, "LATER_RULES", later, False)}
     words = tables.words
     systems = no_system(words["system"])
-    half = (len(systems) + 1) // 2
     lists |= {"the start of what is said of a system": [f'pub(crate) const NO_SYSTEM: &str = "{NO_SYSTEM}";'],
               "the makers of config.sub": text_array("pub(crate) static MAKERS", words["maker"]),
               "the kernels of config.sub": text_array("pub(crate) static KERNELS", words["kernel"]),
-              "the systems without a triple": text_array("static SYSTEMS", systems[:half]) + ["", "#[rattlefmt::skip]"] + text_array("static MORE_SYSTEMS", systems[half:])}
+              "the systems without a triple": text_array("static SYSTEMS", systems)}
     reasons = {tables.only_written, *systems} | {text for _, text in tables.reasons} | {meaning for it in dialects for _, meaning, way in it.rows if way == "NoTriple"}
     return lists | {
         "the reasons for C": [rf'"{reason}\0",' for reason in sorted(reasons)],

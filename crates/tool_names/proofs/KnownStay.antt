@@ -14,9 +14,7 @@ use Rattle.tool_names.specs.Spelling.{ListedPartsAreUnknown, Rule, first_rule, f
 wide-alone : (at : Place) (part : List ℕ) → first_rule (fits (standing_at at) part []) wide_rules ≡ None
 unfolding wide_rules
 wide-alone place.First part = refl
-wide-alone place.Second part = refl
-wide-alone place.AfterFirst part = refl
-wide-alone place.AfterHardFloats part = refl
+wide-alone _ part = refl
 
 append-nothing : (rules : List Rule) → rules ++ [] ≡ rules
 append-nothing [] = refl
@@ -39,12 +37,9 @@ module _ (at : Place) (part : List ℕ) (others : List (List ℕ)) where
 module _ (at : Place) (part : List ℕ) (others : List (List ℕ)) where
   by-form : (place : Bool) (f : Form) (text : List ℕ) → (place && has_form f text part []) ≡ false → (is_pair f && (place && has_form f text part others)) ≡ false
       → (place && has_form f text part others) ≡ false
-  by-form place form.Whole text alone pair = alone
-  by-form place form.HardFloats text alone pair = alone
-  by-form place form.Dropped text alone pair = alone
-  by-form place form.MacOs text alone pair = alone
   by-form place form.Pair text alone pair = pair
   by-form place form.PairWithin text alone pair = pair
+  by-form place _ text alone pair = alone
 
   none-of : (rules : List Rule) → first_rule (fits (standing_at at) part []) rules ≡ None → list_any (is_pair_that_fits at part others) rules ≡ false
       → first_rule (fits (standing_at at) part others) rules ≡ None

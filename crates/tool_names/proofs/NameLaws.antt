@@ -14,19 +14,15 @@ use Rattle.target_lexicon.specs.Values.{Architecture, Environment, OperatingSyst
 use Rattle.target_lexicon.specs.Values.architecture
 use Rattle.target_lexicon.specs.Values.operating_system
 use Rattle.target_lexicon.specs.Values.environment
-use Rattle.target_lexicon.specs.Values.riscv32
-use Rattle.lexicon_fields.specs.declared.architecture.riscv.Riscv64Architecture.TheVariants as riscv64
 use Rattle.tool_names.specs.declared.dialect.Dialect.{Dialect}
-use Rattle.tool_names.specs.declared.shape.MachineRule.{MachineRule}
 use Rattle.tool_names.specs.declared.dialect.Dialect.TheVariants.{Debian}
-use Rattle.tool_names.specs.declared.shape.MachineRule.TheVariants.{Order, Version, Alpine, Packages, Rustc}
 use Rattle.tool_names.specs.declared.tables.Way.{Way}
 use Rattle.tool_names.specs.declared.tables.Way.TheVariants.{Both, Read, Written, NoTriple}
 use Rattle.tool_names.specs.{Dialects.rows_of, Dialects.rules_of, Private.is_short_pattern}
 use Rattle.tool_names.specs.{Laws.IsCanonical, Laws.IsNamed, Laws.NamesAreCanonical, Laws.NamesKeepAnswers, Laws.NamesMeanTheShape, Laws.NamesMeanTheirRows, Laws.MeansTheShape, Laws.ReadsBack, Laws.NamesReadBack, Laws.NamesWithoutTripleAreRefused, Laws.OneNumberIsEnough, Laws.TagsMeanTheSame, Laws.may_be_long, Laws.may_be_short}
 use Rattle.tool_names.specs.Gnu.{as_gnu, gnu_meaning, gnu_system, second_system, unless_system}
 use Rattle.tool_names.specs.Spelling.{spelled_reading}
-use Rattle.tool_names.specs.{ObjectFormat.object_format, Shape.abi_by, Shape.machine_by, Shape.shape, Shape.sparc_of_rustc, Shape.system_by, Shape.unversioned, Shape.with_two_numbers}
+use Rattle.tool_names.specs.{ObjectFormat.object_format, Shape.shape}
 use Rattle.std.specs.Option.{option_or}
 use Rattle.tool_names.specs.Platforms.{Words, has_words, normal_words, row_with_words, words_of}
 use Rattle.tool_names.specs.Patterns.{all_limits, are_within, filled, fits, star_count, with_star, without_star}
@@ -34,13 +30,12 @@ use Rattle.tool_names.specs.Tables.{Row, is_read_and, is_written, row_named}
 use Rattle.tool_names.specs.Variants.{is_another_target}
 use Rattle.tool_names.specs.ToolNames.{HasNoTriple, Unread, found_meaning, name_meaning, numbers_in, platform_row, read_or_unknown, row_meaning, shape_row, spelled_meaning, system_with, text_without_numbers, triple_name, values_or_unread, version_of_numbers, with_numbers, without_numbers}
 use Rattle.tool_names.proofs.Filling.{counted_fits, filled_matches, fits_are_within, fits_counted, is_own_tag, is_spaced, match_fits}
-use Rattle.tool_names.proofs.KeptFormats.{has_system, keeps_abi, kept-format, system-format}
 use Rattle.tool_names.proofs.ObjectFormats.{given_kept}
-use Rattle.tool_names.proofs.RowChecks.{IsWrittenFor, both_rows, gives_no_special_text, has_canonical, has_form, has_numbers, has_pair, has_triple, is_both, is_canonical, is_canonical_as, is_known_format, is_ordinary, keeps_format, is_ordinary_architecture, is_ordinary_system, is_long_of, is_pair, is_short_of, name_of, row-written, rows-pass, tags-unspelled, written_back}
+use Rattle.tool_names.proofs.RowChecks.{IsWrittenFor, both_rows, gives_no_special_text, has_canonical, has_form, has_numbers, has_pair, has_triple, is_both, is_canonical, is_canonical_as, is_known_format, is_ordinary, keeps_format, is_long_of, is_pair, is_short_of, name_of, row-written, rows-pass, tags-unspelled, written_back}
 use Rattle.tool_names.proofs.ReadAgain.{read-sound}
 use Rattle.tool_names.proofs.RowLemmas.{all-at, any-at, is_only_written, is_refused, first-at, named-at, row-found}
 use Rattle.tool_names.proofs.Tags.{named_tag}
-use Rattle.tool_names.proofs.ShapeLemmas.{has_no_special_text, numbers-within, shape-endianness, shape-no_special, shape-width, usual-no_special, with-again, without-range}
+use Rattle.tool_names.proofs.ShapeLemmas.{Answers, has_no_special_text, has_system, is_ordinary_architecture, is_ordinary_system, keeps_abi, kept-format, numbers-within, same-answers, shape-again, shape-endianness, shape-no_special, shape-system, shape-width, system-format, usual-no_special}
 
 not-false : (b : Bool) → not b ≡ true → b ≡ false
 not-false true h = absurd cc
@@ -242,7 +237,6 @@ names_read_back d i row ns at both fit =
 
 pub one-system : (n : ℕ) (s : OperatingSystem) → system_with (n ∷ []) s ≡ system_with (n ∷ 0 ∷ []) s
 one-system n (operating_system.MacOSX version) = refl
-one-system n (operating_system.IOS version) = refl
 one-system n _ = refl
 
 one-numbers : (n : ℕ) (r : Result Values Unread) → with_numbers (n ∷ []) r ≡ with_numbers (n ∷ 0 ∷ []) r
@@ -254,12 +248,8 @@ one-meaning : (n : ℕ) (text : List ℕ) (one two : Way) → is_only_written on
 one-meaning n text Both Both a b c same = one-numbers n (read_or_unknown (reading text))
 one-meaning n text Read Both a b c same = one-numbers n (read_or_unknown (reading text))
 one-meaning n text NoTriple NoTriple a b c same = refl
-one-meaning n text Written two a b c same = absurd cc
-one-meaning n text one Read a b c same = absurd cc
-one-meaning n text one Written a b c same = absurd cc
-one-meaning n text NoTriple Both a b c same = absurd cc
-one-meaning n text Both NoTriple a b c same = absurd cc
-one-meaning n text Read NoTriple a b c same = absurd cc
+one-meaning n text _ Both a b c same = absurd cc
+one-meaning n text _ _ a b c same = absurd cc
 
 two-unwritten : (way : Way) (stars : ℕ) → has_numbers way stars ≡ true → stars ≡ 2 → is_only_written way ≡ false
 two-unwritten Written stars has two = absurd (let bad = rw two at has in cc)
@@ -440,7 +430,8 @@ abbrev base : Dialect → Values → Values
 base d t = record (shape d t) { operating_system = without_numbers (shape d t).operating_system }
 
 base-plain : (d : Dialect) (t : Values) → IsPlainTriple (base d t)
-base-plain d t = record { vendor = (no_special-known (shape d t).vendor (shape-no_special d t)).0; version = without-range d t }
+unfolding shape
+base-plain d t = record { vendor = (no_special-known (shape d t).vendor (shape-no_special d t)).0; version = (shape-system d t).in_range }
 
 no-numbers : (ns : List ℕ) → length ns ≡ 0 → ns ≡ []
 no-numbers [] is = refl
@@ -486,7 +477,7 @@ names_mean_shape round_trip d t name range h =
     numbers = numbers_in (shape d t).operating_system
 
     shape-read : IsNameOf d t name → with_numbers numbers (read_or_unknown (reading (text_of (base d t)))) ≡ Ok (shape d t)
-    shape-read it = ap (λ r. with_numbers numbers (read_or_unknown r)) (base-row round_trip d t it.canonical).0 ∙ ap (λ s. Ok (record (shape d t) { operating_system = s })) (with-again d t)
+    shape-read it = ap (λ r. with_numbers numbers (read_or_unknown r)) (base-row round_trip d t it.canonical).0 ∙ ap (λ s. Ok (record (shape d t) { operating_system = s })) (shape-again d t)
 
     by_way : (it : IsNameOf d t name) → IsNamed d it.row (filled it.row.pattern numbers) numbers → (way : Way) → it.row.way ≡ way → MeansTheShape d t (filled it.row.pattern numbers)
     by_way it named Both way =
@@ -529,58 +520,17 @@ ordinary-format t ordinary =
       ]
     ]
 
-ordinary-sparc : (s : OperatingSystem) → is_ordinary_architecture (sparc_of_rustc s) ≡ true
-ordinary-sparc operating_system.Linux = refl
-ordinary-sparc _ = refl
-
-ordinary-machine : (rule : MachineRule) (s : OperatingSystem) (e : Environment) (a : Architecture) → is_ordinary_architecture (machine_by rule s e a) ≡ is_ordinary_architecture a
-ordinary-machine Order s e architecture.X86_64 = refl
-ordinary-machine Order s e _ = refl
-ordinary-machine Version s e architecture.X86_64 = refl
-ordinary-machine Version s e _ = refl
-ordinary-machine Alpine s e architecture.X86_64 = refl
-ordinary-machine Alpine s e _ = refl
-ordinary-machine Packages s e architecture.X86_64 = refl
-ordinary-machine Packages s e _ = refl
-ordinary-machine Rustc s e (architecture.Riscv32 riscv32.Riscv32) = refl
-ordinary-machine Rustc s e (architecture.Riscv32 _) = refl
-ordinary-machine Rustc s e (architecture.Riscv64 riscv64.Riscv64) = refl
-ordinary-machine Rustc s e (architecture.Riscv64 _) = refl
-ordinary-machine Rustc s e architecture.Sparc64 = ordinary-sparc s
-ordinary-machine Rustc s e _ = refl
-
-unversioned-ordinary : (s : OperatingSystem) → is_ordinary_system (without_numbers (unversioned s)) ≡ is_ordinary_system s
-unversioned-ordinary operating_system.Linux = refl
-unversioned-ordinary _ = refl
-
-two_numbers-ordinary : (s : OperatingSystem) → is_ordinary_system (without_numbers (with_two_numbers s)) ≡ is_ordinary_system s
-two_numbers-ordinary operating_system.Linux = refl
-two_numbers-ordinary _ = refl
-
-ordinary-system : (b : Bool) (s : OperatingSystem) → is_ordinary_system (without_numbers (system_by b s)) ≡ is_ordinary_system s
-ordinary-system true s = two_numbers-ordinary s
-ordinary-system false s = unversioned-ordinary s
-
-without-ordinary : (s : OperatingSystem) → is_ordinary_system (without_numbers s) ≡ is_ordinary_system s
-without-ordinary operating_system.Linux = refl
-without-ordinary _ = refl
-
-unversioned-system : (b : Bool) (s : OperatingSystem) → has_system (without_numbers (system_by b s)) ≡ has_system s
-unversioned-system true operating_system.Linux = refl
-unversioned-system true _ = refl
-unversioned-system false operating_system.Linux = refl
-unversioned-system false _ = refl
-
 base-system : (d : Dialect) (t : Values) → has_system (base d t).operating_system ≡ has_system t.operating_system
 unfolding shape
-base-system d t = unversioned-system (rules_of d).versions t.operating_system
+base-system d t = (shape-system d t).has_system
 
 base-ordinary : (d : Dialect) (t : Values) → is_ordinary (base d t) ≡ is_ordinary t
 unfolding shape
-base-ordinary d t = rw (ordinary-machine (rules_of d).machine t.operating_system (abi_by (rules_of d).abi t.operating_system t.environment) t.architecture, ordinary-system (rules_of d).versions t.operating_system) refl
+base-ordinary d t = rw (ap (λ (it : Answers). it.ordinary) (same-answers d t), (shape-system d t).ordinary) refl
 
 shape-ordinary : (d : Dialect) (t : Values) → is_ordinary (base d t) ≡ is_ordinary (shape d t)
-shape-ordinary d t = rw (without-ordinary (shape d t).operating_system) refl
+unfolding shape
+shape-ordinary d t = rw (shape-system d t).shape_ordinary refl
 
 shape-format : (d : Dialect) (t : Values) → (shape d t).binary_format ≡ t.binary_format
 unfolding shape

@@ -18,7 +18,7 @@ use Rattle.tool_names.specs.declared.rules.Form.TheVariants as form
 use Rattle.tool_names.specs.declared.rules.Place.{Place}
 use Rattle.tool_names.specs.declared.rules.Place.TheVariants as place
 use Rattle.tool_names.specs.Spelling.{ReadingAgainIsTheSame, Rule, SpelledName, Standing, are_pair, first_rule, fits, goes_on, has_form, is_known_at, is_other_system, located, may_stand, name_texts, names_at, names_by, names_of, next_standing, reading_unless_special, rule_alone, rule_at, spelled_by, spelled_from, spelled_names, spelled_reading, rules_for, standing_at, unread_names}
-use Rattle.tool_names.proofs.{SpelledNames.CustomStays, SpelledNames.SecondStays, SpelledNames.custom_vendor-text, SpelledNames.known-second, SpelledOnce.AreKnown, SpelledOnce.IsFirst, SpelledOnce.is_first, SpelledOnce.rule-known, SpelledReading.read-stays}
+use Rattle.tool_names.proofs.{SpelledNames.CustomStays, SpelledNames.SecondStays, SpelledNames.SystemStays, SpelledNames.custom_vendor-text, SpelledNames.known-second, SpelledNames.system-stays, SpelledOnce.AreKnown, SpelledOnce.IsFirst, SpelledOnce.is_first, SpelledOnce.rule-known, SpelledReading.read-stays}
 
 -- the first name after the architecture spells itself
 
@@ -54,23 +54,15 @@ module _ (hard_float : Bool) (part : List ℕ) (others : List (List ℕ)) where
   may_stand-hard place.AfterFirst stands = refl
   may_stand-hard place.AfterHardFloats stands = absurd cc
 
+  no_pair : (texts : List (List ℕ)) → are_pair texts part [] ≡ false
+  no_pair [] = refl
+  no_pair (first ∷ []) = refl
+  no_pair (first ∷ (second ∷ texts)) = refl
+
   form-alone : (f : Form) (text : List ℕ) → has_form f text part [] ≡ true → has_form f text part others ≡ true
-  form-alone form.Whole text has = has
-  form-alone form.HardFloats text has = has
-  form-alone form.Dropped text has = has
-  form-alone form.MacOs text has = has
-  form-alone form.Pair text has = absurd (no_pair (parts_of text) has)
-    where
-      no_pair : (texts : List (List ℕ)) → are_pair texts part [] ≡ true → ⊥
-      no_pair [] h = cc
-      no_pair (first ∷ []) h = cc
-      no_pair (first ∷ (second ∷ texts)) h = cc
-  form-alone form.PairWithin text has = absurd (no_pair (parts_of text) has)
-    where
-      no_pair : (texts : List (List ℕ)) → are_pair texts part [] && goes_on [] ≡ true → ⊥
-      no_pair [] h = cc
-      no_pair (first ∷ []) h = cc
-      no_pair (first ∷ (second ∷ texts)) h = cc
+  form-alone form.Pair text has = absurd (let none = no_pair (parts_of text) in cc)
+  form-alone form.PairWithin text has = absurd (let none = (and_parts (are_pair (parts_of text) part []) false has).1 in cc)
+  form-alone _ text has = has
 
   unfit-alone : (rule : Rule) → fits (second_standing hard_float) part others rule ≡ false → fits (standing_at place.Second) part [] rule ≡ false
   unfit-alone rule unfit =
@@ -114,61 +106,17 @@ second-staying hard_float (part ∷ others) =
     let rule = rule_at (second_standing hard_float) part others in
     begin-staying (part ∷ others) (names_at (second_standing hard_float) rule part) (names_of (spelled_from (next_standing (second_standing hard_float) rule) others)) (second-first hard_float part others)
 
--- what is read from parts is plain, and a custom vendor is the second part
-
-module _ (a : Architecture) (v : VendorValue) (t : Values) where
-  -- the triple has this vendor and this system
-  abbrev Has : OperatingSystem → Type 0
-  Has s = (t.vendor ≡ v) × (t.operating_system ≡ s)
-
-  final-has : (s : OperatingSystem) (e : Environment) (f : BinaryFormat) (last : Field) (ps : List (List ℕ)) → final_reading (values a v s e f) last ps ≡ Ok t → Has s
-  final-has s e f last [] h = let same : values a v s e f ≡ t = cc in (ap (λ u. u.vendor) (sym same), ap (λ u. u.operating_system) (sym same))
-  final-has s e f last (p ∷ ps) h = absurd cc
-
-  format-has : (s : OperatingSystem) (e : Environment) (last : Field) (ps : List (List ℕ)) → reading_from_binary_format a v s e last ps ≡ Ok t → Has s
-  format-has s e last [] h = final-has s e (implied_format a s e) last [] h
-  format-has s e last (p ∷ ps) h = by_found (binary_format_of p) h
-    where
-      by_found : (o : Option BinaryFormat) → (let f = field_reading_by field.BinaryFormat o (implied_format a s e) last p ps in final_reading (values a v s e f.0) f.1 f.2) ≡ Ok t → Has s
-      by_found (Some f) h = final-has s e f field.BinaryFormat ps h
-      by_found None h = final-has s e (implied_format a s e) last (p ∷ ps) h
-
-  environment-has : (s : OperatingSystem) (last : Field) (ps : List (List ℕ)) → reading_from_environment a v s last ps ≡ Ok t → Has s
-  environment-has s last [] h = format-has s environment.Unknown last [] h
-  environment-has s last (p ∷ ps) h = by_found (environment_of p) h
-    where
-      by_found : (o : Option Environment) → (let e = field_reading_by field.Environment o environment.Unknown last p ps in reading_from_binary_format a v s e.0 e.1 e.2) ≡ Ok t → Has s
-      by_found (Some e) h = format-has s e field.Environment ps h
-      by_found None h = format-has s environment.Unknown last (p ∷ ps) h
-
-  -- the triple has this vendor, and its version is in range
-  abbrev InRange : Type 0
-  InRange = (t.vendor ≡ v) × HasVersionInRange t.operating_system
-
-  in_range : (s : OperatingSystem) → HasVersionInRange s → Has s → InRange
-  in_range s range has = (has.0, subst HasVersionInRange (sym has.1) range)
-
-  system-in_range : (last : Field) (ps : List (List ℕ)) → reading_from_operating_system a v last ps ≡ Ok t → InRange
-  system-in_range last [] h = in_range operating_system.Unknown tt (environment-has operating_system.Unknown last [] h)
-  system-in_range last (p ∷ ps) h = by_found (operating_system_of p) refl h
-    where
-      by_found : (o : Option OperatingSystem) → operating_system_of p ≡ o
-          → (let s = field_reading_by field.OperatingSystem o operating_system.Unknown last p ps in reading_from_environment a v s.0 s.1 s.2) ≡ Ok t → InRange
-      by_found (Some s) is h = in_range s (version_in_range p s is) (environment-has s field.OperatingSystem ps h)
-      by_found None is h = in_range operating_system.Unknown tt (environment-has operating_system.Unknown last (p ∷ ps) h)
-
 -- the triple is plain, and its custom vendor spells itself
 pub record IsSound (t : Values) : Type 0 where
   pub plain : IsPlainTriple t
   pub custom : CustomStays t
 
-known-sound : (v : VendorValue) (t : Values) → is_plain v ≡ true → ((text : List ℕ) → v ≡ Custom text → SecondStays text)
-    → (t.vendor ≡ v) × HasVersionInRange t.operating_system → IsSound t
-known-sound v t plain custom (same, range) =
-    record { plain = record { vendor = ap is_plain same ∙ plain; version = range }; custom = λ text is. custom text (sym same ∙ is) }
+known-sound : (a : Architecture) (v : VendorValue) (t : Values) (ps : List (List ℕ)) → is_plain v ≡ true → ((text : List ℕ) → v ≡ Custom text → SecondStays text) → SystemStays a v t ps → IsSound t
+known-sound a v t ps plain custom stays =
+    record { plain = record { vendor = ap is_plain stays.1 ∙ plain; version = stays.2 }; custom = λ text is. custom text (sym stays.1 ∙ is) }
 
 vendor-sound : (a : Architecture) (t : Values) (ps : List (List ℕ)) → reading_from_vendor a ps ≡ Ok t → BeginStaying ps → IsSound t
-vendor-sound a t [] h first = known-sound (Known Unknown) t refl (λ text is. absurd cc) (system-in_range a (Known Unknown) t field.Architecture [] h)
+vendor-sound a t [] h first = known-sound a (Known Unknown) t [] refl (λ text is. absurd cc) (system-stays a (Known Unknown) t field.Architecture [] h)
 vendor-sound a t (p ∷ ps) h first = by_found (vendor_of p) refl h
   where
     custom : (v : VendorValue) → vendor_of p ≡ Some v → (text : List ℕ) → v ≡ Custom text → SecondStays text
@@ -176,8 +124,8 @@ vendor-sound a t (p ∷ ps) h first = by_found (vendor_of p) refl h
 
     by_found : (o : Option VendorValue) → vendor_of p ≡ o
         → (let v = field_reading_by field.Vendor o (Known Unknown) field.Architecture p ps in reading_from_operating_system a v.0 v.1 v.2) ≡ Ok t → IsSound t
-    by_found (Some v) is h = known-sound v t (vendor-plain p v is) (custom v is) (system-in_range a v t field.Vendor ps h)
-    by_found None is h = known-sound (Known Unknown) t refl (λ text is. absurd cc) (system-in_range a (Known Unknown) t field.Architecture (p ∷ ps) h)
+    by_found (Some v) is h = known-sound a v t ps (vendor-plain p v is) (custom v is) (system-stays a v t field.Vendor ps h)
+    by_found None is h = known-sound a (Known Unknown) t (p ∷ ps) refl (λ text is. absurd cc) (system-stays a (Known Unknown) t field.Architecture (p ∷ ps) h)
 
 names-sound : (parts : List (List ℕ)) (t : Values) → reading_of_parts (name_texts (spelled_names parts)) ≡ Ok t → IsSound t
 names-sound [] t h = absurd cc

@@ -6,9 +6,7 @@ use Rattle.std.proofs.lemmas.Bool.{and_parts, eqb-true, leb-true}
 use Rattle.std.proofs.lemmas.Slice.Eq.{bytes_eq-Decides}
 use Rattle.lexicon_fields.specs.{ArchitectureQueries.is_clever, Vendor.is_custom}
 use Rattle.target_lexicon.proofs.OnLiterals.{target_lexicon_on_literals}
-use Rattle.target_lexicon.specs.{GreedyReading.reading, Printing.text_of, Refusal.Refusal, Values.BinaryFormat, Values.Architecture, Values.OperatingSystem, Values.Values}
-use Rattle.target_lexicon.specs.Values.architecture
-use Rattle.target_lexicon.specs.Values.operating_system
+use Rattle.target_lexicon.specs.{GreedyReading.reading, Printing.text_of, Refusal.Refusal, Values.BinaryFormat, Values.Values}
 use Rattle.target_lexicon.specs.Values.binary_format
 use Rattle.tool_names.specs.declared.dialect.Dialect.{Dialect}
 use Rattle.tool_names.specs.declared.dialect.Dialect.TheVariants as dialect
@@ -21,21 +19,10 @@ use Rattle.tool_names.specs.Tables.{Row, is_read_and, is_written, is_written_for
 use Rattle.tool_names.specs.Variants.{is_another_target}
 use Rattle.tool_names.specs.ToolNames.{Unread, read_or_unknown, triple_name, with_numbers}
 use Rattle.tool_names.proofs.Filling.{is_own_tag, is_spaced}
-use Rattle.tool_names.proofs.KeptFormats.{has_system, keeps_abi}
 use Rattle.tool_names.proofs.RowLemmas.{all-at, all_apart, first-at, is_only_written}
-use Rattle.tool_names.proofs.ShapeLemmas.{has_no_special_text}
+use Rattle.tool_names.proofs.ShapeLemmas.{has_no_special_text, has_system, is_ordinary_architecture, is_ordinary_system, keeps_abi}
 
--- the architectures, systems and formats for which toolchains write the format of the triple
-
-abbrev pub is_ordinary_architecture : Architecture → Bool
-is_ordinary_architecture architecture.Wasm32 = false
-is_ordinary_architecture architecture.Wasm64 = false
-is_ordinary_architecture _ = true
-
-abbrev pub is_ordinary_system : OperatingSystem → Bool
-is_ordinary_system operating_system.Uefi = false
-is_ordinary_system operating_system.Cygwin = false
-is_ordinary_system _ = true
+-- a triple whose format toolchains write, since they don't write another for its architecture and system
 
 abbrev pub is_known_format : BinaryFormat → Bool
 is_known_format binary_format.Unknown = false

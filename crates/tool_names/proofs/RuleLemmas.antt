@@ -177,15 +177,11 @@ module _ (part : List ℕ) (others : List (List ℕ)) (name : Option (List ℕ))
   later-lone : (at : Place) → is_first at ≡ false → first_rule (fits (standing at) part others) lone_rules ≡ first_rule (fits (standing at) part others) (rules_in code.LATER_RULES)
   unfolding lone_rules
   later-lone place.First other = absurd cc
-  later-lone place.Second other = refl
-  later-lone place.AfterFirst other = refl
-  later-lone place.AfterHardFloats other = refl
+  later-lone _ other = refl
 
   later-known : (at : Place) → is_first at ≡ false → is_known_at at part ≡ is_known_at place.AfterFirst part
   later-known place.First other = absurd cc
-  later-known place.Second other = refl
-  later-known place.AfterFirst other = refl
-  later-known place.AfterHardFloats other = refl
+  later-known _ other = refl
 
   later-rules : (at : Place) → is_first at ≡ false → first_rule (fits (standing at) part others) wide_rules ≡ None → (b : Bool)
       → lone_rule at b ≡ cond b None (first_rule (fits (standing at) part others) (rules_in code.LATER_RULES))
@@ -204,9 +200,7 @@ rule-first at part others unnamed first = rw unnamed (by_place at.place at.hard_
     by_place : (p : Place) (h : Bool) (o : Option (List ℕ)) → is_first p ≡ true
         → (let it : Standing = record { place = p; hard_float = h; name = o } in first_rule (fits it part others) (rules_for p part) ≡ cond (is_some (architecture_of part)) None (first_rule (fits it part others) (rules_in code.FIRST_RULES)))
     by_place place.First h o first = first-rules part others o h (is_some (architecture_of part))
-    by_place place.Second h o first = absurd cc
-    by_place place.AfterFirst h o first = absurd cc
-    by_place place.AfterHardFloats h o first = absurd cc
+    by_place _ h o first = absurd cc
 
 pub rule-later : (at : Standing) (part : List ℕ) (others : List (List ℕ)) → is_some at.name ≡ false → is_first at.place ≡ false
     → first_rule (fits at part others) (rules_in code.WIDE_RULES) ≡ None → rule_at at part others ≡ later_rule at part others

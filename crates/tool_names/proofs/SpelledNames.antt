@@ -7,10 +7,10 @@ use Rattle.std.specs.Str.{bytes_eq}
 use Rattle.std.specs.Option.{option_map_or, option_or}
 use Rattle.std.proofs.lemmas.Bool.{and_parts, cases_Bool}
 use Rattle.std.proofs.lemmas.Slice.Eq.{bytes_eq-Decides}
-use Rattle.lexicon_fields.specs.{Architecture.architecture_of, BinaryFormat.binary_format_of, Environment.environment_of, FixedRow.has_row, OperatingSystem.fixed_operating_system_of, OperatingSystem.operating_system_of, Vendor.has_vendor_form, Vendor.is_admitted, Vendor.is_custom, Vendor.known_vendor_of, Vendor.vendor_of}
+use Rattle.lexicon_fields.specs.{Architecture.architecture_of, BinaryFormat.binary_format_of, Environment.environment_of, FixedRow.has_row, Laws.HasVersionInRange, OperatingSystem.fixed_operating_system_of, OperatingSystem.operating_system_of, Vendor.has_vendor_form, Vendor.is_admitted, Vendor.is_custom, Vendor.known_vendor_of, Vendor.vendor_of}
 use Rattle.lexicon_fields.specs.declared.known_vendor.KnownVendor.{KnownVendor}
 use Rattle.lexicon_fields.specs.declared.known_vendor.KnownVendor.TheVariants.{Unknown}
-use Rattle.lexicon_fields.proofs.VendorsReadBack.{row_read, without_row_read}
+use Rattle.lexicon_fields.proofs.{ParsedSystems.version_in_range, VendorsReadBack.row_read, VendorsReadBack.without_row_read}
 use Rattle.target_lexicon.specs.GreedyReading.{field_reading_by, final_reading, reading_from_binary_format, reading_from_environment, reading_from_operating_system, reading_from_vendor, reading_after_architecture, reading_of_parts}
 use Rattle.target_lexicon.specs.{Field.Field, ImpliedFormat.implied_format, Placement.parts_of, Refusal.Refusal}
 use Rattle.target_lexicon.specs.Values.{Architecture, OperatingSystem, Environment, BinaryFormat, VendorValue, Known, Custom, Values, values}
@@ -141,12 +141,9 @@ module _ (read : List (List ℕ) → Result Values Refusal) (t : Values) (refuse
 
   no_rule-fits : (place : Bool) (f : Form) (text part : List ℕ) (others : List (List ℕ)) → (not (is_pair f) || is_unread (is_within f) (parts_of text)) ≡ true → read (part ∷ others) ≡ Ok t
       → (is_pair f && (place && has_form f text part others)) ≡ false
-  no_rule-fits place form.Whole text part others unread h = refl
-  no_rule-fits place form.HardFloats text part others unread h = refl
-  no_rule-fits place form.Dropped text part others unread h = refl
-  no_rule-fits place form.MacOs text part others unread h = refl
   no_rule-fits place form.Pair text part others unread h = rw (pair-alone (are_pair (parts_of text) part others) (not-pair false (parts_of text) part others unread h)) (and_false place)
   no_rule-fits place form.PairWithin text part others unread h = rw (not-pair true (parts_of text) part others unread h) (and_false place)
+  no_rule-fits place _ text part others unread h = refl
 
   none-fits : (at : Place) (part : List ℕ) (others : List (List ℕ)) (rules : List Rule) → list_all is_unread_rule rules ≡ true → read (part ∷ others) ≡ Ok t
       → list_any (is_pair_that_fits at part others) rules ≡ false
@@ -254,42 +251,51 @@ abbrev pub AllStay : List (List ℕ) → Type 0
 AllStay [] = Unit {0}
 AllStay (part ∷ others) = (is_known_at place.AfterFirst part ≡ true) × IsNoPair place.AfterFirst part others × AllStay others
 
--- if a triple is read, all parts after the architecture are known names, unless the first is a custom vendor
+-- if a triple is read, all parts after the architecture are known names, unless the first is a custom vendor. It has the vendor and the
+-- system that were read, and its version is in range
 
 module _ (a : Architecture) (v : VendorValue) (t : Values) where
-  final-stays : (u : Values) (last : Field) (ps : List (List ℕ)) → u.vendor ≡ v → final_reading u last ps ≡ Ok t → AllStay ps × (t.vendor ≡ v)
-  final-stays u last [] is h = let same : u ≡ t = cc in (tt, ap (λ w. w.vendor) (sym same) ∙ is)
-  final-stays u last (p ∷ ps) is h = absurd cc
+  abbrev Stay : OperatingSystem → List (List ℕ) → Type 0
+  Stay s ps = AllStay ps × (t.vendor ≡ v) × (t.operating_system ≡ s)
 
-  format-stays : (s : OperatingSystem) (e : Environment) (last : Field) (ps : List (List ℕ)) → reading_from_binary_format a v s e last ps ≡ Ok t → AllStay ps × (t.vendor ≡ v)
-  format-stays s e last [] h = final-stays (values a v s e (implied_format a s e)) last [] refl h
+  final-stays : (s : OperatingSystem) (e : Environment) (f : BinaryFormat) (last : Field) (ps : List (List ℕ)) → final_reading (values a v s e f) last ps ≡ Ok t → Stay s ps
+  final-stays s e f last [] h = let same : values a v s e f ≡ t = cc in (tt, ap (λ u. u.vendor) (sym same), ap (λ u. u.operating_system) (sym same))
+  final-stays s e f last (p ∷ ps) h = absurd cc
+
+  format-stays : (s : OperatingSystem) (e : Environment) (last : Field) (ps : List (List ℕ)) → reading_from_binary_format a v s e last ps ≡ Ok t → Stay s ps
+  format-stays s e last [] h = final-stays s e (implied_format a s e) last [] h
   format-stays s e last (p ∷ ps) read = by_found (binary_format_of p) refl read
     where
       by_found : (o : Option BinaryFormat) → binary_format_of p ≡ o
-          → (let f = field_reading_by field.BinaryFormat o (implied_format a s e) last p ps in final_reading (values a v s e f.0) f.1 f.2) ≡ Ok t
-          → AllStay (p ∷ ps) × (t.vendor ≡ v)
-      by_found (Some f) is h = let rest = final-stays (values a v s e f) field.BinaryFormat ps refl h in ((format-known p (ap is_some is), format-no_pair a t v s e last p ps read, rest.0), rest.1)
-      by_found None is h = final-stays (values a v s e (implied_format a s e)) last (p ∷ ps) refl h
+          → (let f = field_reading_by field.BinaryFormat o (implied_format a s e) last p ps in final_reading (values a v s e f.0) f.1 f.2) ≡ Ok t → Stay s (p ∷ ps)
+      by_found (Some f) is h = let rest = final-stays s e f field.BinaryFormat ps h in ((format-known p (ap is_some is), format-no_pair a t v s e last p ps read, rest.0), rest.1, rest.2)
+      by_found None is h = final-stays s e (implied_format a s e) last (p ∷ ps) h
 
-  environment-stays : (s : OperatingSystem) (last : Field) (ps : List (List ℕ)) → reading_from_environment a v s last ps ≡ Ok t → AllStay ps × (t.vendor ≡ v)
+  environment-stays : (s : OperatingSystem) (last : Field) (ps : List (List ℕ)) → reading_from_environment a v s last ps ≡ Ok t → Stay s ps
   environment-stays s last [] h = format-stays s environment.Unknown last [] h
   environment-stays s last (p ∷ ps) read = by_found (environment_of p) refl read
     where
       by_found : (o : Option Environment) → environment_of p ≡ o
-          → (let e = field_reading_by field.Environment o environment.Unknown last p ps in reading_from_binary_format a v s e.0 e.1 e.2) ≡ Ok t
-          → AllStay (p ∷ ps) × (t.vendor ≡ v)
-      by_found (Some e) is h = let rest = format-stays s e field.Environment ps h in ((environment-known p (ap is_some is), environment-no_pair a t v s last p ps read, rest.0), rest.1)
+          → (let e = field_reading_by field.Environment o environment.Unknown last p ps in reading_from_binary_format a v s e.0 e.1 e.2) ≡ Ok t → Stay s (p ∷ ps)
+      by_found (Some e) is h = let rest = format-stays s e field.Environment ps h in ((environment-known p (ap is_some is), environment-no_pair a t v s last p ps read, rest.0), rest.1, rest.2)
       by_found None is h = format-stays s environment.Unknown last (p ∷ ps) h
 
-  system-stays : (last : Field) (ps : List (List ℕ)) → reading_from_operating_system a v last ps ≡ Ok t → AllStay ps × (t.vendor ≡ v)
-  system-stays last [] h = environment-stays operating_system.Unknown last [] h
+  abbrev pub SystemStays : List (List ℕ) → Type 0
+  SystemStays ps = AllStay ps × (t.vendor ≡ v) × HasVersionInRange t.operating_system
+
+  without-system : (ps : List (List ℕ)) → Stay operating_system.Unknown ps → SystemStays ps
+  without-system ps rest = (rest.0, rest.1, subst HasVersionInRange (sym rest.2) tt)
+
+  pub system-stays : (last : Field) (ps : List (List ℕ)) → reading_from_operating_system a v last ps ≡ Ok t → SystemStays ps
+  system-stays last [] h = without-system [] (environment-stays operating_system.Unknown last [] h)
   system-stays last (p ∷ ps) read = by_found (operating_system_of p) refl read
     where
       by_found : (o : Option OperatingSystem) → operating_system_of p ≡ o
-          → (let s = field_reading_by field.OperatingSystem o operating_system.Unknown last p ps in reading_from_environment a v s.0 s.1 s.2) ≡ Ok t
-          → AllStay (p ∷ ps) × (t.vendor ≡ v)
-      by_found (Some s) is h = let rest = environment-stays s field.OperatingSystem ps h in ((system-known p (ap is_some is), system-no_pair a t v last p ps read, rest.0), rest.1)
-      by_found None is h = environment-stays operating_system.Unknown last (p ∷ ps) h
+          → (let s = field_reading_by field.OperatingSystem o operating_system.Unknown last p ps in reading_from_environment a v s.0 s.1 s.2) ≡ Ok t → SystemStays (p ∷ ps)
+      by_found (Some s) is h =
+          let rest = environment-stays s field.OperatingSystem ps h in
+          ((system-known p (ap is_some is), system-no_pair a t v last p ps read, rest.0), rest.1, subst HasVersionInRange (sym rest.2) (version_in_range p s is))
+      by_found None is h = without-system (p ∷ ps) (environment-stays operating_system.Unknown last (p ∷ ps) h)
 
 -- a custom vendor of the triple spells itself
 abbrev pub CustomStays : Values → Type 0

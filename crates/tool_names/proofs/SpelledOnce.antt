@@ -50,9 +50,7 @@ macosx-known at text names kind some = by_version (version_of text) refl some
   where
     known : (v : DeploymentTarget) → version_of text ≡ Some v → (p : Place) → has_kind p form.MacOs names ≡ true → is_known_at p (macosx_name text) ≡ true
     known v is place.First kind = absurd cc
-    known v is place.Second kind = system-known (macosx_name text) (ap is_some (is_macosx text v is))
-    known v is place.AfterFirst kind = system-known (macosx_name text) (ap is_some (is_macosx text v is))
-    known v is place.AfterHardFloats kind = system-known (macosx_name text) (ap is_some (is_macosx text v is))
+    known v is _ kind = system-known (macosx_name text) (ap is_some (is_macosx text v is))
 
     by_version : (o : Option DeploymentTarget) → version_of text ≡ o → is_some (option_map (λ _. text) o) ≡ true → is_known_at at (macosx_name text) ≡ true
     by_version None is h = absurd cc
@@ -65,9 +63,6 @@ first-known at (name ∷ names) known = rw (and_parts (is_known_at at name) (lis
 -- so are the names that a rule gives a part that it fits
 given-known : (at : Place) (part : List ℕ) (others : List (List ℕ)) (f : Form) (text : List ℕ) (names : List (List ℕ)) → are_known at names ≡ true → has_kind at f names ≡ true
     → has_form f text part others ≡ true → AreKnown at (named_as f (unwrap_or (text_after_prefix text part) []) names)
-given-known at part others form.Whole text names known later has = known
-given-known at part others form.HardFloats text names known later has = known
-given-known at part others form.Dropped text names known later has = known
 given-known at part others form.MacOs text names known later has = by_rest (text_after_prefix text part) has
   where
     by_rest : (o : Option (List ℕ)) → is_some (option_and_then version_text o) ≡ true → AreKnown at (macosx_name (unwrap_or o []) ∷ [])
@@ -75,6 +70,7 @@ given-known at part others form.MacOs text names known later has = by_rest (text
     by_rest (Some rest) h = rw (macosx-known at rest names later h) refl
 given-known at part others form.Pair text names known later has = first-known at names known
 given-known at part others form.PairWithin text names known later has = first-known at names known
+given-known at part others _ text names known later has = known
 
 -- known names are the same at each place after the first
 later-known : (at p : Place) (names : List (List ℕ)) → ((name : List ℕ) → is_known_at at name ≡ is_known_at p name) → AreKnown p names → AreKnown at names
@@ -88,21 +84,9 @@ later-known at p (name ∷ names) same known = all-same (name ∷ names) known
 same-known : (at p : Place) (hard_float : Bool) (name : Option (List ℕ)) (names : List (List ℕ))
     → (let standing : Standing = record { place = at; hard_float = hard_float; name = name } in may_stand p standing ≡ true) → AreKnown p names → AreKnown at names
 same-known place.First place.First h o names stands known = known
-same-known place.First place.Second h o names stands known = absurd cc
-same-known place.First place.AfterFirst h o names stands known = absurd cc
-same-known place.First place.AfterHardFloats h o names stands known = absurd cc
-same-known place.Second place.First h o names stands known = absurd cc
-same-known place.Second place.Second h o names stands known = known
-same-known place.Second place.AfterFirst h o names stands known = later-known place.Second place.AfterFirst names (λ _. refl) known
-same-known place.Second place.AfterHardFloats h o names stands known = later-known place.Second place.AfterHardFloats names (λ _. refl) known
-same-known place.AfterFirst place.First h o names stands known = absurd cc
-same-known place.AfterFirst place.Second h o names stands known = absurd cc
-same-known place.AfterFirst place.AfterFirst h o names stands known = known
-same-known place.AfterFirst place.AfterHardFloats h o names stands known = later-known place.AfterFirst place.AfterHardFloats names (λ _. refl) known
-same-known place.AfterHardFloats place.First h o names stands known = absurd cc
-same-known place.AfterHardFloats place.Second h o names stands known = absurd cc
-same-known place.AfterHardFloats place.AfterFirst h o names stands known = later-known place.AfterHardFloats place.AfterFirst names (λ _. refl) known
-same-known place.AfterHardFloats place.AfterHardFloats h o names stands known = known
+same-known place.First _ h o names stands known = absurd cc
+same-known _ place.First h o names stands known = absurd cc
+same-known at p h o names stands known = later-known at p names (λ _. refl) known
 
 pub rule-known : (at : Place) (hard_float : Bool) (name : Option (List ℕ)) (part : List ℕ) (others : List (List ℕ)) (rule : Rule)
     → (let standing : Standing = record { place = at; hard_float = hard_float; name = name } in rule_at standing part others ≡ Some rule) → AreKnown at (names_by rule part)
@@ -137,21 +121,17 @@ pub record IsFirst (part : List ℕ) (rule : Option Rule) : Type 0 where
   pub next : (let standing : Standing = record { place = place.Second; hard_float = hard_float; name = None } in next_standing (standing_at place.First) rule ≡ standing)
 
 plain-one : (f : Form) (part version : List ℕ) (names : List (List ℕ)) → is_plain f names ≡ true → (name : List ℕ) × (named_as f version names ≡ name ∷ []) × (name_of_next f names ≡ None)
-plain-one form.Whole part version (name ∷ []) is = (name, refl, refl)
-plain-one form.HardFloats part version (name ∷ []) is = (name, refl, refl)
-plain-one form.Dropped part version (name ∷ []) is = (name, refl, refl)
 plain-one form.MacOs part version names is = absurd cc
 plain-one form.Pair part version names is = absurd cc
 plain-one form.PairWithin part version names is = absurd cc
+plain-one _ part version (name ∷ []) is = (name, refl, refl)
 plain-one _ part version names is = absurd cc
 
 rule-first : (part : List ℕ) (rule : Rule) → (p : Place) → rule.place ≡ p → may_stand p (standing_at place.First) ≡ true → has_kind p rule.form rule.names ≡ true → IsFirst part (Some rule)
 rule-first part rule place.First is stands kind =
     let one = plain-one rule.form part (version_after rule part) rule.names kind in
     record { name = one.0; names = one.1; hard_float = states_hard_floats rule.form; next = rw one.2 refl }
-rule-first part rule place.Second is stands kind = absurd cc
-rule-first part rule place.AfterFirst is stands kind = absurd cc
-rule-first part rule place.AfterHardFloats is stands kind = absurd cc
+rule-first part rule _ is stands kind = absurd cc
 
 pub is_first : (part : List ℕ) (others : List (List ℕ)) → IsFirst part (rule_at (standing_at place.First) part others)
 unfolding rule_at

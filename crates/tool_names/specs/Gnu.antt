@@ -1,7 +1,7 @@
 -- What a string means to GNU's config.sub that is spelled like a triple: its vendor says nothing, and what is missing is that
 -- of the GNU system. A second part that config.sub takes as a system is no vendor.
 use Rattle.std.specs.Prelude.{ℕ, Bool, false, ◌||◌, ◌&&◌, not, List, [], ◌∷◌, map, Option, Some, None, option_map, Result, Ok, Err, if◌then◌else◌}
-use Rattle.std.specs.{Borrow.Bor, List.list_any, Option.option_map_or, Option.option_or}
+use Rattle.std.specs.{Borrow.Bor, List.list_any, Option.option_map_or}
 use Rattle.lexicon_fields.specs.{ArchitectureQueries.is_clever, OperatingSystem.text_after_prefix}
 use Rattle.target_lexicon.specs.declared.triple_ref.TripleRef.{TripleRef}
 use Rattle.target_lexicon.specs.Field.{Field}
@@ -51,7 +51,7 @@ reason_among [] part = None
 reason_among (reason ∷ reasons) part = if names reason part then Some reason else reason_among reasons part
 
 unfoldable pub reason_for : List ℕ → Option (List ℕ)
-reason_for part = option_or (reason_among (words_in code.SYSTEMS) part) (reason_among (words_in code.MORE_SYSTEMS) part)
+reason_for part = reason_among (words_in code.SYSTEMS) part
 
 -- without a system, `gnu` is that of the Hurd; otherwise there is none
 abbrev pub without_system : Environment → OperatingSystem

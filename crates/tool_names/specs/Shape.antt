@@ -52,23 +52,10 @@ unversioned_machine architecture.X86_64h = architecture.X86_64
 unversioned_machine architecture.Sparcv9 = architecture.Sparc64
 unversioned_machine a = a
 
--- the architecture of which Arm's byte order is stated, or Arm's version
-abbrev pub machine_of_order : Architecture → Architecture
-machine_of_order (architecture.Arm a) = architecture.Arm (arm_of_order a)
-machine_of_order a = unversioned_machine a
-
-abbrev pub machine_of_version : Architecture → Architecture
-machine_of_version (architecture.Arm a) = architecture.Arm (arm_of_version a)
-machine_of_version a = unversioned_machine a
-
 -- Alpine builds its packages of x86 for the i586; they run on an i686 too
 abbrev pub x86_of_alpine : X86_32Architecture → X86_32Architecture
 x86_of_alpine I386 = I386
 x86_of_alpine _ = I586
-
-abbrev pub machine_of_alpine : Architecture → Architecture
-machine_of_alpine (architecture.X86_32 x) = architecture.X86_32 (x86_of_alpine x)
-machine_of_alpine a = machine_of_version a
 
 -- what packages with floating-point registers are built for: Armv7. They run on Armv8 too, and on no Armv6. An Arm without a
 -- version is that of the tool
@@ -103,41 +90,25 @@ arm_of_packages environment.Musleabi a = arm_of_soft_floats a
 arm_of_packages environment.Uclibceabi a = arm_of_soft_floats a
 arm_of_packages _ a = arm_of_order a
 
-abbrev pub machine_of_packages : Environment → Architecture → Architecture
-machine_of_packages e (architecture.Arm a) = architecture.Arm (arm_of_packages e a)
-machine_of_packages e a = unversioned_machine a
-
--- the Arm by which rustc names a target. On Linux its `arm` is Armv6, except on Android, where it is older, and Armv8 in 32
--- bits runs programs of Armv7; on Windows each Arm is `thumbv7a`
-abbrev pub arm_of_gnu : ArmArchitecture → ArmArchitecture
-arm_of_gnu arm.Arm = arm.Armv6
-arm_of_gnu arm.Armv6j = arm.Armv6
-arm_of_gnu arm.Armv6k = arm.Armv6
-arm_of_gnu arm.Armv6z = arm.Armv6
-arm_of_gnu arm.Armv6kz = arm.Armv6
-arm_of_gnu arm.Armv6t2 = arm.Armv6
-arm_of_gnu arm.Armv7a = arm.Armv7
-arm_of_gnu arm.Armv7ve = arm.Armv7
-arm_of_gnu arm.Armv8 = arm.Armv7
-arm_of_gnu arm.Armv8a = arm.Armv7
-arm_of_gnu a = a
-
-abbrev pub arm_of_android : ArmArchitecture → ArmArchitecture
-arm_of_android arm.Armv6 = arm.Arm
-arm_of_android arm.Armv6j = arm.Arm
-arm_of_android arm.Armv6k = arm.Arm
-arm_of_android arm.Armv6z = arm.Arm
-arm_of_android arm.Armv6kz = arm.Arm
-arm_of_android arm.Armv6t2 = arm.Arm
-arm_of_android arm.Armv7a = arm.Armv7
-arm_of_android arm.Armv7ve = arm.Armv7
-arm_of_android arm.Armv8 = arm.Armv7
-arm_of_android arm.Armv8a = arm.Armv7
-arm_of_android a = a
+-- the Arm by which rustc names a target. On Linux Armv8 in 32 bits runs programs of Armv7, and `arm` is Armv6, except on Android, where
+-- it is older; on Windows each Arm is `thumbv7a`
+abbrev pub armv6_or_armv7 : ArmArchitecture → ArmArchitecture
+armv6_or_armv7 arm.Armv6j = arm.Armv6
+armv6_or_armv7 arm.Armv6k = arm.Armv6
+armv6_or_armv7 arm.Armv6z = arm.Armv6
+armv6_or_armv7 arm.Armv6kz = arm.Armv6
+armv6_or_armv7 arm.Armv6t2 = arm.Armv6
+armv6_or_armv7 arm.Armv7a = arm.Armv7
+armv6_or_armv7 arm.Armv7ve = arm.Armv7
+armv6_or_armv7 arm.Armv8 = arm.Armv7
+armv6_or_armv7 arm.Armv8a = arm.Armv7
+armv6_or_armv7 a = a
 
 abbrev pub arm_of_linux : Environment → ArmArchitecture → ArmArchitecture
-arm_of_linux environment.Androideabi a = arm_of_android a
-arm_of_linux _ a = arm_of_gnu a
+arm_of_linux environment.Androideabi arm.Armv6 = arm.Arm
+arm_of_linux environment.Androideabi a = a
+arm_of_linux _ arm.Arm = arm.Armv6
+arm_of_linux _ a = a
 
 abbrev pub arm_of_windows : ArmArchitecture → ArmArchitecture
 arm_of_windows arm.Arm = arm.Thumbv7a
@@ -146,29 +117,31 @@ arm_of_windows arm.Armv7a = arm.Thumbv7a
 arm_of_windows a = a
 
 abbrev pub arm_of_rustc : OperatingSystem → Environment → ArmArchitecture → ArmArchitecture
-arm_of_rustc operating_system.Linux e a = arm_of_linux e a
+arm_of_rustc operating_system.Linux e a = arm_of_linux e (armv6_or_armv7 a)
 arm_of_rustc operating_system.Windows e a = arm_of_windows a
 arm_of_rustc _ e a = a
 
-abbrev pub sparc_of_rustc : OperatingSystem → Architecture
-sparc_of_rustc operating_system.Solaris = architecture.Sparcv9
-sparc_of_rustc _ = architecture.Sparc64
+-- the other architecture by which it names a target
+abbrev pub machine_of_rustc : OperatingSystem → Architecture → Architecture
+machine_of_rustc s (architecture.Riscv32 riscv32.Riscv32) = architecture.Riscv32 riscv32.Riscv32gc
+machine_of_rustc s (architecture.Riscv64 riscv64.Riscv64) = architecture.Riscv64 riscv64.Riscv64gc
+machine_of_rustc operating_system.Solaris architecture.Sparc64 = architecture.Sparcv9
+machine_of_rustc s a = a
 
--- the architecture by which rustc names a target
-abbrev pub machine_of_rustc : OperatingSystem → Environment → Architecture → Architecture
-machine_of_rustc s e (architecture.Arm a) = architecture.Arm (arm_of_rustc s e a)
-machine_of_rustc s e (architecture.Riscv32 riscv32.Riscv32) = architecture.Riscv32 riscv32.Riscv32gc
-machine_of_rustc s e (architecture.Riscv64 riscv64.Riscv64) = architecture.Riscv64 riscv64.Riscv64gc
-machine_of_rustc s e architecture.Sparc64 = sparc_of_rustc s
-machine_of_rustc s e a = a
+-- the Arm without what isn't stated, where names state this environment
+abbrev pub arm_by : MachineRule → OperatingSystem → Environment → ArmArchitecture → ArmArchitecture
+arm_by machine.Order s e a = arm_of_order a
+arm_by machine.Version s e a = arm_of_version a
+arm_by machine.Alpine s e a = arm_of_version a
+arm_by machine.Packages s e a = arm_of_packages e a
+arm_by machine.Rustc s e a = arm_of_rustc s e a
 
--- the architecture without what isn't stated, where names state this environment
+-- the architecture without what isn't stated
 abbrev pub machine_by : MachineRule → OperatingSystem → Environment → Architecture → Architecture
-machine_by machine.Order s e a = machine_of_order a
-machine_by machine.Version s e a = machine_of_version a
-machine_by machine.Alpine s e a = machine_of_alpine a
-machine_by machine.Packages s e a = machine_of_packages e a
-machine_by machine.Rustc s e a = machine_of_rustc s e a
+machine_by rule s e (architecture.Arm a) = architecture.Arm (arm_by rule s e a)
+machine_by machine.Alpine s e (architecture.X86_32 x) = architecture.X86_32 (x86_of_alpine x)
+machine_by machine.Rustc s e a = machine_of_rustc s a
+machine_by rule s e a = unversioned_machine a
 
 -- the system without a version; macOS has one name
 abbrev pub unversioned : OperatingSystem → OperatingSystem
@@ -209,62 +182,42 @@ usual_vendor operating_system.Solaris = vendor.Pc
 usual_vendor operating_system.Aix = vendor.Ibm
 usual_vendor _ = vendor.Unknown
 
--- the environments that state only an embedded ABI, or none
-abbrev pub is_bare_abi : Environment → Bool
-is_bare_abi environment.Eabi = true
-is_bare_abi environment.Eabihf = true
-is_bare_abi environment.None = true
-is_bare_abi _ = false
+-- the environment, unless it states only an embedded ABI, or none
+abbrev pub without_bare_abi : Environment → Environment
+without_bare_abi environment.Eabi = environment.Unknown
+without_bare_abi environment.Eabihf = environment.Unknown
+without_bare_abi environment.None = environment.Unknown
+without_bare_abi e = e
 
--- the environments that a dialect without ABIs drops: those of GNU except its two with 32-bit pointers on a 64-bit
--- architecture, those of musl, uClibc and Microsoft, and the bare ones
-abbrev pub is_dropped_abi : Environment → Bool
-is_dropped_abi environment.Gnu = true
-is_dropped_abi environment.Gnueabi = true
-is_dropped_abi environment.Gnueabihf = true
-is_dropped_abi environment.Gnuabi64 = true
-is_dropped_abi environment.Gnuspe = true
-is_dropped_abi environment.GnuLlvm = true
-is_dropped_abi environment.Musl = true
-is_dropped_abi environment.Musleabi = true
-is_dropped_abi environment.Musleabihf = true
-is_dropped_abi environment.Muslabi64 = true
-is_dropped_abi environment.Uclibc = true
-is_dropped_abi environment.Uclibceabi = true
-is_dropped_abi environment.Uclibceabihf = true
-is_dropped_abi environment.Msvc = true
-is_dropped_abi e = is_bare_abi e
+-- and unless it states a C library, or how floating-point numbers are passed: those of GNU except its two with 32-bit pointers on a
+-- 64-bit architecture, those of musl, uClibc and Microsoft
+abbrev pub without_abi : Environment → Environment
+without_abi environment.Gnu = environment.Unknown
+without_abi environment.Gnueabi = environment.Unknown
+without_abi environment.Gnueabihf = environment.Unknown
+without_abi environment.Gnuabi64 = environment.Unknown
+without_abi environment.Gnuspe = environment.Unknown
+without_abi environment.GnuLlvm = environment.Unknown
+without_abi environment.Musl = environment.Unknown
+without_abi environment.Musleabi = environment.Unknown
+without_abi environment.Musleabihf = environment.Unknown
+without_abi environment.Muslabi64 = environment.Unknown
+without_abi environment.Uclibc = environment.Unknown
+without_abi environment.Uclibceabi = environment.Unknown
+without_abi environment.Uclibceabihf = environment.Unknown
+without_abi environment.Msvc = environment.Unknown
+without_abi e = without_bare_abi e
 
-abbrev pub unknown_if : Bool → Environment → Environment
-unknown_if forgotten e = if forgotten then environment.Unknown else e
-
--- Linux keeps the C library
-abbrev pub abi_on : OperatingSystem → Environment → Environment
-abi_on operating_system.Linux e = unknown_if (is_bare_abi e) e
-abi_on _ e = unknown_if (is_dropped_abi e) e
-
--- so does Windows
-abbrev pub abi_on_both : OperatingSystem → Environment → Environment
-abi_on_both operating_system.Linux e = unknown_if (is_bare_abi e) e
-abi_on_both operating_system.Windows e = unknown_if (is_bare_abi e) e
-abi_on_both _ e = unknown_if (is_dropped_abi e) e
-
--- without a system the two embedded ABIs are one
-abbrev pub one_eabi : Environment → Environment
-one_eabi environment.Eabihf = environment.Eabi
-one_eabi e = e
-
-abbrev pub abi_on_systems : OperatingSystem → Environment → Environment
-abi_on_systems operating_system.None_ e = one_eabi e
-abi_on_systems _ e = e
-
--- the environment without an ABI that isn't stated
+-- the environment without an ABI that isn't stated. Linux, or Windows too, may keep the C library; without a system the two embedded
+-- ABIs may be one
 abbrev pub abi_by : AbiRule → OperatingSystem → Environment → Environment
 abi_by abi.Kept s e = e
-abi_by abi.Dropped s e = unknown_if (is_dropped_abi e) e
-abi_by abi.KeptOnLinux s e = abi_on s e
-abi_by abi.KeptOnLinuxAndWindows s e = abi_on_both s e
-abi_by abi.KeptOnSystems s e = abi_on_systems s e
+abi_by abi.KeptOnSystems operating_system.None_ environment.Eabihf = environment.Eabi
+abi_by abi.KeptOnSystems s e = e
+abi_by abi.KeptOnLinux operating_system.Linux e = without_bare_abi e
+abi_by abi.KeptOnLinuxAndWindows operating_system.Linux e = without_bare_abi e
+abi_by abi.KeptOnLinuxAndWindows operating_system.Windows e = without_bare_abi e
+abi_by _ s e = without_abi e
 
 abbrev pub shape_by : Rules → Values → Values
 shape_by rules t =

@@ -111,6 +111,7 @@ pub struct ChangedParts<'a> {
 /// assert_eq!(shown("amd64-unknown-freebsd13.2"), ["amd64 -> x86_64", "freebsd13.2 -> freebsd"]);
 /// assert!(shown("x86_64-unknown-freebsd").is_empty());
 /// ```
+#[tactic(auto, unfolding(crate::specs::Changes::changes))]
 pub fn changes(text: &str) -> ChangedParts<'_>
     ensures { spec.changes_left result ≡ spec.changes text.entry.now }
 {

@@ -7,6 +7,7 @@ use lexicon_fields::Field;
 
 /// The known names of a field, in the order of the values: of the vendors those that are known, and last of the
 /// operating systems those like Darwin, without a version.
+#[tactic(auto, unfolding(crate::specs::KnownNames::known_names))]
 #[rattlefmt::skip]
 pub fn names(field: Field) -> &'static [&'static str]
     ensures { map (λ name. name.now) result.now ≡ known_names field }

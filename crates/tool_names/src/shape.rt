@@ -4,6 +4,14 @@ ghost use Rattle.target_lexicon.specs.ValuesRef.{values_of_ref};
 ghost use Rattle.tool_names.specs.Shape as spec;
 
 use crate::dialect::Dialect;
+use target_lexicon::ArmArchitecture::{
+    Arm, Armeb, Armebv7r, Armv5t, Armv5te, Armv5tej, Armv6, Armv6j, Armv6k, Armv6kz, Armv6t2,
+    Armv6z, Armv7, Armv7a, Armv7ve, Armv8, Armv8a, Thumbeb, Thumbv7a, Thumbv7neon,
+};
+use target_lexicon::Environment::{
+    Eabi, Eabihf, Gnu, GnuLlvm, Gnuabi64, Gnueabi, Gnueabihf, Gnuspe, Msvc, Musl, Muslabi64,
+    Musleabi, Musleabihf, Uclibc, Uclibceabi, Uclibceabihf,
+};
 use target_lexicon::{
     Architecture, ArmArchitecture, DeploymentTarget, Environment, KnownVendor, OperatingSystem,
     Riscv32Architecture, Riscv64Architecture, TripleRef, VendorRef, X86_32Architecture,
@@ -101,23 +109,21 @@ impl AbiRule {
     fn environment(self, operating_system: OperatingSystem, environment: Environment) -> Environment
         ensures { result ≡ spec.abi_by self operating_system environment }
     {
-        let forgotten = match self {
-            AbiRule::Kept => false,
-            AbiRule::KeptOnSystems => return abi_on_systems(operating_system, environment),
-            AbiRule::Dropped => is_dropped_abi(environment),
+        match self {
+            AbiRule::Kept => environment,
+            AbiRule::Dropped => without_abi(environment),
             AbiRule::KeptOnLinux => match operating_system {
-                OperatingSystem::Linux => is_bare_abi(environment),
-                _ => is_dropped_abi(environment),
+                OperatingSystem::Linux => without_bare_abi(environment),
+                _ => without_abi(environment),
             },
             AbiRule::KeptOnLinuxAndWindows => match operating_system {
-                OperatingSystem::Linux | OperatingSystem::Windows => is_bare_abi(environment),
-                _ => is_dropped_abi(environment),
+                OperatingSystem::Linux | OperatingSystem::Windows => without_bare_abi(environment),
+                _ => without_abi(environment),
             },
-        };
-        if forgotten {
-            Environment::Unknown
-        } else {
-            environment
+            AbiRule::KeptOnSystems => match (operating_system, environment) {
+                (OperatingSystem::None_, Eabihf) => Eabi,
+                _ => environment,
+            },
         }
     }
 }
@@ -132,25 +138,36 @@ impl MachineRule {
     ) -> Architecture
         ensures { result ≡ spec.machine_by self operating_system environment architecture }
     {
+        match (self, architecture) {
+            (_, Architecture::Arm(arm)) => {
+                Architecture::Arm(self.arm(operating_system, environment, arm))
+            }
+            (MachineRule::Alpine, Architecture::X86_32(x86)) => {
+                Architecture::X86_32(x86_of_alpine(x86))
+            }
+            (MachineRule::Rustc, _) => machine_of_rustc(operating_system, architecture),
+            _ => unversioned_machine(architecture),
+        }
+    }
+
+    /// The Arm without what isn't stated.
+    fn arm(
+        self,
+        operating_system: OperatingSystem,
+        environment: Environment,
+        arm: ArmArchitecture,
+    ) -> ArmArchitecture
+        ensures { result ≡ spec.arm_by self operating_system environment arm }
+    {
         match self {
-            MachineRule::Order => match architecture {
-                Architecture::Arm(arm) => Architecture::Arm(arm_of_order(arm)),
-                other => unversioned_machine(other),
+            MachineRule::Order => arm_of_order(arm),
+            MachineRule::Version | MachineRule::Alpine => arm_of_version(arm),
+            MachineRule::Packages => arm_of_packages(environment, arm),
+            MachineRule::Rustc => match operating_system {
+                OperatingSystem::Linux => arm_of_linux(environment, armv6_or_armv7(arm)),
+                OperatingSystem::Windows => arm_of_windows(arm),
+                _ => arm,
             },
-            MachineRule::Version => match architecture {
-                Architecture::Arm(arm) => Architecture::Arm(arm_of_version(arm)),
-                other => unversioned_machine(other),
-            },
-            MachineRule::Alpine => match architecture {
-                Architecture::X86_32(x86) => Architecture::X86_32(x86_of_alpine(x86)),
-                Architecture::Arm(arm) => Architecture::Arm(arm_of_version(arm)),
-                other => unversioned_machine(other),
-            },
-            MachineRule::Packages => match architecture {
-                Architecture::Arm(arm) => Architecture::Arm(arm_of_packages(environment, arm)),
-                other => unversioned_machine(other),
-            },
-            MachineRule::Rustc => machine_of_rustc(operating_system, environment, architecture),
         }
     }
 }
@@ -169,79 +186,42 @@ fn unversioned_machine(architecture: Architecture) -> Architecture
     }
 }
 
-/// The architecture by which rustc names a target.
-fn machine_of_rustc(
-    operating_system: OperatingSystem,
-    environment: Environment,
-    architecture: Architecture,
-) -> Architecture
-    ensures { result ≡ spec.machine_of_rustc operating_system environment architecture }
+/// The architecture by which rustc names a target, if it is no Arm.
+fn machine_of_rustc(operating_system: OperatingSystem, architecture: Architecture) -> Architecture
+    ensures { result ≡ spec.machine_of_rustc operating_system architecture }
 {
-    match architecture {
-        Architecture::Arm(arm) => Architecture::Arm(match operating_system {
-            OperatingSystem::Linux => arm_of_linux(environment, arm),
-            OperatingSystem::Windows => arm_of_windows(arm),
-            _ => arm,
-        }),
-        Architecture::Riscv32(Riscv32Architecture::Riscv32) => {
+    match (operating_system, architecture) {
+        (_, Architecture::Riscv32(Riscv32Architecture::Riscv32)) => {
             Architecture::Riscv32(Riscv32Architecture::Riscv32gc)
         }
-        Architecture::Riscv64(Riscv64Architecture::Riscv64) => {
+        (_, Architecture::Riscv64(Riscv64Architecture::Riscv64)) => {
             Architecture::Riscv64(Riscv64Architecture::Riscv64gc)
         }
-        Architecture::Sparc64 => match operating_system {
-            OperatingSystem::Solaris => Architecture::Sparcv9,
-            _ => architecture,
-        },
+        (OperatingSystem::Solaris, Architecture::Sparc64) => Architecture::Sparcv9,
+        _ => architecture,
+    }
+}
+
+/// The version 6 or 7 by which rustc names an Arm of Linux. Armv8 in 32 bits runs programs of Armv7.
+fn armv6_or_armv7(arm: ArmArchitecture) -> ArmArchitecture
+    ensures { result ≡ spec.armv6_or_armv7 arm }
+{
+    match arm {
+        Armv6j | Armv6k | Armv6z | Armv6kz | Armv6t2 => Armv6,
+        Armv7a | Armv7ve | Armv8 | Armv8a => Armv7,
         other => other,
     }
 }
 
-/// The Arm by which rustc names a target of Linux: its `arm` is Armv6, except on Android.
+/// The Arm by which rustc names a target of Linux: its `arm` is Armv6, except on Android, where it is older.
 fn arm_of_linux(environment: Environment, arm: ArmArchitecture) -> ArmArchitecture
     ensures { result ≡ spec.arm_of_linux environment arm }
 {
-    match environment {
-        Environment::Androideabi => arm_of_android(arm),
-        _ => arm_of_gnu(arm),
-    }
-}
-
-/// The Arm by which rustc names a target of Linux with `arm` for Armv6. Armv8 in 32 bits runs programs of Armv7.
-fn arm_of_gnu(arm: ArmArchitecture) -> ArmArchitecture
-    ensures { result ≡ spec.arm_of_gnu arm }
-{
-    match arm {
-        ArmArchitecture::Arm
-        | ArmArchitecture::Armv6j
-        | ArmArchitecture::Armv6k
-        | ArmArchitecture::Armv6z
-        | ArmArchitecture::Armv6kz
-        | ArmArchitecture::Armv6t2 => ArmArchitecture::Armv6,
-        ArmArchitecture::Armv7a
-        | ArmArchitecture::Armv7ve
-        | ArmArchitecture::Armv8
-        | ArmArchitecture::Armv8a => ArmArchitecture::Armv7,
-        other => other,
-    }
-}
-
-/// The Arm by which rustc names a target of Android, whose `arm` is older than Armv6.
-fn arm_of_android(arm: ArmArchitecture) -> ArmArchitecture
-    ensures { result ≡ spec.arm_of_android arm }
-{
-    match arm {
-        ArmArchitecture::Armv6
-        | ArmArchitecture::Armv6j
-        | ArmArchitecture::Armv6k
-        | ArmArchitecture::Armv6z
-        | ArmArchitecture::Armv6kz
-        | ArmArchitecture::Armv6t2 => ArmArchitecture::Arm,
-        ArmArchitecture::Armv7a
-        | ArmArchitecture::Armv7ve
-        | ArmArchitecture::Armv8
-        | ArmArchitecture::Armv8a => ArmArchitecture::Armv7,
-        other => other,
+    match (environment, arm) {
+        (Environment::Androideabi, Armv6) => Arm,
+        (Environment::Androideabi, _) => arm,
+        (_, Arm) => Armv6,
+        _ => arm,
     }
 }
 
@@ -261,12 +241,8 @@ fn arm_of_packages(environment: Environment, arm: ArmArchitecture) -> ArmArchite
     ensures { result ≡ spec.arm_of_packages environment arm }
 {
     match environment {
-        Environment::Gnueabihf | Environment::Musleabihf | Environment::Uclibceabihf => {
-            arm_of_hard_floats(arm)
-        }
-        Environment::Gnueabi | Environment::Musleabi | Environment::Uclibceabi => {
-            arm_of_soft_floats(arm)
-        }
+        Gnueabihf | Musleabihf | Uclibceabihf => arm_of_hard_floats(arm),
+        Gnueabi | Musleabi | Uclibceabi => arm_of_soft_floats(arm),
         _ => arm_of_order(arm),
     }
 }
@@ -276,13 +252,7 @@ fn arm_of_hard_floats(arm: ArmArchitecture) -> ArmArchitecture
     ensures { result ≡ spec.arm_of_hard_floats arm }
 {
     match arm {
-        ArmArchitecture::Arm
-        | ArmArchitecture::Armv7a
-        | ArmArchitecture::Armv7ve
-        | ArmArchitecture::Thumbv7a
-        | ArmArchitecture::Thumbv7neon
-        | ArmArchitecture::Armv8
-        | ArmArchitecture::Armv8a => ArmArchitecture::Armv7,
+        Arm | Armv7a | Armv7ve | Thumbv7a | Thumbv7neon | Armv8 | Armv8a => Armv7,
         other => other,
     }
 }
@@ -292,10 +262,7 @@ fn arm_of_soft_floats(arm: ArmArchitecture) -> ArmArchitecture
     ensures { result ≡ spec.arm_of_soft_floats arm }
 {
     match arm_of_version(arm) {
-        ArmArchitecture::Arm
-        | ArmArchitecture::Armv6
-        | ArmArchitecture::Armv7
-        | ArmArchitecture::Armv8 => ArmArchitecture::Armv5te,
+        Arm | Armv6 | Armv7 | Armv8 => Armv5te,
         other => other,
     }
 }
@@ -305,9 +272,7 @@ fn arm_of_windows(arm: ArmArchitecture) -> ArmArchitecture
     ensures { result ≡ spec.arm_of_windows arm }
 {
     match arm {
-        ArmArchitecture::Arm | ArmArchitecture::Armv7 | ArmArchitecture::Armv7a => {
-            ArmArchitecture::Thumbv7a
-        }
+        Arm | Armv7 | Armv7a => Thumbv7a,
         other => other,
     }
 }
@@ -327,10 +292,8 @@ fn arm_of_order(arm: ArmArchitecture) -> ArmArchitecture
     ensures { result ≡ spec.arm_of_order arm }
 {
     match arm {
-        ArmArchitecture::Armeb | ArmArchitecture::Armebv7r | ArmArchitecture::Thumbeb => {
-            ArmArchitecture::Armeb
-        }
-        _ => ArmArchitecture::Arm,
+        Armeb | Armebv7r | Thumbeb => Armeb,
+        _ => Arm,
     }
 }
 
@@ -339,28 +302,11 @@ pub(crate) fn arm_of_version(arm: ArmArchitecture) -> ArmArchitecture
     ensures { result ≡ spec.arm_of_version arm }
 {
     match arm {
-        ArmArchitecture::Armv5t | ArmArchitecture::Armv5tej => ArmArchitecture::Armv5te,
-        ArmArchitecture::Armv6j
-        | ArmArchitecture::Armv6k
-        | ArmArchitecture::Armv6z
-        | ArmArchitecture::Armv6kz
-        | ArmArchitecture::Armv6t2 => ArmArchitecture::Armv6,
-        ArmArchitecture::Armv7a
-        | ArmArchitecture::Armv7ve
-        | ArmArchitecture::Thumbv7a
-        | ArmArchitecture::Thumbv7neon => ArmArchitecture::Armv7,
-        ArmArchitecture::Armv8a => ArmArchitecture::Armv8,
+        Armv5t | Armv5tej => Armv5te,
+        Armv6j | Armv6k | Armv6z | Armv6kz | Armv6t2 => Armv6,
+        Armv7a | Armv7ve | Thumbv7a | Thumbv7neon => Armv7,
+        Armv8a => Armv8,
         other => other,
-    }
-}
-
-/// The environment; without a system the two embedded ABIs are one.
-fn abi_on_systems(operating_system: OperatingSystem, environment: Environment) -> Environment
-    ensures { result ≡ spec.abi_on_systems operating_system environment }
-{
-    match (operating_system, environment) {
-        (OperatingSystem::None_, Environment::Eabihf) => Environment::Eabi,
-        _ => environment,
     }
 }
 
@@ -423,35 +369,35 @@ pub(crate) fn usual_vendor(operating_system: OperatingSystem) -> KnownVendor
     }
 }
 
-/// Whether an environment states only an embedded ABI, or none.
-fn is_bare_abi(environment: Environment) -> bool
-    ensures { result ≡ spec.is_bare_abi environment }
-{
-    matches!(
-        environment,
-        Environment::Eabi | Environment::Eabihf | Environment::None
-    )
-}
-
-/// Whether an environment states a C library, or how floating-point numbers are passed.
-fn is_dropped_abi(environment: Environment) -> bool
-    ensures { result ≡ spec.is_dropped_abi environment }
+/// The environment, unless it states only an embedded ABI, or none.
+fn without_bare_abi(environment: Environment) -> Environment
+    ensures { result ≡ spec.without_bare_abi environment }
 {
     match environment {
-        Environment::Gnu
-        | Environment::Gnueabi
-        | Environment::Gnueabihf
-        | Environment::Gnuabi64
-        | Environment::Gnuspe
-        | Environment::GnuLlvm
-        | Environment::Musl
-        | Environment::Musleabi
-        | Environment::Musleabihf
-        | Environment::Muslabi64
-        | Environment::Uclibc
-        | Environment::Uclibceabi
-        | Environment::Uclibceabihf
-        | Environment::Msvc => true,
-        _ => is_bare_abi(environment),
+        Eabi | Eabihf | Environment::None => Environment::Unknown,
+        other => other,
+    }
+}
+
+/// The environment, unless it states a C library, or how floating-point numbers are passed.
+fn without_abi(environment: Environment) -> Environment
+    ensures { result ≡ spec.without_abi environment }
+{
+    match environment {
+        Gnu
+        | Gnueabi
+        | Gnueabihf
+        | Gnuabi64
+        | Gnuspe
+        | GnuLlvm
+        | Musl
+        | Musleabi
+        | Musleabihf
+        | Muslabi64
+        | Uclibc
+        | Uclibceabi
+        | Uclibceabihf
+        | Msvc => Environment::Unknown,
+        other => without_bare_abi(other),
     }
 }

@@ -8,6 +8,7 @@ use target_lexicon::{KnownVendor, VendorRef};
 
 /// Whether a vendor is a system that no triple has, or says which variant of a system it is. A triple that keeps all but the
 /// vendor would be another target.
+#[tactic(auto, unfolding(crate::specs::Variants::is_another_target))]
 pub(crate) fn is_another_target(vendor: VendorRef<'_>) -> bool
     ensures { result ≡ spec.is_another_target (ref_value vendor.entry) }
 {

@@ -2,6 +2,14 @@
 //! The shape of a triple in a dialect.
 
 use crate::proved::tool_names::dialect::Dialect;
+use crate::proved::ArmArchitecture::{
+    Arm, Armeb, Armebv7r, Armv5t, Armv5te, Armv5tej, Armv6, Armv6j, Armv6k, Armv6kz, Armv6t2,
+    Armv6z, Armv7, Armv7a, Armv7ve, Armv8, Armv8a, Thumbeb, Thumbv7a, Thumbv7neon,
+};
+use crate::proved::Environment::{
+    Eabi, Eabihf, Gnu, GnuLlvm, Gnuabi64, Gnueabi, Gnueabihf, Gnuspe, Msvc, Musl, Muslabi64,
+    Musleabi, Musleabihf, Uclibc, Uclibceabi, Uclibceabihf,
+};
 use crate::proved::{
     Architecture, ArmArchitecture, DeploymentTarget, Environment, KnownVendor, OperatingSystem,
     Riscv32Architecture, Riscv64Architecture, TripleRef, VendorRef, X86_32Architecture,
@@ -99,23 +107,21 @@ impl AbiRule {
         operating_system: OperatingSystem,
         environment: Environment,
     ) -> Environment {
-        let forgotten = match self {
-            AbiRule::Kept => false,
-            AbiRule::KeptOnSystems => return abi_on_systems(operating_system, environment),
-            AbiRule::Dropped => is_dropped_abi(environment),
+        match self {
+            AbiRule::Kept => environment,
+            AbiRule::Dropped => without_abi(environment),
             AbiRule::KeptOnLinux => match operating_system {
-                OperatingSystem::Linux => is_bare_abi(environment),
-                _ => is_dropped_abi(environment),
+                OperatingSystem::Linux => without_bare_abi(environment),
+                _ => without_abi(environment),
             },
             AbiRule::KeptOnLinuxAndWindows => match operating_system {
-                OperatingSystem::Linux | OperatingSystem::Windows => is_bare_abi(environment),
-                _ => is_dropped_abi(environment),
+                OperatingSystem::Linux | OperatingSystem::Windows => without_bare_abi(environment),
+                _ => without_abi(environment),
             },
-        };
-        if forgotten {
-            Environment::Unknown
-        } else {
-            environment
+            AbiRule::KeptOnSystems => match (operating_system, environment) {
+                (OperatingSystem::None_, Eabihf) => Eabi,
+                _ => environment,
+            },
         }
     }
 }
@@ -128,25 +134,34 @@ impl MachineRule {
         environment: Environment,
         architecture: Architecture,
     ) -> Architecture {
+        match (self, architecture) {
+            (_, Architecture::Arm(arm)) => {
+                Architecture::Arm(self.arm(operating_system, environment, arm))
+            }
+            (MachineRule::Alpine, Architecture::X86_32(x86)) => {
+                Architecture::X86_32(x86_of_alpine(x86))
+            }
+            (MachineRule::Rustc, _) => machine_of_rustc(operating_system, architecture),
+            _ => unversioned_machine(architecture),
+        }
+    }
+
+    /// The Arm without what isn't stated.
+    fn arm(
+        self,
+        operating_system: OperatingSystem,
+        environment: Environment,
+        arm: ArmArchitecture,
+    ) -> ArmArchitecture {
         match self {
-            MachineRule::Order => match architecture {
-                Architecture::Arm(arm) => Architecture::Arm(arm_of_order(arm)),
-                other => unversioned_machine(other),
+            MachineRule::Order => arm_of_order(arm),
+            MachineRule::Version | MachineRule::Alpine => arm_of_version(arm),
+            MachineRule::Packages => arm_of_packages(environment, arm),
+            MachineRule::Rustc => match operating_system {
+                OperatingSystem::Linux => arm_of_linux(environment, armv6_or_armv7(arm)),
+                OperatingSystem::Windows => arm_of_windows(arm),
+                _ => arm,
             },
-            MachineRule::Version => match architecture {
-                Architecture::Arm(arm) => Architecture::Arm(arm_of_version(arm)),
-                other => unversioned_machine(other),
-            },
-            MachineRule::Alpine => match architecture {
-                Architecture::X86_32(x86) => Architecture::X86_32(x86_of_alpine(x86)),
-                Architecture::Arm(arm) => Architecture::Arm(arm_of_version(arm)),
-                other => unversioned_machine(other),
-            },
-            MachineRule::Packages => match architecture {
-                Architecture::Arm(arm) => Architecture::Arm(arm_of_packages(environment, arm)),
-                other => unversioned_machine(other),
-            },
-            MachineRule::Rustc => machine_of_rustc(operating_system, environment, architecture),
         }
     }
 }
@@ -163,71 +178,36 @@ fn unversioned_machine(architecture: Architecture) -> Architecture {
     }
 }
 
-/// The architecture by which rustc names a target.
-fn machine_of_rustc(
-    operating_system: OperatingSystem,
-    environment: Environment,
-    architecture: Architecture,
-) -> Architecture {
-    match architecture {
-        Architecture::Arm(arm) => Architecture::Arm(match operating_system {
-            OperatingSystem::Linux => arm_of_linux(environment, arm),
-            OperatingSystem::Windows => arm_of_windows(arm),
-            _ => arm,
-        }),
-        Architecture::Riscv32(Riscv32Architecture::Riscv32) => {
+/// The architecture by which rustc names a target, if it is no Arm.
+fn machine_of_rustc(operating_system: OperatingSystem, architecture: Architecture) -> Architecture {
+    match (operating_system, architecture) {
+        (_, Architecture::Riscv32(Riscv32Architecture::Riscv32)) => {
             Architecture::Riscv32(Riscv32Architecture::Riscv32gc)
         }
-        Architecture::Riscv64(Riscv64Architecture::Riscv64) => {
+        (_, Architecture::Riscv64(Riscv64Architecture::Riscv64)) => {
             Architecture::Riscv64(Riscv64Architecture::Riscv64gc)
         }
-        Architecture::Sparc64 => match operating_system {
-            OperatingSystem::Solaris => Architecture::Sparcv9,
-            _ => architecture,
-        },
+        (OperatingSystem::Solaris, Architecture::Sparc64) => Architecture::Sparcv9,
+        _ => architecture,
+    }
+}
+
+/// The version 6 or 7 by which rustc names an Arm of Linux. Armv8 in 32 bits runs programs of Armv7.
+fn armv6_or_armv7(arm: ArmArchitecture) -> ArmArchitecture {
+    match arm {
+        Armv6j | Armv6k | Armv6z | Armv6kz | Armv6t2 => Armv6,
+        Armv7a | Armv7ve | Armv8 | Armv8a => Armv7,
         other => other,
     }
 }
 
-/// The Arm by which rustc names a target of Linux: its `arm` is Armv6, except on Android.
+/// The Arm by which rustc names a target of Linux: its `arm` is Armv6, except on Android, where it is older.
 fn arm_of_linux(environment: Environment, arm: ArmArchitecture) -> ArmArchitecture {
-    match environment {
-        Environment::Androideabi => arm_of_android(arm),
-        _ => arm_of_gnu(arm),
-    }
-}
-
-/// The Arm by which rustc names a target of Linux with `arm` for Armv6. Armv8 in 32 bits runs programs of Armv7.
-fn arm_of_gnu(arm: ArmArchitecture) -> ArmArchitecture {
-    match arm {
-        ArmArchitecture::Arm
-        | ArmArchitecture::Armv6j
-        | ArmArchitecture::Armv6k
-        | ArmArchitecture::Armv6z
-        | ArmArchitecture::Armv6kz
-        | ArmArchitecture::Armv6t2 => ArmArchitecture::Armv6,
-        ArmArchitecture::Armv7a
-        | ArmArchitecture::Armv7ve
-        | ArmArchitecture::Armv8
-        | ArmArchitecture::Armv8a => ArmArchitecture::Armv7,
-        other => other,
-    }
-}
-
-/// The Arm by which rustc names a target of Android, whose `arm` is older than Armv6.
-fn arm_of_android(arm: ArmArchitecture) -> ArmArchitecture {
-    match arm {
-        ArmArchitecture::Armv6
-        | ArmArchitecture::Armv6j
-        | ArmArchitecture::Armv6k
-        | ArmArchitecture::Armv6z
-        | ArmArchitecture::Armv6kz
-        | ArmArchitecture::Armv6t2 => ArmArchitecture::Arm,
-        ArmArchitecture::Armv7a
-        | ArmArchitecture::Armv7ve
-        | ArmArchitecture::Armv8
-        | ArmArchitecture::Armv8a => ArmArchitecture::Armv7,
-        other => other,
+    match (environment, arm) {
+        (Environment::Androideabi, Armv6) => Arm,
+        (Environment::Androideabi, _) => arm,
+        (_, Arm) => Armv6,
+        _ => arm,
     }
 }
 
@@ -243,12 +223,8 @@ fn x86_of_alpine(x86: X86_32Architecture) -> X86_32Architecture {
 /// such an ABI it is the byte order.
 fn arm_of_packages(environment: Environment, arm: ArmArchitecture) -> ArmArchitecture {
     match environment {
-        Environment::Gnueabihf | Environment::Musleabihf | Environment::Uclibceabihf => {
-            arm_of_hard_floats(arm)
-        }
-        Environment::Gnueabi | Environment::Musleabi | Environment::Uclibceabi => {
-            arm_of_soft_floats(arm)
-        }
+        Gnueabihf | Musleabihf | Uclibceabihf => arm_of_hard_floats(arm),
+        Gnueabi | Musleabi | Uclibceabi => arm_of_soft_floats(arm),
         _ => arm_of_order(arm),
     }
 }
@@ -256,13 +232,7 @@ fn arm_of_packages(environment: Environment, arm: ArmArchitecture) -> ArmArchite
 /// An Arm on which packages for Armv7 run is Armv7, and so is one without a version.
 fn arm_of_hard_floats(arm: ArmArchitecture) -> ArmArchitecture {
     match arm {
-        ArmArchitecture::Arm
-        | ArmArchitecture::Armv7a
-        | ArmArchitecture::Armv7ve
-        | ArmArchitecture::Thumbv7a
-        | ArmArchitecture::Thumbv7neon
-        | ArmArchitecture::Armv8
-        | ArmArchitecture::Armv8a => ArmArchitecture::Armv7,
+        Arm | Armv7a | Armv7ve | Thumbv7a | Thumbv7neon | Armv8 | Armv8a => Armv7,
         other => other,
     }
 }
@@ -270,10 +240,7 @@ fn arm_of_hard_floats(arm: ArmArchitecture) -> ArmArchitecture {
 /// An Arm on which packages for Armv5 run is Armv5, and so is one without a version.
 fn arm_of_soft_floats(arm: ArmArchitecture) -> ArmArchitecture {
     match arm_of_version(arm) {
-        ArmArchitecture::Arm
-        | ArmArchitecture::Armv6
-        | ArmArchitecture::Armv7
-        | ArmArchitecture::Armv8 => ArmArchitecture::Armv5te,
+        Arm | Armv6 | Armv7 | Armv8 => Armv5te,
         other => other,
     }
 }
@@ -281,9 +248,7 @@ fn arm_of_soft_floats(arm: ArmArchitecture) -> ArmArchitecture {
 /// The Arm by which rustc names a target of Windows, which has needed Armv7 from the first.
 fn arm_of_windows(arm: ArmArchitecture) -> ArmArchitecture {
     match arm {
-        ArmArchitecture::Arm | ArmArchitecture::Armv7 | ArmArchitecture::Armv7a => {
-            ArmArchitecture::Thumbv7a
-        }
+        Arm | Armv7 | Armv7a => Thumbv7a,
         other => other,
     }
 }
@@ -299,36 +264,19 @@ fn system_by(versions: bool, operating_system: OperatingSystem) -> OperatingSyst
 /// One Arm for each byte order.
 fn arm_of_order(arm: ArmArchitecture) -> ArmArchitecture {
     match arm {
-        ArmArchitecture::Armeb | ArmArchitecture::Armebv7r | ArmArchitecture::Thumbeb => {
-            ArmArchitecture::Armeb
-        }
-        _ => ArmArchitecture::Arm,
+        Armeb | Armebv7r | Thumbeb => Armeb,
+        _ => Arm,
     }
 }
 
 /// The versions 5, 6, 7 and 8 of Arm for applications; every other Arm is itself.
 pub(crate) fn arm_of_version(arm: ArmArchitecture) -> ArmArchitecture {
     match arm {
-        ArmArchitecture::Armv5t | ArmArchitecture::Armv5tej => ArmArchitecture::Armv5te,
-        ArmArchitecture::Armv6j
-        | ArmArchitecture::Armv6k
-        | ArmArchitecture::Armv6z
-        | ArmArchitecture::Armv6kz
-        | ArmArchitecture::Armv6t2 => ArmArchitecture::Armv6,
-        ArmArchitecture::Armv7a
-        | ArmArchitecture::Armv7ve
-        | ArmArchitecture::Thumbv7a
-        | ArmArchitecture::Thumbv7neon => ArmArchitecture::Armv7,
-        ArmArchitecture::Armv8a => ArmArchitecture::Armv8,
+        Armv5t | Armv5tej => Armv5te,
+        Armv6j | Armv6k | Armv6z | Armv6kz | Armv6t2 => Armv6,
+        Armv7a | Armv7ve | Thumbv7a | Thumbv7neon => Armv7,
+        Armv8a => Armv8,
         other => other,
-    }
-}
-
-/// The environment; without a system the two embedded ABIs are one.
-fn abi_on_systems(operating_system: OperatingSystem, environment: Environment) -> Environment {
-    match (operating_system, environment) {
-        (OperatingSystem::None_, Environment::Eabihf) => Environment::Eabi,
-        _ => environment,
     }
 }
 
@@ -383,31 +331,19 @@ pub(crate) fn usual_vendor(operating_system: OperatingSystem) -> KnownVendor {
     }
 }
 
-/// Whether an environment states only an embedded ABI, or none.
-fn is_bare_abi(environment: Environment) -> bool {
-    matches!(
-        environment,
-        Environment::Eabi | Environment::Eabihf | Environment::None
-    )
+/// The environment, unless it states only an embedded ABI, or none.
+fn without_bare_abi(environment: Environment) -> Environment {
+    match environment {
+        Eabi | Eabihf | Environment::None => Environment::Unknown,
+        other => other,
+    }
 }
 
-/// Whether an environment states a C library, or how floating-point numbers are passed.
-fn is_dropped_abi(environment: Environment) -> bool {
+/// The environment, unless it states a C library, or how floating-point numbers are passed.
+fn without_abi(environment: Environment) -> Environment {
     match environment {
-        Environment::Gnu
-        | Environment::Gnueabi
-        | Environment::Gnueabihf
-        | Environment::Gnuabi64
-        | Environment::Gnuspe
-        | Environment::GnuLlvm
-        | Environment::Musl
-        | Environment::Musleabi
-        | Environment::Musleabihf
-        | Environment::Muslabi64
-        | Environment::Uclibc
-        | Environment::Uclibceabi
-        | Environment::Uclibceabihf
-        | Environment::Msvc => true,
-        _ => is_bare_abi(environment),
+        Gnu | Gnueabi | Gnueabihf | Gnuabi64 | Gnuspe | GnuLlvm | Musl | Musleabi | Musleabihf
+        | Muslabi64 | Uclibc | Uclibceabi | Uclibceabihf | Msvc => Environment::Unknown,
+        other => without_bare_abi(other),
     }
 }

@@ -5,18 +5,11 @@ use crate::proved::tool_names::spelling::may_be_versioned;
 
 /// Why a string isn't read in which this part is the system, if config.sub knows the system.
 pub(crate) fn reason_for(part: &str) -> Option<&'static str> {
-    match reason_among(systems(), part) {
-        Some(reason) => Some(reason),
-        None => reason_among(more_systems(), part),
-    }
+    reason_among(systems(), part)
 }
 
 fn systems() -> &'static [&'static str] {
     &SYSTEMS
-}
-
-fn more_systems() -> &'static [&'static str] {
-    &MORE_SYSTEMS
 }
 
 /// The first of these reasons that ends with the name of this part.
@@ -77,7 +70,7 @@ pub(crate) static KERNELS: [&str; 6] = [
 ];
 
 #[rustfmt::skip]
-static SYSTEMS: [&str; 91] = [
+static SYSTEMS: [&str; 181] = [
     "triples have no system 386bsd", "triples have no system abug", "triples have no system acis",
     "triples have no system amigados", "triples have no system amigaos", "triples have no system aof",
     "triples have no system aos", "triples have no system aout", "triples have no system aros",
@@ -108,39 +101,35 @@ static SYSTEMS: [&str; 91] = [
     "triples have no system netware", "triples have no system newsos", "triples have no system nextstep",
     "triples have no system nindy", "triples have no system nonstopux", "triples have no system nova",
     "triples have no system ns2", "triples have no system nsk", "triples have no system nto",
-    "triples have no system nucleus",
-];
-
-#[rustfmt::skip]
-static MORE_SYSTEMS: [&str; 90] = [
-    "triples have no system nuttx", "triples have no system nx", "triples have no system oabi",
-    "triples have no system onefs", "triples have no system opened", "triples have no system openedition",
-    "triples have no system openstep", "triples have no system os108", "triples have no system os2",
-    "triples have no system os400", "triples have no system os68k", "triples have no system os9",
-    "triples have no system ose", "triples have no system osf", "triples have no system oskit",
-    "triples have no system oss", "triples have no system osx", "triples have no system palmos",
-    "triples have no system pe", "triples have no system phoenix", "triples have no system pikeos",
-    "triples have no system plan9", "triples have no system powermax", "triples have no system powerunix",
-    "triples have no system proelf", "triples have no system psos", "triples have no system ptx",
-    "triples have no system pw32", "triples have no system qnx", "triples have no system rdos",
-    "triples have no system relibc", "triples have no system rhapsody", "triples have no system riscix",
-    "triples have no system riscos", "triples have no system rtems", "triples have no system rtmk",
-    "triples have no system rtu", "triples have no system sco", "triples have no system scout",
-    "triples have no system secbsd", "triples have no system sei", "triples have no system serenity",
-    "triples have no system sim", "triples have no system sinix", "triples have no system skyos",
-    "triples have no system solidbsd", "triples have no system sortix", "triples have no system storm",
-    "triples have no system sunos", "triples have no system superux", "triples have no system svr",
-    "triples have no system syllable", "triples have no system sym", "triples have no system symbian",
-    "triples have no system symbianelf", "triples have no system sysv", "triples have no system sysvr",
-    "triples have no system tenex", "triples have no system tirtos", "triples have no system toppers",
-    "triples have no system tops10", "triples have no system tops20", "triples have no system tpf",
-    "triples have no system triton", "triples have no system twizzler", "triples have no system uclinux",
-    "triples have no system udi", "triples have no system udk", "triples have no system ultrix",
-    "triples have no system unicos", "triples have no system uniplus", "triples have no system unixware",
-    "triples have no system unleashed", "triples have no system unos", "triples have no system utek",
-    "triples have no system uts", "triples have no system uwin", "triples have no system uxpv",
-    "triples have no system v88r", "triples have no system vms", "triples have no system vos",
-    "triples have no system vsta", "triples have no system vxsim", "triples have no system wince",
-    "triples have no system windiss", "triples have no system winnt", "triples have no system xenix",
-    "triples have no system xray", "triples have no system zephyr", "triples have no system zvmoe",
+    "triples have no system nucleus", "triples have no system nuttx", "triples have no system nx",
+    "triples have no system oabi", "triples have no system onefs", "triples have no system opened",
+    "triples have no system openedition", "triples have no system openstep", "triples have no system os108",
+    "triples have no system os2", "triples have no system os400", "triples have no system os68k",
+    "triples have no system os9", "triples have no system ose", "triples have no system osf",
+    "triples have no system oskit", "triples have no system oss", "triples have no system osx",
+    "triples have no system palmos", "triples have no system pe", "triples have no system phoenix",
+    "triples have no system pikeos", "triples have no system plan9", "triples have no system powermax",
+    "triples have no system powerunix", "triples have no system proelf", "triples have no system psos",
+    "triples have no system ptx", "triples have no system pw32", "triples have no system qnx",
+    "triples have no system rdos", "triples have no system relibc", "triples have no system rhapsody",
+    "triples have no system riscix", "triples have no system riscos", "triples have no system rtems",
+    "triples have no system rtmk", "triples have no system rtu", "triples have no system sco",
+    "triples have no system scout", "triples have no system secbsd", "triples have no system sei",
+    "triples have no system serenity", "triples have no system sim", "triples have no system sinix",
+    "triples have no system skyos", "triples have no system solidbsd", "triples have no system sortix",
+    "triples have no system storm", "triples have no system sunos", "triples have no system superux",
+    "triples have no system svr", "triples have no system syllable", "triples have no system sym",
+    "triples have no system symbian", "triples have no system symbianelf", "triples have no system sysv",
+    "triples have no system sysvr", "triples have no system tenex", "triples have no system tirtos",
+    "triples have no system toppers", "triples have no system tops10", "triples have no system tops20",
+    "triples have no system tpf", "triples have no system triton", "triples have no system twizzler",
+    "triples have no system uclinux", "triples have no system udi", "triples have no system udk",
+    "triples have no system ultrix", "triples have no system unicos", "triples have no system uniplus",
+    "triples have no system unixware", "triples have no system unleashed", "triples have no system unos",
+    "triples have no system utek", "triples have no system uts", "triples have no system uwin",
+    "triples have no system uxpv", "triples have no system v88r", "triples have no system vms",
+    "triples have no system vos", "triples have no system vsta", "triples have no system vxsim",
+    "triples have no system wince", "triples have no system windiss", "triples have no system winnt",
+    "triples have no system xenix", "triples have no system xray", "triples have no system zephyr",
+    "triples have no system zvmoe",
 ];
