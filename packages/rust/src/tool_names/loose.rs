@@ -44,7 +44,9 @@ impl Dialect {
     /// ```
     #[inline]
     pub fn read_loosely(self, text: &str) -> Result<TripleRef<'static>, NameError> {
-        match self.read(text) {
+        let in_file = self.read_file(text);
+        let found = in_file.or_else(|| self.read_version_of_glibc(text));
+        match found.unwrap_or_else(|| self.read(text)) {
             Err(NameError::Unknown) => self.read_within(text).unwrap_or(Err(NameError::Unknown)),
             found => found,
         }
@@ -54,40 +56,29 @@ impl Dialect {
     #[inline]
     fn read_within(self, text: &str) -> Option<Result<TripleRef<'static>, NameError>> {
         match self {
-            Dialect::Node => match self.read_file(text) {
-                None => self.read_package(text),
-                found => found,
-            },
+            Dialect::Node => self.read_package(text),
             Dialect::Python => self.read_tags(text),
             Dialect::Uname => self.read_words(text),
             Dialect::Oci => self.read_version_of_windows(text),
-            Dialect::Go => match self.read_file(text) {
-                None => self.read_port(text),
-                found => found,
-            },
+            Dialect::Go => self.read_port(text),
             Dialect::Gnu => self.read_compiler(text),
-            Dialect::Rust => match self.read_file(text) {
-                None => self.read_version_of_glibc(text),
-                found => found,
-            },
             Dialect::Zig => self.read_versions(text),
-            Dialect::Debian => match self.read_file(text) {
-                None => self.read_uclibc(text),
-                found => found,
-            },
-            Dialect::Rpm | Dialect::Pacman => self.read_file(text),
+            Dialect::Debian => self.read_uclibc(text),
             _ => None,
         }
     }
 
-    /// Of the file of a package or an archive: the longest end before its suffix that is a name.
+    /// Of the file of a package or an archive: the longest end before its suffix that is a name. No name has such a suffix.
     #[inline]
     fn read_file(self, text: &str) -> Option<Result<TripleRef<'static>, NameError>> {
         let file = match self {
             Dialect::Debian => text.strip_suffix(".deb")?,
             Dialect::Rpm => text.strip_suffix(".rpm")?,
             Dialect::Pacman => text.split_once(".pkg.tar")?.0,
-            _ => ARCHIVES.iter().find_map(|it| text.strip_suffix(it))?,
+            Dialect::Go | Dialect::Node | Dialect::Rust => {
+                ARCHIVES.iter().find_map(|it| text.strip_suffix(it))?
+            }
+            _ => return None,
         };
         self.read_end(file, ['-', '_', '.'])
     }
@@ -108,12 +99,15 @@ impl Dialect {
         signs: [char; 3],
     ) -> Option<Result<TripleRef<'static>, NameError>> {
         let places = text.match_indices(signs).map(|(at, _)| at + 1);
-        let mut found = core::iter::once(0).chain(places).map(|start| {
-            let end = &text[start..];
-            match self.read(end) {
-                Err(NameError::Unknown) if self == Dialect::Go => self.read_port(end),
-                found => Some(found),
-            }
+        let ends = core::iter::once(0)
+            .chain(places)
+            .map(|start| &text[start..]);
+        let may_be_name = |end: &&str| {
+            end.len() <= LONGEST_NAME && !end.starts_with(|it: char| it.is_ascii_digit())
+        };
+        let mut found = ends.filter(may_be_name).map(|end| match self.read(end) {
+            Err(NameError::Unknown) if self == Dialect::Go => self.read_port(end),
+            found => Some(found),
         });
         found.find_map(|it| it.filter(|it| *it != Err(NameError::Unknown)))
     }
@@ -154,9 +148,12 @@ impl Dialect {
         is_tool.then(|| self.read(prefix))
     }
 
-    /// A target with the version of glibc, as cargo-zigbuild takes it.
+    /// A target of rustc with the version of glibc, as cargo-zigbuild takes it.
     #[inline]
     fn read_version_of_glibc(self, text: &str) -> Option<Result<TripleRef<'static>, NameError>> {
+        if self != Dialect::Rust {
+            return None;
+        }
         let (target, minor) = text.rsplit_once(".2.")?;
         let (_, environment) = target.rsplit_once('-')?;
         let has_glibc = environment.starts_with("gnu") && is_version(minor);
@@ -268,6 +265,9 @@ impl Dialect {
         }))
     }
 }
+
+/// No name that ends a file's or a package's name is longer, in bytes.
+const LONGEST_NAME: usize = 40;
 
 /// What ends the names of archives and programs.
 const ARCHIVES: [&str; 7] = [
