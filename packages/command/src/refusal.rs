@@ -253,9 +253,10 @@ impl Refusal<'_> {
     /// What is wrong with a name that a dialect doesn't have.
     pub fn mistake(&self) -> Option<String> {
         match self.names {
-            Names::OfDialect(dialect, name) => match dialect.mistake(name)? {
-                Mistake::NoTriple(_) if dialect.suggestion(name).is_some() => None,
-                mistake => Some(mistake.to_string()),
+            Names::OfDialect(dialect, name) => match dialect.mistake(name) {
+                None | Some(Mistake::NoTriple(_)) if dialect.suggestion(name).is_some() => None,
+                None => hint(name).map(|it| it.to_string()),
+                mistake => mistake.map(|it| it.to_string()),
             },
             Names::OfAll(name) => match (nearest(name), hint(name)) {
                 (Some((_, mistake)), _) => mistake.map(|it| it.to_string()),

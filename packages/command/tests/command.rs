@@ -425,7 +425,8 @@ fn names_of_other_tools_are_read_and_written() {
     assert_eq!((out.as_str(), status), ("aarch64-unknown-linux\n", 1));
     assert_eq!(
         errors,
-        "error: unknown name of go `linux/foo`\n  linux/foo\n  ^^^^^^^^^\n1 of 2 targets refused\n"
+        "error: unknown name of go `linux/foo`\n  linux/foo\n  ^^^^^^^^^\n  \
+         note: it names a system, and no single machine\n1 of 2 targets refused\n"
     );
     let (_, errors, _) = read(&["--from", "go", "linux/amd46"]);
     assert_eq!(
@@ -1231,14 +1232,16 @@ go|linux amd64|linux/amd64|it has a space
 go|x86_64-unknown-linux-gnu|-|it is a name of gnu and rust; TRIPLE
 go|linux/amd46|linux/amd64|-
 go|linux/riscv/64|linux/riscv64|-
-go|linux/amd64/bin|-|-
+go|linux/amd64/bin|-|its words name x86_64-unknown-linux
 oci|linux\\amd64|linux/amd64|-
-oci|linux/amd64:latest|-|-
+oci|linux/amd64:latest|-|its words name x86_64-unknown-linux
 oci|/usr/lib/linux/amd64|linux/amd64|it has a path
 debian|AMD64|amd64|capital letters matter
 debian|x86-64|amd64|-
 debian|x86_64-linux-gnu|-|it is a name of gnu and zig; TRIPLE
-debian|linux-image-amd64|-|-
+debian|linux-image-amd64|-|its words name x86_64-unknown-linux
+pacman|mingw-w64-ucrt-x86_64|-|its words name x86_64-pc-windows-gnu
+oci|arm32v7/debian|-|it names a system, and no single machine
 rust|amd64|-|it is a name of debian, gnu and rpm
 rust|X86_64-unknown-linux-gnu|x86_64-unknown-linux-gnu|capital letters matter
 rust|target/x86_64-unknown-linux-gnu/release|x86_64-unknown-linux-gnu|it has a path

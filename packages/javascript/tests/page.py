@@ -498,8 +498,14 @@ def opens_a_link(url):
         same(page.run(STATUS), "2 targets: 1 parsed, 1 refused.")
 
 
+def without_note(answer):
+    """What the command writes without its note, which the page doesn't copy."""
+    assert "note" in answer or "error" not in answer
+    return {key: value for key, value in answer.items() if key != "note"}
+
+
 def copies_the_matrix(program, page):
-    """What is copied is what `target-lexicon facts --json` writes."""
+    """What is copied is what `target-lexicon facts --json` writes, except a note."""
     targets = ["arm64-apple-ios17.1", "avr-unknown", "x86_64-pc-linx", "x86_64-\u4e2d\u6587-linux", "x86_64-elf-linux", "i686-linux-gnu"]
     typed(page, "\n".join(targets))
     page.run("document.getElementById('copy_facts').focus()")
@@ -509,12 +515,12 @@ def copies_the_matrix(program, page):
     copied = json.loads(page.run("navigator.clipboard.readText()"))
     same([it["target"] for it in copied], targets)
     wanted = subprocess.run([program, "facts", "--json", *targets], capture_output=True, check=False).stdout
-    same([list(it.items()) for it in copied], [list(it.items()) for it in json.loads(wanted)])
+    same([list(it.items()) for it in copied], [list(without_note(it).items()) for it in json.loads(wanted)])
     return "the same as the command's"
 
 
 def copies_names(program, page):
-    """What is copied is what `target-lexicon what --json` writes."""
+    """What is copied is what `target-lexicon what --json` writes, except notes."""
     names = [*TEN_NAMES, "js/wasm", "x86_64-unknown-linux", "aarch64-macos"]
     for libc in "", "glibc":
         typed(page, "\n".join(names))
@@ -525,6 +531,7 @@ def copies_names(program, page):
         copied = json.loads(page.run("navigator.clipboard.readText()"))
         wanted = subprocess.run([program, "what", "--json", *(["--libc", libc] if libc else []), *names], capture_output=True, check=True).stdout
         for ours, theirs in zip(copied, json.loads(wanted), strict=True):
+            theirs["meanings"] = [without_note(it) for it in theirs["meanings"]]
             for it in [*ours["meanings"], *theirs["meanings"]]:  # a reason of the command speaks of its option `--libc`
                 it["reasons"] = {tool: re.sub("use `--libc.*", "say", reason).partition(": say")[0] for tool, reason in it["reasons"].items()}
             same(ours, theirs)

@@ -173,7 +173,7 @@ impl Write for Spaced {
 }
 
 /// Words for systems, and how a triple goes on with them. The first that a name has is its own: `linux` is also said of Android.
-const SYSTEMS: [(&str, &str); 37] = [
+const SYSTEMS: [(&str, &str); 39] = [
     ("android", "linux-android"),
     ("v7a", "linux-android"),
     ("v8a", "linux-android"),
@@ -198,6 +198,8 @@ const SYSTEMS: [(&str, &str); 37] = [
     ("mingw32", "pc-windows-gnu"),
     ("mingw64", "pc-windows-gnu"),
     ("win", "pc-windows"),
+    ("win7", "pc-windows"),
+    ("win10", "pc-windows"),
     ("win32", "pc-windows"),
     ("win64", "pc-windows"),
     ("windows", "pc-windows"),
