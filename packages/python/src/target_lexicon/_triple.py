@@ -435,7 +435,7 @@ class Triple:
         >>> triple.reason_without_name("debian"), triple.reason_without_name("python", version=(2, 17))
         ('it depends on the C library: say glibc or musl', 'it depends on the C library: say glibc or musl')
         >>> Triple("avr-unknown-none").reason_without_name("go"), triple.reason_without_name("go")
-        ('the tool has no name for the system', None)
+        ('the tool has no name for this machine on any system', None)
         """
         return _library.write_reason(dialect_number(dialect), self._struct, _stated_version(version))
 
