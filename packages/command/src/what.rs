@@ -6,7 +6,7 @@ use crate::json::{Json, Object};
 use crate::refusal::{reason, Refusal};
 use std::io::{self, Write};
 use target_lexicon::tool_names::{hint, meanings, Hint, LinuxLibc, Meaning, Name, WriteError};
-use target_lexicon::{TripleRef, VendorRef};
+use target_lexicon::{OperatingSystem, TripleRef, VendorRef};
 
 /// What stands around the names of a list: in YAML, JSON, or a line of words with commas.
 const AROUND: &[char] = &[' ', '\t', ',', '"', '\'', '[', ']'];
@@ -82,17 +82,22 @@ impl<'a> What<'a> {
         }
     }
 
-    /// That the vendor of a meaning is custom, which may be a misspelling; and the triple that the words of the name mean, if no tool has it.
+    /// That the vendor of a meaning is custom, which may be a misspelling, or that it has no system; and the triple that the words of the name
+    /// mean, if to no tool it is of a known vendor and a system.
     fn note(&self, text: &str, triple: &TripleRef<'_>) -> Option<String> {
-        let VendorRef::Custom(vendor) = triple.vendor else {
-            return None;
-        };
-        let is_known = self.meanings.iter().any(|(it, _)| !it.vendor.is_custom());
-        let meant = match (triple.vendor_suggestion(), hint(text)) {
-            (Some(name), _) => Some(name.to_string()),
-            (_, Some(Hint::Triple(triple))) if !is_known => Some(triple.to_string()),
+        use OperatingSystem::{None_, Unknown};
+        let has_system = |it: &TripleRef<'_>| !matches!(it.operating_system, None_ | Unknown);
+        let is_known = |it: &TripleRef<'_>| !it.vendor.is_custom() && has_system(it);
+        let hint = match hint(text) {
+            Some(Hint::Triple(it)) if !self.meanings.iter().any(|(it, _)| is_known(it)) => Some(it),
             _ => None,
         };
+        let VendorRef::Custom(vendor) = triple.vendor else {
+            let hint = hint.filter(|_| !has_system(triple));
+            return hint.map(|it| format!("it has no system; did you mean `{it}`?"));
+        };
+        let vendor_meant = triple.vendor_suggestion().map(|it| it.to_string());
+        let meant = vendor_meant.or_else(|| hint.map(|it| it.to_string()));
         let meant = meant.map_or(String::new(), |it| format!("; did you mean `{it}`?"));
         Some(format!("`{vendor}` is a custom vendor{meant}"))
     }
