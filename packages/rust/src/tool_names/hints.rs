@@ -1,4 +1,5 @@
 //! What the words of a name say that no tool has here.
+use super::buffer::Buffer;
 use super::dialect_suggestions::{words, MachineWord};
 use super::{read, LinuxLibc};
 use crate::{Architecture, Environment, TripleRef, VendorRef, X86_32Architecture};
@@ -57,7 +58,7 @@ impl fmt::Display for Hint {
 #[must_use]
 #[inline]
 pub fn hint(text: &str) -> Option<Hint> {
-    let spaced = Spaced::of(text)?;
+    let spaced = spaced(text)?;
     let spaced = spaced.as_str();
     let single = || spaced.split(|it: char| !it.is_ascii_alphanumeric());
     let has = |word: &str| single().any(|it| it == word);
@@ -100,7 +101,7 @@ fn triple_with(
         Architecture::X86_32(_) => Architecture::X86_32(X86_32Architecture::I686),
         other => other,
     };
-    let mut text = Spaced::default();
+    let mut text = Text::new();
     write!(text, "{architecture}-{rest}").ok()?;
     let triple = read(text.as_str()).ok()?;
     let environment = match (triple.environment, architecture) {
@@ -119,58 +120,24 @@ fn triple_with(
 }
 
 /// A text in lower case, and again with a dash before each letter that was a capital and follows a small one or a digit.
-struct Spaced {
-    bytes: [u8; Spaced::MAX],
-    length: usize,
-}
-
-impl Spaced {
-    const MAX: usize = 192;
-
-    #[inline]
-    fn of(text: &str) -> Option<Self> {
-        let mut spaced = Spaced::default();
-        let mut is_after_word = false;
-        text.chars()
-            .try_for_each(|it| spaced.write_char(it.to_ascii_lowercase()))
-            .ok()?;
-        spaced.write_char(' ').ok()?;
-        for letter in text.chars() {
-            if is_after_word && letter.is_ascii_uppercase() {
-                spaced.write_char('-').ok()?;
-            }
-            is_after_word = letter.is_ascii_lowercase() || letter.is_ascii_digit();
-            spaced.write_char(letter.to_ascii_lowercase()).ok()?;
+#[inline]
+fn spaced(text: &str) -> Option<Text> {
+    let mut spaced = Text::new();
+    let mut is_after_word = false;
+    write!(spaced, "{text} ").ok()?;
+    for letter in text.chars() {
+        if is_after_word && letter.is_ascii_uppercase() {
+            spaced.write_char('-').ok()?;
         }
-        Some(spaced)
+        is_after_word = letter.is_ascii_lowercase() || letter.is_ascii_digit();
+        spaced.write_char(letter).ok()?;
     }
-
-    #[inline]
-    fn as_str(&self) -> &str {
-        core::str::from_utf8(&self.bytes[..self.length]).unwrap_or("")
-    }
+    spaced.make_lowercase();
+    Some(spaced)
 }
 
-impl Default for Spaced {
-    #[inline]
-    fn default() -> Self {
-        Spaced {
-            bytes: [0; Spaced::MAX],
-            length: 0,
-        }
-    }
-}
-
-impl Write for Spaced {
-    #[inline]
-    fn write_str(&mut self, text: &str) -> fmt::Result {
-        let end = self.length + text.len();
-        let room = self.bytes.get_mut(self.length..end).ok_or(fmt::Error)?;
-        room.copy_from_slice(text.as_bytes());
-        self.length = end;
-        Ok(())
-    }
-}
+/// A name in both forms. A longer one gets no hint.
+type Text = Buffer<192>;
 
 /// Words for systems, and how a triple goes on with them. The first that a name has is its own: `linux` is also said of Android.
 const SYSTEMS: [(&str, &str); 39] = [

@@ -1,7 +1,8 @@
 //! Names with what files and commands have around them.
+use super::buffer::Buffer;
 use super::{Dialect, NameError};
 use crate::{Environment, TripleRef};
-use core::fmt::{self, Write};
+use core::fmt::Write;
 
 impl Dialect {
     /// The triple that a name means, which may have around it what files and commands have. A name that
@@ -123,11 +124,11 @@ impl Dialect {
         };
         let has_capital = system.starts_with(|it: char| it.is_ascii_uppercase());
         let dialect = if has_capital { Dialect::Oci } else { self };
-        let mut name = Text::default();
+        let mut name = Text::new();
         write!(name, "{system}/{machine}").ok()?;
         match (dialect.read(name.as_str()), machine.split_once('_')) {
             (Err(NameError::Unknown), Some((machine, variant))) => {
-                let mut name = Text::default();
+                let mut name = Text::new();
                 write!(name, "{system}/{machine}/{variant}").ok()?;
                 Some(Dialect::Oci.read(name.as_str()))
             }
@@ -176,11 +177,11 @@ impl Dialect {
         if !are_versions {
             return None;
         }
-        let mut name = Text::default();
+        let mut name = Text::new();
         write!(name, "{machine}-{system}.{least}{library}").ok()?;
         match self.read(name.as_str()) {
             Err(NameError::Unknown) => {
-                let mut name = Text::default();
+                let mut name = Text::new();
                 write!(name, "{machine}-{system}{library}").ok()?;
                 Some(self.read(name.as_str()))
             }
@@ -229,7 +230,7 @@ impl Dialect {
         system: &str,
         mut machine: impl Iterator<Item = &'w str>,
     ) -> Option<Result<TripleRef<'static>, NameError>> {
-        let mut name = Text::default();
+        let mut name = Text::new();
         match system.split_once("_NT-") {
             Some((kind, _)) => write!(name, "{kind}_NT-10.0").ok()?,
             None => name.write_str(system).ok()?,
@@ -246,7 +247,7 @@ impl Dialect {
         if !system.eq_ignore_ascii_case("windows") || !is_version(version) {
             return None;
         }
-        let mut name = Text::default();
+        let mut name = Text::new();
         write!(name, "windows{machine}").ok()?;
         Some(self.read(name.as_str()))
     }
@@ -254,7 +255,7 @@ impl Dialect {
     /// What the same name with musl means, with uClibc.
     #[inline]
     fn read_uclibc(self, text: &str) -> Option<Result<TripleRef<'static>, NameError>> {
-        let mut name = Text::default();
+        let mut name = Text::new();
         write!(name, "musl-{}", text.strip_prefix("uclibc-")?).ok()?;
         Some(self.read(name.as_str()).map(|triple| TripleRef {
             environment: match triple.environment {
@@ -314,28 +315,4 @@ fn is_python(text: &str) -> bool {
 }
 
 /// A name that is put together. No row is longer.
-#[derive(Default)]
-struct Text {
-    bytes: [u8; Text::MAX],
-    length: usize,
-}
-
-impl Text {
-    const MAX: usize = 32;
-
-    #[inline]
-    fn as_str(&self) -> &str {
-        core::str::from_utf8(&self.bytes[..self.length]).unwrap_or("")
-    }
-}
-
-impl Write for Text {
-    #[inline]
-    fn write_str(&mut self, text: &str) -> fmt::Result {
-        let end = self.length + text.len();
-        let room = self.bytes.get_mut(self.length..end).ok_or(fmt::Error)?;
-        room.copy_from_slice(text.as_bytes());
-        self.length = end;
-        Ok(())
-    }
-}
+type Text = Buffer<32>;

@@ -5,6 +5,7 @@
 //! compared with those tools.
 mod apple_versions;
 mod arm;
+mod buffer;
 mod dialect_suggestions;
 mod driver;
 mod hints;
