@@ -39,9 +39,10 @@ SYSTEM_WORDS = {"android": "linux", "win32": "windows", "win": "windows", "manyl
                 "ucrt64_nt": "windows", "clang64_nt": "windows", "clangarm64_nt": "windows", "wasi": "wasip1 wasi",
                 "mac": "darwin", "macosx": "darwin macosx",
                 **dict.fromkeys(("ubuntu", "debian", "rhel", "fedora", "centos", "opensuse", "sles", "ol", "almalinux", "linuxmint", "rocky"), "linux")}
-# The dialects whose names have a word for the system, and those whose names are a machine's word, mostly.
-OF_SYSTEMS = ("debian", "go", "oci", "node", "python", "uname", "dotnet", "conda", "zig", "nix")
-DIALECTS = (*OF_SYSTEMS, "rpm", "apk", "pacman")
+# The lists of the table that are no dialects, the dialects whose names are spelled like triples, and those whose names are a machine's word.
+# The names of each other dialect have a word for the system.
+LISTS = ("first", "second", "hard", "later", "maker", "kernel", "system")
+OF_TRIPLES, OF_MACHINES = ("gnu", "rust"), ("rpm", "apk", "pacman")
 # The architecture of a machine's word that only one name has, so that no other name of a dialect says what it means.
 ONLY_ONCE = {"arm64ilp32": "aarch64", "powerpcspe": "powerpc", "x32": "x86_64", "amd64/v1": "x86_64", "arm/v5": "armv5te", "arm/v8": "armv8",
              "x86-64": "x86_64", "arm64_v8a": "aarch64", "armeabi_v7a": "armv7", "x86": "i686", "armv8l": "armv8", "ppc": "powerpc",
@@ -112,6 +113,7 @@ class Comparison(Report):
         super().__init__(options, folder)
         lines = upstream.read(f"{built.ROOT}/tools/names/elsewhere.tsv").splitlines()
         self.rows, self.folder = [Row(*line.split("\t")) for line in lines if not line.startswith("#")], folder
+        self.dialects = [it for it in dict.fromkeys(row.dialect for row in self.rows) if it not in (*LISTS, *OF_TRIPLES)]
 
     def rows_of(self, dialect, ways=("rw", "r", "w")):
         return [row for row in self.rows if row.dialect == dialect and row.ways in ways]
@@ -121,25 +123,25 @@ class Comparison(Report):
         return {row.name: self.read(row.name, dialect) for row in self.rows_of(dialect, ("rw", "r"))}
 
     def check_systems(self):
-        for dialect in OF_SYSTEMS:
+        for dialect in self.dialects:
             rows = []
             for row in self.rows_of(dialect):
                 word = words_of(dialect, row.name)[0]
                 known = set(SYSTEM_WORDS.get(word, word).split()) & {*re.split("[-.0-9*]", row.triple), *row.triple.split("-")}
                 rows.append((row.name, row.triple, bool(known), True))
-            self.fact(f"the word of {dialect} for the system is the library's, or a listed one", rows)
+            self.fact(f"the word of {dialect} for the system is the library's, or has that one in SYSTEM_WORDS", rows)
 
     def check_machines(self):
         words = collections.defaultdict(list)
-        for dialect in DIALECTS:
+        for dialect in self.dialects:
             for row in self.rows_of(dialect):
                 system, word = words_of(dialect, row.name)
                 own = OWN_WORDS.keys() & {f"{it} of {dialect}" for it in (word, f"{system} {word}", row.name)}
                 words[own.pop() if own else word].append((dialect, row.name, row.triple.split("-")[0]))
-        self.fact("a machine's word means one architecture in all dialects, or a listed one", (
+        self.fact("a machine's word means one architecture in all dialects, or that of OWN_WORDS", (
             (*row, OWN_WORDS.get(word, rows[0][2])) for word, rows in words.items() for row in rows))
         # A name with one number says no more than that with two.
-        self.fact("and one that only one name has is listed here", (
+        self.fact("and one that only one name has means that of ONLY_ONCE", (
             (word, rows[0][2], ONLY_ONCE.get(word)) for word, rows in words.items()
             if rows[0][2] and word not in OWN_WORDS and len({(dialect, name.replace("*_*", "*")) for dialect, name, _ in rows}) == 1))
         self.fact("a word that says 64 or 32 is that of a machine with as many bits", (
@@ -148,7 +150,7 @@ class Comparison(Report):
 
     def check_libraries(self):
         rows = []
-        for dialect in DIALECTS:
+        for dialect in self.dialects:
             linux = [row for row in self.rows_of(dialect, ("rw", "w")) if "-linux" in row.triple]
             if all(row.triple.endswith("-unknown-linux") or row.triple.endswith(("android", "androideabi")) for row in linux):
                 rows += [(row.name, self.target_lexicon.Triple(f"{row.triple}-{library}").name_in(dialect), row.name)
@@ -156,7 +158,7 @@ class Comparison(Report):
         self.fact("a dialect that states no C library has its names for each", rows)
 
     def check_spellings(self):
-        self.fact("each other spelling of a part is explained by a rule, or listed here", (
+        self.fact("each other spelling of a part is explained by a rule, or is one of SPELLINGS", (
             (row.dialect, row.name, row.triple, SPELLINGS.get(row.name) or spelled_by_rule(row.name.rstrip("!")))
             for dialect in ("first", "later") for row in self.rows_of(dialect)))
         sub = "/usr/share/misc/config.sub"
@@ -440,29 +442,32 @@ def machine_of_rustc(triple):
 
 
 def words_of(dialect, name):
-    """The system's and the machine's word of a name. A name without a system's is Linux's."""
-    if dialect in ("rpm", "apk", "pacman"):
+    """The system's and the machine's word of a name. A name without a system's is Linux's. A dialect that isn't named here has the system's
+    first, and after it a dash, a slash or `_`."""
+    if dialect in OF_MACHINES:
         return "linux", name
-    if dialect in ("go", "oci"):
-        return re.fullmatch(r"([a-z0-9]+)(?:\(.*\))?[/_-](.+)", name).groups()
-    if dialect == "uname":
-        return re.fullmatch(r"(\w+?)(?:-[\w.*-]+)? (.+)", name.lower()).groups()
-    if dialect in ("zig", "nix"):
-        machine, system = re.match(r"(\w+)-(\w+)", name).groups()
-        return system, machine
-    if dialect in ("node", "dotnet", "conda"):
-        if name == "wasm32-wasi":
-            return "wasi", "wasm32"
-        name = re.sub("^(linux|win)(64)$", r"\1-\2", name)
-        system, machine = re.match(r"(?:node\*-|bun-)?([a-z]+\d*)(?:\.[\d.*]+)?(?:-(?:musl|bionic))?-(\w+)", name).groups()
-        return (system if system in SYSTEM_WORDS else system.rstrip("0123456789")), machine
     if dialect == "debian":
         return (name.split("-")[0] if "-" in name else "linux"), name.split("-")[-1]
-    # Tags with dots between them are those of one file.
-    name = re.sub(r"^manylinux.*_(?=manylinux)", "", name)
-    system, word = re.fullmatch(r"(win|linux|mingw|manylinux|musllinux|macosx|ios|android|freebsd|openbsd|netbsd|dragonfly|haiku|cygwin|emscripten|pyodide|wasi)"
-                                r"[0-9_*]*_?(?:RELEASE_|release_)?(\D.*?)??(?:_iphone\w+|_(?:ucrt|msvcrt|clang)(?:_\w+)?)?", name).groups()
-    return system, name if name == "win32" else word
+    is_node = dialect in ("node", "dotnet", "conda")
+    if is_node:
+        found = re.match(r"(?:node\*-|bun-)?(?P<system>[a-z]+\d*)(?:\.[\d.*]+)?(?:-(?:musl|bionic))?-(?P<machine>\w+)", re.sub("^(linux|win)(64)$", r"\1-\2", name))
+    elif dialect == "uname":
+        found = re.fullmatch(r"(?P<system>\w+?)(?:-[\w.*-]+)? (?P<machine>.+)", name.lower())
+    elif dialect in ("zig", "nix"):
+        found = re.match(r"(?P<machine>\w+)-(?P<system>\w+)", name)
+    elif dialect == "python":
+        # Tags with dots between them are those of one file.
+        found = re.fullmatch(r"(?P<system>win|linux|mingw|manylinux|musllinux|macosx|ios|android|freebsd|openbsd|netbsd|dragonfly|haiku|cygwin|emscripten|pyodide|wasi)"
+                             r"[0-9_*]*_?(?:RELEASE_|release_)?(?P<machine>\D.*?)??(?:_iphone\w+|_(?:ucrt|msvcrt|clang)(?:_\w+)?)?",
+                             re.sub(r"^manylinux.*_(?=manylinux)", "", name))
+    else:
+        found = re.fullmatch(r"(?P<system>[a-z0-9]+)(?:\(.*\))?[/_-](?P<machine>.+)", name)
+    if not found:
+        raise RuntimeError(f"which words of {dialect}'s name {name} are the system's and the machine's? words_of in checks/comparisons/elsewhere.py doesn't know")
+    system, machine = found["system"], name if name == "win32" else found["machine"]
+    if (system, machine) == ("wasm32", "wasi"):
+        return machine, system
+    return (system if not is_node or system in SYSTEM_WORDS else system.rstrip("0123456789")), machine
 
 
 def platforms():

@@ -3,6 +3,7 @@ import re
 from dataclasses import dataclass
 
 import facts
+from names_table import Mistake, columns
 
 PATH = "tools/names/answers.tsv"
 ENUMS = {"endianness": "Endianness", "calling_convention": "CallingConvention", "data_model": "DataModel", "c_library": "CLibrary",
@@ -29,12 +30,16 @@ def answers_of(text, wrong):
     for number, line in enumerate(text.splitlines(), 1):
         if line.startswith(("#", "fact\t", "none\t")):
             continue
-        kind, variant, value, name, *about = line.split("\t")
-        answers = found.setdefault(kind, [])
-        if kind not in ENUMS and kind != "status" or value != str(len(answers) + 1) or len(about) > 1:
-            wrong.append(f"answers.tsv:{number}: a kind, an answer, the next number of the kind, a name and what it is are wanted")
-            continue
-        answers.append(Answer(variant, int(value), name, *about or [""]))
+        try:
+            kind, variant, value, name, *about = columns(line, ["a kind", "an answer", "its number", "its name", "what it is"], 4)
+            answers = found.setdefault(kind, [])
+            if kind not in ENUMS and kind != "status":
+                raise Mistake(f"`{kind}` is no kind: {', '.join(ENUMS)}, status, fact or none. A new one is a line of ENUMS and JAVASCRIPT in tools/names/answers.py too")
+            if value != str(len(answers) + 1):
+                raise Mistake(f"the next number of {kind} is {len(answers) + 1}, not `{value}`")
+            answers.append(Answer(variant, int(value), name, *about or [""]))
+        except Mistake as mistake:
+            wrong.append(f"answers.tsv:{number}: {mistake}")
     return found
 
 
@@ -64,9 +69,10 @@ def lists(answers):
 
 
 def lists_of_facts(text, wrong):
-    lines = text.splitlines()
-    found = facts.facts_of((line for line in lines if line.startswith("fact\t")), ENUMS, JAVASCRIPT, wrong)
-    return facts.lists(found) | facts.lists_of_reasons([line for line in lines if line.startswith("none\t")], found, wrong)
+    numbered = [*enumerate(text.splitlines(), 1)]
+    found = facts.facts_of([it for it in numbered if it[1].startswith("fact\t")], ENUMS, JAVASCRIPT, wrong)
+    reasons = facts.reasons_of([it for it in numbered if it[1].startswith("none\t")], found, wrong)
+    return facts.lists(found) | facts.lists_of_reasons(reasons)
 
 
 def quoted(kind, answers):

@@ -2,11 +2,15 @@
 import re
 from dataclasses import dataclass
 
+from names_table import Mistake, columns
+
 GROUPS = {"queries": "queries()", "formats": "formats()", "driver": "facts()"}
 # The variables of which an answer may be a member: their types in the library for C.
 PARTS = {"sizes": "TypeSizes", "long_double": "LayoutNumbers", "wchar": "LayoutNumbers"}
 # What C++ and Python know without asking the library.
 KNOWN = "has_custom_vendor"
+# What else may have no answer, with a line `none`.
+OTHERS = ("version", "multiarch_tuple")
 
 
 @dataclass
@@ -89,15 +93,22 @@ class Fact:
 
 def facts_of(lines, enums, constants, wrong):
     found = []
-    for line in lines:
-        name, type_, group, answer, about = (line.split("\t") + [""] * 5)[1:6]
-        type_, *numbers = type_.split()
-        if type_ not in ("bool", "format", "family", "bytes", "number", *enums) or group not in GROUPS or not about:
-            wrong.append(f"answers.tsv: a name, a type, a group, the answer and what it is are wanted: {line}")
-        elif type_ == "bytes" and answer.partition(".")[0] not in PARTS:
-            wrong.append(f"answers.tsv: `bytes` is a member of {', '.join(PARTS)}: {line}")
-        else:
+    for number, line in lines:
+        try:
+            _, name, type_, group, answer, about = columns(line, ["`fact`", "a name", "a type", "a group", "the answer in Rust", "what it is"])
+            type_, *numbers = type_.split()
+            types = ("bool", "format", "family", "bytes", "number", *enums)
+            if type_ not in types:
+                raise Mistake(f"`{type_}` is no type of a fact: {', '.join(types)}")
+            if group not in GROUPS:
+                raise Mistake(f"`{group}` is no group of facts: {', '.join(GROUPS)}")
+            if type_ == "bytes" and answer.partition(".")[0] not in PARTS:
+                raise Mistake(f"`bytes` is a member of {', '.join(PARTS)}, not {answer}")
+            if name in (it.name for it in found):
+                raise Mistake(f"the fact {name} is there already")
             found.append(Fact(name, type_, group, answer, about, numbers, enums, constants))
+        except Mistake as mistake:
+            wrong.append(f"answers.tsv:{number}: {mistake}")
     return found
 
 
@@ -136,11 +147,24 @@ def lists(facts):
     return found
 
 
-def lists_of_reasons(lines, facts, wrong):
-    """Why a fact has no answer, from the lines `none`."""
-    reasons = [(names.split(), reason) for _, names, reason in (line.split("\t") for line in lines)]
-    with_reason = [name for names, _ in reasons for name in names]
-    wrong += [f"answers.tsv: a line `none` is wanted for {it.name}" for it in facts if it.is_optional and it.name not in with_reason]
+def reasons_of(lines, facts, wrong):
+    """Why a fact has no answer, from the lines `none`: of each the facts, and the reason."""
+    found = []
+    for number, line in lines:
+        try:
+            _, names, reason = columns(line, ["`none`", "facts", "the reason"])
+            unknown = {*names.split()} - {*OTHERS, *(it.name for it in facts)}
+            if unknown:
+                raise Mistake(f"there is no fact {', '.join(sorted(unknown))}")
+            found.append((names.split(), reason))
+        except Mistake as mistake:
+            wrong.append(f"answers.tsv:{number}: {mistake}")
+    with_reason = {name for names, _ in found for name in names}
+    wrong += [f"answers.tsv: the fact {it.name} may have no answer: a line `none` says why" for it in facts if it.is_optional and it.name not in with_reason]
+    return found
+
+
+def lists_of_reasons(reasons):
     return {
         "the reasons for the command": [f"""{' | '.join(f'"{name}"' for name in names)} => "{reason}",""" for names, reason in reasons],
         "the reasons for Python": [f'"{name}": "{reason}",' for names, reason in reasons for name in names],

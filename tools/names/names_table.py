@@ -1,4 +1,4 @@
-"""The table of names, tools/names/names.tsv: its values by field and by Rust type, what is wrong in it, and words in lines."""
+"""The table of names, tools/names/names.tsv: its values by field and by Rust type, what is wrong in it, columns of lines, and words in lines."""
 import hashlib
 import re
 from collections import namedtuple
@@ -23,16 +23,30 @@ Type = namedtuple("Type", "name word variants plain held")
 COLUMNS = 118
 
 
+class Mistake(Exception):
+    """What is wrong with a line, and what it should be."""
+
+
+def columns(line, names, least=0, more=False):
+    """The columns of a line, or those that are split already. `names` says what they are, and only the first `least` must be there, or all; `more` may follow."""
+    found = line if isinstance(line, list) else line.split("\t")
+    if not (least or len(names)) <= len(found) or len(found) > len(names) and not more or "" in found[:1]:
+        raise Mistake(f"a line has {', '.join(names)}, with tabs between them: this one has {len(found)} column{'s' * (len(found) != 1)}")
+    return found
+
+
 def table_of(text):
     """The values of the table, those of a field in the order of their numbers, and what is wrong in it."""
     values, wrong = [], []
-    for number, columns in enumerate((line.split("\t") for line in text.splitlines()), 1):
-        if columns[0].startswith("#"):
+    for number, line in enumerate(text.splitlines(), 1):
+        if line.startswith("#"):
             continue
-        if not 4 <= len(columns) <= 6:
-            wrong.append(f"names.tsv:{number}: {len(columns)} columns, not 4 to 6")
+        try:
+            cells = columns(line, ["a field", "a variant", "a name", "a number", "a family", "what it is"], 4)
+        except Mistake as mistake:
+            wrong.append(f"names.tsv:{number}: {mistake}")
             continue
-        value = Value(*columns, *[""] * (6 - len(columns)))
+        value = Value(*cells, *[""] * (6 - len(cells)))
         wrong += [f"names.tsv:{number}: {it}" for it in faults_of(value, values)]
         values.append(value)
     wrong = wrong or [f"names.tsv: {it}" for it in number_faults(values)]
@@ -42,11 +56,11 @@ def table_of(text):
 def faults_of(value, earlier):
     """What is wrong with a line after the earlier ones."""
     if value.field not in (*FIELDS, "alias"):
-        yield f"`{value.field}` is no field"
+        yield f"`{value.field}` is no field: {', '.join(FIELDS)} or alias"
     if not NAME.fullmatch(value.name):
         yield f"the name `{value.name}` has a character that no name may have: it begins with a-z, and has a-z, 0-9, `_` and `.`"
     if not VARIANT.fullmatch(value.variant):
-        yield f"`{value.variant}` is no variant"
+        yield f"`{value.variant}` is no variant: it begins with a capital letter, and has letters, digits and `_`"
     if value.family and not (value.field in ("architecture", "alias") and VARIANT.fullmatch(value.family)
                              or (value.field, value.family) == ("operating_system", "Darwin")):
         yield f"`{value.family}` is no family of the field"
@@ -64,7 +78,8 @@ def number_faults(values):
         of_field = {it.number: it.name for it in values if it.field == field}
         wanted = [str(it) for it in range(sum(it.field == field for it in values))]
         if of_field.keys() != set(wanted):
-            yield f"the numbers of the field `{field}` are not 0 to {wanted[-1]}, each once: {', '.join(sorted(of_field.keys() ^ set(wanted)))}"
+            free = ", ".join(it for it in wanted if it not in of_field)
+            yield f"the numbers of the field `{field}` are 0 to {wanted[-1]}, each once, and none has {free}: a new value has the last of these"
             continue
         count, checksum = UPSTREAM[field]
         if hashlib.sha256(" ".join(map(of_field.get, wanted[:count])).encode()).hexdigest()[:16] != checksum:

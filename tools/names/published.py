@@ -25,8 +25,6 @@ def rows(tables, wrong):
     used, of_dialects = set(), {source for dialect in tables.dialects.values() for source in dialect.sources}
     in_notes = [it for it in tables.sources if it not in of_dialects]
     for dialect in tables.dialects.values():
-        if sum(not patterns for patterns in dialect.sources.values()) != 1:
-            wrong.append(f"elsewhere.tsv: {dialect.name} wants one line `# from` without patterns")
         for name, triple, ways, *note in dialect.lines:
             note = "".join(note)
             others = [other for other, same, way, *_ in dialect.lines if same == triple and other != name and way == "r"]

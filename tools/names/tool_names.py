@@ -2,14 +2,14 @@
 import re
 from dataclasses import dataclass, field
 
-from names_table import filled
+from names_table import Mistake, columns, filled
 
 PATH = "tools/names/elsewhere.tsv"
 DAY = re.compile(r"\d{4}-\d\d-\d\d")
 # The check of a function that lends a table grows with the square of its rows, so a dialect has several tables.
 TABLE_ROWS = 50
 WAYS = {"rw": "Both", "r": "Read", "w": "Written", "-": "NoTriple"}
-DIALECT, ONLY_WRITTEN, WHY, SOURCE, FROM = "# dialect ", "# only written: ", "# why\t", "# source\t", "# from\t"
+DIALECT, ONLY_WRITTEN = "# dialect ", "# only written: "
 # The rules of a dialect: for each word of its line the field of `Rules`, and its value for each choice. The first choice goes
 # without saying. A dialect may have other names too.
 RULES = {"machine": ("machine", {"order": "MachineRule::Order", "version": "MachineRule::Version", "rustc": "MachineRule::Rustc",
@@ -84,75 +84,138 @@ class Elsewhere:
     whys: dict = field(default_factory=dict)
 
 
-def tables_of(text, wrong):
-    found, seen, cited, described = Elsewhere(), set(), set(), None
+def tables_of(text, known, wrong):
+    """The tables. `known` are the names of the values: of architectures for "", and of the parts after it for "-"."""
+    found, cited = Elsewhere(), set()
     for number, line in enumerate(text.splitlines(), 1):
-        def mistake(what):
-            wrong.append(f"elsewhere.tsv:{number}: {what}")
-        if line.startswith(DIALECT):
-            name, *rules = line.removeprefix(DIALECT).split()
-            rules = dict(rule.partition("=")[::2] for rule in rules)
-            others = [it for it in rules.pop("names", "").split(",") if it]
-            if {name, *others} & {*found.dialects, *(it[0] for it in other_names(found))} or any(word not in RULES or choice not in RULES[word][1] for word, choice in rules.items()):
-                mistake("a new dialect is wanted, and choices for some of " + ", ".join(RULES))
-                continue
-            rules = {word: rules.get(word, next(iter(choices))) for word, (_, choices) in RULES.items()}
-            described = found.dialects.setdefault(name, Dialect(name, rules, others))
-        elif line.startswith(ONLY_WRITTEN):
-            found.only_written = line.removeprefix(ONLY_WRITTEN)
-        elif line.startswith(WHY):
-            why, text = line.removeprefix(WHY).split("\t")
-            if why in found.whys or text in found.whys.values():
-                mistake("the reason is there twice")
-            found.whys[why] = text
-        elif line.startswith("# reason\t"):
-            found.reasons.append(line.split("\t")[1:])
-        elif line.startswith("# versions\t"):
-            _, text, least, most, about = line.split("\t")
-            found.versions.append((text, int(least), int(most), about))
-        elif line.startswith(SOURCE):
-            words = line.removeprefix(SOURCE).split("\t")
-            if len(words) != 5 or words[0] in found.sources or not DAY.fullmatch(words[-1]):
-                mistake("a new source, its version, Debian's package, where it is and the day are wanted")
-            else:
-                found.sources[words[0]] = Source(*("" if it == "-" else it for it in words))
-        elif line.startswith(FROM):
-            source, *patterns = line.removeprefix(FROM).split("\t")
-            if source not in found.sources or not found.dialects:
-                mistake("a source with a line of its own is wanted, in a dialect")
-            [*found.dialects.values()][-1].sources[source] = patterns
-        elif line.startswith("#"):
-            if described:
-                described.about, described = line[2:], None
-        else:
-            dialect, name, triple, ways, *note = line.split("\t")
-            if dialect in found.words:
-                if (triple, ways) != ("-", "-") or len(note) > 1 or name in found.words[dialect]:
-                    mistake("a new word of config.sub is wanted, without a triple")
-                found.words[dialect].append(name)
-                continue
-            rows = found.parts.get(dialect) if dialect in found.parts else getattr(found.dialects.get(dialect), "rows", None)
-            if rows is None or ways not in WAYS or len(note) > 1:
-                mistake("a dialect, a name, a triple, the ways and a note are wanted")
-                continue
-            if (dialect, name, triple) in seen or (ways == "-") != (triple == "-"):
-                mistake("the row is there twice, or it has a triple or a way, and not both")
-            if ways == "-" and (not note or note[0] not in found.whys):
-                mistake("the name of a reason is wanted, one of " + ", ".join(found.whys))
-                continue
-            if dialect in found.dialects and ("*" in triple) != ("*" in name and bool(re.search("macosx|ios", triple))):
-                mistake("a name with a star and a triple of macOS or iOS with one are wanted, or another triple without one")
-            seen.add((dialect, name, triple))
-            if ways == "-":
-                cited.add(note[0])
-                note = [found.whys[note[0]]]
-            meaning = note[0] if ways == "-" else triple.replace("*", "") if dialect in found.dialects else triple
-            rows.append((name, meaning, WAYS[ways]))
-            if dialect in found.dialects:
-                found.dialects[dialect].lines.append((name, triple, ways, *note))
-    if unused := found.whys.keys() - cited:
-        wrong.append(f"elsewhere.tsv: no row cites the reason {', '.join(sorted(unused))}")
+        try:
+            read_line(found, line, known, cited)
+        except Mistake as mistake:
+            wrong.append(f"elsewhere.tsv:{number}: {mistake}")
+    wrong += [f"elsewhere.tsv: no row cites the reason {it}: remove its line `# why`, or write it as the note of a row" for it in sorted(found.whys.keys() - cited)]
+    for it in found.dialects.values():
+        wrong += [f"elsewhere.tsv: the dialect {it.name} has no {what}" for what, there in (("line that says what it is, after `# dialect`", it.about), ("row", it.rows)) if not there]
+        if sum(not patterns for patterns in it.sources.values()) != 1:
+            wrong.append(f"elsewhere.tsv: the dialect {it.name} needs one line `# from` with a source and no patterns")
     return found
+
+
+def read_line(found, line, known, cited):
+    last = next(reversed(found.dialects.values()), None)
+    if line.startswith(DIALECT):
+        add_dialect(found, *line.removeprefix(DIALECT).split())
+    elif line.startswith(ONLY_WRITTEN):
+        found.only_written = line.removeprefix(ONLY_WRITTEN)
+    elif word := re.match(r"# (why|reason|versions|source|from)(?=\t| *$)", line):
+        add_line(found, last, word[1], line.split("\t")[1:])
+    elif re.match(r"# (why|reason|versions|source|from) ", line) and (last or found.sources):
+        raise Mistake("after the first word of such a line comes a tab, and tabs are between its columns")
+    elif not line.startswith("#"):
+        add_row(found, columns(line, ["a dialect", "a name", "a triple", "the ways", "a note"], 4), known, cited)
+    elif last and not last.about:
+        last.about = line[2:]
+
+
+def add_dialect(found, name="", *rules):
+    rules = dict(rule.partition("=")[::2] for rule in rules)
+    others = [it for it in rules.pop("names", "").split(",") if it]
+    taken = {*found.dialects, *(other for other, _ in other_names(found)), *found.parts, *found.words}
+    # It is there for its rows even if something is wrong.
+    found.dialects.setdefault(name, Dialect(name, {word: rules.get(word, next(iter(choices))) for word, (_, choices) in RULES.items()}, others))
+    for it in [name, *others]:
+        if it in taken:
+            raise Mistake(f"`{it}` is the name of another dialect or list")
+        if not re.fullmatch("[a-z][a-z0-9]*", it):
+            raise Mistake(f"the name of a dialect is part of names in each language: lower-case letters and digits, not `{it}`")
+    for word, choice in rules.items():
+        if word not in RULES:
+            raise Mistake(f"there is no rule `{word}`, only {', '.join(RULES)} and names")
+        if choice not in RULES[word][1]:
+            raise Mistake(f"`{word}={choice}` is no rule: {word} is {' or '.join(RULES[word][1])}")
+
+
+def add_line(found, last, word, cells):
+    """Adds what a line says that begins with `#`, this word and a tab."""
+    if word == "why":
+        why, text = columns(cells, ["the name of a reason", "the reason"])
+        if why in found.whys or text in found.whys.values():
+            raise Mistake("this reason, or its name, is there already")
+        found.whys[why] = text
+    elif word == "reason":
+        found.reasons.append(columns(cells, ["a variant of `WriteError`", "the reason"]))
+    elif word == "versions":
+        text, least, most, about = columns(cells, ["the start or end of names", "the least number", "the most", "what it is"])
+        if not (least + most).isdigit():
+            raise Mistake(f"the least and the most number are in digits, not `{least}` and `{most}`")
+        found.versions.append((text, int(least), int(most), about))
+    elif word == "source":
+        name, *words = columns(cells, ["a source", "its version", "Debian's package", "a file, a command in backquotes or an address", "the day"])
+        if name in found.sources:
+            raise Mistake(f"the source {name} is there already")
+        if not DAY.fullmatch(words[-1]):
+            raise Mistake(f"the day is one such as 2026-11-28, not `{words[-1]}`")
+        found.sources[name] = Source(name, *("" if it == "-" else it for it in words))
+    else:
+        source, *patterns = columns(cells, ["a source"], 1, more=True)
+        if source not in found.sources:
+            raise Mistake(f"the source {source} needs a line `# source`")
+        if not last:
+            raise Mistake("a line `# from` comes after the line `# dialect` of its dialect")
+        last.sources[source] = patterns
+
+
+def add_row(found, cells, known, cited):
+    dialect, name, triple, ways, *note = cells
+    if dialect in found.words:
+        if (triple, ways) != ("-", "-") or name in found.words[dialect]:
+            raise Mistake("a word of config.sub is there once, with `-` as its triple and its ways")
+        found.words[dialect].append(name)
+        return
+    of = found.dialects.get(dialect)
+    if not of and dialect not in found.parts:
+        raise Mistake(f"`{dialect}` is no dialect yet: its rows follow a line `# dialect {dialect}`")
+    if ways not in WAYS or not of and ways != "r":
+        raise Mistake(f"the ways are {', '.join(WAYS) if of else 'r'}, not `{ways}`")
+    if (ways == "-") != (triple == "-"):
+        raise Mistake("a row has a triple and ways, or `-` for both, and the name of a reason as its note")
+    if ways == "-" and "".join(note) not in found.whys:
+        raise Mistake(f"the note is the name of a line `# why`, not `{''.join(note)}`: {', '.join(found.whys)}")
+    if ways != "-":
+        check_triple(triple, known, of)
+    if of:
+        check_row(of.lines, name, triple, ways)
+        cited.update(note if ways == "-" else [])
+        note = [found.whys[it] for it in note] if ways == "-" else note
+        of.lines.append((name, triple, ways, *note))
+        of.rows.append((name, note[0] if ways == "-" else triple.replace("*", ""), WAYS[ways]))
+        return
+    if name in (it for it, _, _ in found.parts[dialect]):
+        raise Mistake(f"`{name}` is there already")
+    if dialect != "hard" and name.rstrip("!") in known["" if dialect == "first" else "-"]:
+        raise Mistake(f"`{name}` is a known name, which is never read as another one")
+    found.parts[dialect].append((name, triple, WAYS[ways]))
+
+
+def check_triple(triple, known, of):
+    """Each part is a known name. That the triple is canonical is checked by the proofs, and by `checks/specification quick`."""
+    first, *later = triple.split("-")
+    if first not in (known[""] if of else known[""] | known["-"]):
+        raise Mistake(f"`{first}` of {triple} is no known name of tools/names/names.tsv")
+    for part in later:
+        if not {part, re.sub(r"[\d.]+$|\*$", "", part)} & known["-"]:
+            raise Mistake(f"`{part}` of {triple} is no known name of tools/names/names.tsv")
+
+
+def check_row(lines, name, triple, ways):
+    """No name has two meanings, and no triple two names that are written."""
+    if ("*" in triple) != ("*" in name and bool(re.search("macosx|ios", triple))):
+        raise Mistake("a triple of macOS or iOS has a star exactly if its name has one, and no other triple has one")
+    same = [it for it in lines if it[0] == name]
+    if same and (ways != "w" or same[0][2] != "-"):
+        raise Mistake(f"`{name}` means {same[0][1]} already: only rows `w` share a name, after a row `-` that says why it isn't read")
+    written = [it[0] for it in lines if it[1] == triple and "w" in it[2]]
+    if written and "w" in ways:
+        raise Mistake(f"{triple} has the name `{written[0]}` already: one of the two is only read, `r`")
 
 
 def other_names(tables):
