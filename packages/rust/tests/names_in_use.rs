@@ -1,7 +1,7 @@
 //! Names from real files of configuration, and what three other tools call each; and lists that go from tool to tool.
 use std::collections::BTreeSet;
 use target_lexicon::tool_names::{
-    Dialect, LinuxLibc, NameError, TranslateError, WriteError,
+    hint, meanings, Dialect, LinuxLibc, Meaning, NameError, TranslateError, WriteError,
 };
 use target_lexicon::TripleRef;
 
@@ -267,4 +267,40 @@ fn targets_of_rustc_are_themselves() {
         let found = Dialect::Rust.translate(target, None, Dialect::Rust);
         assert!(matches!(found, Err(TranslateError::Read(_))), "{target}");
     }
+}
+
+#[test]
+fn meanings_are_those_of_tools_and_then_the_triple() {
+    let meant = |text: &'static str| -> Vec<_> {
+        let triple = |it: Meaning<'static>| it.triple.map_or_else(str::to_string, |it| it.to_string());
+        meanings(text).map(|it| (it.of.name(), triple(it))).collect()
+    };
+    // A single word that a tool has isn't taken for a triple.
+    assert!(meant("riscv64").iter().all(|(of, _)| *of != "triple"));
+    assert_eq!(meant("clever"), [("triple", "clever-unknown-elf".to_string())]);
+    // The triple is canonical.
+    let horizon = meanings("armv7-nintendo-horizon-newlib").last().unwrap();
+    assert_eq!(horizon.triple, Ok(TripleRef::from_str("armv7-nintendo-horizon").unwrap()));
+    let mingw = ("spelling", "x86_64-pc-windows-gnu".to_string());
+    assert_eq!(meant("x86_64-w64-mingw32").last(), Some(&mingw));
+    let half = "half of a platform: containerd adds that of the host".to_string();
+    assert!(meant("amd64").contains(&("oci", half)));
+}
+
+#[test]
+fn words_of_names_that_no_tool_has_are_hints() {
+    for (name, triple) in [
+        ("linux-x86_32", "i686-unknown-linux"),
+        ("armeabi-v7a", "armv7-linux-androideabi"),
+        ("x64-mingw-ucrt", "x86_64-pc-windows-gnu"),
+        ("iosSimulatorArm64", "aarch64-apple-ios-sim"),
+        ("alpine-linux-x64", "x86_64-unknown-linux-musl"),
+        ("FreeBSD:14:amd64", "x86_64-unknown-freebsd"),
+    ] {
+        assert_eq!(hint(name).unwrap().to_string(), format!("its words name {triple}"));
+    }
+    assert_eq!(hint(&"x".repeat(1000)), None);
+    // A misspelling is no name after another one.
+    assert_eq!(Dialect::Debian.suggestion("mmusl-linux-amd64"), Some("musl-linux-amd64"));
+    assert_eq!(Dialect::Debian.mistake("mmusl-linux-amd64"), None);
 }
