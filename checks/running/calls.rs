@@ -240,12 +240,6 @@ pub fn relations(r: &mut Report, string: &str) {
         });
         r.holds("AreSourcesOf", s::AreSourcesOf(x, s::source_values(found[0], found[1], found[2], found[3], found[4])).yes(), &string);
         r.holds("AreSourcesOf of others", !s::AreSourcesOf(x, s::source_values(found[0], found[1], found[2], found[4], found[3])).yes() || eq(found[3], found[4]), &string);
-        if let V::C(s::Option__None, _) = s::special_values(x) {
-            let (first, unfilled) = (con(s::Option__Some, &[V::C(s::Field__Architecture, &[])]), s::same_sources(V::C(s::SourceValue__NotGiven, &[])));
-            let parts = s::plain_parts(s::placed_from(V::N(0), s::parts_of(x)));
-            let answered = format!("{sources:?}").replace("Part(", "FromPart(");
-            r.same("resumed_sources", s::resumed_sources(V::C(s::SourceValue__Implied, &[]), first, unfilled, parts), &format_args!("{answered}"), &string);
-        }
     } else {
         r.holds("IsRefusedAs", s::IsRefusedAs(x, it[0]).yes(), &string);
         for other in definitions::values::fields().list() {

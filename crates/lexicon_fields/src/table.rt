@@ -1,5 +1,5 @@
 //! The table of the fixed names, and of the alias `arm64`. A function is inlined if it returns a wide value.
-ghost use Rattle.std.specs.Prelude.{◌≡◌, ◌+◌, ◌<◌, ◌≤◌, false, length, map, MatchOption};
+ghost use Rattle.std.specs.Prelude.{◌≡◌, ◌+◌, ◌<◌, ◌≤◌, false, map, MatchOption};
 ghost use Rattle.std.specs.Cmp.Lexicographic.{slice_cmp};
 ghost use Rattle.std.specs.Ordering.{nat_cmp};
 ghost use Rattle.lexicon_fields.specs.FixedRow as spec;
@@ -138,14 +138,6 @@ fn prefix_key(text: &str) -> u64
         let tail = u64::from(u32::from_be_bytes(*tail));
         return head * 0x1_0000_0000 + (tail << (64 - 8 * bytes.len())) % 0x1_0000_0000;
     }
-    prefix_key_of_few(bytes)
-}
-
-/// The prefix key of at most three bytes.
-fn prefix_key_of_few(bytes: &[u8]) -> u64
-    requires { length bytes.now < 4 }
-    ensures { result ≡ private.prefix_key_of 8 bytes.now }
-{
     match bytes {
         [a, b, c] => u64::from_be_bytes([*a, *b, *c, 0, 0, 0, 0, 0]),
         [a, b] => u64::from_be_bytes([*a, *b, 0, 0, 0, 0, 0, 0]),

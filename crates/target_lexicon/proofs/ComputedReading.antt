@@ -1,12 +1,13 @@
--- The function that parses field by field gives the triple that a string reads as by placements, and how it is refused.
-use Rattle.std.proofs.Common.{◌≡◌, ℕ, ◌≤◌, List, [], ◌∷◌, true, false, nat_eq, refl, ◌∙◌, ap, subst, Option, Some, None, Result, Ok, Err, arith, inl, inr, ◌↔◌, ◌⊎◌}
+-- Parsing as a function gives the triple that a string reads as by placements, and how it is refused.
+use Rattle.std.proofs.Common.{◌≡◌, ℕ, ◌≤◌, List, [], ◌∷◌, true, false, nat_eq, refl, sym, ◌∙◌, ap, subst, Option, Some, None, Result, Ok, Err, arith, inl, inr, ◌↔◌, ◌⊎◌}
 use Rattle.std.specs.Prelude.{MatchResult, is_some}
 use Rattle.lexicon_fields.specs.{declared.architecture.Architecture.Architecture as AnyArchitecture, declared.operating_system.OperatingSystem.OperatingSystem as AnySystem, Environment.environment_of}
 use Rattle.lexicon_fields.specs.{declared.environment.Environment.Environment as AnyEnvironment, Architecture.architecture_of, declared.known_vendor.KnownVendor.TheVariants.Unknown, Vendor.vendor_of, OperatingSystem.operating_system_of, BinaryFormat.binary_format_of}
-use Rattle.target_lexicon.specs.{Values.VendorValue, Values.Known, Values.Values, Values.values, ImpliedFormat.implied_format, Laws.EveryTextHasOneOutcome, Laws.ReadingIsComputed, SpecialTexts.special_values, Placement.parts_of, Refusal.Refusal, Refusal.refusal_with}
+use Rattle.target_lexicon.specs.{Values.VendorValue, Values.Known, Values.Values, Values.values, ImpliedFormat.implied_format, Laws.EveryTextHasOneOutcome, Laws.ReadingIsComputed, SpecialTexts.special_values, Reading.parts_of, Refusal.Refusal, Refusal.refusal_with}
 use Rattle.target_lexicon.specs.Field.{Field, Architecture, Vendor, OperatingSystem, Environment, BinaryFormat, field_number, parses_as}
 use Rattle.target_lexicon.specs.Reading.{part_at, IsValueOf, HoldsParts, ReadsAs, IsRefusal, IsRefusedAs, IsRefused, expected_after, last_field}
-use Rattle.target_lexicon.specs.GreedyReading.{field_reading_by, field_reading, final_reading, reading_from_binary_format, reading_from_environment, reading_from_operating_system, reading_from_vendor, reading_after_architecture, reading_of_parts, reading_unless_special, reading}
+use Rattle.target_lexicon.specs.GreedyReading.{reading_of_parts, reading_unless_special, reading}
+use Rattle.target_lexicon.proofs.FieldReading.{by_fields, field_reading_by, field_reading, final_reading, reading_from_binary_format, reading_from_environment, reading_from_operating_system, reading_from_vendor, reading_after_architecture}
 use Rattle.target_lexicon.proofs.{PartLemmas.parts_of-are, PartLemmas.parts_of-some, GreedyPlacement.IsPlacedAfter, GreedyPlacement.Follows, GreedyPlacement.filled, GreedyPlacement.unread, GreedyPlacement.filled-placed, GreedyPlacement.after_architecture, GreedyPlacement.greedy-least, RefusalLemmas.refused_first, RefusalLemmas.left-refused, UniqueReading.values_unique, UniqueReading.refusal_unique, UniqueReading.read_not_refused}
 use Rattle.target_lexicon.specs.Values.operating_system
 use Rattle.target_lexicon.specs.Values.environment
@@ -118,7 +119,7 @@ module _ (text p : List ℕ) (ps : List (List ℕ)) (ordinary : special_values t
   by_architecture (Some a) h = by_given a (reading_from_vendor a ps) h (ap is_some h) (vendor-gives a ps)
 
   parts-hold : Holds text (reading_of_parts (p ∷ ps))
-  parts-hold = by_architecture (architecture_of p) refl
+  parts-hold = subst (Holds text) (sym (by_fields (p ∷ ps))) (by_architecture (architecture_of p) refl)
 
 by_parts : (text : List ℕ) (parts : List (List ℕ)) → special_values text ≡ None → parts_of text ≡ parts → Holds text (reading_of_parts parts)
 by_parts text [] ordinary are = absurd (parts_of-some text are)

@@ -1,16 +1,17 @@
 -- Printed strings are at most so much longer than the string that was parsed, and the canonical form makes no string
 -- longer.
-use Rattle.std.proofs.Common.{◌≡◌, ℕ, zero, suc, ◌+◌, ◌≤◌, ◌<◌, ◌^◌, List, [], ◌∷◌, length, codes, Bool, true, false, true≢false, not, ◌&&◌, ◌||◌, Option, Some, None, Ok, ◌⊎◌, inl, inr, unwrap_or, refl, sym, ap, subst, arith}
+use Rattle.std.proofs.Common.{◌≡◌, ◌∙◌, ℕ, zero, suc, ◌+◌, ◌≤◌, ◌<◌, ◌^◌, List, [], ◌∷◌, length, codes, Bool, true, false, true≢false, not, ◌&&◌, ◌||◌, Option, Some, None, Ok, ◌⊎◌, inl, inr, unwrap_or, refl, sym, ap, subst, arith}
 use Rattle.std.specs.List.{join_with_byte, slice_get}
 use Rattle.std.proofs.{lemmas.List.length-append, lemmas.List.Splits.join_with_byte-slice_split, lemmas.Option.MatchOption-at_some, lemmas.Bool.and_parts, lemmas.Bool.not-true, Math.Bool.and-false, Math.Bool.or-true}
 use Rattle.lexicon_fields.specs.Names.{dash}
 use Rattle.target_lexicon.specs.Values.{Architecture, OperatingSystem, Environment, BinaryFormat, VendorValue, Known, Values, values, is_unknown_vendor, is_clever_without_system, is_same_format}
-use Rattle.target_lexicon.specs.{Field.Field, ImpliedFormat.default_binary_format, ImpliedFormat.implied_format, Laws.ReadingIsComputed, Placement.parts_of, NormalStep.normal_step, NormalStep.elf_if_unknown}
+use Rattle.target_lexicon.specs.{Field.Field, ImpliedFormat.default_binary_format, ImpliedFormat.implied_format, Laws.ReadingIsComputed, Reading.parts_of, NormalStep.normal_step, NormalStep.elf_if_unknown}
 use Rattle.target_lexicon.specs.{FixedPoints.PrintedTextsGrowAtMost, FixedPoints.CanonicalTextsGrowAtMost, FixedPoints.RefusedPartsDoNotGrow}
 use Rattle.target_lexicon.specs.{SpecialTexts.special_text, SpecialTexts.special_values}
 use Rattle.target_lexicon.specs.FamilyFacts.{IsNintendo3ds, IsEspIdf, HidesNewlib, PrintsTheEspIdfText, ShowsOnlyNone}
 use Rattle.target_lexicon.specs.Printing.{architecture_implies_format, shows_vendor, shows_operating_system, shows_environment, shows_implied_format, shows_binary_format, shows_unknowns, shown_names, cons_if, text_of, text_with}
-use Rattle.target_lexicon.specs.GreedyReading.{FieldReading, field_reading_by, field_reading, final_reading, reading_after_architecture, reading_of_parts, reading_unless_special, reading}
+use Rattle.target_lexicon.specs.GreedyReading.{reading_of_parts, reading_unless_special, reading}
+use Rattle.target_lexicon.proofs.FieldReading.{FieldReading, by_fields, field_reading_by, field_reading, final_reading, reading_after_architecture}
 use Rattle.lexicon_fields.specs.{declared.architecture.clever.CleverArchitecture.CleverArchitecture, Architecture.architecture_name, Architecture.architecture_of, Laws.TextsAreNames, Laws.NamesGrowAtMost, Laws.NamesAreShort, Laws.max_name_length, Vendor.vendor_name, Vendor.vendor_of}
 use Rattle.lexicon_fields.specs.declared.known_vendor.KnownVendor.TheVariants.{Unknown, Nintendo, Espressif}
 use Rattle.lexicon_fields.specs.{OperatingSystem.operating_system_name, OperatingSystem.operating_system_of, Environment.environment_name, Environment.environment_of, ArchitectureQueries.is_clever}
@@ -191,7 +192,7 @@ module _ (formats : TextsAreNames binary_format_name binary_format_of) (environm
 
     by_parts : (parts : List (List ℕ)) (t : Values) → reading_of_parts parts ≡ Ok t → GrowsAtMost (join_with_byte dash parts) t
     by_parts [] t read = absurd cc
-    by_parts (p ∷ ps) t read = by_architecture p ps (architecture_of p) t refl read
+    by_parts (p ∷ ps) t read = by_architecture p ps (architecture_of p) t refl (sym (by_fields (p ∷ ps)) ∙ read)
 
     by_special : (text : List ℕ) (o : Option Values) (t : Values) → special_values text ≡ o → reading_unless_special o text ≡ Ok t → GrowsAtMost text t
     unfolding text_of special_text

@@ -7,6 +7,7 @@
 -- VariantHashes: what is fed to a hasher. OnLiterals: for proofs of callers.
 pub mod ComputedReading
 pub mod Elements
+pub mod FieldReading
 pub mod FixedPointLemmas
 pub mod GreedyPlacement
 pub mod HashInputPairs
@@ -19,7 +20,7 @@ pub mod PrintingLemmas
 pub mod QueriesKept
 pub mod ReadValues
 pub mod RefusalLemmas
-pub mod ResumedLemmas
+pub mod ReadParts
 pub mod RoundCall
 pub mod RoundTrips
 pub mod SameValues

@@ -1,7 +1,7 @@
 -- Facts about all parsed triples: the vendor is plain, and the version in range.
 use Rattle.std.proofs.Common.{refl, ◌≡◌, ℕ, List, Bool, true, false, cond, Option, Some, None, IfSome, MatchOption, sym, subst}
 use Rattle.std.specs.Str.{bytes_eq}
-use Rattle.target_lexicon.specs.{Values.OperatingSystem, Values.VendorValue, Values.Known, Values.Values, Field.Field, Laws.ReadVendorsArePlain, Placement.ArePartsOf}
+use Rattle.target_lexicon.specs.{Values.OperatingSystem, Values.VendorValue, Values.Known, Values.Values, Field.Field, Laws.ReadVendorsArePlain, Reading.ArePartsOf}
 use Rattle.target_lexicon.specs.Reading.{HoldsParts, ReadsAs, PartsReadAs, IsValueOf}
 use Rattle.target_lexicon.specs.SpecialTexts.{special_values, nintendo_3ds, nintendo_3ds_text, esp_idf, esp_idf_text}
 use Rattle.lexicon_fields.specs.{Laws.HasVersionInRange, OperatingSystem.operating_system_of, declared.known_vendor.KnownVendor.TheVariants.Unknown, Vendor.vendor_of, Vendor.is_plain}

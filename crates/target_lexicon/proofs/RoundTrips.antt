@@ -4,7 +4,8 @@ use Rattle.target_lexicon.specs.Values.{Architecture, Environment, OperatingSyst
 use Rattle.target_lexicon.specs.{Field.Field, ImpliedFormat.default_binary_format, ImpliedFormat.implied_format, FamilyFacts.PrintsAsSpecial, FamilyFacts.HidesNewlib, FamilyFacts.PrintsTheEspIdfText, FamilyFacts.ShowsOnlyNone, Refusal.Refusal, SpecialTexts.special_text}
 use Rattle.target_lexicon.specs.NormalStep.{normal_step, elf_if_unknown}
 use Rattle.target_lexicon.specs.Printing.{shows_vendor, omits_unknown_vendor, shows_operating_system, shows_environment, is_none_or_unknown, shows_implied_format, shows_binary_format, shows_unknowns, shown_names, cons_if}
-use Rattle.target_lexicon.specs.GreedyReading.{reading_of_parts, reading_from_vendor, reading_from_operating_system, reading_from_environment}
+use Rattle.target_lexicon.specs.GreedyReading.{reading_of_parts}
+use Rattle.target_lexicon.proofs.FieldReading.{by_fields, reading_by_fields, reading_from_vendor, reading_from_operating_system, reading_from_environment}
 use Rattle.lexicon_fields.specs.{ArchitectureQueries.is_clever, declared.architecture.clever.CleverArchitecture.CleverArchitecture, Architecture.architecture_name, Laws.HasVersionInRange, Vendor.vendor_name, Vendor.is_plain, OperatingSystem.operating_system_name, Environment.environment_name, BinaryFormat.binary_format_name}
 use Rattle.lexicon_fields.specs.declared.known_vendor.KnownVendor.TheVariants.{Unknown, Nintendo, Espressif}
 use Rattle.std.proofs.{lemmas.Bool.not-false, lemmas.Bool.not-true, Math.Bool.and-false, lemmas.Bool.false≢true, lemmas.Bool.true≢false}
@@ -172,14 +173,14 @@ module _ (names : NamesAreRead) where
   prefix : (a : Architecture) (v : VendorValue) (b : Bool) (rest : List (List ℕ)) (result : Result Values Refusal) → is_plain v ≡ true
       → (b ≡ false → (v ≡ Known Unknown) × (reading_from_vendor a rest ≡ reading_from_operating_system a (Known Unknown) field.Architecture rest))
       → ((last : Field) → reading_from_operating_system a v last rest ≡ result)
-      → reading_of_parts (architecture_name a ∷ cons_if b (vendor_name v) rest) ≡ result
+      → reading_by_fields (architecture_name a ∷ cons_if b (vendor_name v) rest) ≡ result
   prefix a v true rest result plain hidden reads = rw (names.architecture.reads_back a tt, names.vendor.reads_back v plain) (reads field.Vendor)
   prefix a v false rest result plain hidden reads = rw (names.architecture.reads_back a tt) ((hidden refl).1 ∙ rw (sym (hidden refl).0) (reads field.Architecture))
 
   -- if the system is shown, with these parts after it
   after_system : (a : Architecture) (v : VendorValue) (s : OperatingSystem) (e : Environment) (f : BinaryFormat) (rest : List (List ℕ)) (result : Result Values Refusal) → is_plain v ≡ true → HasVersionInRange s
       → reading_from_environment a v s field.OperatingSystem rest ≡ result
-      → reading_of_parts (architecture_name a ∷ cons_if (shows_vendor (values a v s e f)) (vendor_name v) (operating_system_name s ∷ rest)) ≡ result
+      → reading_by_fields (architecture_name a ∷ cons_if (shows_vendor (values a v s e f)) (vendor_name v) (operating_system_name s ∷ rest)) ≡ result
   after_system a v s e f rest result plain range reads = prefix a v (shows_vendor (values a v s e f)) _ _ plain
       (λ h. let is = hidden_vendor a v s e f h in (is.0, rw (vendor_of-operating_system names s range ∙ no_vendor a s e is.1) refl))
       (λ last. rw (names.operating_system.reads_back s range) reads)
@@ -213,7 +214,7 @@ module _ (names : NamesAreRead) where
       ∙ ap (λ x. Ok (values (architecture.Clever c) v operating_system.Unknown e x)) (shown_or_implied (values (architecture.Clever c) v operating_system.Unknown e f)))
 
   clever-round : (c : CleverArchitecture) (v : VendorValue) (e : Environment) (f : BinaryFormat) → is_plain v ≡ true → shows_unknowns (values (architecture.Clever c) v operating_system.Unknown e f) ≡ false
-      → reading_of_parts (shown_names false (values (architecture.Clever c) v operating_system.Unknown e f)) ≡ Ok (normal_step (values (architecture.Clever c) v operating_system.Unknown e f))
+      → reading_by_fields (shown_names false (values (architecture.Clever c) v operating_system.Unknown e f)) ≡ Ok (normal_step (values (architecture.Clever c) v operating_system.Unknown e f))
   unfolding shown_names shows_operating_system
   clever-round c v e f plain hidden =
       prefix (architecture.Clever c) v _ _ _ plain
@@ -222,11 +223,11 @@ module _ (names : NamesAreRead) where
   module _ (a : Architecture) (v : VendorValue) (s : OperatingSystem) (e : Environment) (f : BinaryFormat) (plain : is_plain v ≡ true) (range : HasVersionInRange s)
       (none : special_text (values a v s e f) ≡ None) (apart : ¬ PrintsTheEspIdfText (values a v s e f)) where
     clever_by : (c : CleverArchitecture) → a ≡ architecture.Clever c → s ≡ operating_system.Unknown → shows_unknowns (values a v s e f) ≡ false
-        → reading_of_parts (shown_names false (values a v s e f)) ≡ Ok (normal_step (values a v s e f))
+        → reading_by_fields (shown_names false (values a v s e f)) ≡ Ok (normal_step (values a v s e f))
     clever_by c is_a is_s hidden = rw (is_a, is_s) (clever-round c v e f plain (rw (is_a, is_s) at hidden))
 
     upstream-round : (b : Bool) → shows_operating_system (values a v s e f) ≡ b → shows_unknowns (values a v s e f) ≡ false
-        → reading_of_parts (shown_names false (values a v s e f)) ≡ Ok (normal_step (values a v s e f))
+        → reading_by_fields (shown_names false (values a v s e f)) ≡ Ok (normal_step (values a v s e f))
     unfolding shown_names
     upstream-round true shown hidden = rw shown (after_system a v s e f _ _ plain range
         (tail-round a v s e f none hidden field.OperatingSystem apart (shown_system (values a v s e f) shown)))
@@ -239,14 +240,14 @@ module _ (names : NamesAreRead) where
         (λ is. absurd (apart is))
         (λ is. absurd (let only_none = is.environment in cc)) (λ outside. refl)
 
-    unknowns-round : (e ≡ environment.Unknown) × (f ≡ binary_format.Unknown) → reading_of_parts (shown_names true (values a v s e f)) ≡ Ok (normal_step (values a v s e f))
+    unknowns-round : (e ≡ environment.Unknown) × (f ≡ binary_format.Unknown) → reading_by_fields (shown_names true (values a v s e f)) ≡ Ok (normal_step (values a v s e f))
     unfolding shown_names
     unknowns-round is = after_system a v s e f _ _ plain range (shown-read a v s e f true field.OperatingSystem ∙ ap Ok (sym (unknowns-step is)))
 
-    parts_by : (b : Bool) → shows_unknowns (values a v s e f) ≡ b → reading_of_parts (shown_names b (values a v s e f)) ≡ Ok (normal_step (values a v s e f))
+    parts_by : (b : Bool) → shows_unknowns (values a v s e f) ≡ b → reading_by_fields (shown_names b (values a v s e f)) ≡ Ok (normal_step (values a v s e f))
     parts_by true shown = unknowns-round (are_unknown a v s e f shown)
     parts_by false hidden = upstream-round _ refl hidden
 
     -- if no special string is printed, the shown parts parse as the step
     pub parts-round : reading_of_parts (printed_names (values a v s e f)) ≡ Ok (normal_step (values a v s e f))
-    parts-round = parts_by (shows_unknowns (values a v s e f)) refl
+    parts-round = by_fields (printed_names (values a v s e f)) ∙ parts_by (shows_unknowns (values a v s e f)) refl

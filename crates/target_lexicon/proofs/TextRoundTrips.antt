@@ -4,9 +4,9 @@ use Rattle.std.specs.{List.list_all, List.join_with_byte, Str.bytes_eq}
 use Rattle.std.proofs.lemmas.Slice.Eq.{bytes_eq-Decides}
 use Rattle.lexicon_fields.specs.Names.{dash}
 use Rattle.target_lexicon.specs.Values.{Architecture, OperatingSystem, Environment, BinaryFormat, VendorValue, Known, Custom, Values, values}
-use Rattle.target_lexicon.specs.{FixedPoints.RoundIsNormalStep, ImpliedFormat.implied_format, NormalStep.normal_step, Families.family_by_fields, FamilyFacts.PrintsTheEspIdfText, Placement.parts_of}
+use Rattle.target_lexicon.specs.{FixedPoints.RoundIsNormalStep, ImpliedFormat.implied_format, NormalStep.normal_step, Families.family_by_fields, FamilyFacts.PrintsTheEspIdfText, Reading.parts_of}
 use Rattle.target_lexicon.specs.Printing.{shows_vendor, shows_operating_system, shows_environment, shows_binary_format, shows_unknowns, shown_names, text_of, cons_if}
-use Rattle.target_lexicon.specs.{Reading.ReadsAs, GreedyReading.reading_of_parts, GreedyReading.reading_unless_special, GreedyReading.reading, Refusal.refusal_with}
+use Rattle.target_lexicon.specs.{Field.parses_as, Reading.ReadsAs, GreedyReading.reading_of_parts, GreedyReading.reading_unless_special, GreedyReading.reading, Refusal.refusal_with}
 use Rattle.target_lexicon.specs.SpecialTexts.{special_text, special_values, nintendo_3ds, nintendo_3ds_text, esp_idf, esp_idf_text}
 use Rattle.lexicon_fields.specs.{Names.is_dash_free, Architecture.architecture_name, Architecture.architecture_of, Laws.HasVersionInRange, Environment.environment_name, Environment.environment_of}
 use Rattle.lexicon_fields.specs.declared.known_vendor.KnownVendor.TheVariants.{Nintendo, Espressif}
@@ -47,17 +47,17 @@ abbrev custom_esp : Values
 custom_esp = values (architecture.Riscv32 riscv32.Riscv32imc) (Custom (codes "esp")) operating_system.Espidf environment.Unknown binary_format.Elf
 
 custom_esp-round : reading (text_of custom_esp) ≡ Ok (normal_step custom_esp)
-unfolding reading text_of special_text special_values shown_names shows_vendor shows_operating_system shows_environment shows_binary_format implied_format family_by_fields normal_step
+unfolding reading parses_as text_of special_text special_values shown_names shows_vendor shows_operating_system shows_environment shows_binary_format implied_format family_by_fields normal_step
 custom_esp-round = refl
 
 -- the special strings, parsed by their parts
 
 nintendo-parts : reading_of_parts (parts_of nintendo_3ds_text) ≡ Err (refusal_with (Some field.OperatingSystem) (codes "3ds"))
-unfolding architecture_of vendor_of known_vendor_of operating_system_of fixed_operating_system_of environment_of binary_format_of
+unfolding parses_as architecture_of vendor_of known_vendor_of operating_system_of fixed_operating_system_of environment_of binary_format_of
 nintendo-parts = refl
 
 esp_idf-parts : reading_of_parts (parts_of esp_idf_text) ≡ Ok custom_esp
-unfolding architecture_of vendor_of known_vendor_of is_admitted operating_system_of fixed_operating_system_of environment_of binary_format_of implied_format
+unfolding parses_as architecture_of vendor_of known_vendor_of is_admitted operating_system_of fixed_operating_system_of environment_of binary_format_of implied_format
 esp_idf-parts = refl
 
 -- a string that isn't special is parsed by its parts

@@ -2,7 +2,7 @@
 use Rattle.std.specs.Prelude.{◌≡◌, ℕ, ◌+◌, ◌≤◌, List, [], ◌∷◌, length, take, Some, MatchOption, slice_get}
 use Rattle.std.specs.{List.slice_range, Option.option_map_or}
 use Rattle.target_lexicon.specs.declared.explanation.{Source.Source, Sources.Sources, TextPart.TextPart}
-use Rattle.target_lexicon.specs.{Field.Field, Placement.ArePartsOf, Placement.IsLeastPlacement, Reading.part_at, Reading.IsRefusal, Refusal.Refusal, SpecialTexts.special_values}
+use Rattle.target_lexicon.specs.{Field.Field, Reading.ArePartsOf, Reading.IsLeastPlacement, Reading.part_at, Reading.IsRefusal, Refusal.Refusal, SpecialTexts.special_values}
 use Rattle.target_lexicon.specs.declared.explanation.Source.TheVariants as source
 use Rattle.target_lexicon.specs.Field as field
 
@@ -53,6 +53,14 @@ abbrev pub sources_of : Sources → SourceValues
 sources_of s =
     source_values (source_value s.architecture) (source_value s.vendor) (source_value s.operating_system) (source_value s.environment)
     (source_value s.binary_format)
+
+-- the sources with this one for a field
+abbrev pub with_source : Field → SourceValue → SourceValues → SourceValues
+with_source field.Architecture source s = source_values source s.vendor s.operating_system s.environment s.binary_format
+with_source field.Vendor source s = source_values s.architecture source s.operating_system s.environment s.binary_format
+with_source field.OperatingSystem source s = source_values s.architecture s.vendor source s.environment s.binary_format
+with_source field.Environment source s = source_values s.architecture s.vendor s.operating_system source s.binary_format
+with_source field.BinaryFormat source s = source_values s.architecture s.vendor s.operating_system s.environment source
 
 -- the source of a field: the part that is assigned to it, if there is one
 abbrev pub source_at : SourceValue → Field → List PlacedPart → List Field → SourceValue

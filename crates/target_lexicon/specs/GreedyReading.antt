@@ -1,59 +1,58 @@
--- Reading as a function, by which the least placement can be computed: one field after the other takes the first part
--- that is left, if that reads as it. And what a call that reads a string answers, by that function.
-use Rattle.std.specs.Prelude.{◌≡◌, ℕ, List, [], ◌∷◌, Option, Some, None, Result, Ok, Err, IfOk, IfErr, IfSome}
-use Rattle.lexicon_fields.specs.{Vendor.IsCustom, Vendor.vendor_of, Architecture.architecture_of, declared.known_vendor.KnownVendor.TheVariants.Unknown, Environment.environment_of}
+-- Parsing as a function, by which the least placement can be computed: one part after the other fills the first open field that
+-- it parses as. And what a call does that takes the parts so, or answers with the whole.
+use Rattle.std.specs.Prelude.{◌≡◌, ℕ, List, [], ◌∷◌, Option, Some, None, Result, Ok, Err, IfOk, IfErr, IfSome, MatchOption, unwrap_or, if◌then◌else◌}
+use Rattle.std.specs.Option.{option_map_or}
+use Rattle.lexicon_fields.specs.{Vendor.IsCustom, Vendor.vendor_of, Architecture.architecture_of, Environment.environment_of}
 use Rattle.lexicon_fields.specs.{OperatingSystem.operating_system_of, BinaryFormat.binary_format_of}
-use Rattle.target_lexicon.specs.{declared.parse_error.ParseError.ParseError, declared.triple.Triple.Triple, Reading.ReadsAs, Reading.IsErrorOf, Reading.expected_after, Field.Field, Placement.parts_of}
-use Rattle.target_lexicon.specs.{Refusal.refusal_of, Refusal.Refusal, Refusal.refusal_with, ImpliedFormat.implied_format, SpecialTexts.special_values}
-use Rattle.target_lexicon.specs.Values.{values_of, Architecture, OperatingSystem, Environment, VendorValue, Known, Values, values}
-use Rattle.target_lexicon.specs.Values.operating_system
-use Rattle.target_lexicon.specs.Values.environment
+use Rattle.target_lexicon.specs.{declared.parse_error.ParseError.ParseError, declared.reading.Reading.Reading, declared.refusal.Refusal.Refusal as BorrowedRefusal, declared.triple.Triple.Triple, Reading.ReadsAs, Reading.IsErrorOf, Reading.expected_after, Field.Field, Field.parses_as, Reading.parts_of}
+use Rattle.target_lexicon.specs.{Refusal.refusal_of, Refusal.Refusal, Refusal.refusal_with, ImpliedFormat.default_binary_format, SpecialTexts.special_values}
+use Rattle.target_lexicon.specs.Explanation.{FromPart, Implied, PlacedPart, SourceValues, part_value, sources_of, with_source}
+use Rattle.target_lexicon.specs.Values.{Values, unknown_values, values, values_of}
+use Rattle.target_lexicon.specs.ValuesRef.{values_of_ref}
 use Rattle.target_lexicon.specs.Field as field
 
--- the value of a field, the last field that took a part, and the parts that are left
-abbrev pub FieldReading : Type 0 → Type 0
-FieldReading A = A × Field × List (List ℕ)
+-- the fields that a part can fill where this one is expected: the first part only the architecture, a later one this field or
+-- one after it
+abbrev pub open_fields : Option Field → List Field
+open_fields (Some field.Architecture) = field.Architecture ∷ []
+open_fields (Some field.Vendor) = field.Vendor ∷ field.OperatingSystem ∷ field.Environment ∷ field.BinaryFormat ∷ []
+open_fields (Some field.OperatingSystem) = field.OperatingSystem ∷ field.Environment ∷ field.BinaryFormat ∷ []
+open_fields (Some field.Environment) = field.Environment ∷ field.BinaryFormat ∷ []
+open_fields (Some field.BinaryFormat) = field.BinaryFormat ∷ []
+open_fields None = []
 
-abbrev pub field_reading_by : {A : Type 0} → Field → Option A → A → Field → List ℕ → List (List ℕ) → FieldReading A
-field_reading_by f (Some value) unfilled last p ps = (value, f, ps)
-field_reading_by f None unfilled last p ps = (unfilled, last, p ∷ ps)
+-- the first of these fields that the part parses as
+abbrev pub first_field : List Field → List ℕ → Option Field
+first_field [] part = None
+first_field (f ∷ fs) part = if parses_as f part then Some f else first_field fs part
 
--- a field takes the first part that is left if that part parses as a value of the field; otherwise the field has its
--- value without a part, and all parts are left
-abbrev pub field_reading : {A : Type 0} → Field → (List ℕ → Option A) → A → Field → List (List ℕ) → FieldReading A
-field_reading f find unfilled last [] = (unfilled, last, [])
-field_reading f find unfilled last (p ∷ ps) = field_reading_by f (find p) unfilled last p ps
+-- the field that the part fills where this one is expected, if there is one
+abbrev pub field_for : Option Field → List ℕ → Option Field
+field_for expected part = first_field (open_fields expected) part
 
--- the triple, where no part is left; the first that is left is refused
-abbrev pub final_reading : Values → Field → List (List ℕ) → Result Values Refusal
-final_reading t last [] = Ok t
-final_reading t last (p ∷ ps) = Err (refusal_with (expected_after last) p)
+-- the values with the part's in this field
+abbrev pub with_value : Field → List ℕ → Values → Values
+with_value field.Architecture part t = values (unwrap_or (architecture_of part) t.architecture) t.vendor t.operating_system t.environment t.binary_format
+with_value field.Vendor part t = values t.architecture (unwrap_or (vendor_of part) t.vendor) t.operating_system t.environment t.binary_format
+with_value field.OperatingSystem part t = values t.architecture t.vendor (unwrap_or (operating_system_of part) t.operating_system) t.environment t.binary_format
+with_value field.Environment part t = values t.architecture t.vendor t.operating_system (unwrap_or (environment_of part) t.environment) t.binary_format
+with_value field.BinaryFormat part t = values t.architecture t.vendor t.operating_system t.environment (unwrap_or (binary_format_of part) t.binary_format)
 
-abbrev pub reading_from_binary_format : Architecture → VendorValue → OperatingSystem → Environment → Field → List (List ℕ) → Result Values Refusal
-reading_from_binary_format a v s e last parts =
-    let f = field_reading field.BinaryFormat binary_format_of (implied_format a s e) last parts in final_reading (values a v s e f.0) f.1 f.2
+-- the values where no part is left: a format without a part is the implied one
+abbrev pub finished : Option Field → Values → Values
+finished None t = t
+finished (Some _) t = values t.architecture t.vendor t.operating_system t.environment (default_binary_format t)
 
-abbrev pub reading_from_environment : Architecture → VendorValue → OperatingSystem → Field → List (List ℕ) → Result Values Refusal
-reading_from_environment a v s last parts =
-    let e = field_reading field.Environment environment_of environment.Unknown last parts in reading_from_binary_format a v s e.0 e.1 e.2
-
-abbrev pub reading_from_operating_system : Architecture → VendorValue → Field → List (List ℕ) → Result Values Refusal
-reading_from_operating_system a v last parts =
-    let s = field_reading field.OperatingSystem operating_system_of operating_system.Unknown last parts in reading_from_environment a v s.0 s.1 s.2
-
-abbrev pub reading_from_vendor : Architecture → List (List ℕ) → Result Values Refusal
-reading_from_vendor a parts =
-    let v = field_reading field.Vendor vendor_of (Known Unknown) field.Architecture parts in reading_from_operating_system a v.0 v.1 v.2
-
--- the parts after an architecture, and the refusal of a part that is none
-abbrev pub reading_after_architecture : Option Architecture → List ℕ → List (List ℕ) → Result Values Refusal
-reading_after_architecture (Some a) p ps = reading_from_vendor a ps
-reading_after_architecture None p ps = Err (refusal_with (Some field.Architecture) p)
+-- what these parts give where this field is expected and those before have these values
+abbrev pub reading_from : Option Field → Values → List (List ℕ) → Result Values Refusal
+reading_from expected t [] = Ok (finished expected t)
+reading_from expected t (part ∷ parts) =
+    option_map_or (λ f. reading_from (expected_after f) (with_value f part t) parts) (field_for expected part) (Err (refusal_with expected part))
 
 -- a string has one part at least; without any, the empty one would be refused
 abbrev pub reading_of_parts : List (List ℕ) → Result Values Refusal
 reading_of_parts [] = Err (refusal_with (Some field.Architecture) [])
-reading_of_parts (p ∷ ps) = reading_after_architecture (architecture_of p) p ps
+reading_of_parts (part ∷ parts) = reading_from (Some field.Architecture) unknown_values (part ∷ parts)
 
 abbrev pub reading_unless_special : Option Values → List ℕ → Result Values Refusal
 reading_unless_special (Some t) text = Ok t
@@ -75,3 +74,24 @@ IsResultOf (Err refusal) (Err error) = IfSome (refusal_of error) (λ other. othe
 abbrev pub ResultsAreComputed : Type 0
 ResultsAreComputed = (text : List ℕ) (result : Result Triple ParseError)
     → IfOk result (λ triple. ReadsAs text (values_of triple)) → IfErr result (λ error. IsErrorOf text error) → IsResultOf (reading text) result
+
+-- a reading after a name, which this part spells, has filled this field
+pub record HasFilled (f : Field) (name : List ℕ) (part : PlacedPart) (old new : Reading) : Type 0 where
+  pub expected : new.expected ≡ expected_after f
+  pub values : values_of_ref new.triple ≡ with_value f name (values_of_ref old.triple)
+  pub sources : sources_of new.sources ≡ with_source f (FromPart part) (sources_of old.sources)
+
+-- a reading has taken the name, which this part spells, into the first open field that it parses as
+abbrev pub IsTaken : List ℕ → PlacedPart → Reading → Reading → Type 0
+IsTaken name part old new = MatchOption (field_for old.expected name) ⊥ (λ f. HasFilled f name part old new)
+
+-- the name, which this part spells, parses as no open field, and this is its refusal
+pub record IsNotTaken (name : List ℕ) (part : PlacedPart) (reading : Reading) (refusal : BorrowedRefusal) : Type 0 where
+  pub unparsed : field_for reading.expected name ≡ None
+  pub expected : refusal.expected ≡ reading.expected
+  pub refused : part_value refusal.part ≡ part
+
+-- the sources where no part is left
+abbrev pub finished_sources : Option Field → SourceValues → SourceValues
+finished_sources None s = s
+finished_sources (Some _) s = with_source field.BinaryFormat Implied s

@@ -1,7 +1,7 @@
 -- Laws of parsing and printing.
 use Rattle.std.specs.Prelude.{◌≡◌, ◌↔◌, ℕ, List, true, Ok, Err, ◌⊎◌}
 use Rattle.lexicon_fields.specs.Vendor.{is_plain}
-use Rattle.target_lexicon.specs.{Field.Field, Placement.IsLeastPlacement, Printing.text_of, Reading.ReadsAs, Reading.IsRead, Reading.IsRefusedAs, Reading.IsRefused, GreedyReading.reading, Refusal.Refusal}
+use Rattle.target_lexicon.specs.{Field.Field, Reading.IsLeastPlacement, Printing.text_of, Reading.ReadsAs, Reading.IsRead, Reading.IsRefusedAs, Reading.IsRefused, GreedyReading.reading, Refusal.Refusal}
 use Rattle.target_lexicon.specs.Values.{Values}
 pub use Rattle.lexicon_fields.specs.Laws.{ComparesByValue, CopiesEqualTheirSources}
 

@@ -10,7 +10,6 @@ pub mod Json
 pub mod Laws
 pub mod NormalStep
 pub mod Pieces
-pub mod Placement
 pub mod Printing
 pub mod Private
 pub mod Queries
@@ -18,7 +17,6 @@ pub mod QueryLaws
 pub mod Reading
 pub mod GreedyReading
 pub mod Refusal
-pub mod Resumed
 pub mod SpecialTexts
 pub mod Values
 pub mod ValuesRef

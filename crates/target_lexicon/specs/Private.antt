@@ -3,7 +3,7 @@ use Rattle.std.specs.Borrow.{Bor}
 use Rattle.std.specs.Prelude.{◌-◌, length, ℕ, ◌∷◌, List, [], Option, Some, None}
 use Rattle.lexicon_fields.specs.Names.{dash}
 use Rattle.lexicon_fields.specs.OperatingSystem.{operating_system_name}
-use Rattle.target_lexicon.specs.{Explanation.PlacedPart, Explanation.placed_from, Placement.parts_of}
+use Rattle.target_lexicon.specs.{Explanation.PlacedPart, Explanation.placed_from, Reading.parts_of}
 use Rattle.target_lexicon.specs.Values.{OperatingSystem}
 
 -- the parts of what is left of a string, if anything is

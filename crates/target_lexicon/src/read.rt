@@ -4,8 +4,7 @@ ghost use Rattle.std.specs.Prelude.{◌≡◌, ◌+◌, ◌∷◌, length, true,
 ghost use Rattle.lexicon_fields.specs.Vendor.{OwnsCustomText, vendor_value, is_plain};
 ghost use Rattle.lexicon_fields.specs.VendorRef.{ref_value};
 ghost use Rattle.target_lexicon.specs.Explanation.{AreInText, AreSourcesOf, IsInText, IsRefusedAfter, IsRefusedAt, part_value, sources_of};
-ghost use Rattle.target_lexicon.specs.Placement.{parts_after, parts_of};
-ghost use Rattle.target_lexicon.specs.Reading.{ReadsAs, IsErrorOf, IsRefusedAs};
+ghost use Rattle.target_lexicon.specs.Reading.{ReadsAs, IsErrorOf, IsRefusedAs, parts_after, parts_of};
 ghost use Rattle.target_lexicon.specs.Values.{values_of};
 ghost use Rattle.target_lexicon.specs.ValuesRef.{refusal_value, values_of_ref};
 

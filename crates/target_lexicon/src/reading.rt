@@ -1,9 +1,8 @@
 //! Reading: a state that takes one name after the other, each spelled by a part of the string.
-ghost use Rattle.std.specs.Prelude.{◌≡◌, ◌∷◌, [], ℕ, List, Some, Ok, Err, IfOk, IfErr};
-ghost use Rattle.target_lexicon.specs.Explanation.{SourceValue, FromPart, part_value, same_sources, sources_of, NotGiven, Implied};
+ghost use Rattle.std.specs.Prelude.{◌≡◌, Some, IfOk, IfErr};
+ghost use Rattle.target_lexicon.specs.Explanation.{FromPart, part_value, same_sources, sources_of, NotGiven, with_source};
 ghost use Rattle.target_lexicon.specs.Reading.{expected_after};
-ghost use Rattle.target_lexicon.specs.Refusal.{refusal_with};
-ghost use Rattle.target_lexicon.specs.Resumed.{HasOpenFormat, NamedPart, named, resumed, resumed_left, resumed_sources, with_source};
+ghost use Rattle.target_lexicon.specs.GreedyReading.{IsNotTaken, IsTaken, finished, finished_sources};
 ghost use Rattle.target_lexicon.specs.Field as field;
 ghost use Rattle.target_lexicon.specs.Values.{unknown_values};
 ghost use Rattle.target_lexicon.specs.ValuesRef.{values_of_ref};
@@ -70,33 +69,13 @@ impl<'a> Reading<'a> {
     /// Takes a name into the first field that is open and that it parses as. `Err` if there is none; nothing changes
     /// then. A name that has a row in the table of names is looked up once, and the comparisons aren't counted.
     #[inline(always)]
+    #[tactic(auto, unfolding(crate::specs::Field::parses_as))]
     pub fn take(&mut self, name: &'a str, part: TextPart<'a>) -> Result<(), Refusal<'a>>
-        ensures taken { IfOk result (λ _. (names : List (List ℕ)) →
-            resumed self.old.expected (values_of_ref self.old.triple) (name.entry.now ∷ names)
-            ≡ resumed self.new.expected (values_of_ref self.new.triple) names) }
-        ensures refused { IfErr result (λ it. (names : List (List ℕ)) →
-            resumed self.old.expected (values_of_ref self.old.triple) (name.entry.now ∷ names)
-            ≡ Err (refusal_with it.expected name.entry.now)) }
-        ensures taken_left { IfOk result (λ _. (others : List NamedPart) →
-            resumed_left self.old.expected (named name.entry.now part.entry ∷ others)
-            ≡ resumed_left self.new.expected others) }
-        ensures refused_left { IfErr result (λ _. (others : List NamedPart) →
-            resumed_left self.old.expected (named name.entry.now part.entry ∷ others)
-            ≡ named name.entry.now part.entry ∷ others) }
-        ensures taken_sources { IfOk result (λ _. (unfilled : SourceValue)
-            (others : List NamedPart) →
-            resumed_sources unfilled self.old.expected
-            (sources_of self.old.sources) (named name.entry.now part.entry ∷ others)
-            ≡ resumed_sources unfilled self.new.expected
-            (sources_of self.new.sources) others) }
-        ensures refused_sources { IfErr result (λ _. (others : List NamedPart)
-            → HasOpenFormat self.old.expected (sources_of self.old.sources)
-            → resumed_sources NotGiven self.old.expected (sources_of self.old.sources)
-            (named name.entry.now part.entry ∷ others) ≡ sources_of self.old.sources) }
-        ensures format { HasOpenFormat self.old.expected (sources_of self.old.sources)
-            → HasOpenFormat self.new.expected (sources_of self.new.sources) }
+        ensures taken { IfOk result
+            (λ _. IsTaken name.entry.now (part_value part.entry) self.old self.new) }
+        ensures refused { IfErr result
+            (λ it. IsNotTaken name.entry.now (part_value part.entry) self.old it) }
         ensures same { IfErr result (λ _. self.new ≡ self.old) }
-        ensures part { IfErr result (λ it. part_value it.part ≡ part_value part.entry) }
     {
         match (self.expected, fixed_row(name, &mut Steps::new())) {
             (Some(Field::Architecture), Some(row)) => {
@@ -161,10 +140,10 @@ impl<'a> Reading<'a> {
     /// The triple of the names so far, and its sources. Without a binary format it has the implied one.
     #[inline(always)]
     pub fn finish(self) -> (TripleRef<'a>, Sources<'a>)
-        ensures triple { resumed self.entry.expected (values_of_ref self.entry.triple) []
-            ≡ Ok (values_of_ref result.0) }
-        ensures sources { resumed_sources Implied self.entry.expected
-            (sources_of self.entry.sources) [] ≡ sources_of result.1 }
+        ensures triple { values_of_ref result.0
+            ≡ finished self.entry.expected (values_of_ref self.entry.triple) }
+        ensures sources { sources_of result.1
+            ≡ finished_sources self.entry.expected (sources_of self.entry.sources) }
     {
         let mut triple = self.triple;
         let mut sources = self.sources;

@@ -5,7 +5,7 @@ use Rattle.std.specs.Str.{bytes_eq}
 use Rattle.std.proofs.lemmas.Slice.Eq.{bytes_eq-Decides}
 use Rattle.lexicon_fields.specs.{Architecture.architecture_of, BinaryFormat.binary_format_of, Environment.environment_of, Names.dash, OperatingSystem.fixed_operating_system_of, OperatingSystem.operating_system_of, Vendor.is_admitted, Vendor.is_custom, Vendor.known_vendor_of, Vendor.vendor_of}
 use Rattle.target_lexicon.proofs.{ComputedReading.reading_computed, PartLemmas.parts_of-are, PartLemmas.parts_of-some}
-use Rattle.target_lexicon.specs.{GreedyReading.reading, GreedyReading.reading_of_parts, GreedyReading.reading_unless_special as port_reading, Placement.parts_of, Refusal.Refusal, SpecialTexts.esp_idf, SpecialTexts.esp_idf_text, SpecialTexts.nintendo_3ds, SpecialTexts.nintendo_3ds_text, SpecialTexts.special_values}
+use Rattle.target_lexicon.specs.{GreedyReading.reading, GreedyReading.reading_of_parts, GreedyReading.reading_unless_special as port_reading, Reading.parts_of, Refusal.Refusal, SpecialTexts.esp_idf, SpecialTexts.esp_idf_text, SpecialTexts.nintendo_3ds, SpecialTexts.nintendo_3ds_text, SpecialTexts.special_values}
 use Rattle.target_lexicon.specs.Values.{Values}
 use Rattle.tool_names.specs.declared.rules.Place.TheVariants as place
 use Rattle.tool_names.specs.Changes.{KnownNamesStay, PartChange, UnchangedStringsAreReadAsTheyParse, changes, changes_of, is_only}

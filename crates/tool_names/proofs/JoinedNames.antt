@@ -7,7 +7,7 @@ use Rattle.lexicon_fields.specs.Names.{is_dash_free}
 use Rattle.lexicon_fields.specs.Vendor.{VendorValue, is_custom, vendor_of}
 use Rattle.lexicon_fields.proofs.VendorsReadBack.{vendor_of-dash_free}
 use Rattle.target_lexicon.proofs.PartLemmas.{parts_of-are, parts-only}
-use Rattle.target_lexicon.specs.Placement.{parts_of}
+use Rattle.target_lexicon.specs.Reading.{parts_of}
 use Rattle.tool_names.specs.Spelling.{is_like_system, is_other_system}
 
 -- a text without a dash is one part

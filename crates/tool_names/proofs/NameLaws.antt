@@ -7,7 +7,7 @@ use Rattle.std.proofs.lemmas.Slice.Eq.{bytes_eq-Decides}
 use Rattle.lexicon_fields.specs.{ArchitectureQueries.is_clever, Laws.HasVersionInRange, Laws.IsVersionInRange, Vendor.is_custom, Vendor.is_plain}
 use Rattle.target_lexicon.proofs.{ComputedReading.reading_computed, QueriesKept.kept, StepCases.step_cases, UniqueReading.values_unique}
 use Rattle.target_lexicon.specs.{FixedPoints.IsPlainTriple, FixedPoints.ReadTriplesArePlain, FixedPoints.RoundIsNormalStep, GreedyReading.reading, Laws.ComesBack, NormalStep.normal_step, Printing.text_of, Reading.ReadsAs, Refusal.Refusal, Values.Values}
-use Rattle.target_lexicon.specs.Placement.{parts_of}
+use Rattle.target_lexicon.specs.Reading.{parts_of}
 use Rattle.target_lexicon.specs.Values.{is_unknown_vendor}
 use Rattle.target_lexicon.specs.ValuesRef.{PlacedRefusal}
 use Rattle.target_lexicon.specs.Values.{Architecture, Environment, OperatingSystem, VendorValue, Known, Custom}

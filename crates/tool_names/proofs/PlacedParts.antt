@@ -1,15 +1,15 @@
 -- The range of a refused part, and of a changed one, holds the part.
 use Rattle.std.proofs.Common.{◌≡◌, ◌∙◌, ℕ, List, [], ◌∷◌, ◌++◌, length, Option, Some, None, Result, Ok, Err, refl, sym, ap, subst, append_assoc, arith, inl, inr}
-use Rattle.std.specs.Prelude.{is_some}
+use Rattle.std.specs.Option.{option_map_or}
 use Rattle.std.specs.List.{join_with_byte}
 use Rattle.std.proofs.lemmas.Bool.{cases_Bool}
 use Rattle.std.proofs.lemmas.List.{append-nil, length-append}
-use Rattle.lexicon_fields.specs.{Architecture.architecture_of, BinaryFormat.binary_format_of, Environment.environment_of, Names.dash, OperatingSystem.operating_system_of, Vendor.vendor_of}
+use Rattle.lexicon_fields.specs.Names.{dash}
 use Rattle.target_lexicon.proofs.{PartLemmas.parts_of-are, SourceLemmas.part-in}
-use Rattle.target_lexicon.specs.{Explanation.IsInText, GreedyReading.reading_of_parts, Placement.parts_of, Refusal.Refusal, SpecialTexts.special_values, Values.Values}
+use Rattle.target_lexicon.specs.{Explanation.IsInText, Field.Architecture, Field.Field, GreedyReading.field_for, GreedyReading.reading_of_parts, Reading.expected_after, Reading.parts_of, Refusal.Refusal, SpecialTexts.special_values, Values.Values}
 use Rattle.tool_names.specs.Changes.{AreInTheString, ChangedPartsAreInTheString, changes, changes_of, is_only}
 use Rattle.target_lexicon.specs.ValuesRef.{PlacedRefusal}
-use Rattle.tool_names.specs.Spelling.{RefusedPartsAreInTheString, SpelledName, SpelledPart, Standing, first_at_end, located, name_texts, names_left, names_of, next_standing, reading_unless_special, refusal_of_first, rule_at, spelled_by, spelled_from, spelled_names, spelled_parts, spelled_reading, standing_at, unread_names}
+use Rattle.tool_names.specs.Spelling.{RefusedPartsAreInTheString, SpelledName, SpelledPart, Standing, first_at_end, located, name_texts, names_of, next_standing, reading_unless_special, refusal_of_first, rule_at, spelled_by, spelled_from, spelled_names, spelled_parts, spelled_reading, standing_at, unread_from, unread_names}
 use Rattle.tool_names.specs.declared.rules.Place.TheVariants as place
 
 -- these parts end the string
@@ -60,22 +60,13 @@ names-end : (text : List ℕ) (parts : List SpelledPart) → AllEnd text parts �
 names-end text [] all = tt
 names-end text (it ∷ others) all = spelled_by-end text it.from it.names (names_of others) all.0 (names-end text others all.1)
 
-left-end : {A : Type 0} (find : List ℕ → Option A) (text : List ℕ) (names : List SpelledName) → NamesEnd text names → NamesEnd text (names_left find names)
-left-end find text [] all = tt
-left-end find text (it ∷ others) all =
-    elim (cases_Bool (is_some (find it.name))) [
-      | inl takes ↦ rw takes all.1
-      | inr skips ↦ rw skips all
-    ]
-
-unread-end : (text : List ℕ) (names : List SpelledName) → NamesEnd text names → NamesEnd text (unread_names names)
-unread-end text [] all = tt
-unread-end text (it ∷ others) all =
-    elim (cases_Bool (is_some (architecture_of it.name))) [
-      | inl takes ↦
-          rw takes (left-end binary_format_of text _ (left-end environment_of text _ (left-end operating_system_of text _ (left-end vendor_of text others all.1))))
-      | inr skips ↦ rw skips all
-    ]
+unread-end : (text : List ℕ) (expected : Option Field) (names : List SpelledName) → NamesEnd text names → NamesEnd text (unread_from expected names)
+unread-end text expected [] all = tt
+unread-end text expected (it ∷ others) all = by_field (λ f. unread-end text (expected_after f) others all.1) (field_for expected it.name)
+  where
+    by_field : ((f : Field) → NamesEnd text (unread_from (expected_after f) others)) → (o : Option Field) → NamesEnd text (option_map_or (λ f. unread_from (expected_after f) others) o (it ∷ others))
+    by_field rest (Some f) = rest f
+    by_field rest None = all
 
 refused-in : (text : List ℕ) (refusal : Refusal) (left : List SpelledName) → NamesEnd text left → IsInText text (refusal_of_first text refusal left).part
 refused-in text refusal [] all = first-in text [] (text, sym (append-nil text))
@@ -93,7 +84,7 @@ refused_in_string text it is = by_special (special_values text) is
     by_result (Err refusal) h =
         let same : refusal_of_first text refusal left ≡ it = cc in
         subst (λ (found : PlacedRefusal). IsInText text found.part) same
-        (refused-in text refusal left (unread-end text (spelled_names (parts_of text)) (names-end text (spelled_parts (parts_of text)) (parts-end text))))
+        (refused-in text refusal left (unread-end text (Some Architecture) (spelled_names (parts_of text)) (names-end text (spelled_parts (parts_of text)) (parts-end text))))
 
     by_special : (o : Option Values) → reading_unless_special o text ≡ Err it → IsInText text it.part
     by_special (Some t) h = absurd cc

@@ -6,8 +6,9 @@ use Rattle.std.proofs.Common.{◌≡◌, ◌∙◌, ℕ, List, [], ◌∷◌, �
 use Rattle.lexicon_fields.specs.{Architecture.architecture_of, BinaryFormat.binary_format_of, Environment.environment_of, Laws.HasVersionInRange, OperatingSystem.fixed_operating_system_of, OperatingSystem.operating_system_of, Vendor.is_plain, Vendor.known_vendor_of, Vendor.vendor_of}
 use Rattle.lexicon_fields.proofs.ParsedSystems.{version_in_range}
 use Rattle.lexicon_fields.specs.declared.known_vendor.KnownVendor.TheVariants.{Unknown}
-use Rattle.target_lexicon.specs.GreedyReading.{field_reading_by, final_reading, reading_from_binary_format, reading_from_environment, reading_from_operating_system, reading_from_vendor, reading_after_architecture, reading_of_parts}
-use Rattle.target_lexicon.specs.{Field.Field, FixedPoints.IsPlainTriple, FixedPoints.RoundIsNormalStep, FixedPoints.settled_values, ImpliedFormat.implied_format, NormalStep.normal_step, Placement.parts_of, Printing.text_of, Reading.ReadsAs, Refusal.Refusal, SpecialTexts.esp_idf, SpecialTexts.nintendo_3ds, SpecialTexts.special_values}
+use Rattle.target_lexicon.specs.GreedyReading.{reading_of_parts}
+use Rattle.target_lexicon.proofs.FieldReading.{by_fields, field_reading_by, reading_from_operating_system, reading_from_vendor, reading_after_architecture}
+use Rattle.target_lexicon.specs.{Field.Field, FixedPoints.IsPlainTriple, FixedPoints.RoundIsNormalStep, FixedPoints.settled_values, ImpliedFormat.implied_format, NormalStep.normal_step, Reading.parts_of, Printing.text_of, Reading.ReadsAs, Refusal.Refusal, SpecialTexts.esp_idf, SpecialTexts.nintendo_3ds, SpecialTexts.special_values}
 use Rattle.target_lexicon.specs.Values.{Architecture, OperatingSystem, Environment, BinaryFormat, VendorValue, Known, Custom, Values, values}
 use Rattle.target_lexicon.specs.Values.operating_system
 use Rattle.target_lexicon.specs.Values.environment
@@ -130,7 +131,7 @@ vendor-sound a t (p ∷ ps) h first = by_found (vendor_of p) refl h
 names-sound : (parts : List (List ℕ)) (t : Values) → reading_of_parts (name_texts (spelled_names parts)) ≡ Ok t → IsSound t
 names-sound [] t h = absurd cc
 names-sound (p ∷ ps) t h =
-    by_found (architecture_of first.name) (rw (first.names, first.next) at h)
+    by_found (architecture_of first.name) (rw (first.names, first.next) at (sym (by_fields (name_texts (spelled_names (p ∷ ps)))) ∙ h))
   where
     first : IsFirst p (rule_at (standing_at place.First) p ps)
     first = is_first p ps

@@ -1,55 +1,44 @@
 -- A string is refused at the first of its names up to which they have no placement.
-use Rattle.std.proofs.Common.{◌≡◌, ◌∙◌, ℕ, suc, List, [], ◌∷◌, ◌++◌, length, Option, Some, None, Result, Ok, Err, true, false, refl, sym, ap, subst, append_assoc, arith, inl, inr}
+use Rattle.std.proofs.Common.{◌≡◌, ◌∙◌, ℕ, suc, List, [], ◌∷◌, ◌++◌, length, Option, Some, None, Result, Ok, Err, true, false, refl, sym, ap, subst, arith}
 use Rattle.std.specs.Prelude.{is_some, slice_get}
-use Rattle.std.proofs.lemmas.Bool.{cases_Bool}
+use Rattle.std.specs.Option.{option_map_or}
 use Rattle.std.proofs.lemmas.List.{length-append}
-use Rattle.lexicon_fields.specs.{Architecture.architecture_of, BinaryFormat.binary_format_of, Environment.environment_of, OperatingSystem.operating_system_of, Vendor.vendor_of}
-use Rattle.target_lexicon.proofs.{ComputedReading.vendor-left, GreedyPlacement.after_architecture, GreedyPlacement.filled, GreedyPlacement.unread, PartLemmas.parts_of-some, RefusalLemmas.refused-at, RefusalLemmas.refused_first, RefusalLemmas.stop}
-use Rattle.target_lexicon.specs.{Field.Field, Field.Architecture, Field.Vendor, Field.OperatingSystem, Field.Environment, Field.BinaryFormat, Field.parses_as, GreedyReading.reading_after_architecture, GreedyReading.reading_from_vendor, GreedyReading.reading_of_parts, Placement.parts_of, Reading.IsRefusal, Reading.expected_after, Reading.last_field, Refusal.Refusal, Refusal.refusal_with, SpecialTexts.special_values, Values.Values}
+use Rattle.lexicon_fields.specs.{Architecture.architecture_of}
+use Rattle.target_lexicon.proofs.{ComputedReading.vendor-left, FieldReading.by_fields, FieldReading.reading_after_architecture, FieldReading.reading_from_vendor, GreedyPlacement.after_architecture, GreedyPlacement.filled, GreedyPlacement.unread, PartLemmas.parts_of-some, ReadParts.left_from, ReadParts.unread-from, RefusalLemmas.refused-at, RefusalLemmas.refused_first, RefusalLemmas.stop}
+use Rattle.target_lexicon.specs.{Field.Field, Field.Architecture, Field.Vendor, Field.parses_as, GreedyReading.field_for, GreedyReading.reading_of_parts, Reading.parts_of, Reading.IsRefusal, Reading.expected_after, Reading.last_field, Refusal.Refusal, Refusal.refusal_with, SpecialTexts.special_values, Values.Values}
 use Rattle.target_lexicon.specs.Values.{Architecture as AnyArchitecture}
 use Rattle.target_lexicon.specs.ValuesRef.{PlacedRefusal}
-use Rattle.tool_names.specs.Spelling.{IsRefusedName, RefusalsAreAtTheRefusedName, SpelledName, located, name_texts, names_left, reading_unless_special, refusal_at, refusal_of_first, spelled_names, spelled_reading, unread_names}
+use Rattle.tool_names.specs.Spelling.{IsRefusedName, RefusalsAreAtTheRefusedName, SpelledName, located, name_texts, reading_unless_special, refusal_at, refusal_of_first, spelled_names, spelled_reading, unread_from, unread_names}
 use Rattle.tool_names.proofs.SpelledOnce.{some-name}
 
--- the names that a field leaves
-unread-step : {A : Type 0} (f : Field) (find : List ℕ → Option A) (is_read : (p : List ℕ) → parses_as f p ≡ is_some (find p)) (fs : List Field) (names : List SpelledName)
-    → unread (f ∷ fs) (name_texts names) ≡ unread fs (name_texts (names_left find names))
-unread-step f find is_read fs [] = refl
-unread-step f find is_read fs (it ∷ others) =
-    elim (cases_Bool (parses_as f it.name)) [
-      | inl takes ↦ let found : is_some (find it.name) ≡ true = sym (is_read it.name) ∙ takes in rw (takes, found) refl
-      | inr skips ↦ let found : is_some (find it.name) ≡ false = sym (is_read it.name) ∙ skips in rw (skips, found) refl
-    ]
-
-unread-none : (ps : List (List ℕ)) → unread [] ps ≡ ps
-unread-none [] = refl
-unread-none (p ∷ ps) = refl
+-- the names that are left are those of the parts that are left
+names-left : (expected : Option Field) (names : List SpelledName) → name_texts (unread_from expected names) ≡ left_from expected (name_texts names)
+names-left expected [] = refl
+names-left expected (it ∷ others) = by_field (λ f. names-left (expected_after f) others) (field_for expected it.name)
+  where
+    by_field : ((f : Field) → name_texts (unread_from (expected_after f) others) ≡ left_from (expected_after f) (name_texts others)) → (o : Option Field)
+        → name_texts (option_map_or (λ f. unread_from (expected_after f) others) o (it ∷ others))
+        ≡ option_map_or (λ f. left_from (expected_after f) (name_texts others)) o (it.name ∷ name_texts others)
+    by_field rest (Some f) = rest f
+    by_field rest None = refl
 
 abbrev left_by_all : List SpelledName → List SpelledName
-left_by_all names = names_left binary_format_of (names_left environment_of (names_left operating_system_of (names_left vendor_of names)))
+left_by_all names = unread_from (Some Vendor) names
 
 unread-left : (names : List SpelledName) → unread after_architecture (name_texts names) ≡ name_texts (left_by_all names)
-unfolding parses_as
-unread-left names =
-    unread-step Vendor vendor_of (λ p. refl) _ names
-    ∙ unread-step OperatingSystem operating_system_of (λ p. refl) _ (names_left vendor_of names)
-    ∙ unread-step Environment environment_of (λ p. refl) _ (names_left operating_system_of (names_left vendor_of names))
-    ∙ unread-step BinaryFormat binary_format_of (λ p. refl) [] (names_left environment_of (names_left operating_system_of (names_left vendor_of names))) ∙ unread-none _
+unread-left names = unread-from Architecture (name_texts names) ∙ sym (names-left (Some Vendor) names)
 
 -- the second list is the end of the first
 abbrev IsEndOf : List SpelledName → List SpelledName → Type 0
 IsEndOf names left = (before : List SpelledName) × (names ≡ before ++ left)
 
-end-step : {A : Type 0} (find : List ℕ → Option A) (names left : List SpelledName) → IsEndOf names left → IsEndOf names (names_left find left)
-end-step find names [] end = end
-end-step find names (it ∷ left) (before, is) =
-    elim (cases_Bool (is_some (find it.name))) [
-      | inl takes ↦ rw takes (before ++ (it ∷ []), is ∙ sym (append_assoc before (it ∷ []) left))
-      | inr skips ↦ rw skips (before, is)
-    ]
-
-left-end : (names : List SpelledName) → IsEndOf names (left_by_all names)
-left-end names = end-step binary_format_of names _ (end-step environment_of names _ (end-step operating_system_of names _ (end-step vendor_of names names ([], refl))))
+left-end : (expected : Option Field) (names : List SpelledName) → IsEndOf names (unread_from expected names)
+left-end expected [] = ([], refl)
+left-end expected (it ∷ others) = by_field (λ f. left-end (expected_after f) others) (field_for expected it.name)
+  where
+    by_field : ((f : Field) → IsEndOf others (unread_from (expected_after f) others)) → (o : Option Field) → IsEndOf (it ∷ others) (option_map_or (λ f. unread_from (expected_after f) others) o (it ∷ others))
+    by_field rest (Some f) = let end = rest f in (it ∷ end.0, ap (λ ns. it ∷ ns) end.1)
+    by_field rest None = ([], refl)
 
 get-after : (before : List SpelledName) (it : SpelledName) (rest : List SpelledName) (k : ℕ) → k ≡ length before → slice_get (before ++ (it ∷ rest)) k ≡ Some it
 get-after [] it rest k is = rw is refl
@@ -86,7 +75,7 @@ refused-later first names a x (it ∷ rest) takes read some =
     let split : IsRefusalAfter (first.name ∷ (s.prefix ++ (q ∷ qs))) y (suc (length s.prefix)) = (refused-at first.name s.prefix q qs takes s.taken s.stuck, refl) in
     let whole : IsRefusalAfter (first.name ∷ name_texts names) y (suc (length s.prefix)) =
     subst (λ ps. IsRefusalAfter (first.name ∷ ps) y (suc (length s.prefix))) (sym s.split) split in
-    let end = subst (IsEndOf names) some (left-end names) in
+    let end = subst (IsEndOf names) some (left-end (Some Vendor) names) in
     let all = ap length end.1 ∙ length-append end.0 (it ∷ rest) in
     let parts = sym (length-names names) ∙ ap length s.split ∙ length-append s.prefix (q ∷ qs) in
     let many = ap length (sym found.2 ∙ unread-left names ∙ ap name_texts some) in
@@ -109,7 +98,8 @@ module _ (text : List ℕ) (found : PlacedRefusal) where
   names-refused : (first : SpelledName) (names : List SpelledName)
       → located text (reading_of_parts (name_texts (first ∷ names))) (unread_names (first ∷ names)) ≡ Err found → AtName (first ∷ names)
   unfolding parses_as
-  names-refused first names h = by_found (architecture_of first.name) refl h
+  names-refused first names h =
+      by_found (architecture_of first.name) refl (ap (λ r. located text r (unread_names (first ∷ names))) (sym (by_fields (first.name ∷ name_texts names))) ∙ h)
     where
       by_result : (a : AnyArchitecture) → parses_as Architecture first.name ≡ true → (r : Result Values Refusal) → reading_from_vendor a (name_texts names) ≡ r
           → located text r (left_by_all names) ≡ Err found → AtName (first ∷ names)

@@ -4,7 +4,7 @@ use Rattle.std.specs.Prelude.{◌&&◌, ◌==◌, is_some}
 use Rattle.std.specs.List.{list_all, onto_first}
 use Rattle.std.proofs.lemmas.Bool.{and_parts, cases_Bool, eq-eqb, eqb-true}
 use Rattle.lexicon_fields.specs.Names.{dash}
-use Rattle.target_lexicon.specs.Placement.{parts_of}
+use Rattle.target_lexicon.specs.Reading.{parts_of}
 use Rattle.std.proofs.lemmas.List.{drop_more}
 use Rattle.tool_names.specs.declared.rules.{Form.Form, Place.Place}
 use Rattle.tool_names.specs.declared.spelled.RuleNames.{RuleNames}

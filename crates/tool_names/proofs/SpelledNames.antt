@@ -11,8 +11,9 @@ use Rattle.lexicon_fields.specs.{Architecture.architecture_of, BinaryFormat.bina
 use Rattle.lexicon_fields.specs.declared.known_vendor.KnownVendor.{KnownVendor}
 use Rattle.lexicon_fields.specs.declared.known_vendor.KnownVendor.TheVariants.{Unknown}
 use Rattle.lexicon_fields.proofs.{ParsedSystems.version_in_range, VendorsReadBack.row_read, VendorsReadBack.without_row_read}
-use Rattle.target_lexicon.specs.GreedyReading.{field_reading_by, final_reading, reading_from_binary_format, reading_from_environment, reading_from_operating_system, reading_from_vendor, reading_after_architecture, reading_of_parts}
-use Rattle.target_lexicon.specs.{Field.Field, ImpliedFormat.implied_format, Placement.parts_of, Refusal.Refusal}
+use Rattle.target_lexicon.specs.GreedyReading.{reading_of_parts}
+use Rattle.target_lexicon.proofs.FieldReading.{by_fields, field_reading_by, final_reading, reading_from_binary_format, reading_from_environment, reading_from_operating_system, reading_from_vendor, reading_after_architecture}
+use Rattle.target_lexicon.specs.{Field.Field, ImpliedFormat.implied_format, Reading.parts_of, Refusal.Refusal}
 use Rattle.target_lexicon.specs.Values.{Architecture, OperatingSystem, Environment, BinaryFormat, VendorValue, Known, Custom, Values, values}
 use Rattle.target_lexicon.specs.Values.operating_system
 use Rattle.target_lexicon.specs.Values.environment
@@ -345,7 +346,7 @@ second-plain (p ∷ ps) all =
 -- so a string that is read spells its parts
 pub parts-plain : (ps : List (List ℕ)) (t : Values) → reading_of_parts ps ≡ Ok t → CustomStays t → spelled_parts ps ≡ plain_parts ps
 parts-plain [] t h custom = refl
-parts-plain (p ∷ ps) t h custom = by_found (architecture_of p) refl h
+parts-plain (p ∷ ps) t h custom = by_found (architecture_of p) refl (sym (by_fields (p ∷ ps)) ∙ h)
   where
     by_found : (o : Option Architecture) → architecture_of p ≡ o → reading_after_architecture o p ps ≡ Ok t → spelled_parts (p ∷ ps) ≡ plain_parts (p ∷ ps)
     by_found None is h = absurd cc

@@ -5,7 +5,7 @@ use Rattle.std.specs.List.{join_with_byte}
 use Rattle.lexicon_fields.specs.{Architecture.architecture_of, Names.dash, Vendor.is_custom}
 use Rattle.lexicon_fields.proofs.LookUpLemmas.{value_named-all}
 use Rattle.target_lexicon.proofs.{ComputedReading.reading_computed, PartLemmas.parts_of-are}
-use Rattle.target_lexicon.specs.{Field.Architecture, GreedyReading.reading, GreedyReading.reading_of_parts, GreedyReading.reading_unless_special as port_reading, Placement.ArePartsOf, Placement.parts_of, Reading.PartsReadAs, Reading.ReadsAs, Refusal.refusal_with, SpecialTexts.esp_idf, SpecialTexts.esp_idf_text, SpecialTexts.nintendo_3ds, SpecialTexts.nintendo_3ds_text, SpecialTexts.special_values}
+use Rattle.target_lexicon.specs.{Field.Architecture, Field.parses_as, GreedyReading.reading, GreedyReading.reading_of_parts, GreedyReading.reading_unless_special as port_reading, Reading.ArePartsOf, Reading.parts_of, Reading.PartsReadAs, Reading.ReadsAs, Refusal.refusal_with, SpecialTexts.esp_idf, SpecialTexts.esp_idf_text, SpecialTexts.nintendo_3ds, SpecialTexts.nintendo_3ds_text, SpecialTexts.special_values}
 use Rattle.target_lexicon.specs.Values.{Values}
 use Rattle.tool_names.specs.Spelling.{KnownNamesAreReadAsBefore, SpelledName, first_at_end, located, reading_of_names, reading_unless_special, refusal_at, spelled_names, spelled_reading, unread_names}
 use Rattle.tool_names.proofs.SpelledNames.{CustomStays, names-plain, parts-plain}
@@ -44,6 +44,7 @@ known_read_as_before text t reads known =
 -- the refusal of a first part that is no architecture
 pub no_architecture : (text name : List ℕ) (from : List (List ℕ)) (names : List SpelledName) → architecture_of name ≡ None
     → reading_of_names text (record { name = name; from = from } ∷ names) ≡ Err (refusal_at text (refusal_with (Some Architecture) name) from)
+unfolding parses_as
 no_architecture text name from names none = rw none refl
 
 -- the part with which the end of a string begins

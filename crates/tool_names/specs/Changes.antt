@@ -4,7 +4,7 @@ use Rattle.std.specs.Prelude.{◌≡◌, ◌↔◌, ◌-◌, false, true, ℕ, B
 use Rattle.std.specs.{Borrow.Bor, List.join_with_byte}
 use Rattle.std.specs.Str.{bytes_eq}
 use Rattle.lexicon_fields.specs.{Names.dash, Vendor.is_custom}
-use Rattle.target_lexicon.specs.{Explanation.IsInText, Explanation.PlacedPart, Explanation.part_end, Explanation.part_from, Explanation.part_value, Placement.parts_after, Placement.parts_of, Reading.ReadsAs, Values.Values}
+use Rattle.target_lexicon.specs.{Explanation.IsInText, Explanation.PlacedPart, Explanation.part_end, Explanation.part_from, Explanation.part_value, Reading.parts_after, Reading.parts_of, Reading.ReadsAs, Values.Values}
 use Rattle.tool_names.specs.{declared.change.Change.Change, declared.change.ChangedParts.ChangedParts, declared.rules.Form.Form, declared.rules.Place.Place, declared.spelling.TripleName.TripleName, declared.spelling.Spelling.Spelling}
 use Rattle.tool_names.specs.declared.spelled.Standing.{Standing as CodeStanding}
 use Rattle.tool_names.specs.declared.spelled.SpelledParts.{SpelledParts}

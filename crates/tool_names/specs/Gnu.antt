@@ -6,7 +6,7 @@ use Rattle.lexicon_fields.specs.{ArchitectureQueries.is_clever, OperatingSystem.
 use Rattle.target_lexicon.specs.declared.triple_ref.TripleRef.{TripleRef}
 use Rattle.target_lexicon.specs.Field.{Field}
 use Rattle.target_lexicon.specs.Field as field
-use Rattle.target_lexicon.specs.Placement.{parts_of}
+use Rattle.target_lexicon.specs.Reading.{parts_of}
 use Rattle.target_lexicon.specs.Values.{Architecture, OperatingSystem, Environment, BinaryFormat, Known, Values, values, is_unknown_vendor}
 use Rattle.target_lexicon.specs.Values.operating_system
 use Rattle.target_lexicon.specs.Values.environment

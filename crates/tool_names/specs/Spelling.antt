@@ -6,9 +6,9 @@ use Rattle.std.specs.Char.{is_ascii_digit}
 use Rattle.std.specs.List.{list_all, list_any, join_with_byte}
 use Rattle.std.specs.Option.{option_map_or}
 use Rattle.std.specs.Str.{bytes_eq}
-use Rattle.lexicon_fields.specs.{Architecture.architecture_of, BinaryFormat.binary_format_of, Environment.environment_of, FixedRow.has_row, Names.dash, OperatingSystem.operating_system_of, OperatingSystem.text_after_prefix, Vendor.is_custom, Vendor.vendor_of, Version.dot, Version.version_of}
+use Rattle.lexicon_fields.specs.{Architecture.architecture_of, BinaryFormat.binary_format_of, FixedRow.has_row, Names.dash, OperatingSystem.operating_system_of, OperatingSystem.text_after_prefix, Vendor.is_custom, Vendor.vendor_of, Version.dot, Version.version_of}
 use Rattle.lexicon_fields.specs.declared.field.Field.TheVariants as field
-use Rattle.target_lexicon.specs.{Explanation.IsInText, Explanation.PlacedPart, Explanation.part_from, Field.Field, FixedPoints.canonical_text, FixedPoints.settled_values, GreedyReading.reading_of_parts, Placement.parts_of, Printing.text_of, Reading.IsRefusal, Reading.ReadsAs, Refusal.Refusal, SpecialTexts.special_values, Values.Values, ValuesRef.PlacedRefusal}
+use Rattle.target_lexicon.specs.{Explanation.IsInText, Explanation.PlacedPart, Explanation.part_from, Field.Field, FixedPoints.canonical_text, FixedPoints.settled_values, GreedyReading.field_for, GreedyReading.reading_of_parts, Reading.parts_of, Printing.text_of, Reading.IsRefusal, Reading.ReadsAs, Reading.expected_after, Refusal.Refusal, SpecialTexts.special_values, Values.Values, ValuesRef.PlacedRefusal}
 use Rattle.tool_names.specs.KnownNames.{known_names}
 use Rattle.tool_names.specs.Tables.{Text}
 use Rattle.tool_names.specs.declared.rules.Place.{Place}
@@ -232,18 +232,14 @@ spelled_names parts = names_of (spelled_parts parts)
 abbrev pub name_texts : List SpelledName → List (List ℕ)
 name_texts names = map (λ (it : SpelledName). it.name) names
 
--- the names that a field leaves: all but the first, if that parses as a value of the field
-abbrev pub names_left : {A : Type 0} → (List ℕ → Option A) → List SpelledName → List SpelledName
-names_left find [] = []
-names_left find (it ∷ others) = if is_some (find it.name) then others else it ∷ others
+-- the names that are left where this field is expected: those from the first on that parses as no open field
+abbrev pub unread_from : Option Field → List SpelledName → List SpelledName
+unread_from expected [] = []
+unread_from expected (it ∷ others) = option_map_or (λ f. unread_from (expected_after f) others) (field_for expected it.name) (it ∷ others)
 
 -- the names that no field takes
 abbrev pub unread_names : List SpelledName → List SpelledName
-unread_names [] = []
-unread_names (it ∷ others) =
-    if is_some (architecture_of it.name)
-    then names_left binary_format_of (names_left environment_of (names_left operating_system_of (names_left vendor_of others)))
-    else it ∷ others
+unread_names names = unread_from (Some field.Architecture) names
 
 -- the first of these parts, which end the string
 abbrev pub first_at_end : List ℕ → List (List ℕ) → PlacedPart

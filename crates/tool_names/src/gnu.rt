@@ -2,7 +2,7 @@
 ghost use Rattle.std.specs.Prelude.{◌≡◌, not, option_map};
 ghost use Rattle.lexicon_fields.specs.VendorRef.{ref_value};
 ghost use Rattle.target_lexicon.specs.Explanation.{part_value};
-ghost use Rattle.target_lexicon.specs.Placement.{parts_after, parts_of};
+ghost use Rattle.target_lexicon.specs.Reading.{parts_after, parts_of};
 ghost use Rattle.target_lexicon.specs.Values.{is_unknown_vendor};
 ghost use Rattle.target_lexicon.specs.ValuesRef.{values_of_ref};
 ghost use Rattle.tool_names.specs.Gnu as spec;

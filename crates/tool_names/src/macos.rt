@@ -1,11 +1,9 @@
 //! The version of macOS after `macos`.
-ghost use Rattle.std.specs.Prelude.{◌≡◌, ◌∷◌, ℕ, List, Some, Err, IfErr, IfOk, option_and_then, option_map};
+ghost use Rattle.std.specs.Prelude.{◌≡◌, Some, IfErr, IfOk, option_and_then, option_map};
 ghost use Rattle.lexicon_fields.specs.OperatingSystem.{text_after_prefix};
 ghost use Rattle.lexicon_fields.specs.Version.{version_of};
 ghost use Rattle.target_lexicon.specs.Explanation.{part_value};
-ghost use Rattle.target_lexicon.specs.Refusal.{refusal_with};
-ghost use Rattle.target_lexicon.specs.Resumed.{NamedPart, named, resumed, resumed_left};
-ghost use Rattle.target_lexicon.specs.ValuesRef.{values_of_ref};
+ghost use Rattle.target_lexicon.specs.GreedyReading.{IsNotTaken, IsTaken};
 ghost use Rattle.tool_names.specs.Spelling.{macosx_name, version_text};
 
 use target_lexicon::{
@@ -40,23 +38,12 @@ pub(crate) fn take_macos<'a>(
     version: MacOsVersion<'_>,
     part: TextPart<'a>,
 ) -> Result<(), Refusal<'a>>
-    ensures taken { IfOk result (λ _. (names : List (List ℕ)) →
-        resumed reading.old.expected (values_of_ref reading.old.triple)
-        (macosx_name version.entry.text.now ∷ names)
-        ≡ resumed reading.new.expected (values_of_ref reading.new.triple) names) }
-    ensures refused { IfErr result (λ it. (names : List (List ℕ)) →
-        resumed reading.old.expected (values_of_ref reading.old.triple)
-        (macosx_name version.entry.text.now ∷ names)
-        ≡ Err (refusal_with it.expected (macosx_name version.entry.text.now))) }
-    ensures taken_left { IfOk result (λ _. (others : List NamedPart) →
-        resumed_left reading.old.expected
-        (named (macosx_name version.entry.text.now) part.entry ∷ others)
-        ≡ resumed_left reading.new.expected others) }
-    ensures refused_left { IfErr result (λ _. (others : List NamedPart) →
-        resumed_left reading.old.expected
-        (named (macosx_name version.entry.text.now) part.entry ∷ others)
-        ≡ named (macosx_name version.entry.text.now) part.entry ∷ others) }
-    ensures part { IfErr result (λ it. part_value it.part ≡ part_value part.entry) }
+    ensures taken { IfOk result
+        (λ _. IsTaken (macosx_name version.entry.text.now) (part_value part.entry)
+        reading.old reading.new) }
+    ensures refused { IfErr result
+        (λ it. IsNotTaken (macosx_name version.entry.text.now) (part_value part.entry)
+        reading.old it) }
 {
     if matches!(
         reading.expected,

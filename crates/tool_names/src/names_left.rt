@@ -1,6 +1,6 @@
 //! The names of a string that are left while it is read.
 ghost use Rattle.std.specs.Prelude.{◌≡◌, ◌++◌, Some};
-ghost use Rattle.target_lexicon.specs.Placement.{parts_after, parts_of};
+ghost use Rattle.target_lexicon.specs.Reading.{parts_after, parts_of};
 ghost use Rattle.tool_names.specs.Changes.{parts_left};
 ghost use Rattle.tool_names.specs.Private.{left_names};
 ghost use Rattle.tool_names.specs.Spelling.{names_of, spelled_by};

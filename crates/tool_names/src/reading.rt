@@ -1,7 +1,7 @@
 //! Reading a string that is spelled like a triple.
 ghost use Rattle.std.specs.Prelude.{◌≡◌};
 ghost use Rattle.target_lexicon.specs.Explanation.{part_value};
-ghost use Rattle.target_lexicon.specs.Placement.{parts_of};
+ghost use Rattle.target_lexicon.specs.Reading.{parts_of};
 ghost use Rattle.target_lexicon.specs.SpecialTexts.{special_values};
 ghost use Rattle.target_lexicon.specs.ValuesRef.{placed_outcome};
 ghost use Rattle.tool_names.specs.Spelling.{first_at_end, reading_of_names, refusal_of_part, spelled_names, spelled_reading};

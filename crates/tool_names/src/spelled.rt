@@ -1,6 +1,6 @@
 //! What the parts of a string spell, one after the other.
 ghost use Rattle.std.specs.Prelude.{◌≡◌, ◌∷◌, [], Some, None, MatchOption, option_map};
-ghost use Rattle.target_lexicon.specs.Placement.{parts_after, parts_of};
+ghost use Rattle.target_lexicon.specs.Reading.{parts_after, parts_of};
 ghost use Rattle.tool_names.specs.Changes.{parts_left, plain_rule, spelling_names, standing_of};
 ghost use Rattle.tool_names.specs.Private.{fit_of, fit_value, later_rule, may_fit, names_if, plain_rules, rule_names, spelled_value};
 ghost use Rattle.tool_names.specs.Spelling as spec;

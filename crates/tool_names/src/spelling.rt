@@ -1,16 +1,13 @@
 //! Other spellings of the parts of a triple.
-ghost use Rattle.std.specs.Prelude.{◌≡◌, ◌∷◌, [], ℕ, List, codes, Err, IfErr, IfOk, Some, false, map, option_map};
+ghost use Rattle.std.specs.Prelude.{◌≡◌, ◌∷◌, [], codes, IfErr, IfOk, Some, false};
 ghost use Rattle.std.specs.List.{list_all, list_any};
 ghost use Rattle.std.specs.Option.{option_map_or};
 ghost use Rattle.lexicon_fields.specs.Names.{value_named};
-ghost use Rattle.lexicon_fields.specs.OperatingSystem.{text_after_prefix};
 ghost use Rattle.lexicon_fields.specs.Vendor.{is_custom, vendor_of};
 ghost use Rattle.std.specs.Str.{bytes_eq};
 ghost use Rattle.target_lexicon.specs.Explanation.{part_value};
-ghost use Rattle.target_lexicon.specs.Placement.{parts_after, parts_of};
-ghost use Rattle.target_lexicon.specs.Refusal.{refusal_with};
-ghost use Rattle.target_lexicon.specs.Resumed.{NamedPart, named, resumed, resumed_left};
-ghost use Rattle.target_lexicon.specs.ValuesRef.{values_of_ref};
+ghost use Rattle.target_lexicon.specs.Reading.{parts_of};
+ghost use Rattle.target_lexicon.specs.GreedyReading.{IsNotTaken, IsTaken};
 ghost use Rattle.tool_names.specs.Changes.{is_only, name_text, spelling_names, spelling_text};
 ghost use Rattle.tool_names.specs.Private.{begin_alike, table_of};
 ghost use Rattle.tool_names.specs.declared.rules.Form.TheVariants as form;
@@ -79,21 +76,10 @@ impl<'a> TripleName<'a> {
         reading: &mut Reading<'a>,
         part: TextPart<'a>,
     ) -> Result<(), Refusal<'a>>
-        ensures taken { IfOk result (λ _. (names : List (List ℕ)) →
-            resumed reading.old.expected (values_of_ref reading.old.triple)
-            (name_text self.now ∷ names)
-            ≡ resumed reading.new.expected (values_of_ref reading.new.triple) names) }
-        ensures refused { IfErr result (λ it. (names : List (List ℕ)) →
-            resumed reading.old.expected (values_of_ref reading.old.triple)
-            (name_text self.now ∷ names)
-            ≡ Err (refusal_with it.expected (name_text self.now))) }
-        ensures taken_left { IfOk result (λ _. (others : List NamedPart) →
-            resumed_left reading.old.expected (named (name_text self.now) part.entry ∷ others)
-            ≡ resumed_left reading.new.expected others) }
-        ensures refused_left { IfErr result (λ _. (others : List NamedPart) →
-            resumed_left reading.old.expected (named (name_text self.now) part.entry ∷ others)
-            ≡ named (name_text self.now) part.entry ∷ others) }
-        ensures part { IfErr result (λ it. part_value it.part ≡ part_value part.entry) }
+        ensures taken { IfOk result
+            (λ _. IsTaken (name_text self.now) (part_value part.entry) reading.old reading.new) }
+        ensures refused { IfErr result
+            (λ it. IsNotTaken (name_text self.now) (part_value part.entry) reading.old it) }
     {
         match *self {
             TripleName::Text(name) => reading.take(name, part),

@@ -113,11 +113,6 @@ fn prefix_key(text: &str) -> u64 {
         let tail = u64::from(u32::from_be_bytes(*tail));
         return head * 0x1_0000_0000 + (tail << (64 - 8 * bytes.len())) % 0x1_0000_0000;
     }
-    prefix_key_of_few(bytes)
-}
-
-/// The prefix key of at most three bytes.
-fn prefix_key_of_few(bytes: &[u8]) -> u64 {
     match bytes {
         [a, b, c] => u64::from_be_bytes([*a, *b, *c, 0, 0, 0, 0, 0]),
         [a, b] => u64::from_be_bytes([*a, *b, 0, 0, 0, 0, 0, 0]),

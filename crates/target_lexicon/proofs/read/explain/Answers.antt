@@ -1,14 +1,13 @@
 use Rattle.std.specs.Borrow.{Bor}
 use Rattle.std.proofs.Common.{arith, ◌≤◌, ◌+◌, ◌-◌, length, rules, refl, [], ◌∷◌, Option, ◌≡◌, ◌∙◌, ℕ, List, Result, Ok, Err, Some, None, ap, sym, subst}
 use Rattle.std.specs.Option.{option_map_or}
-use Rattle.std.specs.Prelude.{IfOk, IfErr, IfSome, slice_get}
-use Rattle.target_lexicon.specs.{declared.reading.Reading.Reading, declared.explanation.Sources.Sources, declared.explanation.Explanation.Explanation, declared.refusal.Refusal.Refusal as BorrowedRefusal, declared.triple_ref.TripleRef.TripleRef, GreedyReading.reading_of_parts, Placement.parts_after, Placement.parts_of, Reading.ReadsAs, Reading.IsRefusedAs, SpecialTexts.special_values, ValuesRef.values_of_ref, ValuesRef.refusal_value, Refusal.Refusal, Refusal.refusal_with}
-use Rattle.target_lexicon.specs.Explanation.{SourceValue, SourceValues, AreInText, AreSourcesOf, IsInText, IsRefusedAfter, Implied, NotGiven, PlacedPart, part_from, part_value, placed_from, sources_of}
-use Rattle.target_lexicon.proofs.{ComputedReading.Holds, ComputedReading.ordinary-holds}
-use Rattle.target_lexicon.proofs.SourceLemmas.{sources-in, refused-in, sources-explained, refused-explained, names-placed}
-use Rattle.target_lexicon.proofs.{PartLemmas.parts_of-some, ResumedLemmas.GoesOn, ResumedLemmas.given_sources, ResumedLemmas.goes_on-first, ResumedLemmas.left_by_fields, ResumedLemmas.placed-some, ResumedLemmas.plain}
-use Rattle.target_lexicon.specs.Resumed.{NamedPart, plain_parts, resumed, resumed_left, resumed_sources, names_of}
-use Rattle.target_lexicon.specs.{Field.Field, Private.rest_parts, Values.Values}
+use Rattle.std.specs.Prelude.{IfOk, IfErr, IfSome}
+use Rattle.target_lexicon.specs.{declared.reading.Reading.Reading, declared.explanation.Sources.Sources, declared.explanation.Explanation.Explanation, declared.refusal.Refusal.Refusal as BorrowedRefusal, declared.triple_ref.TripleRef.TripleRef, GreedyReading.IsNotTaken, GreedyReading.finished, GreedyReading.finished_sources, GreedyReading.reading_of_parts, Reading.parts_after, Reading.parts_of, Reading.ReadsAs, Reading.IsRefusedAs, SpecialTexts.special_values, ValuesRef.values_of_ref, ValuesRef.refusal_value, Refusal.Refusal, Refusal.refusal_with}
+use Rattle.target_lexicon.specs.Explanation.{AreInText, AreSourcesOf, IsInText, IsRefusedAfter, Implied, NotGiven, PlacedPart, part_from, part_value, placed_from, sources_at, sources_of}
+use Rattle.target_lexicon.proofs.{ComputedReading.Holds, ComputedReading.ordinary-holds, PartLemmas.parts_of-some}
+use Rattle.target_lexicon.proofs.SourceLemmas.{LeftAt, all_sources, sources-in, refused-in, sources-explained, refused-explained}
+use Rattle.target_lexicon.proofs.ReadParts.{AllGoesOn, fields_from, left_from, goes_on-first, goes_on-next, placed-some, read-sources, refused-sources, texts-placed}
+use Rattle.target_lexicon.specs.{Field.Architecture, Field.Field, Private.rest_parts, Values.Values}
 use Rattle.target_lexicon.proofs.read.explain.Goals as goal
 
 -- the values or the refusal of a result
@@ -17,11 +16,11 @@ outcome_of (Ok triple) = Ok (values_of_ref triple)
 outcome_of (Err refusal) = Err (refusal_value refusal)
 
 -- what the parts of a string that isn't special give
-record IsGivenBy (parts : List PlacedPart) (it : Explanation) : Type 0 where
-  outcome : outcome_of it.triple ≡ reading_of_parts (names_of (plain_parts parts))
-  sources : IfOk it.triple (λ _. sources_of it.sources ≡ given_sources Implied parts)
-  refused_sources : IfErr it.triple (λ _. sources_of it.sources ≡ given_sources NotGiven parts)
-  part : IfErr it.triple (λ refusal. slice_get (left_by_fields parts) 0 ≡ Some (plain (part_value refusal.part)))
+record IsGivenBy (parts : List (List ℕ)) (it : Explanation) : Type 0 where
+  outcome : outcome_of it.triple ≡ reading_of_parts parts
+  sources : IfOk it.triple (λ _. sources_of it.sources ≡ all_sources Implied parts)
+  refused_sources : IfErr it.triple (λ _. sources_of it.sources ≡ all_sources NotGiven parts)
+  part : IfErr it.triple (λ refusal. LeftAt parts (part_value refusal.part))
 
 record IsExplained (text : List ℕ) (it : Explanation) : Type 0 where
   triple : IfOk it.triple (λ triple. ReadsAs text (values_of_ref triple))
@@ -32,44 +31,22 @@ record IsExplained (text : List ℕ) (it : Explanation) : Type 0 where
   range : IfErr it.triple (λ refusal. IsInText text (part_value refusal.part))
 
 module _ (text : List ℕ) (s : Sources) (ordinary : special_values text ≡ None) where
-  triple-explained : (triple : TripleRef) → IsGivenBy (placed_from 0 (parts_of text)) (record { triple = Ok triple; sources = s })
+  triple-explained : (triple : TripleRef) → IsGivenBy (parts_of text) (record { triple = Ok triple; sources = s })
       → IsExplained text (record { triple = Ok triple; sources = s })
   triple-explained triple given =
-      let reads : ReadsAs text (values_of_ref triple) =
-      subst (Holds text) (ap reading_of_parts (sym (names-placed 0 (parts_of text))) ∙ sym given.outcome) (ordinary-holds text ordinary) in
+      let reads : ReadsAs text (values_of_ref triple) = subst (Holds text) (sym given.outcome) (ordinary-holds text ordinary) in
       let sources = subst (AreSourcesOf text) (sym given.sources) (sources-explained text ordinary _ reads) in
       record { triple = reads; sources = sources; ranges = sources-in text _ sources; error = tt; refused = tt; range = tt }
 
-  refusal-explained : (refusal : BorrowedRefusal) → IsGivenBy (placed_from 0 (parts_of text)) (record { triple = Err refusal; sources = s })
+  refusal-explained : (refusal : BorrowedRefusal) → IsGivenBy (parts_of text) (record { triple = Err refusal; sources = s })
       → IsExplained text (record { triple = Err refusal; sources = s })
   refusal-explained refusal given =
-      let error : IsRefusedAs text (refusal_value refusal) =
-      subst (Holds text) (ap reading_of_parts (sym (names-placed 0 (parts_of text))) ∙ sym given.outcome) (ordinary-holds text ordinary) in
+      let error : IsRefusedAs text (refusal_value refusal) = subst (Holds text) (sym given.outcome) (ordinary-holds text ordinary) in
       let refused : IsRefusedAfter text (refusal_value refusal) (sources_of s) (part_value refusal.part) =
       subst (λ s. IsRefusedAfter text (refusal_value refusal) s (part_value refusal.part)) (sym given.refused_sources)
       (refused-explained text ordinary _ _ error given.part) in
       let within = refused-in text _ _ _ refused in
       record { triple = tt; sources = tt; ranges = within.0; error = error; refused = refused; range = within.1 }
-
-if_some : {A P : Type 0} (o : Option A) → P → IfSome o (λ _. P)
-if_some (Some x) p = p
-if_some None p = tt
-
-module _ (p : PlacedPart) (ns : List NamedPart) (rest : List NamedPart) (expected : Option Field) (t : Values) (s : SourceValues) (parts : List PlacedPart)
-    (is : rest ≡ plain p ∷ ns) (before : GoesOn expected t s rest parts) where
-  abbrev first : NamedPart
-  first = plain p
-
-  step : (next : Option Field) (u : Values) (v : SourceValues)
-      → ((names : List (List ℕ)) → resumed expected t (p.text ∷ names) ≡ resumed next u names)
-      → ((others : List NamedPart) → resumed_left expected (first ∷ others) ≡ resumed_left next others)
-      → ((unfilled : SourceValue) (others : List NamedPart) → resumed_sources unfilled expected s (first ∷ others) ≡ resumed_sources unfilled next v others)
-      → GoesOn next u v ns parts
-  step next u v outcome unread sources = record {
-    outcome = sym (outcome (names_of ns)) ∙ ap (λ k. resumed expected t (names_of k)) (sym is) ∙ before.outcome;
-    unread = sym (unread ns) ∙ ap (resumed_left expected) (sym is) ∙ before.unread;
-    sources = λ unfilled. sym (sources unfilled ns) ∙ ap (resumed_sources unfilled expected s) (sym is) ∙ before.sources unfilled;
-  }
 
 -- the parts of what follows a dash begin after it
 rest-placed : (text left name : List ℕ) (others : Option (Bor (List ℕ))) → length left ≤ length text
@@ -95,6 +72,39 @@ rest-within text left name (Some other) rest within size is =
     let same : length other.now ≡ length rest.now = ap (λ (found : Option (Bor (List ℕ))). length (option_map_or (λ (it : Bor (List ℕ)). it.now) found [])) is in
     omega (arith, within, size, same)
 
+-- all parts of the string, and those that are left
+abbrev all_of : List ℕ → List PlacedPart
+all_of text = placed_from 0 (parts_of text)
+
+-- what is refused after the parts before
+refused-explained-by : (text : List ℕ) (it : Reading) (refusal : BorrowedRefusal) → special_values text ≡ None → (p : PlacedPart) (ps : List PlacedPart) → AllGoesOn it (p ∷ ps) (all_of text)
+    → IsNotTaken p.text p it refusal → IsExplained text (record { triple = Err refusal; sources = it.sources })
+refused-explained-by text it refusal ordinary p ps on refused = refusal-explained text it.sources ordinary refusal (record {
+  outcome = ap (λ (q : PlacedPart). Err (refusal_with refusal.expected q.text)) refused.refused ∙ ap (λ (e : Option Field). Err (refusal_with e p.text)) refused.expected
+      ∙ (rw refused.unparsed at on.outcome) ∙ ap reading_of_parts (texts-placed 0 (parts_of text));
+  sources = tt;
+  refused_sources = refused-sources it.expected (values_of_ref it.triple) (sources_of it.sources) p ps (all_of text) on refused.unparsed
+      ∙ ap (λ parts. sources_at NotGiven (all_of text) (fields_from (Some Architecture) parts)) (texts-placed 0 (parts_of text));
+  part = subst (LeftAt (parts_of text)) (sym refused.refused) (record {
+    before = on.before;
+    rest = ps;
+    end = on.end;
+    left = sym (ap (left_from (Some Architecture)) (texts-placed 0 (parts_of text))) ∙ sym (on.unread) ∙ rw refused.unparsed refl;
+  });
+})
+
+-- what is read when no part is left
+read-explained-by : (text : List ℕ) (it : Reading) (triple : TripleRef) (sources : Sources) → special_values text ≡ None → AllGoesOn it [] (all_of text)
+    → values_of_ref triple ≡ finished it.expected (values_of_ref it.triple) → sources_of sources ≡ finished_sources it.expected (sources_of it.sources)
+    → IsExplained text (record { triple = Ok triple; sources = sources })
+read-explained-by text it triple sources ordinary on reads from = triple-explained text sources ordinary triple (record {
+  outcome = ap Ok reads ∙ on.outcome ∙ ap reading_of_parts (texts-placed 0 (parts_of text));
+  sources = from ∙ read-sources it.expected (values_of_ref it.triple) (sources_of it.sources) (all_of text) on
+      ∙ ap (λ parts. sources_at Implied (all_of text) (fields_from (Some Architecture) parts)) (texts-placed 0 (parts_of text));
+  refused_sources = tt;
+  part = tt;
+})
+
 pub loop-rest-init : goal.loop-rest-init
 loop-rest-init c =
     let start = c.start-reading.ensures in
@@ -103,7 +113,6 @@ loop-rest-init c =
     record {
       range = search rules;
       reading = rw same (goes_on-first _ _ _ _ (placed-some 0 _ (parts_of-some text)) start.expected start.values start.sources);
-      format = if_some c.start-reading.result.expected (ap (λ (s : SourceValues). s.binary_format) start.sources);
     }
 
 pub loop-rest-preserved : goal.loop-rest-preserved
@@ -113,43 +122,12 @@ loop-rest-preserved c =
     let name = c.first_part.result.0.now in
     let others = c.first_part.result.1 in
     let within = c.loop-rest.invariant.range c.in-Some-rest.left c.in-Some-rest.is in
-    let is = ap (λ rest. plain_parts (rest_parts text rest)) c.in-Some-rest.is
-    ∙ ap plain_parts (left-is text left name others within c.first_part.ensures.parts c.first_part.ensures.size) in
-    let taken = c.in_default-take.ensures in
+    let is = ap (rest_parts text) c.in-Some-rest.is ∙ left-is text left name others within c.first_part.ensures.parts c.first_part.ensures.size in
     record {
       range = λ rest found. rest-within text left name others rest within c.first_part.ensures.size found;
-      reading = step (part_from (length text - length left) name) (plain_parts (rest_parts text others)) _ _ _ _ _ is c.loop-rest.invariant.reading _ _ _
-          taken.taken taken.taken_left taken.taken_sources;
-      format = c.take.ensures.format c.loop-rest.invariant.format;
+      reading = goes_on-next (part_from (length text - length left) name) (rest_parts text others) (all_of text) c.loop-rest.reading c.take.new.self
+          (subst (λ ps. AllGoesOn c.loop-rest.reading ps (all_of text)) is c.loop-rest.invariant.reading) c.in_default-take.ensures.taken;
     }
-
--- what is refused after the parts before
-module _ (text : List ℕ) (refusal : BorrowedRefusal) (sources : Sources) (ordinary : special_values text ≡ None) (ns rest : List NamedPart) (expected : Option Field) (t : Values) (s : SourceValues)
-    (p : PlacedPart) (same : part_value refusal.part ≡ p) (is : rest ≡ plain p ∷ ns) (before : GoesOn expected t s rest (placed_from 0 (parts_of text))) where
-  abbrev refused : NamedPart
-  refused = plain p
-
-  refused-explained-by : resumed expected t (p.text ∷ names_of ns) ≡ Err (refusal_with refusal.expected p.text)
-      → resumed_left expected (refused ∷ ns) ≡ refused ∷ ns
-      → resumed_sources NotGiven expected s (refused ∷ ns) ≡ sources_of sources
-      → IsExplained text (record { triple = Err refusal; sources = sources })
-  refused-explained-by outcome unread from = refusal-explained text sources ordinary refusal (record {
-    outcome = ap (λ (q : PlacedPart). Err (refusal_with refusal.expected q.text)) same ∙ sym outcome ∙ ap (λ k. resumed expected t (names_of k)) (sym is) ∙ before.outcome;
-    sources = tt;
-    refused_sources = sym from ∙ ap (resumed_sources NotGiven expected s) (sym is) ∙ before.sources NotGiven;
-    part = ap (λ (left : List NamedPart). slice_get left 0) (sym (sym unread ∙ ap (resumed_left expected) (sym is) ∙ before.unread)) ∙ ap (λ (q : PlacedPart). Some (plain q)) (sym same);
-  })
-
--- what is read when no part is left
-read-explained-by : (text : List ℕ) (triple : TripleRef) (sources : Sources) → special_values text ≡ None → (expected : Option Field) (t : Values) (s : SourceValues) (rest : List NamedPart) → rest ≡ []
-    → GoesOn expected t s rest (placed_from 0 (parts_of text)) → resumed expected t [] ≡ Ok (values_of_ref triple) → resumed_sources Implied expected s [] ≡ sources_of sources
-    → IsExplained text (record { triple = Ok triple; sources = sources })
-read-explained-by text triple sources ordinary expected t s rest is before outcome from = triple-explained text sources ordinary triple (record {
-  outcome = sym outcome ∙ ap (λ k. resumed expected t (names_of k)) (sym is) ∙ before.outcome;
-  sources = sym from ∙ ap (resumed_sources Implied expected s) (sym is) ∙ before.sources Implied;
-  refused_sources = tt;
-  part = tt;
-})
 
 abbrev refused-at : (c : goal.After-result-1) → IsExplained c.args.text.now (record { triple = Err c.in-Err.refusal; sources = c.take.new.self.sources })
 refused-at c =
@@ -158,13 +136,10 @@ refused-at c =
     let name = c.first_part.result.0.now in
     let others = c.first_part.result.1 in
     let within = c.loop-rest.invariant.range c.in-Some-rest.left c.in-Some-rest.is in
-    let refusal = c.in-Err.ensures in
-    let is = ap (λ rest. plain_parts (rest_parts text rest)) c.in-Some-rest.is
-    ∙ ap plain_parts (left-is text left name others within c.first_part.ensures.parts c.first_part.ensures.size) in
-    refused-explained-by text c.in-Err.refusal c.take.new.self.sources (sym c.in_default.ensures) (plain_parts (rest_parts text others)) _ _ _ _
-    (part_from (length text - length left) name) refusal.part is c.loop-rest.invariant.reading
-    (refusal.refused _) (refusal.refused_left _)
-    (refusal.refused_sources _ c.loop-rest.invariant.format ∙ ap (λ (r : Reading). sources_of r.sources) (sym refusal.same))
+    let is = ap (rest_parts text) c.in-Some-rest.is ∙ left-is text left name others within c.first_part.ensures.parts c.first_part.ensures.size in
+    subst (λ (it : Reading). IsExplained text (record { triple = Err c.in-Err.refusal; sources = it.sources })) (sym c.in-Err.ensures.same)
+    (refused-explained-by text c.loop-rest.reading c.in-Err.refusal (sym c.in_default.ensures) (part_from (length text - length left) name) (rest_parts text others)
+    (subst (λ ps. AllGoesOn c.loop-rest.reading ps (all_of text)) is c.loop-rest.invariant.reading) c.in-Err.ensures.refused)
 
 pub returns-in-Err-clause-error : goal.returns-in-Err-clause-error
 returns-in-Err-clause-error c = (refused-at c).error
@@ -180,8 +155,9 @@ returns-in-Err-clause-range c = (refused-at c).range
 
 abbrev read-at : (c : goal.After-sources-1) → IsExplained c.args.text.now (record { triple = Ok c.finish.result.0; sources = c.finish.result.1 })
 read-at c =
-    read-explained-by c.args.text.now c.finish.result.0 c.finish.result.1 (sym c.in_default.ensures) _ _ _ _ (ap (λ rest. plain_parts (rest_parts c.args.text.now rest)) c.in_default-rest.is)
-    c.loop-rest.invariant.reading c.finish.ensures.triple c.finish.ensures.sources
+    read-explained-by c.args.text.now c.loop-rest.reading c.finish.result.0 c.finish.result.1 (sym c.in_default.ensures)
+    (subst (λ ps. AllGoesOn c.loop-rest.reading ps (all_of c.args.text.now)) (ap (rest_parts c.args.text.now) c.in_default-rest.is) c.loop-rest.invariant.reading)
+    c.finish.ensures.triple c.finish.ensures.sources
 
 pub returns-clause-triple : goal.returns-clause-triple
 returns-clause-triple c = (read-at c).triple

@@ -1,5 +1,5 @@
 use Rattle.std.proofs.Common.{◌≡◌, List, [], ◌∷◌, ℕ, Bool, false, refl, sym}
-use Rattle.target_lexicon.specs.Placement.{parts_of}
+use Rattle.target_lexicon.specs.Reading.{parts_of}
 use Rattle.target_lexicon.proofs.PartLemmas.{parts_of-are}
 use Rattle.tool_names.specs.Gnu.{is_last_vendor}
 use Rattle.tool_names.proofs.gnu.is_last_vendor.Goals as goal

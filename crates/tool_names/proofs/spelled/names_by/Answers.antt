@@ -1,5 +1,5 @@
 use Rattle.std.proofs.Common.{◌∙◌, ap, sym, Some}
-use Rattle.target_lexicon.specs.Placement.{parts_after}
+use Rattle.target_lexicon.specs.Reading.{parts_after}
 use Rattle.tool_names.proofs.JoinedNames.{first-alone}
 use Rattle.tool_names.proofs.spelled.names_by.Goals as goal
 

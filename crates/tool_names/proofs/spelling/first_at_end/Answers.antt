@@ -1,4 +1,4 @@
-use Rattle.target_lexicon.specs.Placement.{parts_after}
+use Rattle.target_lexicon.specs.Reading.{parts_after}
 use Rattle.tool_names.proofs.SpelledReading.{first_at_end-is}
 use Rattle.tool_names.proofs.spelling.first_at_end.Goals as goal
 

@@ -1,6 +1,6 @@
 use Rattle.std.proofs.Common.{◌≡◌, ◌∙◌, false, ap, refl, rules, sym}
 use Rattle.std.specs.Prelude.{is_some}
-use Rattle.target_lexicon.specs.Placement.{parts_after}
+use Rattle.target_lexicon.specs.Reading.{parts_after}
 use Rattle.tool_names.specs.Changes.{plain_rule, standing_of}
 use Rattle.tool_names.specs.Private.{fit_of}
 use Rattle.tool_names.specs.Spelling.{first_rule, fits}

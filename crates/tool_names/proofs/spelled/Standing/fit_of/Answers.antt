@@ -1,6 +1,6 @@
 use Rattle.std.proofs.Common.{◌<◌, ◌∙◌, arith, get_or, [], length, sym}
 use Rattle.std.proofs.lemmas.Bool.{and_parts}
-use Rattle.target_lexicon.specs.Placement.{parts_after}
+use Rattle.target_lexicon.specs.Reading.{parts_after}
 use Rattle.tool_names.specs.Changes.{plain_rule, standing_of}
 use Rattle.tool_names.specs.declared.rules.Form.TheVariants as form
 use Rattle.tool_names.specs.declared.rules.Place.TheVariants as place

@@ -1,5 +1,5 @@
 use Rattle.std.proofs.Common.{◌≡◌, drop}
-use Rattle.target_lexicon.specs.Placement.{parts_after}
+use Rattle.target_lexicon.specs.Reading.{parts_after}
 use Rattle.tool_names.specs.{Changes.standing_of, Private.plain_rules, Spelling.first_rule, Spelling.fits}
 use Rattle.tool_names.proofs.spelled.Standing.fit_of.Given as goal
 

@@ -1,0 +1,194 @@
+-- What is left of the parts of a string goes on as all of them began. The fields that the parts fill one after the other are the
+-- greedy placement.
+use Rattle.std.proofs.Common.{◌≡◌, ◌≢◌, ◌∙◌, ℕ, ◌+◌, ◌≤◌, List, [], ◌∷◌, ◌++◌, append_assoc, map, length, nat_eq, true, false, Option, Some, None, refl, sym, ap, arith, inl, inr}
+use Rattle.std.specs.Prelude.{IfSome, MatchOption}
+use Rattle.std.specs.Option.{option_map_or}
+use Rattle.std.proofs.lemmas.Bool.{cases_Bool}
+use Rattle.target_lexicon.specs.Field as field
+use Rattle.target_lexicon.specs.Field.{Field, field_number, parses_as}
+use Rattle.target_lexicon.specs.{declared.reading.Reading.Reading, Reading.expected_after, Reading.part_at, Values.unknown_values, Values.Values, ValuesRef.values_of_ref}
+use Rattle.target_lexicon.specs.Explanation.{PlacedPart, SourceValue, SourceValues, FromPart, Implied, NotGiven, same_sources, source_at, source_values, sources_at, sources_of, placed_from, with_source}
+use Rattle.target_lexicon.specs.GreedyReading.{HasFilled, IsTaken, field_for, finished_sources, first_field, open_fields, reading_from, reading_of_parts, with_value}
+use Rattle.target_lexicon.proofs.GreedyPlacement.{Follows, after_architecture, filled, unread}
+
+abbrev pub texts_of : List PlacedPart → List (List ℕ)
+texts_of parts = map (λ (part : PlacedPart). part.text) parts
+
+pub texts-placed : (start : ℕ) (ps : List (List ℕ)) → texts_of (placed_from start ps) ≡ ps
+texts-placed start [] = refl
+texts-placed start (p ∷ ps) = ap (λ qs. p ∷ qs) (texts-placed (start + length p + 1) ps)
+
+pub placed-some : (start : ℕ) (ps : List (List ℕ)) → ps ≢ [] → placed_from start ps ≢ []
+placed-some start [] some e = some refl
+placed-some start (p ∷ ps) some e = cc
+
+-- the fields that these parts fill where this one is expected, and the parts that are left
+abbrev pub fields_from : Option Field → List (List ℕ) → List Field
+fields_from expected [] = []
+fields_from expected (p ∷ ps) = option_map_or (λ f. f ∷ fields_from (expected_after f) ps) (field_for expected p) []
+
+abbrev pub left_from : Option Field → List (List ℕ) → List (List ℕ)
+left_from expected [] = []
+left_from expected (p ∷ ps) = option_map_or (λ f. left_from (expected_after f) ps) (field_for expected p) (p ∷ ps)
+
+-- each of these fields has those after it that are open after it
+abbrev AreOpen : List Field → Type 0
+AreOpen [] = Unit {0}
+AreOpen (f ∷ fs) = (fs ≡ open_fields (expected_after f)) × AreOpen fs
+
+open-after : (f : Field) → AreOpen (open_fields (expected_after f))
+open-after field.Architecture = (refl, (refl, (refl, (refl, tt))))
+open-after field.Vendor = (refl, (refl, (refl, tt)))
+open-after field.OperatingSystem = (refl, (refl, tt))
+open-after field.Environment = (refl, tt)
+open-after field.BinaryFormat = tt
+
+follows-after : (f : Field) → Follows f (open_fields (expected_after f))
+follows-after field.Architecture = (refl, (refl, (refl, (refl, refl))))
+follows-after field.Vendor = (refl, (refl, (refl, refl)))
+follows-after field.OperatingSystem = (refl, (refl, refl))
+follows-after field.Environment = (refl, refl)
+follows-after field.BinaryFormat = refl
+
+first-filled : (fs : List Field) (p : List ℕ) (ps : List (List ℕ)) → AreOpen fs
+    → filled fs (p ∷ ps) ≡ option_map_or (λ f. f ∷ filled (open_fields (expected_after f)) ps) (first_field fs p) []
+first-filled [] p ps are = refl
+first-filled (f ∷ fs) p ps are =
+    elim (cases_Bool (parses_as f p)) [
+      | inl takes ↦ rw takes (ap (λ gs. f ∷ filled gs ps) are.0)
+      | inr skips ↦ rw skips (first-filled fs p ps are.1)
+    ]
+
+first-left : (fs : List Field) (p : List ℕ) (ps : List (List ℕ)) → AreOpen fs
+    → unread fs (p ∷ ps) ≡ option_map_or (λ f. unread (open_fields (expected_after f)) ps) (first_field fs p) (p ∷ ps)
+first-left [] p ps are = refl
+first-left (f ∷ fs) p ps are =
+    elim (cases_Bool (parses_as f p)) [
+      | inl takes ↦ rw takes (ap (λ gs. unread gs ps) are.0)
+      | inr skips ↦ rw skips (first-left fs p ps are.1)
+    ]
+
+filled-from : (f : Field) (ps : List (List ℕ)) → filled (open_fields (expected_after f)) ps ≡ fields_from (expected_after f) ps
+filled-from f [] = refl
+filled-from f (p ∷ ps) = first-filled (open_fields (expected_after f)) p ps (open-after f) ∙ by_field (λ g. filled-from g ps) (field_for (expected_after f) p)
+  where
+    by_field : ((g : Field) → filled (open_fields (expected_after g)) ps ≡ fields_from (expected_after g) ps) → (o : Option Field)
+        → option_map_or (λ g. g ∷ filled (open_fields (expected_after g)) ps) o [] ≡ option_map_or (λ g. g ∷ fields_from (expected_after g) ps) o []
+    by_field others (Some g) = ap (λ gs. g ∷ gs) (others g)
+    by_field others None = refl
+
+pub unread-from : (f : Field) (ps : List (List ℕ)) → unread (open_fields (expected_after f)) ps ≡ left_from (expected_after f) ps
+unread-from f [] = refl
+unread-from f (p ∷ ps) = first-left (open_fields (expected_after f)) p ps (open-after f) ∙ by_field (λ g. unread-from g ps) (field_for (expected_after f) p)
+  where
+    by_field : ((g : Field) → unread (open_fields (expected_after g)) ps ≡ left_from (expected_after g) ps) → (o : Option Field)
+        → option_map_or (λ g. unread (open_fields (expected_after g)) ps) o (p ∷ ps) ≡ option_map_or (λ g. left_from (expected_after g) ps) o (p ∷ ps)
+    by_field others (Some g) = others g
+    by_field others None = refl
+
+-- all parts, of which the first is an architecture
+pub all-fields : (p : List ℕ) (ps : List (List ℕ)) → parses_as field.Architecture p ≡ true → fields_from (Some field.Architecture) (p ∷ ps) ≡ field.Architecture ∷ filled after_architecture ps
+all-fields p ps takes = rw takes (ap (λ gs. field.Architecture ∷ gs) (sym (filled-from field.Architecture ps)))
+
+pub all-left : (p : List ℕ) (ps : List (List ℕ)) → parses_as field.Architecture p ≡ true → left_from (Some field.Architecture) (p ∷ ps) ≡ unread after_architecture ps
+all-left p ps takes = rw takes (sym (unread-from field.Architecture ps))
+
+pub no-fields : (p : List ℕ) (ps : List (List ℕ)) → parses_as field.Architecture p ≡ false
+    → (fields_from (Some field.Architecture) (p ∷ ps) ≡ []) × (left_from (Some field.Architecture) (p ∷ ps) ≡ p ∷ ps)
+no-fields p ps skips = rw skips (refl, refl)
+
+-- a field has no part in a placement of later fields
+absent-filled : (f l : Field) (fs : List Field) (ps : List PlacedPart) → field_number f ≤ field_number l → Follows l fs → part_at f ps (filled fs (texts_of ps)) ≡ None
+absent-filled f l fs [] h o = refl
+absent-filled f l [] (p ∷ ps) h o = refl
+absent-filled f l (g ∷ fs) (p ∷ ps) h o =
+    let other : nat_eq (field_number g) (field_number f) ≡ false = grind (arith, h, o.0) in
+    let after : field_number f ≤ field_number g = omega (arith, h, o.0) in
+    elim (cases_Bool (parses_as g p.text)) [
+      | inl takes ↦ rw (takes, other) (absent-filled f g fs ps after o.1)
+      | inr skips ↦ rw skips (absent-filled f g fs (p ∷ ps) after o.1)
+    ]
+
+absent : (f : Field) (ps : List PlacedPart) → part_at f ps (fields_from (expected_after f) (texts_of ps)) ≡ None
+absent f ps = ap (part_at f ps) (sym (filled-from f (texts_of ps))) ∙ absent-filled f f (open_fields (expected_after f)) ps (omega arith) (follows-after f)
+
+-- these sources, and those of the parts that are assigned to these fields
+abbrev merged_sources : SourceValues → List PlacedPart → List Field → SourceValues
+merged_sources s parts fields =
+    source_values (source_at s.architecture field.Architecture parts fields) (source_at s.vendor field.Vendor parts fields)
+    (source_at s.operating_system field.OperatingSystem parts fields) (source_at s.environment field.Environment parts fields)
+    (source_at s.binary_format field.BinaryFormat parts fields)
+
+-- the sources, with this one for a format that is still open
+abbrev with_format : SourceValue → Option Field → SourceValues → SourceValues
+with_format unfilled None s = s
+with_format unfilled (Some x) s = with_source field.BinaryFormat unfilled s
+
+sources-next : (unfilled : SourceValue) (x f : Field) (s : SourceValues) (p : PlacedPart) (ps : List PlacedPart)
+    → merged_sources (with_format unfilled (expected_after f) (with_source f (FromPart p) s)) ps (fields_from (expected_after f) (texts_of ps))
+    ≡ merged_sources (with_format unfilled (Some x) s) (p ∷ ps) (f ∷ fields_from (expected_after f) (texts_of ps))
+sources-next unfilled x field.Architecture s p ps = rw (absent field.Architecture ps) refl
+sources-next unfilled x field.Vendor s p ps = rw (absent field.Vendor ps) refl
+sources-next unfilled x field.OperatingSystem s p ps = rw (absent field.OperatingSystem ps) refl
+sources-next unfilled x field.Environment s p ps = rw (absent field.Environment ps) refl
+sources-next unfilled x field.BinaryFormat s p ps = rw (absent field.BinaryFormat ps) refl
+
+-- while a field is open, the format has no source yet
+abbrev pub HasOpenFormat : Option Field → SourceValues → Type 0
+HasOpenFormat expected s = IfSome expected (λ _. s.binary_format ≡ NotGiven)
+
+format-next : (x f : Field) (s : SourceValues) (p : PlacedPart) → HasOpenFormat (Some x) s → HasOpenFormat (expected_after f) (with_source f (FromPart p) s)
+format-next x field.BinaryFormat s p is = tt
+format-next x field.Architecture s p is = is
+format-next x field.Vendor s p is = is
+format-next x field.OperatingSystem s p is = is
+format-next x field.Environment s p is = is
+
+-- what is left of the parts of a string goes on as all of them began
+pub record GoesOn (expected : Option Field) (t : Values) (s : SourceValues) (left parts : List PlacedPart) : Type 0 where
+  pub outcome : reading_from expected t (texts_of left) ≡ reading_of_parts (texts_of parts)
+  pub unread : left_from expected (texts_of left) ≡ left_from (Some field.Architecture) (texts_of parts)
+  pub sources : (unfilled : SourceValue) → merged_sources (with_format unfilled expected s) left (fields_from expected (texts_of left))
+      ≡ sources_at unfilled parts (fields_from (Some field.Architecture) (texts_of parts))
+  pub format : HasOpenFormat expected s
+  pub before : List PlacedPart
+  pub end : parts ≡ before ++ left
+
+pub goes_on-first : (expected : Option Field) (t : Values) (s : SourceValues) (parts : List PlacedPart) → parts ≢ []
+    → expected ≡ Some field.Architecture → t ≡ unknown_values → s ≡ same_sources NotGiven → GoesOn expected t s parts parts
+goes_on-first expected t s [] some e v w = absurd (some refl)
+goes_on-first expected t s (p ∷ ps) some e v w = rw (e, v, w) (record { outcome = refl; unread = refl; sources = λ unfilled. refl; format = refl; before = []; end = refl })
+
+abbrev pub AllGoesOn : Reading → List PlacedPart → List PlacedPart → Type 0
+AllGoesOn it left parts = GoesOn it.expected (values_of_ref it.triple) (sources_of it.sources) left parts
+
+module _ (p : PlacedPart) (ps parts : List PlacedPart) (f : Field) where
+  filled-next : (expected : Option Field) (t u : Values) (s w : SourceValues) (next : Option Field) → field_for expected p.text ≡ Some f → GoesOn expected t s (p ∷ ps) parts
+      → next ≡ expected_after f → u ≡ with_value f p.text t → w ≡ with_source f (FromPart p) s → GoesOn next u w ps parts
+  filled-next None t u s w next found on e v x = absurd cc
+  filled-next (Some y) t u s w next found on e v x = rw (e, v, x) (record {
+    outcome = rw found at on.outcome;
+    unread = rw found at on.unread;
+    sources = λ unfilled. sources-next unfilled y f s p ps ∙ (rw found at on.sources unfilled);
+    format = format-next y f s p on.format;
+    before = on.before ++ (p ∷ []);
+    end = on.end ∙ sym (append_assoc on.before (p ∷ []) ps);
+  })
+
+pub goes_on-next : (p : PlacedPart) (ps parts : List PlacedPart) (old new : Reading) → AllGoesOn old (p ∷ ps) parts → IsTaken p.text p old new → AllGoesOn new ps parts
+goes_on-next p ps parts old new on taken = by_field (field_for old.expected p.text) refl taken
+  where
+    by_field : (o : Option Field) → field_for old.expected p.text ≡ o → MatchOption o ⊥ (λ f. HasFilled f p.text p old new) → AllGoesOn new ps parts
+    by_field None found is = absurd is
+    by_field (Some f) found is = filled-next p ps parts f old.expected _ _ _ _ new.expected found on is.expected is.values is.sources
+
+-- the sources at the end, and at a part that is refused
+pub read-sources : (expected : Option Field) (t : Values) (s : SourceValues) (parts : List PlacedPart) → GoesOn expected t s [] parts
+    → finished_sources expected s ≡ sources_at Implied parts (fields_from (Some field.Architecture) (texts_of parts))
+read-sources None t s parts on = on.sources Implied
+read-sources (Some x) t s parts on = on.sources Implied
+
+pub refused-sources : (expected : Option Field) (t : Values) (s : SourceValues) (p : PlacedPart) (ps parts : List PlacedPart) → GoesOn expected t s (p ∷ ps) parts → field_for expected p.text ≡ None
+    → s ≡ sources_at NotGiven parts (fields_from (Some field.Architecture) (texts_of parts))
+refused-sources None t s p ps parts on none = on.sources NotGiven
+refused-sources (Some x) t s p ps parts on none = ap (λ (format : SourceValue). with_source field.BinaryFormat format s) on.format ∙ (rw none at on.sources NotGiven)
