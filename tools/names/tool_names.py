@@ -197,7 +197,7 @@ def add_row(found, cells, known, cited):
 
 
 def check_triple(triple, known, of):
-    """Each part is a known name. That the triple is canonical is checked by the proofs, and by `checks/specification quick`."""
+    """Each part is a known name. That the triple is canonical is proved, and tried by `packages/python/test`."""
     first, *later = triple.split("-")
     if first not in (known[""] if of else known[""] | known["-"]):
         raise Mistake(f"`{first}` of {triple} is no known name of tools/names/names.tsv")
