@@ -1,10 +1,11 @@
--- The lemmas, by topic. Parsing: PartLemmas (parts and dashes), NamesAcross (the law of names, and the names of one field,
--- parsed as an earlier field); GreedyPlacement, RefusalLemmas, UniqueReading, ComputedReading (from parsing as a function
--- to the least placement); SourceLemmas, ResumedLemmas (the source of each field); ReadValues, Vendors (facts about all
--- parsed triples). Printing: PrintingLemmas, Upstream, Lengths (how much longer than the string). Round trips: RoundTrips,
--- TextRoundTrips (a printed string parsed again); StepCases (the facts of each family), FixedPointLemmas, RoundCall,
--- SettleLemmas, ModelsKnown, QueriesKept. Elements: JSON lists. SameValues: equality of triples. HashInputPairs,
--- VariantHashes: what is fed to a hasher. OnLiterals: for proofs of callers.
+-- The lemmas, by topic. Parsing: PartLemmas (parts and dashes), NamesAcross (the law of names, and the names of one
+-- field, parsed as an earlier field); GreedyPlacement, RefusalLemmas, UniqueReading, ComputedReading (from parsing as a
+-- function to the least placement); FieldReading (that function field by field); ReadParts, SourceLemmas (part by part,
+-- and the source of each field); ReadValues, Vendors (facts about all parsed triples). Printing: PrintingLemmas,
+-- Upstream, Lengths (how much longer than the string). Round trips: RoundTrips, TextRoundTrips (a printed string parsed
+-- again); StepCases (the facts of each family), FixedPointLemmas, RoundCall, SettleLemmas, ModelsKnown, QueriesKept.
+-- Elements: JSON lists. SameValues: equality of triples. HashInputPairs, VariantHashes: what is fed to a hasher.
+-- OnLiterals: for proofs of callers.
 pub mod ComputedReading
 pub mod Elements
 pub mod FieldReading
@@ -18,9 +19,9 @@ pub mod OnLiterals
 pub mod PartLemmas
 pub mod PrintingLemmas
 pub mod QueriesKept
+pub mod ReadParts
 pub mod ReadValues
 pub mod RefusalLemmas
-pub mod ReadParts
 pub mod RoundCall
 pub mod RoundTrips
 pub mod SameValues
