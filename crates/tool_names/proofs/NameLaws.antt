@@ -10,8 +10,7 @@ use Rattle.target_lexicon.specs.{FixedPoints.IsPlainTriple, FixedPoints.ReadTrip
 use Rattle.target_lexicon.specs.Reading.{parts_of}
 use Rattle.target_lexicon.specs.Values.{is_unknown_vendor}
 use Rattle.target_lexicon.specs.ValuesRef.{PlacedRefusal}
-use Rattle.target_lexicon.specs.Values.{Architecture, Environment, OperatingSystem, VendorValue, Known, Custom}
-use Rattle.target_lexicon.specs.Values.architecture
+use Rattle.target_lexicon.specs.Values.{Environment, OperatingSystem, VendorValue, Known, Custom}
 use Rattle.target_lexicon.specs.Values.operating_system
 use Rattle.target_lexicon.specs.Values.environment
 use Rattle.tool_names.specs.declared.dialect.Dialect.{Dialect}

@@ -1,24 +1,21 @@
 -- What is read is plain, its custom vendor spells itself, and it is read again from its printed string.
-use Rattle.std.specs.Prelude.{codes, ◌&&◌}
+use Rattle.std.specs.Prelude.{codes}
 use Rattle.std.specs.List.{list_all}
 use Rattle.std.proofs.lemmas.Bool.{and_parts, cases_Bool}
 use Rattle.std.proofs.Common.{◌≡◌, ◌∙◌, ℕ, List, [], ◌∷◌, ◌++◌, Option, Some, None, IfSome, Result, Ok, Err, Bool, true, false, cond, refl, sym, ap, subst, inl, inr}
-use Rattle.lexicon_fields.specs.{Architecture.architecture_of, BinaryFormat.binary_format_of, Environment.environment_of, Laws.HasVersionInRange, OperatingSystem.fixed_operating_system_of, OperatingSystem.operating_system_of, Vendor.is_plain, Vendor.known_vendor_of, Vendor.vendor_of}
-use Rattle.lexicon_fields.proofs.ParsedSystems.{version_in_range}
+use Rattle.lexicon_fields.specs.{Architecture.architecture_of, BinaryFormat.binary_format_of, Environment.environment_of, OperatingSystem.fixed_operating_system_of, OperatingSystem.operating_system_of, Vendor.is_plain, Vendor.known_vendor_of, Vendor.vendor_of}
 use Rattle.lexicon_fields.specs.declared.known_vendor.KnownVendor.TheVariants.{Unknown}
 use Rattle.target_lexicon.specs.GreedyReading.{reading_of_parts}
 use Rattle.target_lexicon.proofs.FieldReading.{by_fields, field_reading_by, reading_from_operating_system, reading_from_vendor, reading_after_architecture}
-use Rattle.target_lexicon.specs.{Field.Field, FixedPoints.IsPlainTriple, FixedPoints.RoundIsNormalStep, FixedPoints.settled_values, ImpliedFormat.implied_format, NormalStep.normal_step, Reading.parts_of, Printing.text_of, Reading.ReadsAs, Refusal.Refusal, SpecialTexts.esp_idf, SpecialTexts.nintendo_3ds, SpecialTexts.special_values}
-use Rattle.target_lexicon.specs.Values.{Architecture, OperatingSystem, Environment, BinaryFormat, VendorValue, Known, Custom, Values, values}
-use Rattle.target_lexicon.specs.Values.operating_system
-use Rattle.target_lexicon.specs.Values.environment
+use Rattle.target_lexicon.specs.{FixedPoints.IsPlainTriple, FixedPoints.RoundIsNormalStep, FixedPoints.settled_values, NormalStep.normal_step, Reading.parts_of, Printing.text_of, Reading.ReadsAs, Refusal.Refusal, SpecialTexts.esp_idf, SpecialTexts.nintendo_3ds, SpecialTexts.special_values}
+use Rattle.target_lexicon.specs.Values.{Architecture, VendorValue, Known, Custom, Values}
 use Rattle.target_lexicon.specs.Field as field
 use Rattle.target_lexicon.proofs.{ComputedReading.reading_computed, ReadValues.special-holds, SettleLemmas.second_changes_none, SettleLemmas.settled_values-comes_back, StepCases.step_cases, Vendors.vendor-plain}
 use Rattle.tool_names.specs.declared.rules.Form.{Form}
 use Rattle.tool_names.specs.declared.rules.Form.TheVariants as form
 use Rattle.tool_names.specs.declared.rules.Place.{Place}
 use Rattle.tool_names.specs.declared.rules.Place.TheVariants as place
-use Rattle.tool_names.specs.Spelling.{ReadingAgainIsTheSame, Rule, SpelledName, Standing, are_pair, first_rule, fits, goes_on, has_form, is_known_at, is_other_system, located, may_stand, name_texts, names_at, names_by, names_of, next_standing, reading_unless_special, rule_alone, rule_at, spelled_by, spelled_from, spelled_names, spelled_reading, rules_for, standing_at, unread_names}
+use Rattle.tool_names.specs.Spelling.{ReadingAgainIsTheSame, Rule, SpelledName, Standing, are_pair, first_rule, fits, has_form, is_known_at, is_other_system, located, may_stand, name_texts, names_at, names_by, names_of, next_standing, reading_unless_special, rule_alone, rule_at, spelled_by, spelled_from, spelled_names, spelled_reading, rules_for, standing_at, unread_names}
 use Rattle.tool_names.proofs.{SpelledNames.CustomStays, SpelledNames.SecondStays, SpelledNames.SystemStays, SpelledNames.custom_vendor-text, SpelledNames.known-second, SpelledNames.system-stays, SpelledOnce.AreKnown, SpelledOnce.IsFirst, SpelledOnce.is_first, SpelledOnce.rule-known, SpelledReading.read-stays}
 
 -- the first name after the architecture spells itself

@@ -1,7 +1,7 @@
 -- The shape of a triple in a dialect: the triple without what its names don't state, by the rules of the dialect. The
 -- architecture gives up the versions that are listed here, and the vendor is the usual one of the system. The binary format
 -- stays, so that a name never stands for another one.
-use Rattle.std.specs.Prelude.{Bool, true, false, None, option_map, if◌then◌else◌}
+use Rattle.std.specs.Prelude.{Bool, None, option_map, if◌then◌else◌}
 use Rattle.lexicon_fields.specs.{declared.architecture.arm.ArmArchitecture.ArmArchitecture, declared.deployment_target.DeploymentTarget.DeploymentTarget, declared.known_vendor.KnownVendor.KnownVendor}
 use Rattle.lexicon_fields.specs.declared.known_vendor.KnownVendor.TheVariants as vendor
 use Rattle.lexicon_fields.specs.declared.architecture.x86_32.X86_32Architecture.{X86_32Architecture}
