@@ -6,7 +6,8 @@ from names_table import Mistake, columns, filled
 
 PATH = "tools/names/elsewhere.tsv"
 DAY = re.compile(r"\d{4}-\d\d-\d\d")
-# The check of a function that lends a table grows with the square of its rows, so a dialect has several tables.
+# The check of a function that lends a table grows with the square of its rows, so a dialect has several tables: with 100 rows in each, a new
+# row of rust takes 57 seconds of a processor instead of 36.
 TABLE_ROWS = 50
 WAYS = {"rw": "Both", "r": "Read", "w": "Written", "-": "NoTriple"}
 DIALECT, ONLY_WRITTEN = "# dialect ", "# only written: "

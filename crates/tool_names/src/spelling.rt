@@ -223,7 +223,7 @@ pub(crate) fn begin_alike(text: &str, part: &str) -> bool
 }
 
 /// Whether a part is this name, or the name with what may be its version.
-#[tactic(auto, using(crate::proofs::RuleLemmas::unlike_versioned))]
+#[tactic(auto, using(crate::proofs::RuleLemmas::unlike_versioned, lexicon_fields::proofs::OperatingSystemsReadBack::has_prefix, lexicon_fields::proofs::OperatingSystemsReadBack::has_no_prefix))]
 pub(crate) fn may_be_versioned(part: &str, name: &str) -> bool
     ensures { result ≡ spec.may_be_versioned part.now name.now }
 {
@@ -248,6 +248,7 @@ fn may_be_version(text: &[u8]) -> bool
 }
 
 /// Whether a part is this prefix and a version that is dropped.
+#[tactic(auto, using(lexicon_fields::proofs::OperatingSystemsReadBack::has_prefix, lexicon_fields::proofs::OperatingSystemsReadBack::has_no_prefix))]
 pub(crate) fn has_dropped_version(prefix: &str, part: &str) -> bool
     ensures { result ≡ spec.has_form form.Dropped prefix.now part.now [] }
 {
