@@ -59,7 +59,7 @@ macosx_11_256_arm64==
 macosx__0_arm64==
 macosx_11_0_arm64_==
 macosx_*_arm64==
-macosx_arm64==
+macosx_arm64=aarch64-apple-darwin=
 android_21_0_x86==
 manylinux_2_x86_64==
 manylinux_2_17_sparc==
