@@ -6,6 +6,15 @@ use crate::{Architecture, Environment, TripleRef, VendorRef, X86_32Architecture}
 use core::fmt::{self, Write};
 
 /// What the words of a name say, in whatever order they are: [`hint`] returns it. `Display` says it.
+///
+/// # Examples
+///
+/// ```
+/// use target_lexicon::tool_names::{hint, Hint};
+///
+/// assert!(matches!(hint("x64-linux"), Some(Hint::Triple(_))));
+/// assert_eq!(Hint::NoSystem.to_string(), "it names a machine, and no system");
+/// ```
 #[derive(Clone, Copy, Debug, PartialEq, Eq)]
 #[non_exhaustive]
 pub enum Hint {

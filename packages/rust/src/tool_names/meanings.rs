@@ -4,6 +4,15 @@ use crate::TripleRef;
 use core::fmt;
 
 /// Whose name it is: that of a dialect, or of nobody but who spells triples. `Display` says it in a word.
+///
+/// # Examples
+///
+/// ```
+/// use target_lexicon::tool_names::{Dialect, NameOf};
+///
+/// assert_eq!(NameOf::Dialect(Dialect::Go).to_string(), "go");
+/// assert_eq!(NameOf::Triple.to_string(), "triple");
+/// ```
 #[derive(Clone, Copy, Debug, PartialEq, Eq, Hash)]
 pub enum NameOf {
     /// A tool's name.
@@ -43,6 +52,16 @@ impl fmt::Display for NameOf {
 }
 
 /// What a name means to one tool: an item of [`meanings`].
+///
+/// # Examples
+///
+/// ```
+/// use target_lexicon::tool_names::{meanings, Meaning};
+///
+/// let Meaning { of, triple, .. } = meanings("linux/amd64").next().unwrap();
+/// assert_eq!(of.name(), "go");
+/// assert_eq!(triple.unwrap().to_string(), "x86_64-unknown-linux");
+/// ```
 #[derive(Clone, Copy, Debug, PartialEq, Eq, Hash)]
 pub struct Meaning<'a> {
     /// Whose name it is.
