@@ -1,13 +1,13 @@
 -- The answers to the lines of an input, one after another.
-use Rattle.std.proofs.Common.{◌≡◌, ℕ, Bool, true, false, ◌||◌, not, List, [], ◌∷◌, ◌++◌, codes, String, if◌then◌else◌, Option, Some, None, MatchOption, Result, Ok, Err, OnOk, refl, sym, ap, ◌∙◌, append_assoc}
+use Rattle.std.proofs.Common.{◌≡◌, ℕ, Bool, true, false, ◌||◌, not, List, [], ◌∷◌, ◌++◌, String, if◌then◌else◌, Option, Some, None, MatchOption, Result, Ok, Err, OnOk, refl, sym, ap, ◌∙◌, append_assoc}
 use Rattle.std.proofs.{lemmas.List.append-nil, lemmas.List.Folds.list_any-append, Math.Bool.or-false}
 use Rattle.std.proofs.lemmas.{Bool.Decides.same_from_decides, Map.Text.hash_set_updates_text, Slice.Eq.bytes_eq-Decides}
 use Rattle.std.specs.{HashSet.IsEmpty, HashSet.UpdatesBy, HashSet.contains_text, List.list_any, Str.bytes_eq, String.string_bytes, String.string_eq}
 use Rattle.std.specs.declared.alloc.Global.{Global}
-use Rattle.target_lexicon.specs.{FixedPoints.canonical_text, Reading.ReadsAs, Reading.IsErrorOf, Reading.IsRefusedAs, Reading.MayAllocate, Refusal.Refusal, Refusal.refusal_line, Refusal.refusal_of, Values.Values, declared.parse_error.ParseError.ParseError}
+use Rattle.target_lexicon.specs.{FixedPoints.canonical_text, Reading.ReadsAs, Reading.IsErrorOf, Reading.IsRefusedAs, Reading.MayAllocate, Refusal.Refusal, Refusal.refusal_of, Values.Values, declared.parse_error.ParseError.ParseError}
 use Rattle.triples.specs.Lines.{line_feed}
 use Rattle.triples.specs.Output.{Answer, Shown, Refused, IsAnswer, AreAnswers, IsLineOutput, IsMatrix, shows, is_kept_after, kept_answers, matrix_of, answer_bytes, written_lines}
-use Rattle.triples.specs.Private.{Seen, HasOneMore, is_repeated, AddsAnswer, AddsEntry, AddsRefusal}
+use Rattle.triples.specs.Private.{Seen, HasOneMore, is_repeated, refused_answer, AddsAnswer, AddsEntry, AddsRefusal}
 
 -- the lines so far precede the rest, and these are their answers
 pub record AreAnswersSoFar (shown : Values → List ℕ) (lines rest : List (List ℕ)) (before : List Answer) : Type 0 where
@@ -102,30 +102,31 @@ matrix-whole none far = (far.before, so-far-end none far.answers, far.written_li
 
 -- what a line that parses adds, and what a refused line adds
 
-abbrev pub refused_text : Refusal → List ℕ
-refused_text refusal = codes "error: " ++ refusal_line refusal
-
-line-ended : (old text unended new : List ℕ) → unended ≡ old ++ text → new ≡ unended ++ line_feed ∷ [] → new ≡ old ++ (text ++ line_feed ∷ [])
-line-ended old text unended new grown ended = ended ∙ ap (λ (t : List ℕ). t ++ line_feed ∷ []) grown ∙ append_assoc old text (line_feed ∷ [])
-
 -- an error whose line was written is the refusal of the line
-pub error-refuses : (line old unended : List ℕ) (error : ParseError) → IsErrorOf line error → AddsRefusal error old unended
-    → (refusal : Refusal) × IsRefusedAs line refusal × (unended ≡ old ++ refused_text refusal)
-error-refuses line old unended error is adds =
+error-refuses : (line old new : List ℕ) (error : ParseError) → IsErrorOf line error → AddsRefusal error old new
+    → (refusal : Refusal) × IsRefusedAs line refusal × (new ≡ old ++ written_lines (refused_answer refusal ∷ []))
+error-refuses line old new error is adds =
     elim (refusal_of error) as
-    (λ (r : Option Refusal). MatchOption r (MayAllocate line) (λ refusal. IsRefusedAs line refusal) → MatchOption r ⊥ (λ refusal. unended ≡ old ++ refused_text refusal)
-    → (refusal : Refusal) × IsRefusedAs line refusal × (unended ≡ old ++ refused_text refusal))
+    (λ (r : Option Refusal). MatchOption r (MayAllocate line) (λ refusal. IsRefusedAs line refusal) → MatchOption r ⊥ (λ refusal. new ≡ old ++ written_lines (refused_answer refusal ∷ []))
+    → (refusal : Refusal) × IsRefusedAs line refusal × (new ≡ old ++ written_lines (refused_answer refusal ∷ [])))
     [ Some refusal ↦ λ refused grown. (refusal, refused, grown) | None ↦ λ _ bad. absurd bad ] is adds
 
--- an answer that was written, and then a line feed
-pub answer-adds : {T E : Type 0} (done : Result T E) (shown : Values → List ℕ) (line old unended new : List ℕ) (answer : Answer) → IsAnswer shown line answer
-    → unended ≡ old ++ answer_bytes answer → OnOk done (new ≡ unended ++ line_feed ∷ []) → OnOk done (AddsAnswer shown line old new)
-answer-adds (Ok _) shown line old unended new answer is grown ended = record {
-  answer = answer;
-  is = is;
-  grown = line-ended old (answer_bytes answer) unended new grown ended;
+pub refusal-adds : {T E : Type 0} (done : Result T E) (shown : Values → List ℕ) (line old new : List ℕ) (error : ParseError) → IsErrorOf line error
+    → OnOk done (AddsRefusal error old new) → OnOk done (AddsAnswer shown line old new)
+refusal-adds (Ok _) shown line old new error is adds =
+    let refused = error-refuses line old new error is adds in
+    record { answer = refused_answer refused.0; is = (refused.0, refused.1, refl); grown = refused.2 }
+refusal-adds (Err _) shown line old new error is adds = tt
+
+-- what is shown of a triple, and then a line feed
+pub shown-adds : {T E : Type 0} (done : Result T E) (shown : Values → List ℕ) (line old unended new : List ℕ) (t : Values) → ReadsAs line t
+    → unended ≡ old ++ shown t → OnOk done (new ≡ unended ++ line_feed ∷ []) → OnOk done (AddsAnswer shown line old new)
+shown-adds (Ok _) shown line old unended new t reads grown ended = record {
+  answer = Shown (shown t);
+  is = (t, reads, refl);
+  grown = ended ∙ ap (λ (text : List ℕ). text ++ line_feed ∷ []) grown ∙ append_assoc old (shown t) (line_feed ∷ []);
 }
-answer-adds (Err _) shown line old unended new answer is grown ended = tt
+shown-adds (Err _) shown line old unended new t reads grown ended = tt
 
 module _ (line old new : List ℕ) (seen_old seen_new : Seen) where
   unless-seen : (b : Bool) (text : List ℕ) → (if b then [] else text ++ line_feed ∷ []) ≡ written_lines (if b then [] else Shown text ∷ [])
@@ -144,15 +145,12 @@ module _ (line old new : List ℕ) (seen_old seen_new : Seen) where
   }
   read-enters (Err _) t text reads is grown seen = tt
 
-  pub refusal-enters : {T E : Type 0} (done : Result T E) (unended : List ℕ) (refusal : Refusal) → IsRefusedAs line refusal
-      → unended ≡ old ++ refused_text refusal → OnOk done (new ≡ unended ++ line_feed ∷ []) → OnOk done (AddsEntry line old new seen_old seen_old)
-  refusal-enters (Ok _) unended refusal refused grown ended = record {
-    answer = Refused (refused_text refusal);
-    is = (refusal, refused, refl);
-    grown = line-ended old (refused_text refusal) unended new grown ended;
-    seen = λ text. sym (or-false (contains_text seen_old text));
-  }
-  refusal-enters (Err _) unended refusal refused grown ended = tt
+  pub refusal-enters : {T E : Type 0} (done : Result T E) (error : ParseError) → IsErrorOf line error → OnOk done (AddsRefusal error old new)
+      → OnOk done (AddsEntry line old new seen_old seen_old)
+  refusal-enters (Ok _) error is adds =
+      let refused = error-refuses line old new error is adds in
+      record { answer = refused_answer refused.0; is = (refused.0, refused.1, refl); grown = refused.2; seen = λ text. sym (or-false (contains_text seen_old text)) }
+  refusal-enters (Err _) error is adds = tt
 
 bytes_eq-comm : (a b : List ℕ) → bytes_eq a b ≡ bytes_eq b a
 bytes_eq-comm a b =

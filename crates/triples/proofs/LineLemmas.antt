@@ -1,12 +1,22 @@
--- The first line of an input.
-use Rattle.std.proofs.Common.{◌≡◌, ◌∙◌, ap, ℕ, ◌+◌, ◌<◌, ◌==◌, Bool, List, [], ◌∷◌, length, refl, arith}
-use Rattle.std.specs.List.{slice_split, position_or_len, before_first, after_first}
-use Rattle.std.proofs.lemmas.List.Sums.{fails_before_first}
-use Rattle.std.proofs.lemmas.List.Splits.{slice_split_first, slice_split_none, length-slice_split}
+-- The lines that an iterator has left.
+use Rattle.std.proofs.Common.{◌≡◌, ◌∙◌, ap, sym, subst, ℕ, ◌+◌, ◌<◌, ◌==◌, Bool, true, false, if◌then◌else◌, List, [], ◌∷◌, ◌++◌, length, take, drop, Option, Some, None, MatchOption, refl, arith}
+use Rattle.std.specs.List.{All, slice_split}
+use Rattle.std.specs.Str.{NoCharPasses}
+use Rattle.std.specs.Str.Pattern.{FindsChar}
+use Rattle.std.specs.Str.Iter.{split_text, split_has_more, split_terminator_parts, split_terminator_pattern, split_terminator_steps}
+use Rattle.std.specs.declared.str.SplitTerminator.{SplitTerminator}
+use Rattle.std.proofs.lemmas.Bool.{ne_eqb}
+use Rattle.std.proofs.lemmas.List.{get_or_default, nil_from_length, take-append-drop}
+use Rattle.std.proofs.lemmas.List.Splits.{slice_split_at, slice_split_none, length-slice_split}
+use Rattle.std.proofs.lemmas.Str.Pattern.{NoCharPasses-char, drop_at_char}
 use Rattle.triples.specs.Lines.{line_feed, parts_without_empty_last, lines_of}
 
-abbrev pub is_line_feed : ℕ → Bool
+abbrev is_line_feed : ℕ → Bool
 is_line_feed b = b == line_feed
+
+-- the lines of the text that `split_terminator` has left, and none after its last part
+abbrev pub lines_left : SplitTerminator ℕ → List (List ℕ)
+lines_left it = if split_has_more (split_terminator_parts it) then lines_of (split_text (split_terminator_parts it)) else []
 
 stays-first : (part : List ℕ) (parts : List (List ℕ)) → 0 < length part + length parts → parts_without_empty_last (part ∷ parts) ≡ part ∷ parts_without_empty_last parts
 stays-first [] [] some = absurd (omega arith)
@@ -14,16 +24,44 @@ stays-first [] (next ∷ parts) some = refl
 stays-first (b ∷ bs) [] some = refl
 stays-first (b ∷ bs) (next ∷ parts) some = refl
 
--- an input that has a line feed is cut at the first one
-pub lines_of-cut : (text : List ℕ) → position_or_len is_line_feed text < length text
-    → lines_of text ≡ before_first is_line_feed text ∷ lines_of (after_first is_line_feed text)
-lines_of-cut text below =
-    let rest = after_first is_line_feed text in
-    ap parts_without_empty_last (slice_split_first is_line_feed text 0 below)
-    ∙ stays-first _ (slice_split is_line_feed rest) (omega (arith, length-slice_split is_line_feed rest))
+has-none : (text : List ℕ) → NoCharPasses is_line_feed text → All (λ b. is_line_feed b ≡ false) text
+has-none text none k d below = ne_eqb _ line_feed (λ is. NoCharPasses-char line_feed text k none (omega arith) below (get_or_default text k 0 d below ∙ is))
 
--- an input without a line feed is one line
-pub lines_of-whole : (text : List ℕ) → 0 < length text → position_or_len is_line_feed text ≡ length text → lines_of text ≡ text ∷ []
-lines_of-whole text some past =
-    rw (slice_split_none is_line_feed text (λ k d h. fails_before_first is_line_feed text k d (omega (arith, past, h))))
-    (stays-first text [] (omega (arith, some)))
+-- a text is cut at its first line feed, or is one line
+lines_of-cut : (text line rest : List ℕ) (more : Bool) (found : Option (ℕ × ℕ)) → FindsChar line_feed text found
+    → MatchOption found ((line ≡ text) × (more ≡ false)) (λ at. 0 < at.1 → (line ≡ take at.0 text) × (more ≡ true) × (rest ≡ drop at.1 text))
+    → (length line ≡ 0 → more ≡ true)
+    → lines_of text ≡ line ∷ (if more then lines_of rest else [])
+lines_of-cut text [] rest more None finds cut some = let bad : false ≡ true = sym cut.1 ∙ some refl in absurd cc
+lines_of-cut text (b ∷ line) rest more None finds cut some =
+    rw (cut.1, ← cut.0) (ap parts_without_empty_last (slice_split_none is_line_feed (b ∷ line) (has-none (b ∷ line) (rw cut.0 finds))))
+lines_of-cut text line rest more (Some at) finds cut some =
+    let is = cut (omega (arith, finds.1.ends)) in
+    let whole : text ≡ line ++ line_feed ∷ rest =
+    sym (take-append-drop at.0 text) ∙ ap (λ (t : List ℕ). t ++ drop at.0 text) (sym is.0)
+    ∙ ap (λ (t : List ℕ). line ++ t) (drop_at_char line_feed text at.0 at.1 finds.1 (omega arith) ∙ ap (λ (t : List ℕ). line_feed ∷ t) (sym is.2)) in
+    rw is.1
+    (ap lines_of whole ∙ ap parts_without_empty_last (slice_split_at is_line_feed line line_feed rest (has-none line (rw is.0 finds.0)) refl)
+    ∙ stays-first line (slice_split is_line_feed rest) (omega (arith, length-slice_split is_line_feed rest)))
+
+-- each part is the next line
+pub lines_left-some : (it next : SplitTerminator ℕ) (line : _) → split_terminator_pattern it ≡ line_feed
+    → split_terminator_steps FindsChar (λ c d. d ≡ c) it (Some line) next → lines_left it ≡ line.now ∷ lines_left next
+lines_left-some it next line pattern steps =
+    let cut = steps.2.1 in
+    let text = split_text (split_terminator_parts it) in
+    rw steps.0 (lines_of-cut text line.now _ _ cut.0 (subst (λ (c : ℕ). FindsChar c text cut.0) pattern cut.1) cut.2 steps.3)
+
+no-lines : (text : List ℕ) (found : Option (ℕ × ℕ)) → FindsChar line_feed text found → MatchOption found (length text ≡ 0) (λ at. at.1 ≡ 0) → lines_of text ≡ []
+no-lines text None finds end = ap lines_of (nil_from_length text end)
+no-lines text (Some at) finds end = absurd (omega (arith, finds.1.ends, end))
+
+pub lines_left-none : (it next : SplitTerminator ℕ) → split_terminator_pattern it ≡ line_feed
+    → split_terminator_steps FindsChar (λ c d. d ≡ c) it None next → lines_left it ≡ []
+lines_left-none it next pattern steps =
+    let text = split_text (split_terminator_parts it) in
+    elim (split_has_more (split_terminator_parts it)) as
+    (λ b. (b ≡ true → (found : Option (ℕ × ℕ)) × FindsChar (split_terminator_pattern it) text found × MatchOption found (length text ≡ 0) (λ at. at.1 ≡ 0))
+    → (if b then lines_of text else []) ≡ [])
+    [ true ↦ λ end. let found = end refl in no-lines text found.0 (subst (λ (c : ℕ). FindsChar c text found.0) pattern found.1) found.2 | false ↦ λ _. refl ]
+    steps.0

@@ -4,15 +4,11 @@ use Rattle.std.specs.declared.alloc.Global.{Global}
 use Rattle.std.specs.HashSet.{HashSet, contains_text}
 use Rattle.std.specs.declared.hash.{BuildHasherDefault.BuildHasherDefault, FoldHasher.FoldHasher}
 use Rattle.std.specs.Str.{bytes_eq}
-use Rattle.target_lexicon.specs.{FixedPoints.canonical_text, Printing.text_of, Reading.ReadsAs, Refusal.refusal_line, Refusal.refusal_of, declared.parse_error.ParseError.ParseError, Values.Values}
+use Rattle.target_lexicon.specs.{FixedPoints.canonical_text, Printing.text_of, Refusal.Refusal, Refusal.refusal_line, Refusal.refusal_of, declared.parse_error.ParseError.ParseError, Values.Values}
 use Rattle.triples.specs.Facts.{text_with_facts}
 use Rattle.triples.specs.declared.mode.Mode.{Mode}
 use Rattle.triples.specs.declared.mode.Mode.TheVariants.{Print, Show, Settle, Json, Matrix}
 use Rattle.triples.specs.Output.{Answer, Shown, Refused, IsAnswer, shows, written_lines}
-
--- a string parses as the triple
-abbrev pub IsParsed : Values → Type 0
-IsParsed t = (text : List ℕ) × ReadsAs text t
 
 -- what a mode shows of a triple
 abbrev pub shown_text : Mode → Values → List ℕ
@@ -35,9 +31,13 @@ abbrev pub is_repeated : Seen → Answer → Bool
 is_repeated seen (Shown text) = contains_text seen text
 is_repeated seen (Refused message) = false
 
--- the output grew by `error: ` and the line of the refusal, and the error is a refusal
+-- the answer to a line that is refused
+abbrev pub refused_answer : Refusal → Answer
+refused_answer refusal = Refused (codes "error: " ++ refusal_line refusal)
+
+-- the error is a refusal, and the output grew by its answer
 abbrev pub AddsRefusal : ParseError → List ℕ → List ℕ → Type 0
-AddsRefusal error old new = MatchOption (refusal_of error) ⊥ (λ refusal. new ≡ old ++ (codes "error: " ++ refusal_line refusal))
+AddsRefusal error old new = MatchOption (refusal_of error) ⊥ (λ refusal. new ≡ old ++ written_lines (refused_answer refusal ∷ []))
 
 -- the output grew by the answer to a line
 pub record AddsAnswer (shown : Values → List ℕ) (line old new : List ℕ) : Type 0 where

@@ -5,7 +5,7 @@ ghost use Rattle.triples.specs.Lines.{line_feed, lines_of};
 ghost use Rattle.triples.specs.Output.{IsMatrix};
 ghost use Rattle.triples.specs.Private.{AddsEntry, HasOneMore};
 
-use crate::lines::{first_line, push_refusal};
+use crate::lines::push_refusal;
 use std::alloc::{AllocError, Global};
 use std::collections::HashSet;
 use target_lexicon::Triple;
@@ -18,11 +18,8 @@ pub(crate) fn matrix(alloc: Global, input: &str) -> Result<String, AllocError>
 {
     let mut output = String::new(alloc);
     let mut seen = HashSet::new(alloc);
-    let mut rest = input;
-    while !rest.is_empty() {
-        let (line, others) = first_line(rest);
+    for line in input.split_terminator('\n') {
         push_entry(alloc, &mut output, &mut seen, line)?;
-        rest = others;
     }
     Ok(output)
 }
@@ -41,10 +38,7 @@ fn push_entry(
     read_vendors_are_plain();
     match Triple::from_str(alloc, line) {
         Ok(triple) => push_first(output, seen, triple.settle().to_text(alloc)?),
-        Err(error) => {
-            push_refusal(output, error)?;
-            output.push('\n')
-        }
+        Err(error) => push_refusal(output, error),
     }
 }
 

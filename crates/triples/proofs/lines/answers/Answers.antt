@@ -1,23 +1,31 @@
--- Each iteration answers the first remaining line.
-use Rattle.std.proofs.Common.{ap, rules, arith}
-use Rattle.std.proofs.{lemmas.Grind.common_steps, lemmas.List.nil_from_length}
-use Rattle.triples.specs.Lines.{lines_of}
+-- Each iteration answers the first line that is left.
+use Rattle.std.proofs.Common.{◌∙◌, arith}
+use Rattle.std.proofs.{lemmas.Grind.common_steps}
 use Rattle.triples.proofs.AnswerLemmas.{so-far-none, so-far-more, so-far-whole}
+use Rattle.triples.proofs.LineLemmas.{lines_left-some, lines_left-none}
 use Rattle.triples.proofs.lines.answers.Goals as goal
 
-pub loop-rest-init : goal.loop-rest-init
-loop-rest-init c = record {
-  utf8 = search rules;
-  shorter = omega arith;
-  so_far = so-far-none (grind (arith, common_steps));
-}
+pub loop-line-init : goal.loop-line-init
+loop-line-init c =
+    let made = c.split_terminator-line-items.ensures in
+    rw c.into_iter-line-iterator.ensures.into_iter_gives
+    record {
+      pattern = made.pattern;
+      shorter = rw made.text (omega arith);
+      so_far = rw (made.has_more, made.text) (so-far-none (grind (arith, common_steps)));
+    }
 
-pub loop-rest-preserved : goal.loop-rest-preserved
-loop-rest-preserved c = record {
-  utf8 = search rules;
-  shorter = omega arith;
-  so_far = so-far-more c.first_line.ensures.lines c.in_ok-push_answer.ensures c.loop-rest.invariant.so_far;
-}
+pub loop-line-preserved : goal.loop-line-preserved
+loop-line-preserved c =
+    let inv = c.loop-line.invariant in
+    let steps = c.in-Some.ensures.steps in
+    record {
+      pattern = steps.1 ∙ inv.pattern;
+      shorter = omega (arith, steps.2.0, inv.shorter);
+      so_far = so-far-more (lines_left-some c.loop-line.line-iterator c.next.new.self c.in-Some.line inv.pattern steps) c.in_ok-push_answer.ensures inv.so_far;
+    }
 
 pub returns-clause-output : goal.returns-clause-output
-returns-clause-output c = so-far-whole (ap lines_of (nil_from_length c.loop-rest.rest.now (grind arith))) c.loop-rest.invariant.so_far
+returns-clause-output c =
+    let inv = c.loop-line.invariant in
+    so-far-whole (lines_left-none c.loop-line.line-iterator c.next.new.self inv.pattern c.in-None.ensures.steps) inv.so_far

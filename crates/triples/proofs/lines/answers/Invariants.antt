@@ -1,18 +1,15 @@
 -- The lines so far have been answered.
-use Rattle.std.proofs.Common.{length, string_bytes, ◌≤◌}
-use denote.Text.{Utf8}
-use denote.Shadow.{shadow}
-use Rattle.triples.specs.Lines.{lines_of}
+use Rattle.std.proofs.Common.{◌≡◌, ◌≤◌, length, string_bytes}
+use Rattle.std.specs.Str.Iter.{split_text, split_terminator_parts, split_terminator_pattern}
+use Rattle.triples.specs.Lines.{line_feed, lines_of}
 use Rattle.triples.specs.Private.{shown_text}
 use Rattle.triples.proofs.AnswerLemmas.{IsSoFar}
+use Rattle.triples.proofs.LineLemmas.{lines_left}
 use Rattle.triples.proofs.lines.answers.Given as goal
 
-abbrev pub invariant-loop-rest : goal.invariant-loop-rest
-invariant-loop-rest l = record {
-  utf8 : shadow (Utf8 l.rest);
-  shorter : length l.rest ≤ length l.input;
-  so_far : IsSoFar (shown_text l.mode) (lines_of l.input) (lines_of l.rest) (string_bytes l.output);
+abbrev pub invariant-loop-line : goal.invariant-loop-line
+invariant-loop-line l = record {
+  pattern : split_terminator_pattern l.line-iterator ≡ line_feed;
+  shorter : length (split_text (split_terminator_parts l.line-iterator)) ≤ length l.input;
+  so_far : IsSoFar (shown_text l.mode) (lines_of l.input) (lines_left l.line-iterator) (string_bytes l.output);
 }
-
-abbrev pub decreases-loop-rest : goal.decreases-loop-rest
-decreases-loop-rest l = length l.rest

@@ -1,27 +1,32 @@
--- The answer to a line is what is shown of its triple, or its refusal.
-use Rattle.std.proofs.Common.{◌≡◌, ◌++◌, ◌∙◌, ap, refl, string_bytes, rules}
-use Rattle.target_lexicon.specs.Values.{values_of}
-use Rattle.triples.specs.Output.{Answer, Shown, Refused, IsAnswer, answer_bytes}
-use Rattle.triples.specs.Private.{shown_text}
-use Rattle.triples.proofs.AnswerLemmas.{answer-adds, error-refuses, refused_text}
-use Rattle.triples.proofs.lines.push_answer.Goals.{in-Ok+in_ok-push_shown-in-Ok, in-Err+in_ok-push_refusal-in-Err}
+-- The answer to a line is what is shown of its triple, which has a plain vendor, or its refusal.
+use Rattle.std.proofs.Common.{◌≡◌, ◌++◌, ◌∙◌, ℕ, List, ap, append_assoc, string_bytes, rules}
+use Rattle.target_lexicon.specs.{Printing.text_of, Values.values_of}
+use Rattle.triples.specs.{Facts.facts_of, Private.shown_text}
+use Rattle.triples.proofs.AnswerLemmas.{refusal-adds, shown-adds}
+use Rattle.triples.proofs.lines.push_answer.Goals.{in-Show+in_ok-push_facts-in-Show, in-Print-mode}
 use Rattle.triples.proofs.lines.push_answer.Goals as goal
 
-pub push_shown-requires : goal.push_shown-requires
-push_shown-requires c = (c.args.line.now, c.in-Ok.ensures.ok)
+pub settle-shown-requires : goal.settle-shown-requires
+settle-shown-requires c = c.read_vendors_are_plain.ensures _ _ c.in-Ok.ensures.ok
 
-pub returns : goal.returns
-returns c =
-    let shown = shown_text c.args.mode in
+pub returns-after-mode-2 : goal.returns-after-mode-2
+returns-after-mode-2 c =
+    let t = values_of c.in-Ok.triple in
     let old = string_bytes c.args.output.now in
-    let unended : (answer : Answer) × IsAnswer shown c.args.line.now answer × (string_bytes c.match-from_str.output ≡ old ++ answer_bytes answer) =
-    elim c.match-from_str.branch [
-      | in-Ok+in_ok-push_shown-in-Ok w ↦
-          let t = values_of w.in-Ok.triple in
-          (Shown (shown t), (t, w.in-Ok.ensures.ok, refl), ap string_bytes w.output-is ∙ w.in_ok-push_shown-in-Ok.ensures)
-      | in-Err+in_ok-push_refusal-in-Err w ↦
-          let refused = error-refuses _ old _ w.in-Err.error w.in-Err.ensures.err w.in_ok-push_refusal-in-Err.ensures in
-          (Refused (refused_text refused.0), (refused.0, refused.1, refl), ap string_bytes w.output-is ∙ refused.2)
+    let printed : string_bytes c.push_str.new.self ≡ old ++ text_of (values_of c.match-mode.shown) = search rules in
+    let grown : string_bytes c.match-mode-2.output ≡ old ++ shown_text c.args.mode t =
+    elim c.match-mode-2.branch [
+      | in-Show+in_ok-push_facts-in-Show v ↦
+          let facts = facts_of (values_of c.match-mode.shown) in
+          let grown : string_bytes c.match-mode-2.output ≡ old ++ (text_of (values_of c.match-mode.shown) ++ facts) =
+          ap string_bytes v.output-is ∙ v.in_ok-push_facts-in-Show.ensures ∙ ap (λ (x : List ℕ). x ++ facts) printed ∙ append_assoc old _ facts in
+          search rules
+      | in-Print-mode v ↦ search rules
     ] in
-    answer-adds c.push.result shown c.args.line.now old (string_bytes c.match-from_str.output) (string_bytes c.push.new.self) unended.0 unended.1 unended.2
-    (search rules)
+    shown-adds c.push.result (shown_text c.args.mode) c.args.line.now old (string_bytes c.match-mode-2.output) (string_bytes c.push.new.self)
+    t c.in-Ok.ensures.ok grown (search rules)
+
+pub returns-in-Err : goal.returns-in-Err
+returns-in-Err c =
+    refusal-adds c.push_refusal.result (shown_text c.args.mode) c.args.line.now (string_bytes c.args.output.now) (string_bytes c.push_refusal.new.output)
+    c.in-Err.error c.in-Err.ensures.err c.push_refusal.ensures

@@ -1,23 +1,31 @@
--- Each iteration adds the entry of the first remaining line.
-use Rattle.std.proofs.Common.{ap, rules, arith}
-use Rattle.std.proofs.{lemmas.Grind.common_steps, lemmas.List.nil_from_length}
-use Rattle.triples.specs.Lines.{lines_of}
+-- Each iteration adds the entry of the first line that is left.
+use Rattle.std.proofs.Common.{◌∙◌, arith}
+use Rattle.std.proofs.{lemmas.Grind.common_steps}
 use Rattle.triples.proofs.AnswerLemmas.{matrix-none, matrix-more, matrix-whole, none-seen}
+use Rattle.triples.proofs.LineLemmas.{lines_left-some, lines_left-none}
 use Rattle.triples.proofs.matrix.matrix.Goals as goal
 
-pub loop-rest-init : goal.loop-rest-init
-loop-rest-init c = record {
-  utf8 = search rules;
-  shorter = omega arith;
-  so_far = matrix-none (grind (arith, common_steps)) (none-seen c.new-seen.result c.new-seen.ensures.empty);
-}
+pub loop-line-init : goal.loop-line-init
+loop-line-init c =
+    let made = c.split_terminator-line-items.ensures in
+    rw c.into_iter-line-iterator.ensures.into_iter_gives
+    record {
+      pattern = made.pattern;
+      shorter = rw made.text (omega arith);
+      so_far = rw (made.has_more, made.text) (matrix-none (grind (arith, common_steps)) (none-seen c.new-seen.result c.new-seen.ensures.empty));
+    }
 
-pub loop-rest-preserved : goal.loop-rest-preserved
-loop-rest-preserved c = record {
-  utf8 = search rules;
-  shorter = omega arith;
-  so_far = matrix-more c.first_line.ensures.lines c.in_ok-push_entry.ensures c.loop-rest.invariant.so_far;
-}
+pub loop-line-preserved : goal.loop-line-preserved
+loop-line-preserved c =
+    let inv = c.loop-line.invariant in
+    let steps = c.in-Some.ensures.steps in
+    record {
+      pattern = steps.1 ∙ inv.pattern;
+      shorter = omega (arith, steps.2.0, inv.shorter);
+      so_far = matrix-more (lines_left-some c.loop-line.line-iterator c.next.new.self c.in-Some.line inv.pattern steps) c.in_ok-push_entry.ensures inv.so_far;
+    }
 
 pub returns-clause-output : goal.returns-clause-output
-returns-clause-output c = matrix-whole (ap lines_of (nil_from_length c.loop-rest.rest.now (grind arith))) c.loop-rest.invariant.so_far
+returns-clause-output c =
+    let inv = c.loop-line.invariant in
+    matrix-whole (lines_left-none c.loop-line.line-iterator c.next.new.self inv.pattern c.in-None.ensures.steps) inv.so_far

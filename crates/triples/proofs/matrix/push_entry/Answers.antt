@@ -1,7 +1,7 @@
 -- The entry of a line is its canonical triple, printed, or its refusal.
-use Rattle.std.proofs.Common.{string_bytes, ap, rules, ◌∙◌}
+use Rattle.std.proofs.Common.{string_bytes, ap, ◌∙◌}
 use Rattle.target_lexicon.specs.{Printing.text_of, Values.values_of}
-use Rattle.triples.proofs.AnswerLemmas.{error-refuses, read-enters, refusal-enters}
+use Rattle.triples.proofs.AnswerLemmas.{read-enters, refusal-enters}
 use Rattle.triples.proofs.matrix.push_entry.Goals as goal
 
 pub settle-requires : goal.settle-requires
@@ -13,8 +13,7 @@ returns-in_ok-to_text-in-Ok c =
     c.push_first.result (values_of c.in-Ok.triple) _ c.in-Ok.ensures.ok
     (c.in_ok-to_text-in-Ok.ensures ∙ ap text_of c.settle.ensures.steps) c.push_first.ensures.output c.push_first.ensures.seen
 
-pub returns-in_ok-push_refusal-in-Err : goal.returns-in_ok-push_refusal-in-Err
-returns-in_ok-push_refusal-in-Err c =
-    let refused = error-refuses _ _ _ c.in-Err.error c.in-Err.ensures.err c.in_ok-push_refusal-in-Err.ensures in
-    refusal-enters c.args.line.now (string_bytes c.args.output.now) (string_bytes c.push.new.self) c.args.seen.now c.args.seen.now
-    c.push.result (string_bytes c.push_refusal.new.output) refused.0 refused.1 refused.2 (search rules)
+pub returns-in-Err : goal.returns-in-Err
+returns-in-Err c =
+    refusal-enters c.args.line.now (string_bytes c.args.output.now) (string_bytes c.push_refusal.new.output) c.args.seen.now c.args.seen.now
+    c.push_refusal.result c.in-Err.error c.in-Err.ensures.err c.push_refusal.ensures
