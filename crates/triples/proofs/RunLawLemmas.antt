@@ -1,14 +1,14 @@
 -- The laws of how runs end.
-use Rattle.std.proofs.Common.{◌≡◌, ◌≢◌, ◌↔◌, ℕ, ◌+◌, List, [], ◌++◌, Option, Some, None, IfSome, MatchOption, IsErrOf, Result, Ok, Err, refl, sym, subst, ◌∙◌, arith}
+use Rattle.std.proofs.Common.{◌≡◌, ◌↔◌, ℕ, List, [], ◌++◌, Option, Some, None, IfSome, MatchOption, IsErrOf, Result, Ok, Err, refl, sym, subst, ◌∙◌, arith}
 use Rattle.std.proofs.lemmas.List.{append_cancel_left, append-nil}
 use Rattle.std.specs.Io.KnownBytes.{Appends, Keeps}
 use Rattle.std.specs.Str.{IsUtf8}
 use Rattle.serde_json.specs.{Data.Data, Find.as_array, Read.read}
 use Rattle.target_lexicon.specs.Laws.{EveryTextHasOneOutcome}
 use Rattle.triples.specs.{JsonOutput.IsJsonInputErrorOf, Output.IsOutput, Streams.AppendsBeginning, Run.Use, Run.IsUnfailed, Run.HasFailed, Run.IfKnownText, Run.IsWritten, Run.EndsAs}
-use Rattle.triples.specs.RunLaws.{RunGives, RunsEndOneWay, IsJudged, HasExactErrors, ErrorsOfRunsAreExact}
+use Rattle.triples.specs.RunLaws.{RunGives, RunsEndOneWay, IsJudged, ErrorsOfRunsAreExact}
 use Rattle.triples.specs.declared.mode.Mode.{Mode}
-use Rattle.triples.specs.declared.mode.Mode.TheVariants.{Print, Show, Settle, Json, Matrix}
+use Rattle.triples.specs.declared.mode.Mode.TheVariants.{Json}
 use Rattle.triples.specs.declared.run_error.RunError.{RunError}
 use Rattle.triples.specs.declared.run_error.RunError.TheVariants as run_error
 use Rattle.triples.proofs.UniqueOutputs.{outputs-unique, text-is-json, text-is-list}

@@ -1,5 +1,5 @@
 -- An input has at most one output in a mode, and none if it isn't a JSON list.
-use Rattle.std.proofs.Common.{◌≡◌, ◌≢◌, ◌<◌, ℕ, zero, suc, List, [], ◌∷◌, ◌++◌, codes, Option, Some, None, MatchOption, inl, inr, refl, sym, ap, subst, ◌∙◌, arith}
+use Rattle.std.proofs.Common.{◌≡◌, ◌≢◌, ℕ, zero, suc, List, [], ◌∷◌, ◌++◌, codes, Option, Some, None, MatchOption, inl, inr, refl, sym, ap, subst, ◌∙◌, arith}
 use Rattle.std.proofs.lemmas.Bool.{cases_lt}
 use Rattle.serde_json.specs.{Data.Data, Data.string, Data.Items, Data.no_items, Data.item, Find.as_array, Find.as_str, Find.get_item, Read.read, Written.compact_text}
 use Rattle.target_lexicon.specs.{Json.JsonReadsAs, Json.JsonErrorValue, Json.NotText, Json.Parse, Json.Element, Json.IsJsonErrorOf, Json.ElementsReadAs, Json.IsFirstError, Json.list_json_of, Json.list_error_line}

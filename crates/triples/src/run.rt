@@ -1,10 +1,9 @@
 //! A run, from a reader to a writer, and the end of the program.
-ghost use Rattle.std.specs.Prelude.{◌≡◌, string_bytes, IfOk, IfErr};
+ghost use Rattle.std.specs.Prelude.{◌≡◌, [], ◌∷◌, ◌++◌};
 ghost use Rattle.std.specs.Io.KnownBytes.{Appends};
 ghost use Rattle.triples.specs.Run.{EndsAs, use_of};
 ghost use Rattle.triples.specs.Streams.{inner, failures, AppendsBeginning};
-ghost use Rattle.triples.specs.Faults.{fault_line};
-ghost use Rattle.triples.specs.Output.{IsOutput, IsInputErrorOf};
+ghost use Rattle.triples.specs.Lines.{line_feed};
 ghost use Rattle.triples.specs.Words.{status_of, closing_words};
 
 use crate::json::json_output;
@@ -12,7 +11,7 @@ use crate::lines::answers;
 use crate::matrix::matrix;
 use crate::mode::Mode;
 use crate::run_error::RunError;
-use crate::streams::{Counted, read_all, write_all, write_and_flush};
+use crate::streams::{Counted, read_all, write_all};
 use std::alloc::Global;
 use std::io::{Read, Write};
 
@@ -45,19 +44,15 @@ pub fn run<R: Read, W: Write>(
     let Ok(input) = str::from_utf8(&bytes) else {
         return Err(RunError::NotUtf8);
     };
-    let output = output(alloc, mode, input)?;
-    write_and_flush(w, output.as_bytes())
-}
-
-/// The output of a mode for an input, or why there is none. Nothing is allocated for an empty input.
-fn output(alloc: Global, mode: Mode, input: &str) -> Result<String, RunError>
-    ensures output { IfOk result (λ output. IsOutput mode input.now (string_bytes output)) }
-    ensures err { IfErr result (λ e. IsInputErrorOf mode input.now e) }
-{
-    match mode {
-        Mode::Print | Mode::Show | Mode::Settle => Ok(answers(alloc, mode, input)?),
-        Mode::Matrix => Ok(matrix(alloc, input)?),
-        Mode::Json => json_output(alloc, input),
+    let output = match mode {
+        Mode::Print | Mode::Show | Mode::Settle => answers(alloc, mode, input)?,
+        Mode::Matrix => matrix(alloc, input)?,
+        Mode::Json => json_output(alloc, input)?,
+    };
+    write_all(w, output.as_bytes())?;
+    match w.flush() {
+        Ok(()) => Ok(()),
+        Err(_) => Err(RunError::Write),
     }
 }
 
@@ -77,24 +72,27 @@ pub fn conclude<W: Write>(end: Option<Result<(), RunError>>, w: &mut Counted<W>)
     match end {
         Some(Ok(())) => 0,
         Some(Err(error)) => {
-            let _ = write_fault(w, error);
+            let _ = write_line(w, "fault: ", error.line());
             1
         }
         None => {
-            let _ = write_and_flush(w, b"usage: triples [MODE]\n");
+            let _ = write_line(w, "usage: ", "triples [MODE]");
             2
         }
     }
 }
 
-/// Writes `fault: ` and the line of the error, and flushes. If the writer fails, a part of the line may be missing.
-fn write_fault<W: Write>(writer: &mut Counted<W>, error: RunError) -> Result<(), RunError>
+/// Writes the first word of a line, the rest of it and a line feed, and flushes. If the writer fails, a part of the line may be
+/// missing.
+fn write_line<W: Write>(writer: &mut Counted<W>, word: &str, rest: &str) -> Result<(), RunError>
     ensures said { failures writer.new ≡ failures writer.old →
-        Appends (W.contents (inner writer.old)) (W.contents (inner writer.new)) (fault_line error) }
+        Appends (W.contents (inner writer.old)) (W.contents (inner writer.new))
+        (word.now ++ (rest.now ++ line_feed ∷ [])) }
     ensures begun { AppendsBeginning (W.contents (inner writer.old)) (W.contents (inner writer.new))
-        (fault_line error) }
+        (word.now ++ (rest.now ++ line_feed ∷ [])) }
 {
-    write_all(writer, b"fault: ")?;
-    write_all(writer, error.line().as_bytes())?;
-    write_and_flush(writer, b"\n")
+    write_all(writer, word.as_bytes())?;
+    write_all(writer, rest.as_bytes())?;
+    write_all(writer, b"\n")?;
+    writer.flush().map_err(|_| RunError::Write)
 }

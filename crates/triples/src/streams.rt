@@ -136,20 +136,3 @@ pub fn write_all<W: Write>(writer: &mut Counted<W>, bytes: &[u8]) -> Result<(), 
     }
     Ok(())
 }
-
-/// Writes all bytes and flushes.
-pub fn write_and_flush<W: Write>(writer: &mut Counted<W>, bytes: &[u8]) -> Result<(), RunError>
-    ensures ok { OnOk result
-        (Appends (W.contents (inner writer.old)) (W.contents (inner writer.new)) bytes.now) }
-    ensures unfailed { OnOk result (failures writer.new ≡ failures writer.old) }
-    ensures begun { AppendsBeginning (W.contents (inner writer.old)) (W.contents (inner writer.new))
-        bytes.now }
-    ensures failed { IfErr result
-        (λ e. (e ≡ RunError.Write) × (failures writer.new ≡ failures writer.old + 1)) }
-{
-    write_all(writer, bytes)?;
-    match writer.flush() {
-        Ok(()) => Ok(()),
-        Err(_) => Err(RunError::Write),
-    }
-}
