@@ -1,31 +1,42 @@
 -- What an index into the table gives.
-use Rattle.std.proofs.Common.{◌≡◌, ◌∙◌, ℕ, ◌<◌, List, [], ap, sym, map, length, get_or, arith}
-use Rattle.std.proofs.lemmas.List.{get_or-map, length-map}
-use Rattle.lexicon_fields.specs.FixedRow.{row_count, row_texts, row_text}
-use Rattle.lexicon_fields.proofs.RowTexts.{length-row_texts, row_text-default}
+use Rattle.std.proofs.Common.{◌≡◌, ◌∙◌, ℕ, zero, suc, ◌<◌, List, [], ◌∷◌, Bool, true, refl, ap, sym, map, get_or, ltb, arith}
+use Rattle.std.specs.{Borrow.Bor, List.list_all}
+use Rattle.std.proofs.{Math.ListN.get_or-map as mapped, lemmas.Bool.and_parts, lemmas.Bool.ltb-true, lemmas.List.get_or-map, lemmas.List.Sums.AllPass-from_list_all}
+use Rattle.lexicon_fields.specs.{declared.table.Meaning.Meaning, declared.table.TheConstants.KEYS}
+use Rattle.lexicon_fields.specs.{FixedRow.row_count, FixedRow.row_texts, FixedRow.row_text, Private.FieldValues, Private.name_values, Private.prefix_key_of, Private.values_meant}
+use Rattle.lexicon_fields.proofs.{PrefixKeyLemmas.AreBytes, RowTexts.length-row_texts, RowTexts.row_text-default}
 
--- the table has as many rows as there are strings
-pub rows-length : {X : Type 0} (text : X → List ℕ) (xs : List X) → map text xs ≡ row_texts → length xs ≡ row_count
-rows-length text xs texts = sym (length-map xs text) ∙ ap length texts ∙ length-row_texts
-
--- if two lists map to the same list, so do their elements at an index
-pub maps-agree : {X Y V : Type 0} (f : X → V) (g : Y → V) (xs : List X) (ys : List Y) (i : ℕ) (d : X) (e : Y)
-    → i < length xs → i < length ys → map f xs ≡ map g ys → f (get_or xs i d) ≡ g (get_or ys i e)
-maps-agree {V = V} f g xs ys i d e in_xs in_ys same =
-    sym (get_or-map f xs i d (f d) in_xs) ∙ ap (λ (vs : List V). get_or vs i (f d)) same ∙ get_or-map g ys i e (f d) in_ys
-
--- a column that is a function of the strings of all rows is that function of the string of each row
-pub column-is : {X V : Type 0} (column : X → V) (find : List ℕ → V) (xs : List X) (i : ℕ) (d : X)
-    → i < row_count → length xs ≡ row_count → map column xs ≡ map find row_texts → column (get_or xs i d) ≡ find (row_text i)
-column-is column find xs i d below long same =
-    maps-agree column find xs row_texts i d [] (omega (arith, long)) (omega (arith, length-row_texts)) same
+abbrev pub Row : Type 0
+Row = Bor (List ℕ) × Meaning
 
 -- the string at an index is that of the row
-pub text-is : {X : Type 0} (text : X → List ℕ) (xs : List X) (i : ℕ) (d : X) → i < row_count → map text xs ≡ row_texts → text (get_or xs i d) ≡ row_text i
-text-is text xs i d below texts =
-    sym (get_or-map text xs i d (text d) (omega (arith, rows-length text xs texts))) ∙ ap (λ (vs : List (List ℕ)). get_or vs i (text d)) texts ∙ row_text-default i (text d) below
+pub text-is : (rows : List Row) (i : ℕ) (d : Row) → i < row_count → map (λ r. r.0.now) rows ≡ row_texts → (get_or rows i d).0.now ≡ row_text i
+text-is rows i d below texts = sym (mapped (λ (r : Row). r.0.now) rows i d) ∙ ap (λ (texts : List (List ℕ)). get_or texts i d.0.now) texts ∙ row_text-default i d.0.now below
 
--- a list that is a function of the strings of all rows has that function of the string of each row
-pub value-is : {V : Type 0} (find : List ℕ → V) (values : List V) (i : ℕ) (d : V) → i < row_count → values ≡ map find row_texts → get_or values i d ≡ find (row_text i)
-value-is {V = V} find values i d below same =
-    ap (λ (vs : List V). get_or vs i d) same ∙ get_or-map find row_texts i [] d (omega (arith, below, length-row_texts))
+-- the values at an index are those of the row's string
+pub values-are : (rows : List Row) (i : ℕ) (d : Row) → i < row_count → map (λ r. values_meant r.1) rows ≡ map name_values row_texts → values_meant (get_or rows i d).1 ≡ name_values (row_text i)
+values-are rows i d below values =
+    sym (mapped (λ (r : Row). values_meant r.1) rows i d) ∙ ap (λ (values : List FieldValues). get_or values i (values_meant d.1)) values
+    ∙ get_or-map name_values row_texts i [] (values_meant d.1) (omega (arith, below, length-row_texts))
+
+keys-are : KEYS ≡ map (prefix_key_of 8) row_texts
+unfolding row_texts
+keys-are = refl
+
+-- the key at an index is that of the row's string
+pub key-is : (i : ℕ) → i < row_count → get_or KEYS i 0 ≡ prefix_key_of 8 (row_text i)
+key-is i below = ap (λ (keys : List ℕ). get_or keys i 0) keys-are ∙ get_or-map (prefix_key_of 8) row_texts i [] 0 (omega (arith, below, length-row_texts))
+
+-- the string of a row is of bytes
+
+abbrev is_byte : ℕ → Bool
+is_byte c = ltb c 256
+
+are_bytes : (s : List ℕ) → list_all is_byte s ≡ true → AreBytes s
+are_bytes [] all i = omega arith
+are_bytes (c ∷ cs) all zero = ltb-true c 256 (and_parts (is_byte c) (list_all is_byte cs) all).0
+are_bytes (c ∷ cs) all (suc i) = are_bytes cs (and_parts (is_byte c) (list_all is_byte cs) all).1 i
+
+pub row_text-bytes : (i : ℕ) → i < row_count → AreBytes (row_text i)
+unfolding row_texts
+row_text-bytes i below = are_bytes (row_text i) (AllPass-from_list_all (list_all is_byte) row_texts refl i [] (omega (arith, below)))

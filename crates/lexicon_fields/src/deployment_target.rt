@@ -90,23 +90,15 @@ pub fn version_text(version: DeploymentTarget, buffer: &mut [u8; MAX_VERSION_LEN
     ensures text { result.now ≡ spec.version_name version }
     ensures bound { length result.now ≤ 13 }
 {
-    let end = put_version(buffer, 0, version);
+    let end = put_decimal(buffer, 0, usize::from(version.major));
+    let end = put_dotted(buffer, end, version.minor);
+    let end = put_dotted(buffer, end, version.patch);
     let text = &buffer[..end];
     match from_utf8(text) {
         Ok(text) => text,
         // Digits and dots are UTF-8.
         Err(_) => unreachable!(),
     }
-}
-
-/// Writes a version, as [`put_byte`] writes a byte.
-fn put_version(out: &mut [u8], at: usize, version: DeploymentTarget) -> usize
-    requires { at + length (spec.version_name version) ≤ length out.old }
-    ensures { Puts (spec.version_name version) out.old at out.new result }
-{
-    let at = put_decimal(out, at, usize::from(version.major));
-    let at = put_dotted(out, at, version.minor);
-    put_dotted(out, at, version.patch)
 }
 
 /// Writes a dot and a number, as [`put_byte`] writes a byte.

@@ -293,20 +293,11 @@ impl OperatingSystem {
 fn version_after(prefix: &str, text: &str) -> Option<Option<DeploymentTarget>>
     ensures { result ≡ private.version_after prefix.now text.now }
 {
-    optional_version_of(text.strip_prefix(prefix)?)
-}
-
-/// The version after a prefix: `Some(None)` if nothing follows, `None` if what follows is no version.
-fn optional_version_of(rest: &str) -> Option<Option<DeploymentTarget>>
-    ensures { result ≡ spec.optional_version_of rest.now }
-{
+    let rest = text.strip_prefix(prefix)?;
     if rest.is_empty() {
         return Some(None);
     }
-    match DeploymentTarget::from_text(rest) {
-        Some(version) => Some(Some(version)),
-        None => None,
-    }
+    Some(Some(DeploymentTarget::from_text(rest)?))
 }
 
 impl FromStr for OperatingSystem {

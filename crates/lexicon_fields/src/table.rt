@@ -1,5 +1,5 @@
 //! The table of the fixed names, and of the alias `arm64`. A function is inlined if it returns a wide value.
-ghost use Rattle.std.specs.Prelude.{◌≡◌, ◌+◌, ◌<◌, ◌≤◌, false, map, MatchOption};
+ghost use Rattle.std.specs.Prelude.{◌≡◌, ◌+◌, ◌<◌, ◌≤◌, false, MatchOption};
 ghost use Rattle.std.specs.Cmp.Lexicographic.{slice_cmp};
 ghost use Rattle.std.specs.Ordering.{nat_cmp};
 ghost use Rattle.lexicon_fields.specs.FixedRow as spec;
@@ -59,100 +59,7 @@ pub fn fixed_row(text: &str, steps: &mut Steps) -> Option<FixedRow>
     ensures counted { steps.old.count < steps.new.count }
     ensures few { steps.new.count ≤ steps.old.count + 8 }
 {
-    match row_number(text, steps) {
-        Some(i) => Some(with_values(rows()[i])),
-        None => None,
-    }
-}
-
-/// The number of the string's row, counted from 0.
-fn row_number(text: &str, steps: &mut Steps) -> Option<usize>
-    ensures row { MatchOption result (spec.has_row text.now ≡ false)
-        (λ i. (i < spec.row_count) × (spec.row_text i ≡ text.now)) }
-    ensures counted { steps.old.count < steps.new.count }
-    ensures few { steps.new.count ≤ steps.old.count + 8 }
-{
-    let mut low = 0;
-    let mut size = ROW_COUNT;
-    while size > 0 {
-        let half = size / 2;
-        match row_order(low + half, text, steps) {
-            Ordering::Less => low += size - half,
-            Ordering::Greater => {}
-            Ordering::Equal => return Some(low + half),
-        }
-        size = half;
-    }
-    None
-}
-
-/// The order by bytes of the string of row `i`, counted from 0, relative to `text`. `steps` ticks once.
-#[inline(always)]
-pub fn row_order(i: usize, text: &str, steps: &mut Steps) -> Ordering
-    requires { i < spec.row_count }
-    ensures order { result ≡ slice_cmp nat_cmp (spec.row_text i) text.now }
-    ensures count { steps.new.count ≡ steps.old.count + 1 }
-{
-    steps.tick();
-    // before the row, so that the compilers compute it once for a whole search
-    let key = prefix_key(text);
-    order(keys()[i], rows()[i].0, key, text)
-}
-
-/// The order by bytes of two strings with these prefix keys.
-#[inline(always)]
-fn order(own_key: u64, own: &str, key: u64, text: &str) -> Ordering
-    requires own { own_key ≡ private.prefix_key_of 8 own.now }
-    requires text { key ≡ private.prefix_key_of 8 text.now }
-    ensures { result ≡ slice_cmp nat_cmp own.now text.now }
-{
-    // branches, since a line takes a tenth more instructions if this is `own_key.cmp(&key)`
-    if own_key < key {
-        return Ordering::Less;
-    }
-    if key < own_key {
-        return Ordering::Greater;
-    }
-    // With equal keys, of which one has its whole string, the shorter string is the beginning of the longer one.
-    if own.len() <= 8 || text.len() <= 8 {
-        if own.len() == text.len() {
-            return Ordering::Equal;
-        }
-        return own.len().cmp(&text.len());
-    }
-    own.as_bytes()[8..].iter().cmp(text.as_bytes()[8..].iter())
-}
-
-/// The prefix key of a string: its first eight bytes as a big-endian number, in which a missing byte is zero.
-#[inline(never)]
-fn prefix_key(text: &str) -> u64
-    ensures { result ≡ private.prefix_key_of 8 text.now }
-{
-    let bytes = text.as_bytes();
-    if let Some(eight) = bytes.first_chunk::<8>() {
-        return u64::from_be_bytes(*eight);
-    }
-    // 4 to 7 bytes: the first four and the last four overlap, and the shift drops the overlap
-    if let (Some(head), Some(tail)) = (bytes.first_chunk::<4>(), bytes.last_chunk::<4>()) {
-        let head = u64::from(u32::from_be_bytes(*head));
-        let tail = u64::from(u32::from_be_bytes(*tail));
-        return head * 0x1_0000_0000 + (tail << (64 - 8 * bytes.len())) % 0x1_0000_0000;
-    }
-    match bytes {
-        [a, b, c] => u64::from_be_bytes([*a, *b, *c, 0, 0, 0, 0, 0]),
-        [a, b] => u64::from_be_bytes([*a, *b, 0, 0, 0, 0, 0, 0]),
-        [a] => u64::from_be_bytes([*a, 0, 0, 0, 0, 0, 0, 0]),
-        _ => 0,
-    }
-}
-
-/// The row as the public functions give it.
-#[inline(always)]
-fn with_values(row: Row) -> FixedRow
-    ensures text { result.text.now ≡ row.entry.0.now }
-    ensures values { private.row_values result ≡ private.values_meant row.entry.1 }
-{
-    let (text, meaning) = row;
+    let (text, meaning) = ROWS[row_number(text, steps)?];
     let none = FixedRow {
         text,
         architecture: None,
@@ -161,7 +68,7 @@ fn with_values(row: Row) -> FixedRow
         environment: None,
         binary_format: None,
     };
-    match meaning {
+    Some(match meaning {
         Meaning::Architecture(it) => FixedRow {
             architecture: Some(it),
             ..none
@@ -195,26 +102,84 @@ fn with_values(row: Row) -> FixedRow
             environment: Some(Environment::Unknown),
             binary_format: Some(BinaryFormat::Unknown),
         },
+    })
+}
+
+/// The number of the string's row, counted from 0.
+fn row_number(text: &str, steps: &mut Steps) -> Option<usize>
+    ensures row { MatchOption result (spec.has_row text.now ≡ false)
+        (λ i. (i < spec.row_count) × (spec.row_text i ≡ text.now)) }
+    ensures counted { steps.old.count < steps.new.count }
+    ensures few { steps.new.count ≤ steps.old.count + 8 }
+{
+    let mut low = 0;
+    let mut size = ROW_COUNT;
+    while size > 0 {
+        let half = size / 2;
+        match row_order(low + half, text, steps) {
+            Ordering::Less => low += size - half,
+            Ordering::Greater => {}
+            Ordering::Equal => return Some(low + half),
+        }
+        size = half;
+    }
+    None
+}
+
+/// The order by bytes of the string of row `i`, counted from 0, relative to `text`. `steps` ticks once.
+#[inline(always)]
+pub fn row_order(i: usize, text: &str, steps: &mut Steps) -> Ordering
+    requires { i < spec.row_count }
+    ensures order { result ≡ slice_cmp nat_cmp (spec.row_text i) text.now }
+    ensures count { steps.new.count ≡ steps.old.count + 1 }
+{
+    steps.tick();
+    // before the row, so that the compilers compute it once for a whole search
+    let key = prefix_key(text);
+    // the keys first, since two numbers are compared in a third of the time of two strings
+    let own_key = KEYS[i];
+    // branches, since a line takes a tenth more instructions if this is `own_key.cmp(&key)`
+    if own_key < key {
+        return Ordering::Less;
+    }
+    if key < own_key {
+        return Ordering::Greater;
+    }
+    // With equal keys, of which one has its whole string, the shorter string is the beginning of the longer one.
+    let own = ROWS[i].0;
+    if own.len() <= 8 || text.len() <= 8 {
+        if own.len() == text.len() {
+            return Ordering::Equal;
+        }
+        return own.len().cmp(&text.len());
+    }
+    own.as_bytes()[8..].iter().cmp(text.as_bytes()[8..].iter())
+}
+
+/// The prefix key of a string: its first eight bytes as a big-endian number, in which a missing byte is zero.
+#[inline(never)]
+fn prefix_key(text: &str) -> u64
+    ensures { result ≡ private.prefix_key_of 8 text.now }
+{
+    let bytes = text.as_bytes();
+    if let Some(eight) = bytes.first_chunk::<8>() {
+        return u64::from_be_bytes(*eight);
+    }
+    // 4 to 7 bytes: the first four and the last four overlap, and the shift drops the overlap
+    if let (Some(head), Some(tail)) = (bytes.first_chunk::<4>(), bytes.last_chunk::<4>()) {
+        let head = u64::from(u32::from_be_bytes(*head));
+        let tail = u64::from(u32::from_be_bytes(*tail));
+        return head * 0x1_0000_0000 + (tail << (64 - 8 * bytes.len())) % 0x1_0000_0000;
+    }
+    match bytes {
+        [a, b, c] => u64::from_be_bytes([*a, *b, *c, 0, 0, 0, 0, 0]),
+        [a, b] => u64::from_be_bytes([*a, *b, 0, 0, 0, 0, 0, 0]),
+        [a] => u64::from_be_bytes([*a, 0, 0, 0, 0, 0, 0, 0]),
+        _ => 0,
     }
 }
 
-/// The prefix keys of the rows' strings. Only `row_order` reads them: two numbers are compared in a third of the time of
-/// two strings.
-fn keys() -> &'static [u64]
-    ensures { result.now ≡ map (private.prefix_key_of 8) spec.row_texts }
-{
-    &KEYS
-}
-
 /// The whole table.
-fn rows() -> &'static [Row]
-    ensures texts { map (λ r. r.0.now) result.now ≡ spec.row_texts }
-    ensures meanings { map (λ r. private.values_meant r.1) result.now
-        ≡ map private.name_values spec.row_texts }
-{
-    &ROWS
-}
-
 #[rattlefmt::skip]
 static ROWS: [Row; ROW_COUNT] = [
     // written by tools/names/write: the rows
@@ -413,6 +378,7 @@ static ROWS: [Row; ROW_COUNT] = [
     // end of what is written
 ];
 
+/// The prefix keys of the rows' strings. Only `row_order` reads them.
 #[rattlefmt::skip]
 static KEYS: [u64; ROW_COUNT] = [
     // written by tools/names/write: the keys

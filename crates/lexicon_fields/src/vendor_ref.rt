@@ -1,6 +1,5 @@
 //! The vendors, of which a custom one borrows its string.
 ghost use Rattle.std.specs.Prelude.{◌≡◌, None, Some, IfOk, OnErr};
-ghost use Rattle.std.specs.List.{list_all};
 ghost use Rattle.lexicon_fields.specs.Vendor as spec;
 ghost use Rattle.lexicon_fields.specs.Vendor.{IsCustom, OwnsCustomText};
 ghost use Rattle.lexicon_fields.specs.VendorRef.{ref_value};
@@ -185,14 +184,10 @@ fn has_vendor_form(s: &str) -> bool
 {
     match s.as_bytes().split_first() {
         None => false,
-        Some((first, others)) => first.is_ascii_lowercase() && are_vendor_characters(others),
+        Some((first, others)) => {
+            first.is_ascii_lowercase() && others.iter().all(|byte| is_vendor_character(*byte))
+        }
     }
-}
-
-fn are_vendor_characters(bytes: &[u8]) -> bool
-    ensures { result ≡ list_all spec.is_vendor_character bytes.now }
-{
-    bytes.iter().all(|byte| is_vendor_character(*byte))
 }
 
 fn is_vendor_character(byte: u8) -> bool

@@ -81,20 +81,15 @@ fn first_piece(text: &str) -> (&str, Option<&str>) {
 
 /// A version in decimal, `major.minor.patch`, written into a buffer that has room for the longest.
 pub fn version_text(version: DeploymentTarget, buffer: &mut [u8; MAX_VERSION_LENGTH]) -> &str {
-    let end = put_version(buffer, 0, version);
+    let end = put_decimal(buffer, 0, usize::from(version.major));
+    let end = put_dotted(buffer, end, version.minor);
+    let end = put_dotted(buffer, end, version.patch);
     let text = &buffer[..end];
     match from_utf8(text) {
         Ok(text) => text,
         // Digits and dots are UTF-8.
         Err(_) => unreachable!(),
     }
-}
-
-/// Writes a version, as [`put_byte`] writes a byte.
-fn put_version(out: &mut [u8], at: usize, version: DeploymentTarget) -> usize {
-    let at = put_decimal(out, at, usize::from(version.major));
-    let at = put_dotted(out, at, version.minor);
-    put_dotted(out, at, version.patch)
 }
 
 /// Writes a dot and a number, as [`put_byte`] writes a byte.

@@ -248,18 +248,11 @@ impl OperatingSystem {
 /// The version after this prefix: `Some(None)` if nothing follows, `None` if the string doesn't begin with the prefix,
 /// or if what follows is no version.
 fn version_after(prefix: &str, text: &str) -> Option<Option<DeploymentTarget>> {
-    optional_version_of(text.strip_prefix(prefix)?)
-}
-
-/// The version after a prefix: `Some(None)` if nothing follows, `None` if what follows is no version.
-fn optional_version_of(rest: &str) -> Option<Option<DeploymentTarget>> {
+    let rest = text.strip_prefix(prefix)?;
     if rest.is_empty() {
         return Some(None);
     }
-    match DeploymentTarget::from_text(rest) {
-        Some(version) => Some(Some(version)),
-        None => None,
-    }
+    Some(Some(DeploymentTarget::from_text(rest)?))
 }
 
 impl FromStr for OperatingSystem {

@@ -49,82 +49,7 @@ type Row = (&'static str, Meaning);
 #[must_use]
 #[inline(always)]
 pub fn fixed_row(text: &str) -> Option<FixedRow> {
-    match row_number(text) {
-        Some(i) => Some(with_values(rows()[i])),
-        None => None,
-    }
-}
-
-/// The number of the string's row, counted from 0.
-fn row_number(text: &str) -> Option<usize> {
-    let mut low = 0;
-    let mut size = ROW_COUNT;
-    while size > 0 {
-        let half = size / 2;
-        match row_order(low + half, text) {
-            Ordering::Less => low += size - half,
-            Ordering::Greater => {}
-            Ordering::Equal => return Some(low + half),
-        }
-        size = half;
-    }
-    None
-}
-
-/// The order by bytes of the string of row `i`, counted from 0, relative to `text`.
-#[must_use]
-#[inline(always)]
-pub fn row_order(i: usize, text: &str) -> Ordering {
-    // before the row, so that the compilers compute it once for a whole search
-    let key = prefix_key(text);
-    order(keys()[i], rows()[i].0, key, text)
-}
-
-/// The order by bytes of two strings with these prefix keys.
-#[inline(always)]
-fn order(own_key: u64, own: &str, key: u64, text: &str) -> Ordering {
-    // branches, since a line takes a tenth more instructions if this is `own_key.cmp(&key)`
-    if own_key < key {
-        return Ordering::Less;
-    }
-    if key < own_key {
-        return Ordering::Greater;
-    }
-    // With equal keys, of which one has its whole string, the shorter string is the beginning of the longer one.
-    if own.len() <= 8 || text.len() <= 8 {
-        if own.len() == text.len() {
-            return Ordering::Equal;
-        }
-        return own.len().cmp(&text.len());
-    }
-    own.as_bytes()[8..].iter().cmp(text.as_bytes()[8..].iter())
-}
-
-/// The prefix key of a string: its first eight bytes as a big-endian number, in which a missing byte is zero.
-#[inline(never)]
-fn prefix_key(text: &str) -> u64 {
-    let bytes = text.as_bytes();
-    if let Some(eight) = bytes.first_chunk::<8>() {
-        return u64::from_be_bytes(*eight);
-    }
-    // 4 to 7 bytes: the first four and the last four overlap, and the shift drops the overlap
-    if let (Some(head), Some(tail)) = (bytes.first_chunk::<4>(), bytes.last_chunk::<4>()) {
-        let head = u64::from(u32::from_be_bytes(*head));
-        let tail = u64::from(u32::from_be_bytes(*tail));
-        return head * 0x1_0000_0000 + (tail << (64 - 8 * bytes.len())) % 0x1_0000_0000;
-    }
-    match bytes {
-        [a, b, c] => u64::from_be_bytes([*a, *b, *c, 0, 0, 0, 0, 0]),
-        [a, b] => u64::from_be_bytes([*a, *b, 0, 0, 0, 0, 0, 0]),
-        [a] => u64::from_be_bytes([*a, 0, 0, 0, 0, 0, 0, 0]),
-        _ => 0,
-    }
-}
-
-/// The row as the public functions give it.
-#[inline(always)]
-fn with_values(row: Row) -> FixedRow {
-    let (text, meaning) = row;
+    let (text, meaning) = ROWS[row_number(text)?];
     let none = FixedRow {
         text,
         architecture: None,
@@ -133,7 +58,7 @@ fn with_values(row: Row) -> FixedRow {
         environment: None,
         binary_format: None,
     };
-    match meaning {
+    Some(match meaning {
         Meaning::Architecture(it) => FixedRow {
             architecture: Some(it),
             ..none
@@ -167,20 +92,73 @@ fn with_values(row: Row) -> FixedRow {
             environment: Some(Environment::Unknown),
             binary_format: Some(BinaryFormat::Unknown),
         },
+    })
+}
+
+/// The number of the string's row, counted from 0.
+fn row_number(text: &str) -> Option<usize> {
+    let mut low = 0;
+    let mut size = ROW_COUNT;
+    while size > 0 {
+        let half = size / 2;
+        match row_order(low + half, text) {
+            Ordering::Less => low += size - half,
+            Ordering::Greater => {}
+            Ordering::Equal => return Some(low + half),
+        }
+        size = half;
+    }
+    None
+}
+
+/// The order by bytes of the string of row `i`, counted from 0, relative to `text`.
+#[must_use]
+#[inline(always)]
+pub fn row_order(i: usize, text: &str) -> Ordering {
+    // before the row, so that the compilers compute it once for a whole search
+    let key = prefix_key(text);
+    // the keys first, since two numbers are compared in a third of the time of two strings
+    let own_key = KEYS[i];
+    // branches, since a line takes a tenth more instructions if this is `own_key.cmp(&key)`
+    if own_key < key {
+        return Ordering::Less;
+    }
+    if key < own_key {
+        return Ordering::Greater;
+    }
+    // With equal keys, of which one has its whole string, the shorter string is the beginning of the longer one.
+    let own = ROWS[i].0;
+    if own.len() <= 8 || text.len() <= 8 {
+        if own.len() == text.len() {
+            return Ordering::Equal;
+        }
+        return own.len().cmp(&text.len());
+    }
+    own.as_bytes()[8..].iter().cmp(text.as_bytes()[8..].iter())
+}
+
+/// The prefix key of a string: its first eight bytes as a big-endian number, in which a missing byte is zero.
+#[inline(never)]
+fn prefix_key(text: &str) -> u64 {
+    let bytes = text.as_bytes();
+    if let Some(eight) = bytes.first_chunk::<8>() {
+        return u64::from_be_bytes(*eight);
+    }
+    // 4 to 7 bytes: the first four and the last four overlap, and the shift drops the overlap
+    if let (Some(head), Some(tail)) = (bytes.first_chunk::<4>(), bytes.last_chunk::<4>()) {
+        let head = u64::from(u32::from_be_bytes(*head));
+        let tail = u64::from(u32::from_be_bytes(*tail));
+        return head * 0x1_0000_0000 + (tail << (64 - 8 * bytes.len())) % 0x1_0000_0000;
+    }
+    match bytes {
+        [a, b, c] => u64::from_be_bytes([*a, *b, *c, 0, 0, 0, 0, 0]),
+        [a, b] => u64::from_be_bytes([*a, *b, 0, 0, 0, 0, 0, 0]),
+        [a] => u64::from_be_bytes([*a, 0, 0, 0, 0, 0, 0, 0]),
+        _ => 0,
     }
 }
 
-/// The prefix keys of the rows' strings. Only `row_order` reads them: two numbers are compared in a third of the time of
-/// two strings.
-fn keys() -> &'static [u64] {
-    &KEYS
-}
-
 /// The whole table.
-fn rows() -> &'static [Row] {
-    &ROWS
-}
-
 #[rustfmt::skip]
 static ROWS: [Row; ROW_COUNT] = [
     ("aarch64", Meaning::Architecture(Architecture::Aarch64(Aarch64Architecture::Aarch64))),
@@ -377,6 +355,7 @@ static ROWS: [Row; ROW_COUNT] = [
     ("zkasm", Meaning::Architecture(Architecture::ZkAsm)),
 ];
 
+/// The prefix keys of the rows' strings. Only `row_order` reads them.
 #[rustfmt::skip]
 static KEYS: [u64; ROW_COUNT] = [
     0x6161_7263_6836_3400, // aarch64

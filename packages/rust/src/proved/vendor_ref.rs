@@ -152,12 +152,10 @@ impl fmt::Display for VendorRef<'_> {
 fn has_vendor_form(s: &str) -> bool {
     match s.as_bytes().split_first() {
         None => false,
-        Some((first, others)) => first.is_ascii_lowercase() && are_vendor_characters(others),
+        Some((first, others)) => {
+            first.is_ascii_lowercase() && others.iter().all(|byte| is_vendor_character(*byte))
+        }
     }
-}
-
-fn are_vendor_characters(bytes: &[u8]) -> bool {
-    bytes.iter().all(|byte| is_vendor_character(*byte))
 }
 
 fn is_vendor_character(byte: u8) -> bool {

@@ -1,17 +1,39 @@
-use Rattle.std.proofs.Common.{◌∙◌, sym, ap}
+use Rattle.std.proofs.Common.{◌≡◌, ◌≢◌, ◌∙◌, ℕ, List, [], ◌∷◌, ◌++◌, Some, None, option_map, length, refl, sym, ap, arith, rules}
 use Rattle.std.specs.Option.{option_and_then}
-use Rattle.lexicon_fields.specs.OperatingSystem.{optional_version_of}
-use Rattle.lexicon_fields.specs.Private.{version_after}
+use Rattle.lexicon_fields.specs.{OperatingSystem.optional_version_of, Private.version_after, Version.version_of}
 use Rattle.lexicon_fields.proofs.OperatingSystemsReadBack.{has_prefix, has_no_prefix}
 use Rattle.lexicon_fields.proofs.operating_system.version_after.Goals as goal
 
-pub returns-in_err-strip_prefix : goal.returns-in_err-strip_prefix
+pub returns-in_err-rest : goal.returns-in_err-rest
 unfolding version_after
-returns-in_err-strip_prefix c =
-    c.from_residual.ensures ∙ sym (ap (option_and_then optional_version_of) (has_no_prefix c.args.prefix.now c.args.text.now c.in_err-strip_prefix.ensures.cases))
+returns-in_err-rest c =
+    c.from_residual.ensures ∙ sym (ap (option_and_then optional_version_of) (has_no_prefix c.args.prefix.now c.args.text.now c.in_err-rest.ensures.cases))
+
+-- after the prefix, the version is that of the rest
+after_prefix : (prefix text rest cut : List ℕ) → text ≡ prefix ++ cut → rest ≡ cut → optional_version_of rest ≡ version_after prefix text
+unfolding version_after
+after_prefix prefix text rest cut whole is = sym (ap (option_and_then optional_version_of) (has_prefix prefix text rest (whole ∙ ap (λ r. prefix ++ r) (sym is))))
+
+of_none : (rest : List ℕ) → length rest ≡ 0 → Some None ≡ optional_version_of rest
+of_none [] none = refl
+of_none (c ∷ cs) none = absurd (omega (arith, none))
+
+of_some : (rest : List ℕ) → rest ≢ [] → option_map Some (version_of rest) ≡ optional_version_of rest
+of_some [] some = absurd (some refl)
+of_some (c ∷ cs) some = refl
+
+pub returns-then-is_empty : goal.returns-then-is_empty
+returns-then-is_empty c =
+    let rest = c.in_ok-rest.ensures.cases in
+    of_none c.in_ok-rest.rest.now (search rules) ∙ after_prefix c.args.prefix.now c.args.text.now _ _ rest.1.1 rest.2
+
+pub returns-in_err-from_text : goal.returns-in_err-from_text
+returns-in_err-from_text c =
+    let rest = c.in_ok-rest.ensures.cases in
+    c.from_residual-in_err-from_text.ensures ∙ ap (option_map Some) c.in_err-from_text.ensures
+    ∙ of_some c.in_ok-rest.rest.now (search rules) ∙ after_prefix c.args.prefix.now c.args.text.now _ _ rest.1.1 rest.2
 
 pub returns : goal.returns
-unfolding version_after
 returns c =
-    let found = c.in_ok-strip_prefix.ensures.cases in
-    c.optional_version_of.ensures ∙ sym (ap (option_and_then optional_version_of) (has_prefix c.args.prefix.now c.args.text.now c.in_ok-strip_prefix.field-0.now cc))
+    let rest = c.in_ok-rest.ensures.cases in
+    ap (option_map Some) c.in_ok-from_text.ensures ∙ of_some c.in_ok-rest.rest.now (search rules) ∙ after_prefix c.args.prefix.now c.args.text.now _ _ rest.1.1 rest.2

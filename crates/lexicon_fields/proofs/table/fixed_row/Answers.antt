@@ -1,6 +1,8 @@
-use Rattle.std.proofs.Common.{arith, sym, ap, subst, List, ℕ, ◌≡◌, ◌<◌, ◌∙◌, true, option_map}
-use Rattle.lexicon_fields.proofs.{RowReads.rows-length, RowReads.column-is, RowReads.text-is, RowLemmas.row-exists, RowLemmas.row-parses_by_name, VendorsReadBack.row_read}
-use Rattle.lexicon_fields.specs.{declared.table.FixedRow.FixedRow, FixedRow.IsRowOf, FixedRow.has_row, FixedRow.row_count, FixedRow.row_text, Private.FieldValues, Private.name_values, Private.row_values, Vendor.Known, Vendor.known_vendor_of, OperatingSystem.fixed_operating_system_of}
+use Rattle.std.proofs.Common.{refl, sym, ap, subst, List, ℕ, ◌≡◌, ◌<◌, ◌∙◌, true, option_map}
+use Rattle.lexicon_fields.proofs.{RowReads.text-is, RowReads.values-are, RowLemmas.row-exists, RowLemmas.row-parses_by_name, VendorsReadBack.row_read}
+use Rattle.lexicon_fields.specs.{declared.table.FixedRow.FixedRow, FixedRow.IsRowOf, FixedRow.has_row, FixedRow.row_count, FixedRow.row_text, FixedRow.row_texts, Private.FieldValues, Private.name_values, Private.row_values, Private.values_meant, Vendor.Known, Vendor.known_vendor_of, OperatingSystem.fixed_operating_system_of}
+use Rattle.lexicon_fields.specs.{Architecture.architecture_of, Environment.environment_of, BinaryFormat.binary_format_of}
+use Rattle.lexicon_fields.proofs.table.fixed_row.Goals.{in-Architecture, in-Vendor, in-OperatingSystem, in-Environment, in-BinaryFormat, in-None, in-Unknown}
 use Rattle.lexicon_fields.proofs.table.fixed_row.Goals as goal
 
 -- a row with a string of the table and the values of that string
@@ -22,13 +24,30 @@ is_row i text row below same text_is values =
       no_other_operating_system = operating_system ∙ sym (row-parses_by_name _ exists);
     }
 
-pub bounds-rows-i : goal.bounds-rows-i
-bounds-rows-i c = omega (arith, c.in-Some.ensures.row.0, rows-length _ _ c.rows.ensures.texts)
-
-pub returns-in-Some-clause-row : goal.returns-in-Some-clause-row
-returns-in-Some-clause-row c =
-    let table = c.rows.ensures in
-    let row = c.in-Some.ensures.row in
-    is_row _ _ _ row.0 row.1
-    (c.with_values.ensures.text ∙ text-is _ _ _ _ row.0 table.texts)
-    (c.with_values.ensures.values ∙ column-is _ name_values _ _ _ row.0 (rows-length _ _ table.texts) table.meanings)
+pub returns-clause-row : goal.returns-clause-row
+unfolding row_texts architecture_of known_vendor_of fixed_operating_system_of environment_of binary_format_of
+returns-clause-row c =
+    let row = c.in_ok-text.ensures.row in
+    elim c.match-meaning.branch [
+      | in-Architecture w ↦ is_row _ _ _ row.0 row.1
+          (rw (text-is _ _ _ row.0 refl) at (ap (λ (r : FixedRow). r.text.now) w.result-is))
+          (ap row_values w.result-is ∙ rw (values-are _ _ _ row.0 refl) at (sym (ap values_meant w.in-Architecture.is)))
+      | in-Vendor w ↦ is_row _ _ _ row.0 row.1
+          (rw (text-is _ _ _ row.0 refl) at (ap (λ (r : FixedRow). r.text.now) w.result-is))
+          (ap row_values w.result-is ∙ rw (values-are _ _ _ row.0 refl) at (sym (ap values_meant w.in-Vendor.is)))
+      | in-OperatingSystem w ↦ is_row _ _ _ row.0 row.1
+          (rw (text-is _ _ _ row.0 refl) at (ap (λ (r : FixedRow). r.text.now) w.result-is))
+          (ap row_values w.result-is ∙ rw (values-are _ _ _ row.0 refl) at (sym (ap values_meant w.in-OperatingSystem.is)))
+      | in-Environment w ↦ is_row _ _ _ row.0 row.1
+          (rw (text-is _ _ _ row.0 refl) at (ap (λ (r : FixedRow). r.text.now) w.result-is))
+          (ap row_values w.result-is ∙ rw (values-are _ _ _ row.0 refl) at (sym (ap values_meant w.in-Environment.is)))
+      | in-BinaryFormat w ↦ is_row _ _ _ row.0 row.1
+          (rw (text-is _ _ _ row.0 refl) at (ap (λ (r : FixedRow). r.text.now) w.result-is))
+          (ap row_values w.result-is ∙ rw (values-are _ _ _ row.0 refl) at (sym (ap values_meant w.in-BinaryFormat.is)))
+      | in-None w ↦ is_row _ _ _ row.0 row.1
+          (rw (text-is _ _ _ row.0 refl) at (ap (λ (r : FixedRow). r.text.now) w.result-is))
+          (ap row_values w.result-is ∙ rw (values-are _ _ _ row.0 refl) at (sym (ap values_meant w.in-None.is)))
+      | in-Unknown w ↦ is_row _ _ _ row.0 row.1
+          (rw (text-is _ _ _ row.0 refl) at (ap (λ (r : FixedRow). r.text.now) w.result-is))
+          (ap row_values w.result-is ∙ rw (values-are _ _ _ row.0 refl) at (sym (ap values_meant w.in-Unknown.is)))
+    ]
