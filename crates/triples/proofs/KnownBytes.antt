@@ -7,6 +7,10 @@ use Rattle.triples.specs.Streams.{AppendsBeginning, write_failures_of}
 pub AppendsBeginning-of : (u v : Option (List ℕ)) (a b c : List ℕ) → Appends u v a → c ≡ a ++ b → AppendsBeginning u v c
 AppendsBeginning-of u v a b c x e = (length a, rw (e, take-append_seam a b) x)
 
+-- all of the bytes are a beginning of them
+pub AppendsBeginning-all : (u v : Option (List ℕ)) (a : List ℕ) → Appends u v a → AppendsBeginning u v a
+AppendsBeginning-all u v a appends = AppendsBeginning-of u v a [] a appends (sym (append-nil a))
+
 -- a write that failed took no byte
 took-none : (is_none is_empty : Bool) (count : ℕ) → (is_none ≡ true → count ≡ 0) → ◌≡◌ {A = ℕ} (if is_none && not is_empty then 1 else 0) 1 → count ≡ 0
 took-none true is_empty count none failed = none refl

@@ -1,5 +1,5 @@
 //! A run, from a reader to a writer, and the end of the program.
-ghost use Rattle.std.specs.Prelude.{◌≡◌, [], ◌∷◌, ◌++◌};
+ghost use Rattle.std.specs.Prelude.{◌≡◌, ◌+◌, [], ◌∷◌, ◌++◌, IfErr, OnOk};
 ghost use Rattle.std.specs.Io.KnownBytes.{Appends};
 ghost use Rattle.triples.specs.Run.{EndsAs, use_of};
 ghost use Rattle.triples.specs.Streams.{inner, failures, AppendsBeginning};
@@ -85,14 +85,20 @@ pub fn conclude<W: Write>(end: Option<Result<(), RunError>>, w: &mut Counted<W>)
 /// Writes the first word of a line, the rest of it and a line feed, and flushes. If the writer fails, a part of the line may be
 /// missing.
 fn write_line<W: Write>(writer: &mut Counted<W>, word: &str, rest: &str) -> Result<(), RunError>
-    ensures said { failures writer.new ≡ failures writer.old →
-        Appends (W.contents (inner writer.old)) (W.contents (inner writer.new))
-        (word.now ++ (rest.now ++ line_feed ∷ [])) }
+    ensures ok { OnOk result
+        (Appends (W.contents (inner writer.old)) (W.contents (inner writer.new))
+        (word.now ++ (rest.now ++ line_feed ∷ []))) }
+    ensures unfailed { OnOk result (failures writer.new ≡ failures writer.old) }
     ensures begun { AppendsBeginning (W.contents (inner writer.old)) (W.contents (inner writer.new))
         (word.now ++ (rest.now ++ line_feed ∷ [])) }
+    ensures failed { IfErr result
+        (λ e. (e ≡ RunError.Write) × (failures writer.new ≡ failures writer.old + 1)) }
 {
     write_all(writer, word.as_bytes())?;
     write_all(writer, rest.as_bytes())?;
     write_all(writer, b"\n")?;
-    writer.flush().map_err(|_| RunError::Write)
+    let Ok(()) = writer.flush() else {
+        return Err(RunError::Write);
+    };
+    Ok(())
 }

@@ -1,8 +1,8 @@
 -- For an input that is not UTF-8 nothing is written, and a flush keeps what was written.
-use Rattle.std.proofs.Common.{[], string_bytes, refl, sym, rules}
-use Rattle.std.proofs.{KnownBytes.Appends-kept, KnownBytes.Keeps-refl, lemmas.List.append-nil}
+use Rattle.std.proofs.Common.{string_bytes, refl, rules}
+use Rattle.std.proofs.{KnownBytes.Appends-kept, KnownBytes.Keeps-refl}
 use Rattle.triples.specs.Output.{IsOutput}
-use Rattle.triples.proofs.KnownBytes.{AppendsBeginning-of}
+use Rattle.triples.proofs.KnownBytes.{AppendsBeginning-all}
 use Rattle.triples.proofs.run.run.Goals.{in-Print+in_ok-output-in-Print, in-Matrix+in_ok-output-in-Matrix, in-Json+in_ok-output-in-Json}
 use Rattle.triples.proofs.run.run.Goals as goal
 
@@ -23,5 +23,5 @@ returns g c =
       | in-Json+in_ok-output-in-Json w ↦ search rules
     ] in
     let written = Appends-kept _ _ _ (string_bytes c.match-mode.output) (rw c.as_bytes.ensures.value at c.in_ok-write_all.ensures.ok) c.flush.ensures.bytes in
-    let begun = AppendsBeginning-of _ _ (string_bytes c.match-mode.output) [] _ written (sym (append-nil _)) in
+    let begun = AppendsBeginning-all _ _ (string_bytes c.match-mode.output) written in
     record { ends = (c.in_ok-bytes.ensures.whole, search rules, search rules) }
