@@ -168,25 +168,10 @@ impl<'a> TripleRef<'a> {
     fn shows_vendor(&self) -> bool
         ensures { result ≡ spec.shows_vendor (values_of_ref self.now) }
     {
-        match self.vendor {
-            VendorRef::Known(KnownVendor::Unknown) => {
-                !self.omits_unknown_vendor()
-                    || matches!(
-                        self.environment,
-                        Environment::HermitKernel | Environment::LinuxKernel
-                    )
-            }
-            _ => true,
+        if !matches!(self.vendor, VendorRef::Known(KnownVendor::Unknown)) {
+            return true;
         }
-    }
-
-    /// Whether an unknown vendor is omitted.
-    fn omits_unknown_vendor(&self) -> bool
-        ensures { result
-            ≡ spec.omits_unknown_vendor self.now.architecture self.now.operating_system
-            self.now.environment }
-    {
-        match self.operating_system {
+        let omits_unknown = match self.operating_system {
             OperatingSystem::Linux => matches!(
                 self.environment,
                 Environment::Android | Environment::Androideabi | Environment::Kernel
@@ -212,7 +197,12 @@ impl<'a> TripleRef<'a> {
                     )
             ),
             _ => false,
-        }
+        };
+        !omits_unknown
+            || matches!(
+                self.environment,
+                Environment::HermitKernel | Environment::LinuxKernel
+            )
     }
 
     /// Whether the operating system is shown by upstream's rule.
@@ -245,28 +235,30 @@ impl<'a> TripleRef<'a> {
         }
     }
 
-    /// Whether the binary format is shown: if it isn't the implied one, or `shows_implied_format` holds.
+    /// Whether the binary format is shown: if it isn't the implied one. Without a system a known one always is, except
+    /// on some architectures and in some environments.
     #[inline(always)]
     fn shows_binary_format(&self) -> bool
         ensures { result ≡ spec.shows_binary_format (values_of_ref self.now) }
     {
-        self.shows_implied_format() || self.binary_format != self.default_binary_format()
-    }
-
-    /// Whether the binary format is shown even if it is the implied one: without a system a known one is, except on
-    /// some architectures and in some environments.
-    fn shows_implied_format(&self) -> bool
-        ensures { result ≡ spec.shows_implied_format (values_of_ref self.now) }
-    {
-        matches!(
-            self.operating_system,
-            OperatingSystem::None_ | OperatingSystem::Unknown
-        ) && !architecture_implies_format(self.architecture)
-            && !matches!(
-                self.environment,
-                Environment::Eabi | Environment::Eabihf | Environment::Sgx
-            )
-            && self.binary_format != BinaryFormat::Unknown
+        if self.binary_format != self.default_binary_format() {
+            return true;
+        }
+        match self.operating_system {
+            OperatingSystem::None_ | OperatingSystem::Unknown => {
+                !matches!(
+                    self.architecture,
+                    Architecture::ZkAsm
+                        | Architecture::Avr
+                        | Architecture::Wasm32
+                        | Architecture::Wasm64
+                ) && !matches!(
+                    self.environment,
+                    Environment::Eabi | Environment::Eabihf | Environment::Sgx
+                ) && self.binary_format != BinaryFormat::Unknown
+            }
+            _ => false,
+        }
     }
 
     /// Whether environment and format are both shown as unknown, and the operating system with them.
@@ -278,16 +270,6 @@ impl<'a> TripleRef<'a> {
             (Environment::Unknown, BinaryFormat::Unknown)
         ) && self.binary_format != self.default_binary_format()
     }
-}
-
-/// Whether a triple of this architecture omits an implied format even without a system.
-fn architecture_implies_format(architecture: Architecture) -> bool
-    ensures { result ≡ spec.architecture_implies_format architecture }
-{
-    matches!(
-        architecture,
-        Architecture::ZkAsm | Architecture::Avr | Architecture::Wasm32 | Architecture::Wasm64
-    )
 }
 
 /// What is shown of a triple: the name of the architecture, or the special string; and each other field that is shown,

@@ -110,22 +110,3 @@ pub struct Explanation<'a> {
     /// field, and every other field is `NotGiven`.
     pub sources: Sources<'a>,
 }
-
-impl<'a> Sources<'a> {
-    ghost use Rattle.std.specs.Prelude.{◌≡◌};
-    ghost use Rattle.target_lexicon.specs.Explanation.{sources_of, same_sources};
-    ghost use Rattle.target_lexicon.specs.Explanation.{source_value};
-
-    /// The same source for each field.
-    pub(crate) fn all(source: Source<'a>) -> Sources<'a>
-        ensures { sources_of result ≡ same_sources (source_value source.entry) }
-    {
-        Sources {
-            architecture: source,
-            vendor: source,
-            operating_system: source,
-            environment: source,
-            binary_format: source,
-        }
-    }
-}

@@ -29,7 +29,13 @@ impl<'a> Reading<'a> {
         Reading {
             expected: Some(Field::Architecture),
             triple: TripleRef::unknown(),
-            sources: Sources::all(Source::NotGiven),
+            sources: Sources {
+                architecture: Source::NotGiven,
+                vendor: Source::NotGiven,
+                operating_system: Source::NotGiven,
+                environment: Source::NotGiven,
+                binary_format: Source::NotGiven,
+            },
         }
     }
 

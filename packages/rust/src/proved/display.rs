@@ -94,21 +94,10 @@ impl<'a> TripleRef<'a> {
     /// Whether the vendor is shown: unless it is unknown, and the triple omits an unknown one.
     #[inline(always)]
     fn shows_vendor(&self) -> bool {
-        match self.vendor {
-            VendorRef::Known(KnownVendor::Unknown) => {
-                !self.omits_unknown_vendor()
-                    || matches!(
-                        self.environment,
-                        Environment::HermitKernel | Environment::LinuxKernel
-                    )
-            }
-            _ => true,
+        if !matches!(self.vendor, VendorRef::Known(KnownVendor::Unknown)) {
+            return true;
         }
-    }
-
-    /// Whether an unknown vendor is omitted.
-    fn omits_unknown_vendor(&self) -> bool {
-        match self.operating_system {
+        let omits_unknown = match self.operating_system {
             OperatingSystem::Linux => matches!(
                 self.environment,
                 Environment::Android | Environment::Androideabi | Environment::Kernel
@@ -134,7 +123,12 @@ impl<'a> TripleRef<'a> {
                     )
             ),
             _ => false,
-        }
+        };
+        !omits_unknown
+            || matches!(
+                self.environment,
+                Environment::HermitKernel | Environment::LinuxKernel
+            )
     }
 
     /// Whether the operating system is shown by upstream's rule.
@@ -163,24 +157,28 @@ impl<'a> TripleRef<'a> {
         }
     }
 
-    /// Whether the binary format is shown: if it isn't the implied one, or `shows_implied_format` holds.
+    /// Whether the binary format is shown: if it isn't the implied one. Without a system a known one always is, except
+    /// on some architectures and in some environments.
     #[inline(always)]
     fn shows_binary_format(&self) -> bool {
-        self.shows_implied_format() || self.binary_format != self.default_binary_format()
-    }
-
-    /// Whether the binary format is shown even if it is the implied one: without a system a known one is, except on
-    /// some architectures and in some environments.
-    fn shows_implied_format(&self) -> bool {
-        matches!(
-            self.operating_system,
-            OperatingSystem::None_ | OperatingSystem::Unknown
-        ) && !architecture_implies_format(self.architecture)
-            && !matches!(
-                self.environment,
-                Environment::Eabi | Environment::Eabihf | Environment::Sgx
-            )
-            && self.binary_format != BinaryFormat::Unknown
+        if self.binary_format != self.default_binary_format() {
+            return true;
+        }
+        match self.operating_system {
+            OperatingSystem::None_ | OperatingSystem::Unknown => {
+                !matches!(
+                    self.architecture,
+                    Architecture::ZkAsm
+                        | Architecture::Avr
+                        | Architecture::Wasm32
+                        | Architecture::Wasm64
+                ) && !matches!(
+                    self.environment,
+                    Environment::Eabi | Environment::Eabihf | Environment::Sgx
+                ) && self.binary_format != BinaryFormat::Unknown
+            }
+            _ => false,
+        }
     }
 
     /// Whether environment and format are both shown as unknown, and the operating system with them.
@@ -191,14 +189,6 @@ impl<'a> TripleRef<'a> {
         ) && !cfg!(feature = "upstream_printing")
             && self.binary_format != self.default_binary_format()
     }
-}
-
-/// Whether a triple of this architecture omits an implied format even without a system.
-fn architecture_implies_format(architecture: Architecture) -> bool {
-    matches!(
-        architecture,
-        Architecture::ZkAsm | Architecture::Avr | Architecture::Wasm32 | Architecture::Wasm64
-    )
 }
 
 /// What is shown of a triple: the name of the architecture, or the special string; and each other field that is shown,

@@ -107,16 +107,3 @@ pub struct Explanation<'a> {
     /// field, and every other field is `NotGiven`.
     pub sources: Sources<'a>,
 }
-
-impl<'a> Sources<'a> {
-    /// The same source for each field.
-    pub(crate) fn all(source: Source<'a>) -> Sources<'a> {
-        Sources {
-            architecture: source,
-            vendor: source,
-            operating_system: source,
-            environment: source,
-            binary_format: source,
-        }
-    }
-}

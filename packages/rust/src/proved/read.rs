@@ -27,9 +27,16 @@ pub fn first_part(text: &str) -> (&str, Option<&str>) {
 #[inline(always)]
 pub fn explain(text: &str) -> Explanation<'_> {
     if let Some(triple) = TripleRef::from_special_text(text) {
+        let whole = Source::Part(TextPart { text, start: 0 });
         return Explanation {
             triple: Ok(triple),
-            sources: Sources::all(Source::Part(TextPart { text, start: 0 })),
+            sources: Sources {
+                architecture: whole,
+                vendor: whole,
+                operating_system: whole,
+                environment: whole,
+                binary_format: whole,
+            },
         };
     }
     let mut reading = Reading::start();
