@@ -1,12 +1,14 @@
 -- The pieces that are written are the string of the triple.
-use Rattle.std.proofs.Common.{◌≡◌, ℕ, Bool, true, false, List, [], ◌∷◌, ◌++◌, ◌||◌, refl, sym, ap, append_assoc, Option, None, if◌then◌else◌}
+use Rattle.std.proofs.Common.{◌≡◌, ◌∙◌, ℕ, Bool, true, false, not, List, [], ◌∷◌, ◌++◌, ◌||◌, refl, sym, ap, append_assoc, Option, None, if◌then◌else◌}
 use Rattle.std.specs.Borrow.{Bor}
 use Rattle.std.specs.Bool.{then_some}
 use Rattle.std.specs.List.{join_with_byte}
 use Rattle.std.proofs.{lemmas.List.append-nil, Math.Bool.and-false}
 use Rattle.lexicon_fields.specs.Names.{dash}
-use Rattle.lexicon_fields.specs.{Architecture.architecture_name, Vendor.vendor_name, OperatingSystem.operating_system_name, Environment.environment_name, BinaryFormat.binary_format_name}
-use Rattle.target_lexicon.specs.{Values.Values, Values.OperatingSystem, Values.Environment, Values.is_unknown_environment, Values.is_newlib, Values.implies_newlib, Private.name_piece, Private.system_piece, SpecialTexts.special_text}
+use Rattle.lexicon_fields.specs.{Architecture.architecture_name, Vendor.vendor_name, OperatingSystem.operating_system_name, OperatingSystem.system_version, OperatingSystem.version_suffix, Environment.environment_name, BinaryFormat.binary_format_name, declared.deployment_target.DeploymentTarget.DeploymentTarget}
+use Rattle.target_lexicon.specs.{Values.Values, Values.Architecture, Values.OperatingSystem, Values.Environment, Values.is_unknown_environment, Values.is_newlib, Values.implies_newlib, Values.is_clever_without_system, Private.name_piece, SpecialTexts.special_text}
+use Rattle.target_lexicon.specs.Values.architecture
+use Rattle.target_lexicon.specs.Values.operating_system
 use Rattle.target_lexicon.specs.Values.environment
 use Rattle.target_lexicon.specs.Printing.{shows_vendor, shows_operating_system, shows_environment, shows_binary_format, shows_unknowns, cons_if, shown_names, text_with}
 
@@ -50,29 +52,40 @@ pub name_piece-shown : (b : Bool) (name : Bor (List ℕ)) → name_piece (then_s
 name_piece-shown true name = refl
 name_piece-shown false name = refl
 
--- a system that is shown if this holds, as a piece
-pub system_piece-shown : (b : Bool) (s : OperatingSystem) → system_piece (then_some b s) ≡ dashed_if b (operating_system_name s)
-system_piece-shown true s = refl
-system_piece-shown false s = refl
+-- a system that isn't shown has no version
+version-hidden : (a : Architecture) (s : OperatingSystem) → not (is_clever_without_system a s) ≡ false → system_version s ≡ None
+version-hidden (architecture.Clever sub) operating_system.Unknown hidden = refl
+version-hidden _ _ hidden = absurd cc
+
+-- a system that is shown if this holds, as a piece and its version
+system-shown : (last_three : Bool) (t : Values) (before : List ℕ) (prefix : Bor (List ℕ)) (b : Bool) → b ≡ (last_three || shows_operating_system t)
+    → prefix.now ++ version_suffix (system_version t.operating_system) ≡ operating_system_name t.operating_system
+    → (before ++ name_piece (then_some b prefix)) ++ version_suffix (system_version t.operating_system) ≡ before ++ dashed_if b (operating_system_name t.operating_system)
+unfolding shows_operating_system
+system-shown last_three t before prefix true b_is name_is = append_assoc before (dash ∷ prefix.now) (version_suffix (system_version t.operating_system)) ∙ ap (λ (s : List ℕ). before ++ (dash ∷ s)) name_is
+system-shown false t before prefix false b_is name_is = rw (version-hidden t.architecture t.operating_system (sym b_is)) (append-nil (before ++ []))
+system-shown true t before prefix false b_is name_is = absurd cc
 
 -- without a special string these pieces are the string
-pub text_of_pieces : (last_three : Bool) (t : Values) (a v e f : Bor (List ℕ)) (vendor environment format : Option (Bor (List ℕ))) (system : Option OperatingSystem) (w x y z : Bool) → None ≡ special_text t
-    → a.now ≡ architecture_name t.architecture
+pub text_of_pieces : (last_three : Bool) (t : Values) (a v s e f : Bor (List ℕ)) (vendor system environment format : Option (Bor (List ℕ))) (version : Option DeploymentTarget) (w x y z : Bool)
+    → None ≡ special_text t → a.now ≡ architecture_name t.architecture
     → vendor ≡ then_some w v → w ≡ shows_vendor t → v.now ≡ vendor_name t.vendor
-    → system ≡ then_some x t.operating_system → x ≡ (last_three || shows_operating_system t)
+    → system ≡ then_some x s → x ≡ (last_three || shows_operating_system t) → s.now ++ version_suffix (system_version t.operating_system) ≡ operating_system_name t.operating_system
+    → version ≡ system_version t.operating_system
     → environment ≡ then_some y e → y ≡ (last_three || shows_environment t) → e.now ≡ environment_name t.environment
     → format ≡ then_some z f → z ≡ (last_three || shows_binary_format t) → f.now ≡ binary_format_name t.binary_format
-    → (((a.now ++ name_piece vendor) ++ system_piece system) ++ name_piece environment) ++ name_piece format ≡ text_with last_three t
+    → ((((a.now ++ name_piece vendor) ++ name_piece system) ++ version_suffix version) ++ name_piece environment) ++ name_piece format ≡ text_with last_three t
 unfolding shown_names
-text_of_pieces last_three t a v e f vendor environment format system w x y z none a_is vendor_is w_is v_is system_is x_is environment_is y_is e_is format_is z_is f_is =
+text_of_pieces last_three t a v s e f vendor system environment format version w x y z none a_is vendor_is w_is v_is system_is x_is s_is version_is environment_is y_is e_is format_is z_is f_is =
     rw (
+      system_is,
+      version_is,
+      system-shown last_three t (a.now ++ name_piece vendor) s x x_is s_is,
       a_is,
       vendor_is,
       name_piece-shown w v,
       w_is,
       v_is,
-      system_is,
-      system_piece-shown x t.operating_system,
       x_is,
       environment_is,
       name_piece-shown y e,

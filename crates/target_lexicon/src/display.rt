@@ -2,12 +2,12 @@
 //! wide value, or if that saves a hundredth of printing.
 ghost use Rattle.std.specs.Prelude.{◌≡◌, ◌+◌, ◌<◌, ◌≤◌, ◌^◌, Some, None, IfOk, length, string_bytes};
 ghost use Rattle.std.specs.Fmt.{WritesStyledOnOk};
-ghost use Rattle.lexicon_fields.specs.OperatingSystem.{version_suffix, system_version};
+ghost use Rattle.lexicon_fields.specs.OperatingSystem.{version_suffix};
 ghost use Rattle.lexicon_fields.specs.Put.{IsPut, Puts};
 ghost use Rattle.lexicon_fields.specs.Vendor.{vendor_name};
 ghost use Rattle.lexicon_fields.specs.VendorRef.{ref_value};
 ghost use Rattle.target_lexicon.specs.Printing as spec;
-ghost use Rattle.target_lexicon.specs.Private.{name_piece, system_piece};
+ghost use Rattle.target_lexicon.specs.Private.{name_piece};
 ghost use Rattle.target_lexicon.specs.SpecialTexts.{special_text};
 ghost use Rattle.target_lexicon.specs.Values as values;
 ghost use Rattle.target_lexicon.specs.Values.{values_of};
@@ -19,8 +19,8 @@ use crate::triple::Triple;
 use crate::triple_ref::TripleRef;
 use lexicon_fields::laws::{names_are_short, texts_are_put_in_order};
 use lexicon_fields::{
-    Architecture, ArmArchitecture, BinaryFormat, Environment, KnownVendor, MAX_VERSION_LENGTH,
-    OperatingSystem, VendorRef, version_text,
+    Architecture, ArmArchitecture, BinaryFormat, DeploymentTarget, Environment, KnownVendor,
+    MAX_VERSION_LENGTH, OperatingSystem, VendorRef, version_text,
 };
 use std::alloc::{AllocError, Global};
 use std::fmt;
@@ -147,17 +147,25 @@ impl<'a> TripleRef<'a> {
                 first: text,
                 vendor: None,
                 operating_system: None,
+                version: None,
                 environment: None,
                 binary_format: None,
             };
         }
-        let system = shows_last_three | self.shows_operating_system();
+        // an unknown system is omitted on Clever
+        let system = shows_last_three
+            | !matches!(
+                (self.architecture, self.operating_system),
+                (Architecture::Clever(_), OperatingSystem::Unknown)
+            );
         let environment = shows_last_three | self.shows_environment();
         let binary_format = shows_last_three | self.shows_binary_format();
         Pieces {
             first: self.architecture.name(),
             vendor: self.shows_vendor().then_some(self.vendor.as_str()),
-            operating_system: system.then_some(self.operating_system),
+            operating_system: system.then_some(self.operating_system.prefix()),
+            // a system that is omitted has none
+            version: self.operating_system.version(),
             environment: environment.then_some(self.environment.name()),
             binary_format: binary_format.then_some(self.binary_format.name()),
         }
@@ -203,16 +211,6 @@ impl<'a> TripleRef<'a> {
                 self.environment,
                 Environment::HermitKernel | Environment::LinuxKernel
             )
-    }
-
-    /// Whether the operating system is shown by upstream's rule.
-    pub(crate) fn shows_operating_system(&self) -> bool
-        ensures { result ≡ spec.shows_operating_system (values_of_ref self.now) }
-    {
-        !matches!(
-            (self.architecture, self.operating_system),
-            (Architecture::Clever(_), OperatingSystem::Unknown)
-        )
     }
 
     /// Whether the environment is shown: unless it is unknown, or a `Newlib` that vendor and system imply.
@@ -273,12 +271,13 @@ impl<'a> TripleRef<'a> {
 }
 
 /// What is shown of a triple: the name of the architecture, or the special string; and each other field that is shown,
-/// after a dash.
+/// after a dash. The name of the operating system is without its version, which follows it.
 #[derive(Clone, Copy)]
 struct Pieces<'a> {
     first: &'static str,
     vendor: Option<&'a str>,
-    operating_system: Option<OperatingSystem>,
+    operating_system: Option<&'static str>,
+    version: Option<DeploymentTarget>,
     environment: Option<&'static str>,
     binary_format: Option<&'static str>,
 }
@@ -292,36 +291,24 @@ impl Pieces<'_> {
         requires { length (pieces_text self.now) < 2 ^ 64 }
         ensures { IsWritten (pieces_text self.now) out.old out.new result }
     {
-        let length = self.text_length();
+        let mut buffer = [0; MAX_VERSION_LENGTH];
+        let version = optional_version_text(self.version, &mut buffer);
+        let length = self.first.len()
+            + piece_length(self.vendor)
+            + piece_length(self.operating_system)
+            + version.len()
+            + piece_length(self.environment)
+            + piece_length(self.binary_format);
         if length <= out.len() {
-            self.put(out);
+            texts_are_put_in_order();
+            let at = put(out, 0, self.first.as_bytes());
+            let at = put_piece(out, at, self.vendor);
+            let at = put_piece(out, at, self.operating_system);
+            let at = put(out, at, version.as_bytes());
+            let at = put_piece(out, at, self.environment);
+            put_piece(out, at, self.binary_format);
         }
         length
-    }
-
-    /// The length of the string.
-    fn text_length(&self) -> usize
-        requires { length (pieces_text self.now) < 2 ^ 64 }
-        ensures { result ≡ length (pieces_text self.now) }
-    {
-        self.first.len()
-            + piece_length(self.vendor)
-            + system_length(self.operating_system)
-            + piece_length(self.environment)
-            + piece_length(self.binary_format)
-    }
-
-    /// Writes the string at the front of a buffer that has room for it, and returns its end.
-    fn put(&self, out: &mut [u8]) -> usize
-        requires { length (pieces_text self.now) ≤ length out.old }
-        ensures { IsPut (pieces_text self.now) out.old out.new result }
-    {
-        texts_are_put_in_order();
-        let at = put(out, 0, self.first.as_bytes());
-        let at = put_piece(out, at, self.vendor);
-        let at = put_system(out, at, self.operating_system);
-        let at = put_piece(out, at, self.environment);
-        put_piece(out, at, self.binary_format)
     }
 }
 
@@ -336,9 +323,9 @@ impl fmt::Display for Pieces<'_> {
     fn fmt<W: fmt::Write>(&self, f: &mut fmt::Formatter<W>) -> fmt::Result {
         f.write_str(self.first)?;
         write_piece(f, self.vendor)?;
-        if let Some(system) = self.operating_system {
-            f.write_str("-")?;
-            system.fmt(f)?;
+        write_piece(f, self.operating_system)?;
+        if let Some(version) = self.version {
+            f.write_str(version_text(version, &mut [0; MAX_VERSION_LENGTH]))?;
         }
         write_piece(f, self.environment)?;
         write_piece(f, self.binary_format)
@@ -359,6 +346,20 @@ fn write_piece<W: fmt::Write>(f: &mut fmt::Formatter<W>, name: Option<&str>) -> 
     }
 }
 
+/// The version's string, which is empty if there is no version.
+#[inline(always)]
+fn optional_version_text(
+    version: Option<DeploymentTarget>,
+    buffer: &mut [u8; MAX_VERSION_LENGTH],
+) -> &str
+    ensures { result.now ≡ version_suffix version }
+{
+    match version {
+        Some(version) => version_text(version, buffer),
+        None => "",
+    }
+}
+
 /// The length of a dash and the name, if there is one.
 fn piece_length(name: Option<&str>) -> usize
     requires { length (name_piece name) < 2 ^ 64 }
@@ -366,27 +367,6 @@ fn piece_length(name: Option<&str>) -> usize
 {
     match name {
         Some(name) => 1 + name.len(),
-        None => 0,
-    }
-}
-
-/// The length of a dash and the name of the system, if there is one.
-fn system_length(system: Option<OperatingSystem>) -> usize
-    requires { length (system_piece system) < 2 ^ 64 }
-    ensures { result ≡ length (system_piece system) }
-{
-    match system {
-        Some(system) => { 1 + system.prefix().len() + system_version_length(system) }
-        None => 0,
-    }
-}
-
-/// The length of the version's string, if the system has a version.
-fn system_version_length(system: OperatingSystem) -> usize
-    ensures { result ≡ length (version_suffix (system_version system)) }
-{
-    match system.version() {
-        Some(version) => version_text(version, &mut [0; MAX_VERSION_LENGTH]).len(),
         None => 0,
     }
 }
@@ -401,36 +381,6 @@ fn put_piece(out: &mut [u8], at: usize, name: Option<&str>) -> usize
             let at = put(out, at, b"-");
             put(out, at, name.as_bytes())
         }
-        None => at,
-    }
-}
-
-/// Writes a dash and the name of the system, if there is one, as [`put`] writes a string.
-fn put_system(out: &mut [u8], at: usize, system: Option<OperatingSystem>) -> usize
-    requires { at + length (system_piece system) ≤ length out.old }
-    ensures { Puts (system_piece system) out.old at out.new result }
-{
-    match system {
-        Some(system) => {
-            let at = put(out, at, b"-");
-            let at = put(out, at, system.prefix().as_bytes());
-            put_system_version(out, at, system)
-        }
-        None => at,
-    }
-}
-
-/// Writes the version's string, if the system has a version, as [`put`] writes a string.
-fn put_system_version(out: &mut [u8], at: usize, system: OperatingSystem) -> usize
-    requires { at + length (version_suffix (system_version system)) ≤ length out.old }
-    ensures { Puts (version_suffix (system_version system)) out.old at out.new result }
-{
-    match system.version() {
-        Some(version) => put(
-            out,
-            at,
-            version_text(version, &mut [0; MAX_VERSION_LENGTH]).as_bytes(),
-        ),
         None => at,
     }
 }

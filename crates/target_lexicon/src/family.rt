@@ -160,9 +160,13 @@ impl TripleRef<'_> {
     fn shows_only_none(&self) -> bool
         ensures { IsTrue result ↔ facts.ShowsOnlyNone (values_of_ref self.now) }
     {
-        match self.environment {
-            Environment::None => !self.shows_operating_system(),
-            _ => false,
-        }
+        matches!(
+            (self.architecture, self.operating_system, self.environment),
+            (
+                Architecture::Clever(_),
+                OperatingSystem::Unknown,
+                Environment::None,
+            )
+        )
     }
 }

@@ -5,8 +5,8 @@
 use crate::proved::triple::Triple;
 use crate::proved::triple_ref::TripleRef;
 use crate::proved::{
-    version_text, Architecture, ArmArchitecture, BinaryFormat, Environment, KnownVendor,
-    OperatingSystem, VendorRef, MAX_VERSION_LENGTH,
+    version_text, Architecture, ArmArchitecture, BinaryFormat, DeploymentTarget, Environment,
+    KnownVendor, OperatingSystem, VendorRef, MAX_VERSION_LENGTH,
 };
 use core::fmt;
 
@@ -75,17 +75,25 @@ impl<'a> TripleRef<'a> {
                 first: text,
                 vendor: None,
                 operating_system: None,
+                version: None,
                 environment: None,
                 binary_format: None,
             };
         }
-        let system = shows_last_three | self.shows_operating_system();
+        // an unknown system is omitted on Clever
+        let system = shows_last_three
+            | !matches!(
+                (self.architecture, self.operating_system),
+                (Architecture::Clever(_), OperatingSystem::Unknown)
+            );
         let environment = shows_last_three | self.shows_environment();
         let binary_format = shows_last_three | self.shows_binary_format();
         Pieces {
             first: self.architecture.name(),
             vendor: self.shows_vendor().then_some(self.vendor.as_str()),
-            operating_system: system.then_some(self.operating_system),
+            operating_system: system.then_some(self.operating_system.prefix()),
+            // a system that is omitted has none
+            version: self.operating_system.version(),
             environment: environment.then_some(self.environment.name()),
             binary_format: binary_format.then_some(self.binary_format.name()),
         }
@@ -129,14 +137,6 @@ impl<'a> TripleRef<'a> {
                 self.environment,
                 Environment::HermitKernel | Environment::LinuxKernel
             )
-    }
-
-    /// Whether the operating system is shown by upstream's rule.
-    pub(crate) fn shows_operating_system(&self) -> bool {
-        !matches!(
-            (self.architecture, self.operating_system),
-            (Architecture::Clever(_), OperatingSystem::Unknown)
-        )
     }
 
     /// Whether the environment is shown: unless it is unknown, or a `Newlib` that vendor and system imply.
@@ -192,12 +192,13 @@ impl<'a> TripleRef<'a> {
 }
 
 /// What is shown of a triple: the name of the architecture, or the special string; and each other field that is shown,
-/// after a dash.
+/// after a dash. The name of the operating system is without its version, which follows it.
 #[derive(Clone, Copy)]
 struct Pieces<'a> {
     first: &'static str,
     vendor: Option<&'a str>,
-    operating_system: Option<OperatingSystem>,
+    operating_system: Option<&'static str>,
+    version: Option<DeploymentTarget>,
     environment: Option<&'static str>,
     binary_format: Option<&'static str>,
 }
@@ -207,31 +208,23 @@ impl Pieces<'_> {
     /// buffer is unchanged.
     #[inline]
     fn write_to(&self, out: &mut [u8]) -> usize {
-        let length = self.text_length();
+        let mut buffer = [0; MAX_VERSION_LENGTH];
+        let version = optional_version_text(self.version, &mut buffer);
+        let length = self.first.len()
+            + piece_length(self.vendor)
+            + piece_length(self.operating_system)
+            + version.len()
+            + piece_length(self.environment)
+            + piece_length(self.binary_format);
         if length <= out.len() {
-            self.put(out);
+            let at = put(out, 0, self.first.as_bytes());
+            let at = put_piece(out, at, self.vendor);
+            let at = put_piece(out, at, self.operating_system);
+            let at = put(out, at, version.as_bytes());
+            let at = put_piece(out, at, self.environment);
+            put_piece(out, at, self.binary_format);
         }
         length
-    }
-
-    /// The length of the string.
-    #[inline]
-    fn text_length(&self) -> usize {
-        self.first.len()
-            + piece_length(self.vendor)
-            + system_length(self.operating_system)
-            + piece_length(self.environment)
-            + piece_length(self.binary_format)
-    }
-
-    /// Writes the string at the front of a buffer that has room for it, and returns its end.
-    #[inline]
-    fn put(&self, out: &mut [u8]) -> usize {
-        let at = put(out, 0, self.first.as_bytes());
-        let at = put_piece(out, at, self.vendor);
-        let at = put_system(out, at, self.operating_system);
-        let at = put_piece(out, at, self.environment);
-        put_piece(out, at, self.binary_format)
     }
 }
 
@@ -240,9 +233,9 @@ impl fmt::Display for Pieces<'_> {
     fn fmt(&self, f: &mut fmt::Formatter<'_>) -> fmt::Result {
         f.write_str(self.first)?;
         write_piece(f, self.vendor)?;
-        if let Some(system) = self.operating_system {
-            f.write_str("-")?;
-            system.fmt(f)?;
+        write_piece(f, self.operating_system)?;
+        if let Some(version) = self.version {
+            f.write_str(version_text(version, &mut [0; MAX_VERSION_LENGTH]))?;
         }
         write_piece(f, self.environment)?;
         write_piece(f, self.binary_format)
@@ -261,29 +254,23 @@ fn write_piece(f: &mut fmt::Formatter<'_>, name: Option<&str>) -> fmt::Result {
     }
 }
 
+/// The version's string, which is empty if there is no version.
+#[inline(always)]
+fn optional_version_text(
+    version: Option<DeploymentTarget>,
+    buffer: &mut [u8; MAX_VERSION_LENGTH],
+) -> &str {
+    match version {
+        Some(version) => version_text(version, buffer),
+        None => "",
+    }
+}
+
 /// The length of a dash and the name, if there is one.
 #[inline]
 fn piece_length(name: Option<&str>) -> usize {
     match name {
         Some(name) => 1 + name.len(),
-        None => 0,
-    }
-}
-
-/// The length of a dash and the name of the system, if there is one.
-#[inline]
-fn system_length(system: Option<OperatingSystem>) -> usize {
-    match system {
-        Some(system) => 1 + system.prefix().len() + system_version_length(system),
-        None => 0,
-    }
-}
-
-/// The length of the version's string, if the system has a version.
-#[inline]
-fn system_version_length(system: OperatingSystem) -> usize {
-    match system.version() {
-        Some(version) => version_text(version, &mut [0; MAX_VERSION_LENGTH]).len(),
         None => 0,
     }
 }
@@ -296,32 +283,6 @@ fn put_piece(out: &mut [u8], at: usize, name: Option<&str>) -> usize {
             let at = put(out, at, b"-");
             put(out, at, name.as_bytes())
         }
-        None => at,
-    }
-}
-
-/// Writes a dash and the name of the system, if there is one, as [`put`] writes a string.
-#[inline]
-fn put_system(out: &mut [u8], at: usize, system: Option<OperatingSystem>) -> usize {
-    match system {
-        Some(system) => {
-            let at = put(out, at, b"-");
-            let at = put(out, at, system.prefix().as_bytes());
-            put_system_version(out, at, system)
-        }
-        None => at,
-    }
-}
-
-/// Writes the version's string, if the system has a version, as [`put`] writes a string.
-#[inline]
-fn put_system_version(out: &mut [u8], at: usize, system: OperatingSystem) -> usize {
-    match system.version() {
-        Some(version) => put(
-            out,
-            at,
-            version_text(version, &mut [0; MAX_VERSION_LENGTH]).as_bytes(),
-        ),
         None => at,
     }
 }

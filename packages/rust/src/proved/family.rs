@@ -142,9 +142,13 @@ impl TripleRef<'_> {
 
     /// Whether the environment `none` is shown without a system, on Clever.
     fn shows_only_none(&self) -> bool {
-        match self.environment {
-            Environment::None => !self.shows_operating_system(),
-            _ => false,
-        }
+        matches!(
+            (self.architecture, self.operating_system, self.environment),
+            (
+                Architecture::Clever(_),
+                OperatingSystem::Unknown,
+                Environment::None,
+            )
+        )
     }
 }
