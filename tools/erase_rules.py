@@ -53,8 +53,7 @@ EITHER = {"Dialect::write", "Dialect::write_versioned", "Triple::settles_as", "T
 # of which it is each function. What only suggestions need without the feature `tool_names` is compiled once with it.
 INLINE = {
     "TripleRef::from_str", "Triple::write_to", "TripleRef::write_to", "TripleRef::write_upstream_to", "Pieces::write_to",
-    "Pieces::text_length", "Pieces::put", "piece_length", "system_length", "put_piece", "put_system", "system_version_length", "put_system_version", "put",
-    "Refusal::write_to", "Triple::as_triple_ref", "Vendor::as_vendor_ref",
+    "piece_length", "put_piece", "put", "Refusal::write_to", "Triple::as_triple_ref", "Vendor::as_vendor_ref",
 }
 INLINE_MODULES = {
     "aarch64", "arm", "change", "clever", "macos", "mips", "queries", "riscv", "rules", "settle", "settles_as", "spelled", "spelling", "x86_32", "z80",
