@@ -77,7 +77,6 @@ static void write_answers(const struct lexicon_triple *triple) {
   const unsigned sizes[] = {facts.short_size, facts.int_size, facts.long_size, facts.long_long_size, facts.float_size, facts.double_size};
   for (size_t i = 0; i < sizeof sizes / sizeof *sizes; i++) write_number('\t', facts.data_model ? sizes[i] : 0);
   write_name(LEXICON_FIELD_BINARY_FORMAT, facts.implied_format);
-  write_name(LEXICON_FIELD_BINARY_FORMAT, facts.object_format);
   printf("\t%d\t%d\t%d", facts.is_thumb, facts.is_like_darwin, facts.has_custom_vendor);
 }
 

@@ -34,8 +34,6 @@ fn value(kind: &str, word: &str) -> Result<V, String> {
         "Environment" => field(s::environment_of),
         "BinaryFormat" => field(s::binary_format_of),
         "VendorValue" => Ok(vendor(word)),
-        "Dialect" => field(s::dialect_of),
-        "LinuxLibc" => field(s::c_library_of),
         _ => named(kind, word).ok_or(format!("{word:?} is no value of {kind} that can be written as a word")),
     }
 }

@@ -8,7 +8,6 @@ use definitions::values::{apply, con, eq, function, library, named, text as v, t
 use std::cmp::Ordering;
 use std::fmt::Debug;
 use std::hash::{Hash, Hasher};
-use target_lexicon::tool_names::LinuxLibc;
 use target_lexicon::{
     Architecture, CDataModel, CallingConvention, CustomVendor, DeploymentTarget, Endianness, Field, PointerWidth, Size, Triple, TripleRef, Vendor,
     VendorRef,
@@ -122,13 +121,11 @@ pub fn values(r: &mut Report) {
     compared(r, &fields.systems, &by_system);
     compared(r, &fields.environments, &by_name(s::environment_name));
     compared(r, &fields.formats, &by_name(s::binary_format_name));
-    compared(r, &inputs::dialects(), &by_name(s::dialect_name));
     let versions = ["0", "9", "13.4", "13.4.255", "13.5", "65535.0.1"].map(|it| (s::version_of(v(it)).at(0), it.parse::<DeploymentTarget>().unwrap()));
     compared(r, &versions, &by_version);
     compared(r, &variants("PointerWidth", &[PointerWidth::U16, PointerWidth::U32, PointerWidth::U64]), &by_number(s::width_bits));
     compared(r, &variants("Size", &[Size::U8, Size::U16, Size::U32, Size::U64]), &by_number(s::size_bits));
     compared(r, &variants("Endianness", &[Endianness::Little, Endianness::Big]), &by_name(s::endianness_name));
-    compared(r, &variants("LinuxLibc", &[LinuxLibc::Glibc, LinuxLibc::Musl, LinuxLibc::Msvc, LinuxLibc::Mingw, LinuxLibc::Gnullvm]), &by_name(s::c_library_name));
     use {CDataModel::*, CallingConvention::*};
     compared(r, &variants("CallingConvention", &[SystemV, WasmBasicCAbi, WindowsFastcall, AppleAarch64]), &by_name(s::convention_name));
     compared(r, &variants("CDataModel", &[LP32, ILP32, LLP64, LP64, ILP64]), &by_name(s::model_name));

@@ -103,7 +103,6 @@ fn of_triple(t: V) -> String {
     let sizes = ["short", "int", "long", "long_long", "float", "double"].map(size);
     let others = [
         format(s::default_binary_format(t)),
-        format(s::object_format(t)),
         flag(is_thumb),
         flag(s::is_like_darwin(s::get_operating_system(t)).yes()),
         flag(s::is_custom(s::get_vendor(t)).yes()),

@@ -4,7 +4,6 @@ use crate::inputs;
 use crate::report::Report;
 use definitions::spec as s;
 use definitions::values::{con, eq, function, library, named, text as v, with, V};
-use target_lexicon::tool_names::{self as tools, Dialect, LinuxLibc};
 use target_lexicon::{
     Aarch64Architecture, Architecture, ArmArchitecture, BinaryFormat, CleverArchitecture, Environment, Mips32Architecture, Mips64Architecture,
     OperatingSystem, ParseError, ParseTripleError, Riscv32Architecture, Riscv64Architecture, Source, Triple, TripleRef, VendorRef, X86_32Architecture, Z80Architecture,
@@ -29,8 +28,6 @@ pub fn word(r: &mut Report, word: &str) {
         operating_system_of = word.parse::<OperatingSystem>().ok();
         environment_of = word.parse::<Environment>().ok();
         binary_format_of = word.parse::<BinaryFormat>().ok();
-        dialect_of = word.parse::<Dialect>().ok();
-        c_library_of = word.parse::<LinuxLibc>().ok();
     }
     macro_rules! parts_of_architectures {
         ($($definition:ident = $type:ident;)*) => {
@@ -66,9 +63,6 @@ pub fn values(r: &mut Report) {
     }
     for (x, system) in fields.systems {
         answers! { r, &system, (x): operating_system_name = system.to_string(); is_like_darwin = system.is_like_darwin(); }
-    }
-    for (x, dialect) in inputs::dialects() {
-        answers! { r, &dialect, (x): dialect_name = dialect.name(); }
     }
 }
 
@@ -137,19 +131,6 @@ fn parse_triple_error(r: &mut Report, string: &str, refusal: V, error: &ParseTri
     r.holds("what an error shows", error.to_string() == shown, &format_args!("{string:?}: {error}"));
 }
 
-/// What a string reads as that is spelled like a triple, and what is changed in it.
-pub fn spelling(r: &mut Report, string: &str) {
-    answers! { r, &string, (v(string)): spelled_reading = tools::read(string); }
-    let (specified, answered) = (s::changes(v(string)).list(), tools::changes(string).collect::<Vec<_>>());
-    r.holds("the number of changes", specified.len() == answered.len(), &string);
-    for (x, change) in specified.iter().zip(answered) {
-        let (part, names) = (s::get_part(*x), s::join_with_byte(s::dash(), s::get_names(*x)));
-        r.same("changes", part, &change.part, &string);
-        r.same("changes", names, &change.names.to_string(), &string);
-        answers! { r, &string, (part): dropped_version = change.dropped_version(); }
-    }
-}
-
 /// What a triple prints as, becomes and answers.
 pub fn triple(r: &mut Report, t: V, triple: TripleRef<'static>) {
     answers! { r, &triple, (t):
@@ -175,44 +156,12 @@ pub fn triple(r: &mut Report, t: V, triple: TripleRef<'static>) {
 pub fn more_of_triple(r: &mut Report, t: V, triple: TripleRef<'static>) {
     answers! { r, &triple, (t):
         upstream_text_of = triple.to_upstream_text();
-        object_format = triple.object_format();
     }
     let step = s::normal_step(t);
     r.holds("one step settles", eq(step, s::settled_values(t)), &triple);
     r.holds("a triple comes back exactly if it is in no family", eq(s::family(t), V::C(s::Option__None, &[])) == triple.comes_back(), &triple);
     if s::is_plain(s::get_vendor(t)).yes() {
         r.holds("the round trip is the normal step", eq(s::reading(s::text_of(t)), con(s::Result__Ok, &[step])), &triple);
-    }
-    for (c, library) in [
-        (s::LinuxLibc__Glibc, LinuxLibc::Glibc),
-        (s::LinuxLibc__Musl, LinuxLibc::Musl),
-        (s::LinuxLibc__Msvc, LinuxLibc::Msvc),
-        (s::LinuxLibc__Mingw, LinuxLibc::Mingw),
-        (s::LinuxLibc__Gnullvm, LinuxLibc::Gnullvm),
-    ] {
-        answers! { r, &triple, (V::C(c, &[]), t): completed = triple.with_c_library(library); }
-    }
-}
-
-/// The name of a triple in each dialect.
-pub fn written(r: &mut Report, t: V, triple: TripleRef<'static>, dialects: &[(V, Dialect)]) {
-    for (d, dialect) in dialects {
-        let of = (dialect, triple);
-        answers! { r, &of, (*d, t): shape = dialect.shape(&triple); triple_name = dialect.write(&triple).as_ref().map(|it| it.as_str()); }
-        for (major, minor) in [(11, 0), (2, 17), (1, 2), (65535, 255), (0, 7)] {
-            let name = dialect.write_versioned(&triple, major, minor);
-            answers! { r, &of, (*d, t, V::N(major.into()), V::N(minor.into())): versioned_name = name.as_ref().map(|it| it.as_str()); }
-        }
-    }
-}
-
-/// What a name means in each dialect.
-pub fn name(r: &mut Report, name: &str, dialects: &[(V, Dialect)]) {
-    // The reasons have other names.
-    let reasons = |shown: String| shown.replace("Err(Unknown)", "Err(IsUnknown)").replace("WithoutTriple", "HasNoTriple");
-    for (d, dialect) in dialects {
-        let read = dialect.read(name);
-        r.same("name_meaning", s::name_meaning(*d, v(name)), &format_args!("{}", reasons(format!("{read:?}"))), &(dialect, name));
     }
 }
 

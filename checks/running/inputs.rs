@@ -1,9 +1,8 @@
 //! What is tried. Nothing else of this check is chosen by hand.
 use crate::report::without_names_of_structs;
 use definitions::spec as s;
-use definitions::values::{apply, con, eq, keep, library, shown, text as v, with, N, V};
+use definitions::values::{apply, con, keep, shown, text as v, V};
 use std::fmt::Debug;
-use target_lexicon::tool_names::Dialect;
 use target_lexicon::{Architecture, BinaryFormat, Environment, OperatingSystem, TripleRef, VendorRef};
 
 /// Which of the cases: those of a number divided by `of` that leave `shard`, of each `step`-th case. A step is a prime: it doesn't go
@@ -44,10 +43,6 @@ fn paired<T: Debug>(values: &[V], name: fn(V) -> V, parse: impl Fn(&str) -> Opti
         (*it, value)
     };
     values.iter().map(pair).collect()
-}
-
-pub fn dialects() -> Vec<(V, Dialect)> {
-    paired(s::dialects().list(), s::dialect_name, |name| name.parse().ok())
 }
 
 /// All values of each field. A system like Darwin is without a version, with one, and with one at the limits. Custom vendors are
@@ -127,9 +122,6 @@ const MORE_WORDS: &str = "3ds esp foo Foo 3com \u{e9} apple1 iosfoo ios. darwin+
     ios1.2.256 ios1.2.3.4 macosx65535.255.255 tvos1 visionos0.0.0 watchos10.14.6 xros2.0 tvos99999999999999999999.00007";
 /// Words with characters that end lines or texts, or turn the direction.
 const UNUSUAL_WORDS: [&str; 3] = ["lin\nux", "a\0", "\u{202e}"];
-/// More of those that are spelled otherwise: with versions, and systems that aren't known.
-const MORE_SPELLINGS: &str = "macos14 macos11.7.10 macos65536 macos. freebsd13.1 freebsd13. freebsd. freebsd gnueabi2.17 gnueabi. hardfloat";
-
 fn split(words: &str) -> impl Iterator<Item = String> + '_ {
     words.split_whitespace().map(String::from)
 }
@@ -145,28 +137,14 @@ pub fn words() -> Vec<String> {
     unique(strings(s::row_texts()).chain(prefixes).chain(split(MORE_WORDS)).chain(unusual))
 }
 
-/// The words that a list of rules mentions.
-fn words_of_rules(rules: V) -> Vec<String> {
-    rules.list().iter().flat_map(|rule| strings(s::parts_of(s::get_part(*rule))).chain(strings(s::get_names(*rule)))).collect()
-}
-
-/// These, and those that other spellings are made of.
-pub fn spelled_words() -> Vec<String> {
-    let rules = words_of_rules(s::wide_rules()).into_iter().chain(words_of_rules(s::lone_rules()));
-    unique(words().into_iter().chain(rules).chain(strings(s::other_systems())).chain(split(MORE_SPELLINGS)))
-}
-
 fn unique(words: impl Iterator<Item = String>) -> Vec<String> {
     words.collect::<std::collections::BTreeSet<_>>().into_iter().collect()
 }
 
-/// The words for strings of four and five parts: for parsing, those that mean something in more than one field or together with
-/// others, and one of each other kind; for other spellings, the words of the rules that look at more than a part, and a few more.
-/// The empty word is tried too.
+/// The words for strings of four and five parts: those that mean something in more than one field or together with others, and one
+/// of each other kind. The empty word is tried too.
 const WORDS_TOGETHER: &str = "unknown none linux pc esp espidf nintendo horizon eabi gnu elf wasm ios1.2 foo";
-const MORE_SPELLINGS_TOGETHER: &str = "elf pc gnueabi2 macos14 nuttx";
 const FIRSTS: &str = "arm armv6k riscv32imc clever x86_64";
-const FIRSTS_SPELLED: &str = "arm armv7hl armv7l clever riscv32imc";
 
 /// Strings that are tried: each of one to three words, each of four and five of those words that mean something together, and random
 /// ones, of which the parts are words, some edited.
@@ -180,18 +158,9 @@ pub struct Strings {
 
 impl Strings {
     pub fn parsed() -> Strings {
-        Strings::of(words(), FIRSTS, split(WORDS_TOGETHER), 3_000_000)
-    }
-
-    pub fn spelled() -> Strings {
-        let together = words_of_rules(s::wide_rules()).into_iter().chain(split(MORE_SPELLINGS_TOGETHER));
-        Strings::of(spelled_words(), FIRSTS_SPELLED, together, 1_000_000)
-    }
-
-    fn of(words: Vec<String>, firsts: &str, together: impl Iterator<Item = String>, random: usize) -> Strings {
-        let together = unique(together.chain([String::new()]));
+        let together = unique(split(WORDS_TOGETHER).chain([String::new()]));
         let architectures = s::architecture_values().list().iter().map(|it| s::architecture_name(*it).string()).collect();
-        Strings { words, firsts: split(firsts).collect(), together, architectures, random }
+        Strings { words: words(), firsts: split(FIRSTS).collect(), together, architectures, random: 3_000_000 }
     }
 
     fn lists(&self) -> Vec<Vec<&Vec<String>>> {
@@ -280,51 +249,11 @@ impl Random {
 
 /// Each word, and how it looks after so many edits.
 pub fn edited_words(edits: usize) -> Vec<String> {
-    let words = spelled_words();
+    let words = words();
     let edited = (0..words.len() * edits).map(|i| {
         let mut word = words[i % words.len()].clone();
         Random::new(i).edit(&mut word);
         word
     });
-    let others = "docker npm glibc Glibc musl".split(' ').map(String::from);
-    let dialects = s::dialects().list().iter().map(|it| s::dialect_name(*it).string());
-    unique(words.iter().cloned().chain(edited).chain(others).chain(dialects))
-}
-
-/// Names of other tools: those of the rows of each dialect, with numbers at the limits, in other cases and with more or less in them;
-/// words; and how these look after edits.
-pub fn names() -> Vec<String> {
-    let mut names = spelled_words();
-    for dialect in s::dialects().list() {
-        for row in s::rows_of(*dialect).list() {
-            let pattern = s::get_pattern(*row).string();
-            for number in ["11", "0", "255", "256", "65535", "65536", "007", ""] {
-                let name = pattern.replace('*', number);
-                names.extend([pattern.replacen('*', number, 1).replace('*', "3"), name.to_uppercase(), name.replace('-', "_")]);
-                names.extend([name.clone() + "/v7", name.replace('-', ""), name.replace('.', ""), name]);
-            }
-        }
-    }
-    for i in 0..names.len() {
-        let mut name = names[i].clone();
-        Random::new(i).edit(&mut name);
-        names.push(name);
-    }
-    unique(names.into_iter())
-}
-
-/// The triples that names of other tools mean, also with a version if they can have one, and with a vendor.
-pub fn meanings() -> Vec<V> {
-    let version = || library::seq(&[N(13), N(4)]);
-    let rows = s::dialects().list().iter().flat_map(|it| s::rows_of(*it).list());
-    let meant = unique(rows.map(|row| s::get_meaning(*row).string())).into_iter().filter_map(|meaning| match s::reading(v(&meaning)) {
-        V::C(s::Result__Ok, it) => Some(it[0]),
-        _ => None,
-    });
-    let all = meant.flat_map(|t| {
-        let versioned = with(t, &[("operating_system", s::system_with(version(), s::get_operating_system(t)))]);
-        let custom = with(t, &[("vendor", con(s::VendorValue__Custom, &[v("esp")]))]);
-        if eq(t, versioned) { vec![t, custom] } else { vec![t, versioned, custom] }
-    });
-    keep(|| library::seq(&all.collect::<Vec<_>>())).list().to_vec()
+    unique(words.iter().cloned().chain(edited))
 }

@@ -19,7 +19,6 @@ use target_lexicon::TripleRef;
 
 /// The cases of a part. What a case took in memory is given back after it.
 fn run(part: &str, chosen: Chosen, r: &mut Report) {
-    let dialects = inputs::dialects();
     let strings = |strings: Strings, r: &mut Report, call: fn(&mut Report, &str)| {
         for i in chosen.of(strings.count()) {
             call(r, &strings.string(i));
@@ -54,15 +53,12 @@ fn run(part: &str, chosen: Chosen, r: &mut Report) {
         "strings" => strings(Strings::parsed(), r, calls::string),
         "owned" => strings(Strings::parsed(), r, calls::owned),
         "relations" => strings(Strings::parsed(), r, calls::relations),
-        "spellings" => strings(Strings::spelled(), r, calls::spelling),
         "families" => triples(inputs::near_families(), r, &|r, t, triple| {
             calls::triple(r, t, triple);
             calls::more_of_triple(r, t, triple);
         }),
         "triples" => triples(inputs::fields(), r, &calls::triple),
         "more" => triples(inputs::fields(), r, &calls::more_of_triple),
-        "written" => triples(inputs::fields(), r, &|r, t, triple| calls::written(r, t, triple, &dialects)),
-        "names" => words(inputs::names(), r, &|r, name| calls::name(r, name, &dialects)),
         "by_value" => {
             if chosen.shard == 0 {
                 by_value::values(r);

@@ -15,7 +15,7 @@ import re
 
 HERE = pathlib.Path(__file__).resolve().parent
 ROOT = HERE.parents[1]
-CRATES = ["lexicon_fields", "target_lexicon", "tool_names"]
+CRATES = ["lexicon_fields", "target_lexicon"]
 LIBRARY, KIT = ("library",), ("kit",)
 
 # One exception, to be fast: the second argument is computed only if it is needed.
