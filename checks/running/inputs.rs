@@ -1,9 +1,9 @@
 //! What is tried. Nothing else of this check is chosen by hand.
 use crate::report::without_names_of_structs;
 use definitions::spec as s;
-use definitions::values::{apply, con, keep, shown, text as v, V};
+use definitions::values::{apply, con, eq, keep, shown, text as v, N, V};
 use std::fmt::Debug;
-use target_lexicon::{Architecture, BinaryFormat, Environment, OperatingSystem, TripleRef, VendorRef};
+use target_lexicon::{Architecture, BinaryFormat, CustomVendor, Environment, OperatingSystem, Triple, Vendor};
 
 /// Which of the cases: those of a number divided by `of` that leave `shard`, of each `step`-th case. A step is a prime: it doesn't go
 /// evenly into the number of values of a field, so that each value is visited with each other one.
@@ -25,71 +25,125 @@ fn is_prime(n: usize) -> bool {
 }
 
 /// The first prime from a number on; and the last up to it, or 1.
+#[cfg(feature = "port")]
 pub fn prime_from(n: usize) -> usize {
     (n..).find(|it| is_prime(*it)).unwrap()
 }
+#[cfg(feature = "port")]
 pub fn prime_before(n: usize) -> usize {
     (2..=n).rev().find(|it| is_prime(*it)).unwrap_or(1)
 }
 
 // ---- values
 
-/// The values of a field that the definitions list, each with the crate's value that parses from its name.
+/// The values that the definitions list, each with the crate's value that parses from its name. One that the crate doesn't have, or
+/// shows as another one, is left out: what its name parses as is compared by itself.
 fn paired<T: Debug>(values: &[V], name: fn(V) -> V, parse: impl Fn(&str) -> Option<T>) -> Vec<(V, T)> {
     let pair = |it: &V| {
-        let name = name(*it).string();
-        let value = parse(&name).unwrap_or_else(|| panic!("the crate doesn't parse {name}"));
-        assert_eq!(shown(*it), without_names_of_structs(&format!("{value:?}")), "the value of {name}");
-        (*it, value)
+        let value = parse(&name(*it).string())?;
+        (shown(*it) == without_names_of_structs(&format!("{value:?}"))).then_some((*it, value))
     };
-    values.iter().map(pair).collect()
+    values.iter().filter_map(pair).collect()
 }
 
-/// All values of each field. A system like Darwin is without a version, with one, and with one at the limits. Custom vendors are
-/// plain ones, those of special strings, and such that no string parses as.
+/// A value, or several of one kind, of which each triple has another one.
+pub type Kind<T> = Vec<(V, T)>;
+
+/// All values of each field.
 pub struct Fields {
     pub architectures: Vec<(V, Architecture)>,
-    pub vendors: Vec<(V, VendorRef<'static>)>,
-    pub systems: Vec<(V, OperatingSystem)>,
+    pub vendors: Vec<Kind<Vendor>>,
+    pub systems: Vec<Kind<OperatingSystem>>,
     pub environments: Vec<(V, Environment)>,
     pub formats: Vec<(V, BinaryFormat)>,
 }
 
-const CUSTOM_VENDORS: [&str; 7] = ["esp", "rtems", "foo", "No-1", "", "linux", "pc"];
-const VERSIONS: [&str; 3] = ["", "13.4.255", "65535.0.1"];
+fn each<T>(values: Vec<(V, T)>) -> Vec<Kind<T>> {
+    values.into_iter().map(|it| vec![it]).collect()
+}
+
+fn custom(text: String) -> (V, Vendor) {
+    let text: &'static str = text.leak();
+    (keep(|| con(s::VendorValue__Custom, &[v(text)])), Vendor::Custom(CustomVendor::Static(text)))
+}
+
+/// Custom vendors, and such that no string parses as: each character that is admitted, and each next to one that is, at the first place,
+/// in the middle and at the end, and after `esp`; the words that parsing knows, as they are, with a letter more, and with one less.
+pub fn custom_vendors() -> Vec<String> {
+    let admitted = |c: u8| s::is_vendor_character(N(c.into())).yes();
+    let near = (0..128).filter(|c| (c - (*c > 0) as u8..=c + 1).any(admitted)).map(char::from);
+    let placed = near.flat_map(|c| [format!("{c}q9"), format!("q{c}9"), format!("q9{c}"), format!("esp{c}"), format!("{c}esp"), c.into()]);
+    let known = words().into_iter().flat_map(|it| [it.clone() + "q", format!("q{it}"), it.chars().skip(1).collect(), it]);
+    unique(placed.chain(known))
+}
+
+/// Versions: each digit at each place, each limit and what is next to it, and forms that are none.
+pub fn versions() -> Vec<String> {
+    let digits = |number: &'static str| (0..number.len()).flat_map(move |at| ('0'..='9').map(move |it| format!("{}{it}{}", &number[..at], &number[at + 1..])));
+    let limits = |limit: u32| [0, 1, 9, 10, limit - 1, limit, limit + 1, 10 * limit + 5].map(|it| it.to_string());
+    let [major, number] = [("12345", 65535), ("123", 255)].map(|it| digits(it.0).chain(limits(it.1)).collect::<Vec<_>>());
+    let others = ["", ".", "+", "1.", "1..2", "-0", "1.2.3.4", "+017", "0x1", "1_0", " 1", "99999999999999999999.00007", "13.4.255"].map(String::from);
+    let major = major.into_iter().chain(('0'..='9').map(String::from));
+    major.chain(number.into_iter().flat_map(|it| [format!("1.{it}"), format!("1.2.{it}"), format!("1.{it}.2")])).chain(others).collect()
+}
+
+/// The systems like Darwin: without a version, with one, and with each other one.
+fn versioned_systems() -> Vec<Kind<OperatingSystem>> {
+    let parse = |name: &str| name.parse().ok();
+    let version = |text: &String| Some(keep(|| s::version_of(v(text)))).filter(|it| !eq(*it, V::C(s::Option__None, &[])));
+    let versions: Vec<V> = versions().iter().filter_map(version).collect();
+    let kinds = |prefix: &V| {
+        let of = |version: V| keep(|| apply(prefix.at(1), version));
+        let all: Vec<V> = versions.iter().map(|it| of(*it)).collect();
+        [&[of(V::C(s::Option__None, &[]))], &all[..1], &all[..]].map(|it| paired(it, s::operating_system_name, parse))
+    };
+    s::darwin_prefixes().list().iter().flat_map(kinds).filter(|it| !it.is_empty()).collect()
+}
 
 pub fn fields() -> Fields {
-    let mut systems = s::fixed_operating_systems().list().to_vec();
-    for prefix in s::darwin_prefixes().list() {
-        systems.extend(VERSIONS.map(|version| keep(|| apply(prefix.at(1), s::optional_version_of(v(version)).at(0)))));
-    }
-    let known = s::known_vendors().list().iter().map(|it| {
-        let name = s::known_vendor_name(*it).string();
-        let Ok(VendorRef::Known(vendor)) = VendorRef::from_str(&name) else { panic!("the crate doesn't know the vendor {name}") };
-        (keep(|| con(s::VendorValue__Known, &[*it])), VendorRef::Known(vendor))
+    let systems = paired(s::fixed_operating_systems().list(), s::operating_system_name, |name| name.parse().ok());
+    let known = s::known_vendors().list().iter().filter_map(|it| {
+        let value = keep(|| con(s::VendorValue__Known, &[*it]));
+        let vendor = s::known_vendor_name(*it).string().parse::<Vendor>().ok()?;
+        (shown(*it) == format!("{vendor:?}")).then_some((value, vendor))
     });
-    let custom = CUSTOM_VENDORS.map(|it| (keep(|| con(s::VendorValue__Custom, &[v(it)])), VendorRef::Custom(it)));
+    let few = ["esp", "rtems", "foo", "q-9", ""].map(|it| custom(it.into()));
     Fields {
         architectures: paired(s::architecture_values().list(), s::architecture_name, |name| name.parse().ok()),
-        vendors: known.chain(custom).collect(),
-        systems: paired(&systems, s::operating_system_name, |name| name.parse().ok()),
+        vendors: [each(known.chain(few).collect()), vec![custom_vendors().into_iter().map(custom).collect()]].concat(),
+        systems: [each(systems), versioned_systems()].concat(),
         environments: paired(s::environment_values().list(), s::environment_name, |name| name.parse().ok()),
         formats: paired(s::binary_format_values().list(), s::binary_format_name, |name| name.parse().ok()),
     }
 }
 
+fn only<T: Clone>(values: &[(V, T)], wanted: &str) -> Vec<(V, T)> {
+    values.iter().filter(|it| wanted.split(' ').any(|name| name == shown(it.0))).cloned().collect()
+}
+
 /// The values of which families, special strings and rules of printing speak, and one of each other kind.
 pub fn near_families() -> Fields {
-    fn only<T: Debug>(values: Vec<(V, T)>, wanted: &str) -> Vec<(V, T)> {
-        values.into_iter().filter(|it| wanted.split(' ').any(|name| name == shown(it.0))).collect()
+    let all = fields();
+    let (made, others) = all.vendors.split_last().expect("vendors");
+    let vendors = only(&others.concat(), "Known(Unknown) Known(Nintendo) Known(Espressif) Custom(\"esp\") Custom(\"q-9\")");
+    Fields {
+        architectures: only(&all.architectures, "Arm(Armv6k) Riscv32(Riscv32imc) Clever(Clever) Wasm32 X86_64"),
+        vendors: [each(vendors), vec![made.clone()]].concat(),
+        systems: each(only(&all.systems.concat(), "Unknown None_ Horizon Espidf Linux Cygwin")),
+        environments: only(&all.environments, "Unknown Newlib None Gnu LinuxKernel"),
+        formats: all.formats,
     }
+}
+
+/// Each custom vendor with values of which a family speaks.
+pub fn near_vendors() -> Fields {
     let all = fields();
     Fields {
-        architectures: only(all.architectures, "Arm(Armv6k) Riscv32(Riscv32imc) Clever(Clever) Wasm32 X86_64"),
-        vendors: only(all.vendors, "Known(Unknown) Known(Nintendo) Known(Espressif) Custom(\"esp\") Custom(\"No-1\")"),
-        systems: only(all.systems, "Unknown None_ Horizon Espidf Linux Cygwin"),
-        environments: only(all.environments, "Unknown Newlib None Gnu LinuxKernel"),
-        formats: all.formats,
+        architectures: only(&all.architectures, "Riscv32(Riscv32imc) Clever(Clever)"),
+        vendors: each(all.vendors[all.vendors.len() - 1].clone()),
+        systems: each(only(&all.systems.concat(), "Espidf Unknown")),
+        environments: only(&all.environments, "Unknown None"),
+        formats: only(&all.formats, "Elf"),
     }
 }
 
@@ -100,26 +154,27 @@ impl Fields {
     }
 
     /// One of these triples.
-    pub fn triple(&self, i: usize) -> (V, TripleRef<'static>) {
-        let mut rest = i;
+    pub fn triple(&self, i: usize) -> (V, Triple) {
+        let (mut rest, mut random) = (i, Random::new(i));
         let mut next = |count: usize| {
             let index = rest % count;
             rest /= count;
             index
         };
-        let (b, e) = (&self.formats[next(self.formats.len())], &self.environments[next(self.environments.len())]);
+        let (b, e) = (self.formats[next(self.formats.len())], self.environments[next(self.environments.len())]);
         let (o, w) = (&self.systems[next(self.systems.len())], &self.vendors[next(self.vendors.len())]);
-        let a = &self.architectures[next(self.architectures.len())];
-        let triple = TripleRef { architecture: a.1, vendor: w.1, operating_system: o.1, environment: e.1, binary_format: b.1 };
+        let a = self.architectures[next(self.architectures.len())];
+        let (o, w) = (o[random.below(o.len())], &w[random.below(w.len())]);
+        let triple = Triple { architecture: a.1, vendor: w.1.clone(), operating_system: o.1, environment: e.1, binary_format: b.1 };
         (s::values(a.0, w.0, o.0, e.0, b.0), triple)
     }
 }
 
 // ---- strings
 
-/// Words that are a name of no field, or one of a system like Darwin with a version: at each limit, and next to it.
-const MORE_WORDS: &str = "3ds esp foo Foo 3com \u{e9} apple1 iosfoo ios. darwin+ darwin23.6 ios+017 ios65535 ios65536 ios1.255 ios1.256 ios1.2.255
-    ios1.2.256 ios1.2.3.4 macosx65535.255.255 tvos1 visionos0.0.0 watchos10.14.6 xros2.0 tvos99999999999999999999.00007";
+/// Words that are a name of no field, or one of a system like Darwin with a version.
+const MORE_WORDS: &str = "3ds esp foo Foo 3com \u{e9} apple1 iosfoo ios. darwin+ darwin23.6 ios+017 ios65535 ios65536 ios1.256 ios1.2.3.4
+    macosx65535.255.255 tvos1 visionos0.0.0 watchos10.14.6 xros2.0 tvos99999999999999999999.00007";
 /// Words with characters that end lines or texts, or turn the direction.
 const UNUSUAL_WORDS: [&str; 3] = ["lin\nux", "a\0", "\u{202e}"];
 fn split(words: &str) -> impl Iterator<Item = String> + '_ {
@@ -153,6 +208,7 @@ pub struct Strings {
     firsts: Vec<String>,
     together: Vec<String>,
     architectures: Vec<String>,
+    others: Vec<String>,
     random: usize,
 }
 
@@ -160,7 +216,7 @@ impl Strings {
     pub fn parsed() -> Strings {
         let together = unique(split(WORDS_TOGETHER).chain([String::new()]));
         let architectures = s::architecture_values().list().iter().map(|it| s::architecture_name(*it).string()).collect();
-        Strings { words: words(), firsts: split(FIRSTS).collect(), together, architectures, random: 3_000_000 }
+        Strings { words: words(), firsts: split(FIRSTS).collect(), together, architectures, others: edited_words(0), random: 3_000_000 }
     }
 
     fn lists(&self) -> Vec<Vec<&Vec<String>>> {
@@ -185,7 +241,10 @@ impl Strings {
         let mut string = self.architectures[random.below(self.architectures.len())].clone();
         for _ in 0..1 + random.below(6) {
             string += "-";
-            string += &self.words[random.below(self.words.len())];
+            string += match random.below(3) {
+                0 => &self.others[random.below(self.others.len())],
+                _ => &self.words[random.below(self.words.len())],
+            };
         }
         random.edit(&mut string);
         string
@@ -241,13 +300,15 @@ impl Random {
             if at < string.len() && self.below(2) == 0 {
                 string.remove(at);
             } else {
-                string.insert(at, ['0', '1', '2', '5', '6', '7', '9', '.', '+', '-', '_', 'a', 'z', 'A', '*', '/', ' ', '\n', '\0', '\u{e9}'][self.below(20)]);
+                // any printable character, and four others
+                let c = self.below(99) as u8;
+                string.insert(at, if c < 95 { (b' ' + c).into() } else { ['\n', '\0', '\u{7f}', '\u{e9}'][c as usize - 95] });
             }
         }
     }
 }
 
-/// Each word, and how it looks after so many edits.
+/// Each word, and how it looks after so many edits; custom vendors, and systems with each version.
 pub fn edited_words(edits: usize) -> Vec<String> {
     let words = words();
     let edited = (0..words.len() * edits).map(|i| {
@@ -255,5 +316,19 @@ pub fn edited_words(edits: usize) -> Vec<String> {
         Random::new(i).edit(&mut word);
         word
     });
-    unique(words.iter().cloned().chain(edited))
+    let prefixes = s::darwin_prefixes().list().iter().map(|it| it.at(0).string());
+    let versioned = prefixes.flat_map(|prefix| versions().into_iter().map(move |it| prefix.clone() + &it));
+    unique(words.iter().cloned().chain(edited).chain(custom_vendors()).chain(versioned))
+}
+
+/// A word in each place of a triple.
+pub fn placed(word: &str) -> [String; 9] {
+    ["*", "*-pc-linux-gnu", "x86_64-*", "x86_64-*-linux", "x86_64-pc-*", "x86_64-pc-*-gnu", "x86_64-pc-linux-*", "x86_64-pc-linux-gnu-*", "x86_64-pc-linux-gnu-elf-*"]
+        .map(|it| it.replace('*', word))
+}
+
+/// The words in quotes of the crate's own source, which the script finds: a name that the crate has and the definitions don't is one of them.
+pub fn quoted() -> Vec<String> {
+    let path = std::env::var("QUOTED").expect("QUOTED: a file of words");
+    std::fs::read_to_string(path).expect("words").lines().map(String::from).collect()
 }

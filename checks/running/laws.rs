@@ -3,35 +3,51 @@
 use crate::inputs::{self, Chosen, Strings};
 use crate::report::Report;
 use definitions::spec::{self as s, LAWS};
-use definitions::values::{forget, text, with, FORCED, V};
+use definitions::values::{con, forget, some_values, text, with, FORCED, N, TRIED, V};
 
-/// How many cases of a law there are, and one of them.
-type Cases = (usize, Box<dyn Fn(usize) -> Vec<V>>);
+/// How many cases of a law there are first, which are all tried, how many in all, and one of them.
+type Cases = (usize, usize, Box<dyn Fn(usize) -> Vec<V>>);
 
-/// The values near the families, and as many of all.
+/// The values near the families, with a custom vendor of a known one's name too, and with versions that the types of the code don't have;
+/// and as many of all.
 fn triples() -> Cases {
     let (near, all) = (inputs::near_families(), inputs::fields());
     let count = near.count();
     let step = inputs::prime_from(all.count() / count);
-    (2 * count, Box::new(move |i| vec![if i < count { near.triple(i).0 } else { all.triple((i - count) * step).0 }]))
+    let case = move |i: usize| {
+        let t = if i < count { near.triple(i).0 } else { all.triple((i - count) * step).0 };
+        let version = [[65536, 0, 0], [0, 256, 0], [0, 0, 256]][i % 3].map(N);
+        match i % 11 {
+            0 => with(t, &[("vendor", con(s::VendorValue__Custom, &[s::vendor_name(s::get_vendor(t))]))]),
+            1 => with(t, &[("operating_system", con(s::OperatingSystem__IOS, &[con(s::Option__Some, &[version_of(version)])]))]),
+            _ => t,
+        }
+    };
+    (0, 2 * count, Box::new(move |i| vec![case(i)]))
+}
+
+fn version_of([major, minor, patch]: [V; 3]) -> V {
+    with(s::version_of(text("1.2.3")).at(0), &[("major", major), ("minor", minor), ("patch", patch)])
 }
 
 /// Triples with themselves, with what they become, and with triples of which one field is another.
 fn pairs() -> Cases {
-    let (count, case) = triples();
+    let (_, count, case) = triples();
     let pair = move |i: usize| {
-        let t = case(i / 7)[0];
+        let t = case(i / 8)[0];
         let other = |field| with(t, &[(field, s::nintendo_3ds().field(field))]);
-        let others = [t, s::settled_values(t), other("architecture"), other("vendor"), other("operating_system"), other("environment"), other("binary_format")];
-        vec![t, others[i % 7]]
+        let custom = with(t, &[("vendor", con(s::VendorValue__Custom, &[s::vendor_name(s::get_vendor(t))]))]);
+        let others = [t, s::settled_values(t), custom, other("architecture"), other("vendor"), other("operating_system"), other("environment"), other("binary_format")];
+        vec![t, others[i % 8]]
     };
-    (7 * count, Box::new(pair))
+    (0, 8 * count, Box::new(pair))
 }
 
-/// Strings that parse or are refused.
+/// Strings that parse or are refused: each word in some places, and the others.
 fn strings() -> Cases {
-    let strings = Strings::parsed();
-    (strings.count(), Box::new(move |i| vec![text(&strings.string(i))]))
+    let (strings, words) = (Strings::parsed(), inputs::words());
+    let placed: Vec<String> = words.iter().flat_map(|it| [it.clone(), format!("arm64-apple-{it}"), format!("x86_64-{it}")]).chain(inputs::near_special()).collect();
+    (placed.len(), placed.len() + strings.count(), Box::new(move |i| vec![text(&placed.get(i).cloned().unwrap_or_else(|| strings.string(i - placed.len())))]))
 }
 
 /// What the variables of a law range over, by their names and types.
@@ -50,12 +66,14 @@ const SLOW: [&str; 4] = ["EqualTextsEqualTriples", "EveryTextHasOneOutcome", "Re
 /// Runs each law on some of its cases, as many as these at least if it has so many. Prints the claims that matter.
 pub fn run(r: &mut Report, chosen: Chosen, at_least: usize) {
     for (title, variables, law, claims) in LAWS {
-        let (count, case) = cases(variables);
+        let (first, all, case) = cases(variables);
+        let count = all - first;
         let at_least = if SLOW.iter().any(|it| title.contains(it)) { at_least / 8 } else { at_least };
         let step = if count > at_least { inputs::prime_before(count / at_least) } else { 1 };
         let mut open: Vec<usize> = claims.to_vec();
-        for i in (Chosen { step, ..chosen }).of(count) {
+        for i in (Chosen { step: 1, ..chosen }).of(first).chain((Chosen { step, ..chosen }).of(count).map(|i| first + i)) {
             let values = case(i);
+            unsafe { TRIED = Some(some_values()) };
             let shown = || values.iter().map(|it| definitions::values::shown(*it)).collect::<Vec<_>>().join(", ");
             let holds = law(&values).yes();
             r.holds(title, holds, &format_args!("{}", if holds { String::new() } else { shown() }));
