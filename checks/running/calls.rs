@@ -33,9 +33,10 @@ pub fn values(r: &mut Report) {
     for (x, vendor) in fields.vendors.concat() {
         let it = vendor.as_vendor_ref();
         answers! { r, &it, (x): vendor_name = it.as_str(); vendor_name = it.to_string(); is_plain = it.is_plain(); is_plain = vendor.is_plain(); is_custom = it.is_custom(); }
+        r.holds("to_vendor", it.to_vendor() == vendor, &it);
         if let (V::C(_, of), VendorRef::Known(known)) = (x, it) {
             answers! { r, &known, (of[0]): known_vendor_name = known.name(); }
-            r.holds("the vendor of a known one", known.to_vendor() == vendor && it.to_vendor() == vendor, &known);
+            r.holds("to_vendor", known.to_vendor() == vendor, &known);
         }
     }
     for (x, system) in fields.systems.concat() {
@@ -171,11 +172,11 @@ pub fn triple(r: &mut Report, t: V, owned: &Triple) {
     r.holds("settles_as", !is_esp || owned.settles_as(&canonical) && triple.settles_as(&canonical), input);
     let other = Triple { vendor: Vendor::Custom(CustomVendor::Static("foo.bar")), ..canonical };
     r.holds("settles_as of another", !owned.settles_as(&other) && !triple.settles_as(&other), input);
-    let mut buffer = [7; 256];
-    let printed = s::text_of(t).bytes();
-    r.holds("write_to", owned.write_to(&mut buffer) == printed.len() && buffer[..printed.len()] == printed && buffer[printed.len()] == 7, input);
-    let fits = printed.len().min(255) - 1;
-    r.holds("write_to of a small buffer", triple.write_to(&mut [7; 255][..fits]) == printed.len(), input);
+    let (mut buffer, printed) = ([7; 256], s::text_of(t).bytes());
+    let count = printed.len();
+    r.holds("write_to", owned.write_to(&mut buffer) == count && buffer[..count] == printed && buffer[count..].iter().all(|it| *it == 7), input);
+    r.holds("write_to of a buffer of its size", triple.write_to(&mut buffer[..count]) == count && buffer[..count] == printed, input);
+    r.holds("write_to of a small buffer", triple.write_to(&mut [7; 256][..count - 1]) == count, input);
 }
 
 /// The relations of the specification: what `reading` gives is in them, and its neighbours aren't.

@@ -68,13 +68,14 @@ fn custom(text: String) -> (V, Vendor) {
 }
 
 /// Custom vendors, and such that no string parses as: each character that is admitted, and each next to one that is, at the first place,
-/// in the middle and at the end, and after `esp`; the words that parsing knows, as they are, with a letter more, and with one less.
+/// in the middle and at the end, and after `esp`; the words that parsing knows, as they are, with a letter more, and with one less; and long ones.
 pub fn custom_vendors() -> Vec<String> {
     let admitted = |c: u8| s::is_vendor_character(N(c.into())).yes();
     let near = (0..128).filter(|c| (c - (*c > 0) as u8..=c + 1).any(admitted)).map(char::from);
     let placed = near.flat_map(|c| [format!("{c}q9"), format!("q{c}9"), format!("q9{c}"), format!("esp{c}"), format!("{c}esp"), c.into()]);
     let known = words().into_iter().flat_map(|it| [it.clone() + "q", format!("q{it}"), it.chars().skip(1).collect(), it]);
-    unique(placed.chain(known))
+    let long = [2, 7, 8, 15, 16, 17, 31, 32, 33, 64, 100].map(|count| "q".repeat(count));
+    unique(placed.chain(known).chain(long))
 }
 
 /// Versions: each digit at each place, each limit and what is next to it, and forms that are none.
