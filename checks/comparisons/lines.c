@@ -154,8 +154,8 @@ static struct lexicon_triple triple_of(char *line) {
   return triple;
 }
 
-/* What a string is, where each field comes from, and what is answered of its triple; or the line of its refusal, its status and place. The
-   byte after the string is one that would make another string of it. */
+/* What a string is, where each field comes from, and what is answered of its triple; or the line of its refusal, its status and place. Then
+   whether it is parsed strictly, and what it names in each field. The byte after the string is one that would make another string of it. */
 static void write_parsed(const char *line, size_t size) {
   struct lexicon_triple triple, again;
   struct lexicon_error error, other;
@@ -180,6 +180,12 @@ static void write_parsed(const char *line, size_t size) {
   write_sources(&sources);
   status = lexicon_parse_strict(text, size, &again, &other);
   printf("\t%d %d", status, LEXICON_MAX_GROWTH);
+  for (uint32_t field = 0; field < 5; field++) {
+    uint32_t number = 0;
+    status = lexicon_number(field, text, size, &number);
+    const char *name = status != LEXICON_OK ? "-" : field == LEXICON_FIELD_VENDOR && number == LEXICON_VENDOR_CUSTOM ? "=" : lexicon_name(field, number);
+    printf("\t%d %s", status, name ? name : "no name");
+  }
   free(text);
 }
 

@@ -65,7 +65,24 @@ pub fn string(string: String) -> Option<(String, String)> {
         }
         _ => panic!("a result"),
     };
-    Some((string, format!("{answer}\t{}\t{strict} {}", sources.join("\t"), s::max_growth().number())))
+    Some((string, format!("{answer}\t{}\t{strict} {}\t{}", sources.join("\t"), s::max_growth().number(), numbers(x).join("\t"))))
+}
+
+/// What a string names in each field: a status, and the name of the value without a version.
+fn numbers(x: V) -> Vec<String> {
+    let without_version = |it: V| if let V::C(tag, [_]) = it { con(tag, &[V::C(s::Option__None, &[])]) } else { it };
+    let fields: [(V, &dyn Fn(V) -> V); 5] = [
+        (s::architecture_of(x), &s::architecture_name),
+        (s::vendor_of(x), &|it| if s::is_custom(it).yes() { v("=") } else { s::vendor_name(it) }),
+        (s::operating_system_of(x), &|it| s::operating_system_name(without_version(it))),
+        (s::environment_of(x), &s::environment_name),
+        (s::binary_format_of(x), &s::binary_format_name),
+    ];
+    let number = |(i, (value, name)): (usize, (V, &dyn Fn(V) -> V))| match value {
+        V::C(s::Option__Some, it) => format!("0 {}", name(it[0]).string()),
+        _ => format!("{} -", i + 1),
+    };
+    fields.into_iter().enumerate().map(number).collect()
 }
 
 /// The parts of a string that fill a field, one after the other, and the field; and the range of the first one that fills none.
