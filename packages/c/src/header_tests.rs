@@ -5,6 +5,7 @@ use crate::triple::{NumberedTriple, TripleNumbers};
 use crate::values::{architecture_at, c_library_at, dialect_at, environment_at, field_at, name_at, operating_system_at};
 use std::collections::BTreeMap;
 use target_lexicon::TripleRef;
+use target_names::TargetInfo;
 
 const HEADER: &str = include_str!("../include/target_lexicon.h");
 const CPP_HEADER: &str = include_str!("../include/target_lexicon.hpp");
