@@ -1,9 +1,7 @@
 //! The traits of names, dialects and errors.
 use std::collections::{BTreeSet, HashSet};
-use target_names::{
-    CLibrary, Dialect, FloatAbi, LinuxLibc, Name, ParseNameError, UnknownWord,
-};
 use target_lexicon::TripleRef;
+use target_names::{CLibrary, Dialect, FloatAbi, LinuxLibc, Name, ParseNameError, UnknownWord};
 
 #[test]
 fn names_have_the_width_that_is_asked_for() {
