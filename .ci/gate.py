@@ -7,7 +7,7 @@ While `rt ci` proves, what needs no proof is built with cargo and tested; what t
 runs by itself too, as it is printed, with BUILT as the folder that is said there. As root, Debian's packages of missing tools
 are installed. If a tool is still missing that no --without names, no step runs, and the gate fails. A step that needs a named
 tool isn't run; a step without a part that needs one fails, unless that is named in WITHOUT, where the steps get all names.
-With UPSTREAM, the folder of upstream's crate, upstream's tests, public surface and dependents are tried too. The last lines say
+With UPSTREAM, the folder of upstream's crate, its answers, upstream's tests, public surface and dependents are tried too. The last lines say
 how long each step took, what was left out, and which step failed.
 """
 import argparse
@@ -59,7 +59,9 @@ WITHOUT_PROOF = [
      "packages/rust/test", "cargo"),
     ("the crate of other tools' names: each row, shape and rule, laws over generated strings, samples of the documentation",
      "packages/names/test", "cargo"),
-    ("the definitions run, and say what the Rust crate answers", "checks/specification quick", "cargo"),
+    ("the definitions run, and say what the Rust crate answers; without something to compare that fails",
+     "checks/specification quick && checks/running/test", "cargo"),
+    ("they say what upstream's own crate answers", 'if [ "$UPSTREAM" ]; then checks/specification against "$UPSTREAM"; else echo "left out: upstream\'s crate (UPSTREAM isn\'t set)"; fi', "cargo"),
     ("what they take from the kit's library, written again, is the kit's", 'checks/specification library "$(dirname "$(rt doc)")/rattle"', "rt cargo"),
     ("the command `target-lexicon`: arguments, output and statuses", "packages/command/test", "cargo"),
     ("it is built for the next steps, and a program to compare with", "cd packages/command && cargo build --quiet --locked --release --all-features", "cargo"),

@@ -1,6 +1,6 @@
 //! What a definition says of a value: `ask DEFINITION WORD..`, with a word for each argument.
-use definitions::spec::{self as s, ASKED};
-use definitions::values::{con, eq, named, shown, text, with, N, V};
+use definitions::spec::{self as s, ASKED, TAGS};
+use definitions::values::{con, eq, library, named, shown, some_values, text, with, N, TRIED, V};
 
 /// The answer, or why there is none.
 pub fn answer(words: &[String]) -> Result<String, String> {
@@ -9,13 +9,14 @@ pub fn answer(words: &[String]) -> Result<String, String> {
     let found: Vec<_> = ASKED.iter().filter(|it| has_name(it.0)).collect();
     let (title, types, function) = match found[..] {
         [it] => it,
-        [] => return Err(format!("no definition of a value has the name {name}")),
+        [] => return Err(format!("no definition with arguments that is run has the name {name}")),
         _ => return Err(format!("which {name}? {}", found.iter().map(|it| it.0).collect::<Vec<_>>().join(", "))),
     };
     if types.len() != arguments.len() {
         return Err(format!("{title} has {} arguments: {}", types.len(), types.join(", ")));
     }
     let values = types.iter().zip(arguments).map(|(kind, word)| value(kind, word)).collect::<Result<Vec<V>, String>>()?;
+    unsafe { TRIED = Some(some_values()) };
     Ok(shown(function(&values)))
 }
 
@@ -24,19 +25,50 @@ fn value(kind: &str, word: &str) -> Result<V, String> {
     if let Some(kind) = kind.strip_prefix("Option ") {
         return Ok(if word == "none" { V::C(s::Option__None, &[]) } else { con(s::Option__Some, &[value(kind, word)?]) });
     }
-    let field = |parse: fn(V) -> V| some(parse(text(word))).ok_or(format!("{word:?} is no {kind}"));
+    let found = |value: Option<V>| value.ok_or_else(|| format!("{word:?} is no {kind}{}", such_as(kind)));
+    let list = |of: &str, between: char| Ok(library::seq(&word.split(between).map(|it| value(of, it)).collect::<Result<Vec<V>, String>>()?));
     match kind {
         "List ℕ" => Ok(text(word)),
-        "ℕ" => word.parse().map(N).map_err(|_| format!("{word:?} is no number")),
+        "List ( List ℕ )" => list("List ℕ", '-'),
+        "List Field" => list("Field", ','),
+        "ℕ" => found(word.parse().ok().map(N)),
         "Values" => triple(word),
-        "Architecture" => field(s::architecture_of),
-        "OperatingSystem" => field(s::operating_system_of),
-        "Environment" => field(s::environment_of),
-        "BinaryFormat" => field(s::binary_format_of),
+        "Architecture" => found(some(s::architecture_of(text(word)))),
+        "OperatingSystem" => found(some(s::operating_system_of(text(word)))),
+        "Environment" => found(some(s::environment_of(text(word)))),
+        "BinaryFormat" => found(some(s::binary_format_of(text(word)))),
+        "DeploymentTarget" => found(some(s::version_of(text(word)))),
+        "KnownVendor" => found(some(s::known_vendor_of(text(word)))),
         "VendorValue" => Ok(vendor(word)),
-        "Dialect" => field(s::dialect_of),
-        "LinuxLibc" => field(s::c_library_of),
-        _ => named(kind, word).ok_or(format!("{word:?} is no value of {kind} that can be written as a word")),
+        "Refusal" => {
+            let (expected, part) = word.split_once(',').ok_or(format!("{word:?} is no Refusal, such as Environment,foo or none,foo"))?;
+            Ok(s::refusal_with(value("Option Field", expected)?, text(part)))
+        }
+        _ => found(named(kind, word).filter(|it| arity(*it) == 0)),
+    }
+}
+
+fn arity(value: V) -> usize {
+    if let V::C(_, arguments) = value { arguments.len() } else { 0 }
+}
+
+/// What the values of a type are: some, if there are many.
+fn such_as(kind: &str) -> String {
+    let names = |values: V, name: fn(V) -> V| values.list().iter().map(|it| name(*it).string()).collect();
+    let all: Vec<String> = match kind {
+        "ℕ" => return ", a number".into(),
+        "DeploymentTarget" => return ", a version such as 13.4".into(),
+        "Architecture" => names(s::architecture_values(), s::architecture_name),
+        "OperatingSystem" => names(s::fixed_operating_systems(), s::operating_system_name),
+        "Environment" => names(s::environment_values(), s::environment_name),
+        "BinaryFormat" => names(s::binary_format_values(), s::binary_format_name),
+        "KnownVendor" => names(s::known_vendors(), s::known_vendor_name),
+        _ => TAGS.iter().filter(|it| it.0 == kind).map(|it| it.1.to_string()).collect(),
+    };
+    match all.len() {
+        0 => " that a word can say".into(),
+        count @ 1..=8 => format!(", which has the {count} values {}", all.join(", ")),
+        count => format!(", which has {count} values, such as {}", all[..6].join(", ")),
     }
 }
 

@@ -1,97 +1,86 @@
-//! Which definition is compared with which call of the crate. Answers are compared as Rust's `{:?}` shows them, so that no table joins
-//! the two sides; where it shows otherwise than the definition, the words are replaced here.
-use crate::inputs;
+//! Which definition is compared with which call that only this crate has; common.rs has the calls that upstream has too.
+use crate::common::{self, Shown};
 use crate::report::Report;
+use crate::{answers, inputs};
 use definitions::spec as s;
 use definitions::values::{con, eq, function, library, named, text as v, with, V};
-use target_lexicon::tool_names::{self as tools, Dialect, LinuxLibc};
 use target_lexicon::{
-    Aarch64Architecture, Architecture, ArmArchitecture, BinaryFormat, CleverArchitecture, Environment, Mips32Architecture, Mips64Architecture,
-    OperatingSystem, ParseError, ParseTripleError, Riscv32Architecture, Riscv64Architecture, Source, Triple, TripleRef, VendorRef, X86_32Architecture, Z80Architecture,
+    CallingConvention, CDataModel, CustomVendor, Endianness, NotPlain, ParseError, ParseTripleError, Source, Triple, TripleRef, Vendor, VendorRef,
+    Z80Architecture,
 };
 
-/// `answers!(report, input, (arguments): definition = call; ..)`
-macro_rules! answers {
-    ($report:ident, $input:expr, $arguments:tt: $($definition:ident = $call:expr;)*) => {
-        $($report.same(stringify!($definition), apply!($definition $arguments), &$call, $input);)*
-    };
-}
-macro_rules! apply {
-    ($definition:ident ($($argument:expr),*)) => { s::$definition($($argument),*) };
-}
-
-/// What a word is in each field, and in each type of an architecture.
+/// What a word is as a vendor that is borrowed, and as a processor of the family of Z80, which upstream doesn't export.
 pub fn word(r: &mut Report, word: &str) {
+    common::word(r, word);
     let x = v(word);
-    answers! { r, &word, (x):
-        architecture_of = word.parse::<Architecture>().ok();
-        vendor_of = VendorRef::from_str(word).ok();
-        operating_system_of = word.parse::<OperatingSystem>().ok();
-        environment_of = word.parse::<Environment>().ok();
-        binary_format_of = word.parse::<BinaryFormat>().ok();
-        dialect_of = word.parse::<Dialect>().ok();
-        c_library_of = word.parse::<LinuxLibc>().ok();
-    }
-    macro_rules! parts_of_architectures {
-        ($($definition:ident = $type:ident;)*) => {
-            $(answers! { r, &word, (function(s::$definition), x): sub_architecture_of = word.parse::<$type>().ok(); })*
-        };
-    }
-    parts_of_architectures! {
-        as_arm = ArmArchitecture; as_aarch64 = Aarch64Architecture; as_x86_32 = X86_32Architecture; as_mips32 = Mips32Architecture;
-        as_mips64 = Mips64Architecture; as_riscv32 = Riscv32Architecture; as_riscv64 = Riscv64Architecture; as_clever = CleverArchitecture;
-        as_z80 = Z80Architecture;
-    }
+    answers! { r, &word, (x): vendor_of = VendorRef::from_str(word).ok(); }
+    answers! { r, &word, (function(s::as_z80), x): sub_architecture_of = word.parse::<Z80Architecture>().ok(); }
 }
 
-/// What each value of a field answers.
+/// What each value of a field answers, by the calls without memory.
 pub fn values(r: &mut Report) {
+    common::values(r);
     let fields = inputs::fields();
     for (x, architecture) in fields.architectures {
-        answers! { r, &architecture, (x):
-            architecture_name = architecture.to_string();
-            architecture_endianness = architecture.endianness().ok();
-            architecture_width = architecture.pointer_width().ok();
-            is_clever = architecture.is_clever();
+        answers! { r, &architecture, (x): architecture_name = architecture.name(); }
+        if let (V::C(s::Architecture__Z80, of), target_lexicon::Architecture::Z80(z80)) = (x, architecture) {
+            answers! { r, &z80, (of[0]): z80_name = z80.into_str(); z80_name = z80.to_string(); }
         }
-        if let (V::C(s::Architecture__Arm, of), Architecture::Arm(arm)) = (x, architecture) {
-            answers! { r, &arm, (of[0]): arm_name = arm.to_string(); is_thumb = arm.is_thumb(); arm_endianness = arm.endianness(); }
-        }
-        if let (V::C(s::Architecture__Aarch64, of), Architecture::Aarch64(arm)) = (x, architecture) {
-            answers! { r, &arm, (of[0]): aarch64_name = arm.to_string(); aarch64_endianness = arm.endianness(); }
-        }
-        if let Ok(width) = architecture.pointer_width() {
-            answers! { r, &width, (s::architecture_width(x).at(0)): width_bits = width.bits(); width_bytes = width.bytes(); }
+        if let (V::C(s::Option__Some, of), Ok(width)) = (s::architecture_width(x), architecture.pointer_width()) {
+            answers! { r, &width, (of[0]): width_name = width.name(); }
         }
     }
-    for (x, system) in fields.systems {
-        answers! { r, &system, (x): operating_system_name = system.to_string(); is_like_darwin = system.is_like_darwin(); }
+    for (x, vendor) in fields.vendors.concat() {
+        let it = vendor.as_vendor_ref();
+        answers! { r, &it, (x): vendor_name = it.as_str(); vendor_name = it.to_string(); is_plain = it.is_plain(); is_plain = vendor.is_plain(); is_custom = it.is_custom(); }
+        r.holds("to_vendor", it.to_vendor() == vendor, &it);
+        if let (V::C(_, of), VendorRef::Known(known)) = (x, it) {
+            answers! { r, &known, (of[0]): known_vendor_name = known.name(); }
+            r.holds("to_vendor", known.to_vendor() == vendor, &known);
+        }
     }
-    for (x, dialect) in inputs::dialects() {
-        answers! { r, &dialect, (x): dialect_name = dialect.name(); }
+    for (x, system) in fields.systems.concat() {
+        answers! { r, &system, (x): system_version = system.version(); }
+    }
+    for (x, environment) in fields.environments {
+        answers! { r, &environment, (x): environment_name = environment.name(); }
+    }
+    for (x, format) in fields.formats {
+        answers! { r, &format, (x): binary_format_name = format.name(); }
+    }
+    macro_rules! names {
+        ($($type:ident $definition:ident: $($variant:ident)*;)*) => {$($(
+            let (x, it) = (named(stringify!($type), stringify!($variant)).expect("a variant"), $type::$variant);
+            answers! { r, &it, (x): $definition = it.name(); $definition = it.to_string(); }
+        )*)*};
+    }
+    names! {
+        Endianness endianness_name: Little Big; CallingConvention convention_name: SystemV WasmBasicCAbi WindowsFastcall AppleAarch64;
+        CDataModel model_name: LP32 ILP32 LLP64 LP64 ILP64;
     }
 }
 
-/// How a string parses, or is refused.
+/// How a string parses, or is refused, without memory.
 pub fn string(r: &mut Report, string: &str) {
+    common::string(r, string);
     let reading = s::reading(v(string));
     match TripleRef::from_str(string) {
         Ok(triple) => r.same("reading", reading, &Ok::<_, ()>(triple), &string),
         Err(refusal) => {
             r.same("reading", reading, &format_args!("Err({{ expected: {:?}, part: {:?} }})", refusal.expected, refusal.part.text), &string);
             if let V::C(s::Result__Err, it) = reading {
-                answers! { r, &string, (it[0]): refusal_line = refusal.to_string(); }
+                answers! { r, &string, (it[0]): refusal_line = refusal.to_string(); refusal_line = refusal.to_error().to_string(); }
             }
         }
     }
 }
 
-/// The same for the types that own their strings, with both of their errors.
+/// The errors of a string that own it.
 pub fn owned(r: &mut Report, string: &str) {
     let reading = s::reading(v(string));
     match (string.parse::<Triple>(), Triple::parse(string)) {
         (Ok(triple), Ok(other)) => {
-            r.same("reading", reading, &format_args!("{:?}", Ok::<_, ()>(triple.as_triple_ref())), &string);
+            r.same("reading", reading, &Ok::<_, ()>(Shown(&triple)), &string);
             r.holds("Triple::parse of what is read", triple == other, &string);
         }
         (Err(error), Err(other)) => {
@@ -99,6 +88,10 @@ pub fn owned(r: &mut Report, string: &str) {
             if let V::C(s::Result__Err, it) = reading {
                 parse_error(r, string, &error);
                 parse_triple_error(r, string, it[0], &other);
+                let refusal = TripleRef::from_str(string).expect_err("a refusal");
+                let elsewhere = refusal.in_text("foo");
+                r.holds("Refusal::in_text", refusal.in_text(string) == other && TripleRef::parse(string).as_ref() == Err(&other), &string);
+                r.holds("Refusal::in_text of another string", elsewhere.text() == elsewhere.part() && elsewhere.part() == error.part() || "foo".contains(error.part()), &string);
                 r.holds("ParseError of a ParseTripleError", ParseError::from(other) == error, &string);
             }
         }
@@ -137,83 +130,53 @@ fn parse_triple_error(r: &mut Report, string: &str, refusal: V, error: &ParseTri
     r.holds("what an error shows", error.to_string() == shown, &format_args!("{string:?}: {error}"));
 }
 
-/// What a string reads as that is spelled like a triple, and what is changed in it.
-pub fn spelling(r: &mut Report, string: &str) {
-    answers! { r, &string, (v(string)): spelled_reading = tools::read(string); }
-    let (specified, answered) = (s::changes(v(string)).list(), tools::changes(string).collect::<Vec<_>>());
-    r.holds("the number of changes", specified.len() == answered.len(), &string);
-    for (x, change) in specified.iter().zip(answered) {
-        let (part, names) = (s::get_part(*x), s::join_with_byte(s::dash(), s::get_names(*x)));
-        r.same("changes", part, &change.part, &string);
-        r.same("changes", names, &change.names.to_string(), &string);
-        answers! { r, &string, (part): dropped_version = change.dropped_version(); }
-    }
-}
-
-/// What a triple prints as, becomes and answers.
-pub fn triple(r: &mut Report, t: V, triple: TripleRef<'static>) {
-    answers! { r, &triple, (t):
+/// What a triple prints as, answers and becomes, borrowed and owned.
+pub fn triple(r: &mut Report, t: V, owned: &Triple) {
+    common::triple(r, t, owned);
+    let triple = owned.as_triple_ref();
+    let input = &triple;
+    answers! { r, input, (t):
         text_of = triple.to_string();
+        upstream_text_of = triple.to_upstream_text();
+        upstream_text_of = owned.to_upstream_text();
         family = triple.family();
+        family = owned.family();
         default_binary_format = triple.default_binary_format();
+        default_binary_format = target_lexicon::default_binary_format(owned);
         endianness = triple.endianness().ok();
         pointer_width = triple.pointer_width().ok();
         calling_convention = triple.default_calling_convention().ok();
         data_model = triple.data_model().ok();
     }
-    let plain = s::is_plain(s::get_vendor(t)).yes();
-    r.holds("is_plain", plain == triple.vendor.is_plain(), &triple);
-    let settled = s::settled_values(t);
-    match triple.settle() {
-        Ok(it) if it == triple && eq(settled, t) => r.holds("settled_values", plain, &triple),
-        Ok(it) => r.same("settled_values", settled, &it, &triple),
-        Err(_) => r.holds("settled_values", !plain, &triple),
-    }
-}
-
-/// The rest of what it answers.
-pub fn more_of_triple(r: &mut Report, t: V, triple: TripleRef<'static>) {
-    answers! { r, &triple, (t):
-        upstream_text_of = triple.to_upstream_text();
-        object_format = triple.object_format();
-    }
-    let step = s::normal_step(t);
-    r.holds("one step settles", eq(step, s::settled_values(t)), &triple);
-    r.holds("a triple comes back exactly if it is in no family", eq(s::family(t), V::C(s::Option__None, &[])) == triple.comes_back(), &triple);
-    if s::is_plain(s::get_vendor(t)).yes() {
-        r.holds("the round trip is the normal step", eq(s::reading(s::text_of(t)), con(s::Result__Ok, &[step])), &triple);
-    }
-    for (c, library) in [
-        (s::LinuxLibc__Glibc, LinuxLibc::Glibc),
-        (s::LinuxLibc__Musl, LinuxLibc::Musl),
-        (s::LinuxLibc__Msvc, LinuxLibc::Msvc),
-        (s::LinuxLibc__Mingw, LinuxLibc::Mingw),
-        (s::LinuxLibc__Gnullvm, LinuxLibc::Gnullvm),
-    ] {
-        answers! { r, &triple, (V::C(c, &[]), t): completed = triple.with_c_library(library); }
-    }
-}
-
-/// The name of a triple in each dialect.
-pub fn written(r: &mut Report, t: V, triple: TripleRef<'static>, dialects: &[(V, Dialect)]) {
-    for (d, dialect) in dialects {
-        let of = (dialect, triple);
-        answers! { r, &of, (*d, t): shape = dialect.shape(&triple); triple_name = dialect.write(&triple).as_ref().map(|it| it.as_str()); }
-        for (major, minor) in [(11, 0), (2, 17), (1, 2), (65535, 255), (0, 7)] {
-            let name = dialect.write_versioned(&triple, major, minor);
-            answers! { r, &of, (*d, t, V::N(major.into()), V::N(minor.into())): versioned_name = name.as_ref().map(|it| it.as_str()); }
+    let (plain, settled, step) = (s::is_plain(s::get_vendor(t)).yes(), s::settled_values(t), s::normal_step(t));
+    let comes_back = eq(s::family(t), V::C(s::Option__None, &[]));
+    r.holds("comes_back", triple.comes_back() == comes_back && owned.comes_back() == comes_back, input);
+    r.holds("one step settles", eq(step, settled), input);
+    r.holds("the round trip is the normal step", !plain || eq(s::reading(s::text_of(t)), con(s::Result__Ok, &[step])), input);
+    for (borrowed, other) in [(triple.settle(), owned.clone().settle()), (triple.normal(), owned.clone().normal())] {
+        match (borrowed, other) {
+            (Ok(it), Ok(other)) if plain => {
+                r.same("settled_values", settled, &it, input);
+                r.same("settled_values", settled, &Shown(&other), input);
+            }
+            (Err(NotPlain(same)), Err(error)) if !plain => {
+                let shown = format!("No text parses as the vendor {:?}", s::vendor_name(s::get_vendor(t)).string());
+                r.holds("NotPlain", same == *owned && error.0 == same && error.to_string() == shown, input);
+            }
+            both => r.holds("is_plain", false, &both),
         }
     }
-}
-
-/// What a name means in each dialect.
-pub fn name(r: &mut Report, name: &str, dialects: &[(V, Dialect)]) {
-    // The reasons have other names.
-    let reasons = |shown: String| shown.replace("Err(Unknown)", "Err(IsUnknown)").replace("WithoutTriple", "HasNoTriple");
-    for (d, dialect) in dialects {
-        let read = dialect.read(name);
-        r.same("name_meaning", s::name_meaning(*d, v(name)), &format_args!("{}", reasons(format!("{read:?}"))), &(dialect, name));
-    }
+    // the canonical form, and one that isn't
+    let canonical = Triple { vendor: owned.vendor.clone(), ..triple.step().to_triple() };
+    let is_esp = eq(s::get_vendor(settled), s::get_vendor(t));
+    r.holds("settles_as", !is_esp || owned.settles_as(&canonical) && triple.settles_as(&canonical), input);
+    let other = Triple { vendor: Vendor::Custom(CustomVendor::Static("foo.bar")), ..canonical };
+    r.holds("settles_as of another", !owned.settles_as(&other) && !triple.settles_as(&other), input);
+    let (mut buffer, printed) = ([7; 256], s::text_of(t).bytes());
+    let count = printed.len();
+    r.holds("write_to", owned.write_to(&mut buffer) == count && buffer[..count] == printed && buffer[count..].iter().all(|it| *it == 7), input);
+    r.holds("write_to of a buffer of its size", triple.write_to(&mut buffer[..count]) == count && buffer[..count] == printed, input);
+    r.holds("write_to of a small buffer", triple.write_to(&mut [7; 256][..count - 1]) == count, input);
 }
 
 /// The relations of the specification: what `reading` gives is in them, and its neighbours aren't.

@@ -1,10 +1,9 @@
 //! What is tried. Nothing else of this check is chosen by hand.
 use crate::report::without_names_of_structs;
 use definitions::spec as s;
-use definitions::values::{apply, con, eq, keep, library, shown, text as v, with, N, V};
+use definitions::values::{apply, con, eq, keep, shown, text as v, N, V};
 use std::fmt::Debug;
-use target_lexicon::tool_names::Dialect;
-use target_lexicon::{Architecture, BinaryFormat, Environment, OperatingSystem, TripleRef, VendorRef};
+use target_lexicon::{Architecture, BinaryFormat, CustomVendor, Environment, OperatingSystem, Triple, Vendor};
 
 /// Which of the cases: those of a number divided by `of` that leave `shard`, of each `step`-th case. A step is a prime: it doesn't go
 /// evenly into the number of values of a field, so that each value is visited with each other one.
@@ -26,75 +25,126 @@ fn is_prime(n: usize) -> bool {
 }
 
 /// The first prime from a number on; and the last up to it, or 1.
+#[cfg(feature = "port")]
 pub fn prime_from(n: usize) -> usize {
     (n..).find(|it| is_prime(*it)).unwrap()
 }
+#[cfg(feature = "port")]
 pub fn prime_before(n: usize) -> usize {
     (2..=n).rev().find(|it| is_prime(*it)).unwrap_or(1)
 }
 
 // ---- values
 
-/// The values of a field that the definitions list, each with the crate's value that parses from its name.
+/// The values that the definitions list, each with the crate's value that parses from its name. One that the crate doesn't have, or
+/// shows as another one, is left out: what its name parses as is compared by itself.
 fn paired<T: Debug>(values: &[V], name: fn(V) -> V, parse: impl Fn(&str) -> Option<T>) -> Vec<(V, T)> {
     let pair = |it: &V| {
-        let name = name(*it).string();
-        let value = parse(&name).unwrap_or_else(|| panic!("the crate doesn't parse {name}"));
-        assert_eq!(shown(*it), without_names_of_structs(&format!("{value:?}")), "the value of {name}");
-        (*it, value)
+        let value = parse(&name(*it).string())?;
+        (shown(*it) == without_names_of_structs(&format!("{value:?}"))).then_some((*it, value))
     };
-    values.iter().map(pair).collect()
+    values.iter().filter_map(pair).collect()
 }
 
-pub fn dialects() -> Vec<(V, Dialect)> {
-    paired(s::dialects().list(), s::dialect_name, |name| name.parse().ok())
-}
+/// A value, or several of one kind, of which each triple has another one.
+pub type Kind<T> = Vec<(V, T)>;
 
-/// All values of each field. A system like Darwin is without a version, with one, and with one at the limits. Custom vendors are
-/// plain ones, those of special strings, and such that no string parses as.
+/// All values of each field.
 pub struct Fields {
     pub architectures: Vec<(V, Architecture)>,
-    pub vendors: Vec<(V, VendorRef<'static>)>,
-    pub systems: Vec<(V, OperatingSystem)>,
+    pub vendors: Vec<Kind<Vendor>>,
+    pub systems: Vec<Kind<OperatingSystem>>,
     pub environments: Vec<(V, Environment)>,
     pub formats: Vec<(V, BinaryFormat)>,
 }
 
-const CUSTOM_VENDORS: [&str; 7] = ["esp", "rtems", "foo", "No-1", "", "linux", "pc"];
-const VERSIONS: [&str; 3] = ["", "13.4.255", "65535.0.1"];
+fn each<T>(values: Vec<(V, T)>) -> Vec<Kind<T>> {
+    values.into_iter().map(|it| vec![it]).collect()
+}
+
+fn custom(text: String) -> (V, Vendor) {
+    let text: &'static str = text.leak();
+    (keep(|| con(s::VendorValue__Custom, &[v(text)])), Vendor::Custom(CustomVendor::Static(text)))
+}
+
+/// Custom vendors, and such that no string parses as: each character that is admitted, and each next to one that is, at the first place,
+/// in the middle and at the end, and after `esp`; the words that parsing knows, as they are, with a letter more, and with one less; and long ones.
+pub fn custom_vendors() -> Vec<String> {
+    let admitted = |c: u8| s::is_vendor_character(N(c.into())).yes();
+    let near = (0..128).filter(|c| (c - (*c > 0) as u8..=c + 1).any(admitted)).map(char::from);
+    let placed = near.flat_map(|c| [format!("{c}q9"), format!("q{c}9"), format!("q9{c}"), format!("esp{c}"), format!("{c}esp"), c.into()]);
+    let known = words().into_iter().flat_map(|it| [it.clone() + "q", format!("q{it}"), it.chars().skip(1).collect(), it]);
+    let long = [2, 7, 8, 15, 16, 17, 31, 32, 33, 64, 100].map(|count| "q".repeat(count));
+    unique(placed.chain(known).chain(long))
+}
+
+/// Versions: each digit at each place, each limit and what is next to it, and forms that are none.
+pub fn versions() -> Vec<String> {
+    let digits = |number: &'static str| (0..number.len()).flat_map(move |at| ('0'..='9').map(move |it| format!("{}{it}{}", &number[..at], &number[at + 1..])));
+    let limits = |limit: u32| [0, 1, 9, 10, limit - 1, limit, limit + 1, 10 * limit + 5].map(|it| it.to_string());
+    let [major, number] = [("12345", 65535), ("123", 255)].map(|it| digits(it.0).chain(limits(it.1)).collect::<Vec<_>>());
+    let others = ["", ".", "+", "1.", "1..2", "-0", "1.2.3.4", "+017", "0x1", "1_0", " 1", "99999999999999999999.00007", "13.4.255"].map(String::from);
+    let major = major.into_iter().chain(('0'..='9').map(String::from));
+    major.chain(number.into_iter().flat_map(|it| [format!("1.{it}"), format!("1.2.{it}"), format!("1.{it}.2")])).chain(others).collect()
+}
+
+/// The systems like Darwin: without a version, with one, and with each other one.
+fn versioned_systems() -> Vec<Kind<OperatingSystem>> {
+    let parse = |name: &str| name.parse().ok();
+    let version = |text: &String| Some(keep(|| s::version_of(v(text)))).filter(|it| !eq(*it, V::C(s::Option__None, &[])));
+    let versions: Vec<V> = versions().iter().filter_map(version).collect();
+    let kinds = |prefix: &V| {
+        let of = |version: V| keep(|| apply(prefix.at(1), version));
+        let all: Vec<V> = versions.iter().map(|it| of(*it)).collect();
+        [&[of(V::C(s::Option__None, &[]))], &all[..1], &all[..]].map(|it| paired(it, s::operating_system_name, parse))
+    };
+    s::darwin_prefixes().list().iter().flat_map(kinds).filter(|it| !it.is_empty()).collect()
+}
 
 pub fn fields() -> Fields {
-    let mut systems = s::fixed_operating_systems().list().to_vec();
-    for prefix in s::darwin_prefixes().list() {
-        systems.extend(VERSIONS.map(|version| keep(|| apply(prefix.at(1), s::optional_version_of(v(version)).at(0)))));
-    }
-    let known = s::known_vendors().list().iter().map(|it| {
-        let name = s::known_vendor_name(*it).string();
-        let Ok(VendorRef::Known(vendor)) = VendorRef::from_str(&name) else { panic!("the crate doesn't know the vendor {name}") };
-        (keep(|| con(s::VendorValue__Known, &[*it])), VendorRef::Known(vendor))
+    let systems = paired(s::fixed_operating_systems().list(), s::operating_system_name, |name| name.parse().ok());
+    let known = s::known_vendors().list().iter().filter_map(|it| {
+        let value = keep(|| con(s::VendorValue__Known, &[*it]));
+        let vendor = s::known_vendor_name(*it).string().parse::<Vendor>().ok()?;
+        (shown(*it) == format!("{vendor:?}")).then_some((value, vendor))
     });
-    let custom = CUSTOM_VENDORS.map(|it| (keep(|| con(s::VendorValue__Custom, &[v(it)])), VendorRef::Custom(it)));
+    let few = ["esp", "rtems", "foo", "q-9", ""].map(|it| custom(it.into()));
     Fields {
         architectures: paired(s::architecture_values().list(), s::architecture_name, |name| name.parse().ok()),
-        vendors: known.chain(custom).collect(),
-        systems: paired(&systems, s::operating_system_name, |name| name.parse().ok()),
+        vendors: [each(known.chain(few).collect()), vec![custom_vendors().into_iter().map(custom).collect()]].concat(),
+        systems: [each(systems), versioned_systems()].concat(),
         environments: paired(s::environment_values().list(), s::environment_name, |name| name.parse().ok()),
         formats: paired(s::binary_format_values().list(), s::binary_format_name, |name| name.parse().ok()),
     }
 }
 
+fn only<T: Clone>(values: &[(V, T)], wanted: &str) -> Vec<(V, T)> {
+    values.iter().filter(|it| wanted.split(' ').any(|name| name == shown(it.0))).cloned().collect()
+}
+
 /// The values of which families, special strings and rules of printing speak, and one of each other kind.
 pub fn near_families() -> Fields {
-    fn only<T: Debug>(values: Vec<(V, T)>, wanted: &str) -> Vec<(V, T)> {
-        values.into_iter().filter(|it| wanted.split(' ').any(|name| name == shown(it.0))).collect()
+    let all = fields();
+    let (made, others) = all.vendors.split_last().expect("vendors");
+    let vendors = only(&others.concat(), "Known(Unknown) Known(Nintendo) Known(Espressif) Custom(\"esp\") Custom(\"q-9\")");
+    Fields {
+        architectures: only(&all.architectures, "Arm(Armv6k) Riscv32(Riscv32imc) Clever(Clever) Wasm32 X86_64"),
+        vendors: [each(vendors), vec![made.clone()]].concat(),
+        systems: each(only(&all.systems.concat(), "Unknown None_ Horizon Espidf Linux Cygwin")),
+        environments: only(&all.environments, "Unknown Newlib None Gnu LinuxKernel"),
+        formats: all.formats,
     }
+}
+
+/// Each custom vendor with values of which a family speaks.
+pub fn near_vendors() -> Fields {
     let all = fields();
     Fields {
-        architectures: only(all.architectures, "Arm(Armv6k) Riscv32(Riscv32imc) Clever(Clever) Wasm32 X86_64"),
-        vendors: only(all.vendors, "Known(Unknown) Known(Nintendo) Known(Espressif) Custom(\"esp\") Custom(\"No-1\")"),
-        systems: only(all.systems, "Unknown None_ Horizon Espidf Linux Cygwin"),
-        environments: only(all.environments, "Unknown Newlib None Gnu LinuxKernel"),
-        formats: all.formats,
+        architectures: only(&all.architectures, "Riscv32(Riscv32imc) Clever(Clever)"),
+        vendors: each(all.vendors[all.vendors.len() - 1].clone()),
+        systems: each(only(&all.systems.concat(), "Espidf Unknown")),
+        environments: only(&all.environments, "Unknown None"),
+        formats: only(&all.formats, "Elf"),
     }
 }
 
@@ -105,31 +155,29 @@ impl Fields {
     }
 
     /// One of these triples.
-    pub fn triple(&self, i: usize) -> (V, TripleRef<'static>) {
-        let mut rest = i;
+    pub fn triple(&self, i: usize) -> (V, Triple) {
+        let (mut rest, mut random) = (i, Random::new(i));
         let mut next = |count: usize| {
             let index = rest % count;
             rest /= count;
             index
         };
-        let (b, e) = (&self.formats[next(self.formats.len())], &self.environments[next(self.environments.len())]);
+        let (b, e) = (self.formats[next(self.formats.len())], self.environments[next(self.environments.len())]);
         let (o, w) = (&self.systems[next(self.systems.len())], &self.vendors[next(self.vendors.len())]);
-        let a = &self.architectures[next(self.architectures.len())];
-        let triple = TripleRef { architecture: a.1, vendor: w.1, operating_system: o.1, environment: e.1, binary_format: b.1 };
+        let a = self.architectures[next(self.architectures.len())];
+        let (o, w) = (o[random.below(o.len())], &w[random.below(w.len())]);
+        let triple = Triple { architecture: a.1, vendor: w.1.clone(), operating_system: o.1, environment: e.1, binary_format: b.1 };
         (s::values(a.0, w.0, o.0, e.0, b.0), triple)
     }
 }
 
 // ---- strings
 
-/// Words that are a name of no field, or one of a system like Darwin with a version: at each limit, and next to it.
-const MORE_WORDS: &str = "3ds esp foo Foo 3com \u{e9} apple1 iosfoo ios. darwin+ darwin23.6 ios+017 ios65535 ios65536 ios1.255 ios1.256 ios1.2.255
-    ios1.2.256 ios1.2.3.4 macosx65535.255.255 tvos1 visionos0.0.0 watchos10.14.6 xros2.0 tvos99999999999999999999.00007";
+/// Words that are a name of no field, or one of a system like Darwin with a version.
+const MORE_WORDS: &str = "3ds esp foo Foo 3com \u{e9} apple1 iosfoo ios. darwin+ darwin23.6 ios+017 ios65535 ios65536 ios1.256 ios1.2.3.4
+    macosx65535.255.255 tvos1 visionos0.0.0 watchos10.14.6 xros2.0 tvos99999999999999999999.00007";
 /// Words with characters that end lines or texts, or turn the direction.
 const UNUSUAL_WORDS: [&str; 3] = ["lin\nux", "a\0", "\u{202e}"];
-/// More of those that are spelled otherwise: with versions, and systems that aren't known.
-const MORE_SPELLINGS: &str = "macos14 macos11.7.10 macos65536 macos. freebsd13.1 freebsd13. freebsd. freebsd gnueabi2.17 gnueabi. hardfloat";
-
 fn split(words: &str) -> impl Iterator<Item = String> + '_ {
     words.split_whitespace().map(String::from)
 }
@@ -145,28 +193,14 @@ pub fn words() -> Vec<String> {
     unique(strings(s::row_texts()).chain(prefixes).chain(split(MORE_WORDS)).chain(unusual))
 }
 
-/// The words that a list of rules mentions.
-fn words_of_rules(rules: V) -> Vec<String> {
-    rules.list().iter().flat_map(|rule| strings(s::parts_of(s::get_part(*rule))).chain(strings(s::get_names(*rule)))).collect()
-}
-
-/// These, and those that other spellings are made of.
-pub fn spelled_words() -> Vec<String> {
-    let rules = words_of_rules(s::wide_rules()).into_iter().chain(words_of_rules(s::lone_rules()));
-    unique(words().into_iter().chain(rules).chain(strings(s::other_systems())).chain(split(MORE_SPELLINGS)))
-}
-
 fn unique(words: impl Iterator<Item = String>) -> Vec<String> {
     words.collect::<std::collections::BTreeSet<_>>().into_iter().collect()
 }
 
-/// The words for strings of four and five parts: for parsing, those that mean something in more than one field or together with
-/// others, and one of each other kind; for other spellings, the words of the rules that look at more than a part, and a few more.
-/// The empty word is tried too.
+/// The words for strings of four and five parts: those that mean something in more than one field or together with others, and one
+/// of each other kind. The empty word is tried too.
 const WORDS_TOGETHER: &str = "unknown none linux pc esp espidf nintendo horizon eabi gnu elf wasm ios1.2 foo";
-const MORE_SPELLINGS_TOGETHER: &str = "elf pc gnueabi2 macos14 nuttx";
 const FIRSTS: &str = "arm armv6k riscv32imc clever x86_64";
-const FIRSTS_SPELLED: &str = "arm armv7hl armv7l clever riscv32imc";
 
 /// Strings that are tried: each of one to three words, each of four and five of those words that mean something together, and random
 /// ones, of which the parts are words, some edited.
@@ -175,23 +209,15 @@ pub struct Strings {
     firsts: Vec<String>,
     together: Vec<String>,
     architectures: Vec<String>,
+    others: Vec<String>,
     random: usize,
 }
 
 impl Strings {
     pub fn parsed() -> Strings {
-        Strings::of(words(), FIRSTS, split(WORDS_TOGETHER), 3_000_000)
-    }
-
-    pub fn spelled() -> Strings {
-        let together = words_of_rules(s::wide_rules()).into_iter().chain(split(MORE_SPELLINGS_TOGETHER));
-        Strings::of(spelled_words(), FIRSTS_SPELLED, together, 1_000_000)
-    }
-
-    fn of(words: Vec<String>, firsts: &str, together: impl Iterator<Item = String>, random: usize) -> Strings {
-        let together = unique(together.chain([String::new()]));
+        let together = unique(split(WORDS_TOGETHER).chain([String::new()]));
         let architectures = s::architecture_values().list().iter().map(|it| s::architecture_name(*it).string()).collect();
-        Strings { words, firsts: split(firsts).collect(), together, architectures, random }
+        Strings { words: words(), firsts: split(FIRSTS).collect(), together, architectures, others: edited_words(0), random: 3_000_000 }
     }
 
     fn lists(&self) -> Vec<Vec<&Vec<String>>> {
@@ -216,7 +242,10 @@ impl Strings {
         let mut string = self.architectures[random.below(self.architectures.len())].clone();
         for _ in 0..1 + random.below(6) {
             string += "-";
-            string += &self.words[random.below(self.words.len())];
+            string += match random.below(3) {
+                0 => &self.others[random.below(self.others.len())],
+                _ => &self.words[random.below(self.words.len())],
+            };
         }
         random.edit(&mut string);
         string
@@ -272,59 +301,35 @@ impl Random {
             if at < string.len() && self.below(2) == 0 {
                 string.remove(at);
             } else {
-                string.insert(at, ['0', '1', '2', '5', '6', '7', '9', '.', '+', '-', '_', 'a', 'z', 'A', '*', '/', ' ', '\n', '\0', '\u{e9}'][self.below(20)]);
+                // any printable character, and four others
+                let c = self.below(99) as u8;
+                string.insert(at, if c < 95 { (b' ' + c).into() } else { ['\n', '\0', '\u{7f}', '\u{e9}'][c as usize - 95] });
             }
         }
     }
 }
 
-/// Each word, and how it looks after so many edits.
+/// Each word, and how it looks after so many edits; custom vendors, and systems with each version.
 pub fn edited_words(edits: usize) -> Vec<String> {
-    let words = spelled_words();
+    let words = words();
     let edited = (0..words.len() * edits).map(|i| {
         let mut word = words[i % words.len()].clone();
         Random::new(i).edit(&mut word);
         word
     });
-    let others = "docker npm glibc Glibc musl".split(' ').map(String::from);
-    let dialects = s::dialects().list().iter().map(|it| s::dialect_name(*it).string());
-    unique(words.iter().cloned().chain(edited).chain(others).chain(dialects))
+    let prefixes = s::darwin_prefixes().list().iter().map(|it| it.at(0).string());
+    let versioned = prefixes.flat_map(|prefix| versions().into_iter().map(move |it| prefix.clone() + &it));
+    unique(words.iter().cloned().chain(edited).chain(custom_vendors()).chain(versioned))
 }
 
-/// Names of other tools: those of the rows of each dialect, with numbers at the limits, in other cases and with more or less in them;
-/// words; and how these look after edits.
-pub fn names() -> Vec<String> {
-    let mut names = spelled_words();
-    for dialect in s::dialects().list() {
-        for row in s::rows_of(*dialect).list() {
-            let pattern = s::get_pattern(*row).string();
-            for number in ["11", "0", "255", "256", "65535", "65536", "007", ""] {
-                let name = pattern.replace('*', number);
-                names.extend([pattern.replacen('*', number, 1).replace('*', "3"), name.to_uppercase(), name.replace('-', "_")]);
-                names.extend([name.clone() + "/v7", name.replace('-', ""), name.replace('.', ""), name]);
-            }
-        }
-    }
-    for i in 0..names.len() {
-        let mut name = names[i].clone();
-        Random::new(i).edit(&mut name);
-        names.push(name);
-    }
-    unique(names.into_iter())
+/// A word in each place of a triple.
+pub fn placed(word: &str) -> [String; 9] {
+    ["*", "*-pc-linux-gnu", "x86_64-*", "x86_64-*-linux", "x86_64-pc-*", "x86_64-pc-*-gnu", "x86_64-pc-linux-*", "x86_64-pc-linux-gnu-*", "x86_64-pc-linux-gnu-elf-*"]
+        .map(|it| it.replace('*', word))
 }
 
-/// The triples that names of other tools mean, also with a version if they can have one, and with a vendor.
-pub fn meanings() -> Vec<V> {
-    let version = || library::seq(&[N(13), N(4)]);
-    let rows = s::dialects().list().iter().flat_map(|it| s::rows_of(*it).list());
-    let meant = unique(rows.map(|row| s::get_meaning(*row).string())).into_iter().filter_map(|meaning| match s::reading(v(&meaning)) {
-        V::C(s::Result__Ok, it) => Some(it[0]),
-        _ => None,
-    });
-    let all = meant.flat_map(|t| {
-        let versioned = with(t, &[("operating_system", s::system_with(version(), s::get_operating_system(t)))]);
-        let custom = with(t, &[("vendor", con(s::VendorValue__Custom, &[v("esp")]))]);
-        if eq(t, versioned) { vec![t, custom] } else { vec![t, versioned, custom] }
-    });
-    keep(|| library::seq(&all.collect::<Vec<_>>())).list().to_vec()
+/// The words in quotes of the crate's own source, which the script finds: a name that the crate has and the definitions don't is one of them.
+pub fn quoted() -> Vec<String> {
+    let path = std::env::var("QUOTED").expect("QUOTED: a file of words");
+    std::fs::read_to_string(path).expect("words").lines().map(String::from).collect()
 }

@@ -3,8 +3,9 @@ use crate::inputs::{self, Random, Strings};
 use crate::report::Report;
 use definitions::spec as s;
 use definitions::values::{con, eq, library, text as v, truth, N, TRIED, V};
+use serde::Deserialize;
 use serde_json::{from_str, from_value, to_string, to_value, Value};
-use target_lexicon::{Triple, TripleRef};
+use target_lexicon::{Architecture, BinaryFormat, Environment, OperatingSystem, Triple, TripleRef, Vendor, VendorRef};
 
 /// A JSON value as the definitions have it.
 fn data(value: &Value) -> V {
@@ -23,22 +24,34 @@ fn written(r: &mut Report, what: &'static str, specified: V, value: impl serde::
     r.holds(what, eq(specified, data(&written)), &(value, written));
 }
 
-/// The value of each field is its name.
+/// The value of each field is its name, and what a word is as a value of each field.
 pub fn fields(r: &mut Report) {
+    for word in inputs::edited_words(1) {
+        let (x, json) = (v(&word), Value::from(word.clone()));
+        crate::answers! { r, &word, (x):
+            architecture_of = from_value::<Architecture>(json.clone()).ok();
+            vendor_of = from_value::<Vendor>(json.clone()).ok().as_ref().map(Vendor::as_vendor_ref);
+            vendor_of = from_str::<Vendor>(&json.to_string()).ok().as_ref().map(Vendor::as_vendor_ref);
+            vendor_of = VendorRef::deserialize(&json).ok();
+            operating_system_of = from_value::<OperatingSystem>(json.clone()).ok();
+            environment_of = from_value::<Environment>(json.clone()).ok();
+            binary_format_of = from_value::<BinaryFormat>(json.clone()).ok();
+        }
+    }
     let fields = inputs::fields();
     let name = |name: V| con(s::Data__string, &[name]);
     fields.architectures.into_iter().for_each(|it| written(r, "JSON of a field", name(s::architecture_name(it.0)), it.1));
-    fields.vendors.into_iter().for_each(|it| written(r, "JSON of a field", name(s::vendor_name(it.0)), it.1));
-    fields.systems.into_iter().for_each(|it| written(r, "JSON of a field", name(s::operating_system_name(it.0)), it.1));
+    fields.vendors.concat().into_iter().for_each(|it| written(r, "JSON of a field", name(s::vendor_name(it.0)), it.1));
+    fields.systems.concat().into_iter().for_each(|it| written(r, "JSON of a field", name(s::operating_system_name(it.0)), it.1));
     fields.environments.into_iter().for_each(|it| written(r, "JSON of a field", name(s::environment_name(it.0)), it.1));
     fields.formats.into_iter().for_each(|it| written(r, "JSON of a field", name(s::binary_format_name(it.0)), it.1));
 }
 
 /// The JSON of a triple, and of lists of it.
-pub fn triple(r: &mut Report, t: V, triple: TripleRef<'static>) {
+pub fn triple(r: &mut Report, t: V, triple: &Triple) {
+    written(r, "json_of", s::json_of(t), triple.as_triple_ref());
     written(r, "json_of", s::json_of(t), triple);
-    written(r, "json_of", s::json_of(t), triple.to_triple());
-    written(r, "list_json_of", s::list_json_of(library::seq(&[t, s::unknown_values(), t])), [triple.to_triple(), Triple::unknown(), triple.to_triple()]);
+    written(r, "list_json_of", s::list_json_of(library::seq(&[t, s::unknown_values(), t])), [triple, &Triple::unknown(), triple]);
 }
 
 /// Why a value doesn't parse, by the definitions: it is no text, or its text is refused.
@@ -71,6 +84,7 @@ pub fn value(r: &mut Report, value: &Value) {
         (Ok(triple), Ok(other)) => {
             let V::C(s::Result__Ok, it) = s::reading(v(value.as_str().unwrap_or("no text"))) else { return r.holds("JsonReadsAs", false, value) };
             r.same("JsonReadsAs", it[0], &triple.as_triple_ref(), value);
+            r.same("JsonReadsAs", it[0], &TripleRef::deserialize(value).expect("a triple"), value);
             r.holds("JsonReadsAs", triple == other && s::JsonReadsAs(x, it[0]).yes() && !s::IsJsonErrorOf(x, no_text).yes(), value);
         }
         (Err(shown), Err(_)) => {

@@ -1,5 +1,6 @@
 //! What was compared, and what differed.
 use definitions::values::{show, V};
+use std::collections::{BTreeMap, BTreeSet};
 use std::fmt::{Debug, Write};
 
 /// How many differences of a kind are printed.
@@ -9,7 +10,11 @@ const SHOWN: u64 = 3;
 pub struct Report {
     pub same: u64,
     pub differ: u64,
-    kinds: std::collections::BTreeMap<&'static str, u64>,
+    kinds: BTreeMap<&'static str, u64>,
+    /// Of the triples that don't come back: why, how many, and what one prints.
+    families: BTreeMap<String, (u64, String)>,
+    /// Rows that the definitions don't have.
+    rows: BTreeSet<String>,
     specified: String,
     answered: String,
 }
@@ -21,7 +26,7 @@ impl Report {
         show(&mut self.specified, specified);
         self.answered.clear();
         write!(self.answered, "{answer:?}").unwrap();
-        if self.answered.contains(" {") {
+        if self.specified != self.answered && self.answered.contains(" {") {
             self.answered = without_names_of_structs(&self.answered);
         }
         self.holds_as(what, self.specified == self.answered, input, |it| (it.specified.clone(), it.answered.clone()));
@@ -44,16 +49,37 @@ impl Report {
             println!("differs: {what} of {input:?}\n  by the definition {specified}\n  by the crate      {answered}");
         }
     }
+
+    pub fn family(&mut self, why: String, printed: &str) {
+        self.families.entry(why).or_insert((0, printed.to_string())).0 += 1;
+    }
+
+    pub fn row(&mut self, field: &str, word: &str, name: &str, value: &str) {
+        let kind = if word == name { "is" } else { "is another name of" };
+        self.rows.insert(format!("{field}: {word:?} {kind} {value}"));
+    }
+
+    /// The lines for the script: at the end how many answers are the same and differ.
+    pub fn end(self) {
+        for (why, (count, printed)) in self.families {
+            println!("family: {why}\t{count}\t{printed}");
+        }
+        self.rows.iter().for_each(|it| println!("row: {it}"));
+        println!("answers: {} {}", self.same, self.differ);
+    }
 }
 
+/// What is shown of a value, where no struct has a name. What is in quotes is left as it is.
 pub fn without_names_of_structs(shown: &str) -> String {
-    let mut out = String::new();
-    for (i, part) in shown.split(" {").enumerate() {
-        if i > 0 {
+    let (mut out, mut is_quoted, mut is_escaped) = (String::new(), false, false);
+    for c in shown.chars() {
+        if c == '{' && !is_quoted && out.ends_with(' ') {
+            out.pop();
             out.truncate(out.trim_end_matches(char::is_alphanumeric).len());
-            out.push('{');
         }
-        out.push_str(part);
+        is_quoted ^= c == '"' && !is_escaped;
+        is_escaped = c == '\\' && !is_escaped;
+        out.push(c);
     }
     out
 }

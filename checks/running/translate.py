@@ -7,7 +7,8 @@ code are read from the proved source. What isn't understood is an error that nam
 
 A proposition is translated if a Rust file of this folder, or another translated one, names it. One without arguments is a law: a
 function of its variables, except for those that an equation or a relation before the arrow gives (`solution`). Each condition that a
-law ends in is a claim: laws.rs looks for a case in which the law is false if the claim is taken to be false.
+law ends in is a claim: laws.rs looks for a case in which the law is false if the claim is taken to be false. So are the forms of laws.txt,
+which say more than the law: for each there must be a case in which it is false.
 """
 import functools
 import pathlib
@@ -15,7 +16,7 @@ import re
 
 HERE = pathlib.Path(__file__).resolve().parent
 ROOT = HERE.parents[1]
-CRATES = ["lexicon_fields", "target_lexicon", "tool_names"]
+CRATES = ["lexicon_fields", "target_lexicon"]
 LIBRARY, KIT = ("library",), ("kit",)
 
 # One exception, to be fast: the second argument is computed only if it is needed.
@@ -255,8 +256,10 @@ class Module:
         for name, type in reversed(fields):
             is_variable = " ".join(TOKEN.findall(type)) in DOMAINS
             test = f"({name} : {type}) × {test}" if is_variable else f"({type}) × ({test})"
-        names = " ".join(re.findall(r"\(([\w ]+) :", it[2]))
-        definition = self.definitions[it[1]] = Definition(self, it[1], "Type 0")
+        parameters = [(names.split(), type) for names, type in re.findall(r"\(([\w ]+) : ((?:[^()]|\([^()]*\))*)\)", it[2])]
+        names = " ".join(name for group, _ in parameters for name in group)
+        types = "".join(f"({type}) → " if "→" in type else f"{type} → " for group, type in parameters for _ in group)
+        definition = self.definitions[it[1]] = Definition(self, it[1], f"{types}Type 0")
         definition.chunks.append(f"{it[1]} {names} = {test}")
         definition.is_record = True
         definition.laws = [(f".{name}", type) for name, type in fields]
@@ -381,6 +384,30 @@ class Rust:
         self.functions, self.of, self.constants, self.fresh, self.cited, self.failed = [], {}, 5, 0, {}, []  # values.rs has the first 5 constants
         self.todo, self.definition, self.look_ups = [], None, 0
         self.laws, self.law_definitions, self.claims, self.claims_of, self.others = [], set(), [], {}, ""
+        self.forms, self.wrong_forms = self.read_forms(), []
+
+    def read_forms(self):
+        """The forms of laws.txt that say more: the law, the definition that is changed, the old text and the new one."""
+        found, self.listed = {}, []
+        for line in (HERE / "laws.txt").read_text(encoding="utf-8").splitlines():
+            if line.startswith("    "):
+                title, old, new = re.fullmatch(r"    (?:(\S+/\S+): )?(.*?) => (.*)", line).groups()
+                found.setdefault(title or self.listed[-1], []).append((self.listed[-1], old, new))
+            elif line and line[0] != "#":
+                self.listed.append(line)
+        return found
+
+    def with_forms(self, title, text, write):
+        """The code of a text, and of its forms, of which each is a claim of its law."""
+        code = write(text, True)
+        for law, old, new in self.forms.get(title, []):
+            if text.count(old) != 1:
+                self.wrong_forms.append(f"{law}: {title} doesn't say this once: {old}")
+                continue
+            self.claims.append(f"{title}: {old} => {new}")
+            self.claims_of.setdefault(law, []).append(len(self.claims) - 1)
+            code = f"if forced({len(self.claims) - 1}) {{ {write(text.replace(old, new), False)} }} else {{ {code} }}"
+        return code
 
     def translate(self, cited):
         """All definitions, and the propositions with these names and what they need."""
@@ -452,12 +479,16 @@ class Rust:
             if not definition.chunks:
                 raise Untranslated("it has no clause")
             first = definition.clauses[0]
-            if definition.is_record:
-                first = (first[0], self.claimed(first[1], definition))
             parameters = [f"a{i}" for i in range(len(first[0]))]
             if len(definition.clauses) == 1 and all(self.is_variable(it) and it[1] != "_" for it in first[0]):
                 parameters = [self.local(it[1]) for it in first[0]]
-                code = self.once(*self.expression(first[1], {it[1]: of for it, of in zip(first[0], parameters)}))
+                scope = {it[1]: of for it, of in zip(first[0], parameters)}
+
+                def write(text, is_own):
+                    body = definition.clause(text)[1]
+                    return self.once(*self.expression(self.claimed(body, definition) if definition.is_record and is_own else body, scope))
+
+                code = self.with_forms(definition.title, definition.chunks[0], write)
             else:
                 arms = "".join(self.arm(parameters, patterns, body) for patterns, body in definition.clauses)
                 code = f'match ({", ".join(parameters)},) {{\n{arms}        _ => stuck("{name}"),\n    }}'
@@ -609,9 +640,11 @@ class Rust:
 
     def law(self, definition, field, text):
         """A law becomes a function of its variables, but for those that are given by the others."""
-        self.definition = definition
+        self.definition, title = definition, f"{definition.title}{field}"
         self.law_definitions.add(definition)
-        try:
+        free = []
+
+        def write(text, is_own):
             parser = Parser(text)
             body, variables = parser.expression(), []
             if parser.peek():
@@ -619,22 +652,30 @@ class Rust:
             while body[0] == "all":
                 variables.append(body[1:3])
                 body = body[3]
-            scope, free, given = {}, [], []
+            scope, given = {}, []
             for name, type in variables:
                 self.others = OTHERS.get(type, "L(&[])")
                 domain = self.solution(name, body, scope, False)
                 scope[name] = self.local(name)
                 given.append((name, type, domain))
-            free = [(name, type) for name, type, domain in given if not domain]
-            claims = self.claims_of.setdefault(f"{definition.title}{field}", [])
-            code = self.once(*self.expression(self.claimed(body, definition, claims), scope))
+            now = [(name, type) for name, type, domain in given if not domain]
+            if is_own:
+                free.extend(now)
+                body = self.claimed(body, definition, self.claims_of.setdefault(title, []))
+            elif now != free:
+                raise Untranslated(f"{text} has other variables than the law")
+            code = self.once(*self.expression(body, scope))
             for name, _, domain in reversed(given):
                 code = f"all({domain}, function(move |{self.local(name)}| {code}))" if domain else code
+            return code
+
+        try:
+            code = self.with_forms(title, " ".join(text.split()), write)
         except Untranslated as problem:
             self.failed.append((definition, str(problem)))
             return
         lets = "".join(f"let {self.local(name)} = a[{i}]; " for i, (name, _) in enumerate(free))
-        self.laws.append((f"{definition.title}{field}", free, f"|a| {{ reached({self.todo.index(definition)}); {lets}{code} }}"))
+        self.laws.append((title, free, f"|a| {{ reached({self.todo.index(definition)}); {lets}{code} }}"))
 
     def claimed(self, it, definition, claims=None):
         """A proposition in which the conditions that it ends in are claims. Those of a record that it cites are the record's. Each side of
@@ -807,8 +848,6 @@ class Rust:
             variables_ = ", ".join(f'("{name}", "{type}")' for name, type in free)
             out.append(f'    ("{title}", &[{variables_}], {code}, &{sorted(set(self.all_claims(title)))}),\n')
         out.append("];\n")
-        rows = ", ".join(f'"{it}"' for it in self.claims)
-        out.append(f"pub static CLAIMS: [&str; {len(self.claims)}] = [{rows}];\n")
         out.append("/// The definitions of the library, the types of their arguments, and the functions: ours, and the kit's.\n"
                    "pub static LIBRARY: &[(&str, &[&str], fn(&[V]) -> V, fn(&[V]) -> V)] = &[\n")
         for definition, ours, theirs in self.compared:
@@ -842,7 +881,7 @@ class Rust:
     def asked(self):
         for it in self.todo:
             types = arguments_in(it.type)
-            if not it.is_proposition and it.module.path != LIBRARY and len(types) == len(it.clauses[0][0]):
+            if it not in self.law_definitions and it.module.path != LIBRARY and len(types) == len(it.clauses[0][0]):
                 given = ", ".join(f"a[{i}]" for i in range(len(types)))
                 yield f"""("{it.title}", &[{', '.join(f'"{type}"' for type in types)}], |a| {self.of[it.module.path, it.name]}({given}))"""
 

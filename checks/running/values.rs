@@ -2,7 +2,7 @@
 //!
 //! There is one thread. A value may be copied freely: it lives until `forget`, or for ever if it was made inside `once` or `keep`.
 #![allow(static_mut_refs)]
-use crate::spec::{Bool__false, Bool__true, Option__None, FOUND, ONCE, REACHED, TAGS};
+use crate::spec::{Bool__false, Bool__true, Option__None, FOUND, ONCE, REACHED, TAGS, TITLES};
 use std::alloc::Layout;
 use std::collections::HashMap;
 
@@ -103,12 +103,19 @@ pub static mut FORCED: usize = usize::MAX;
 
 /// Whether a condition holds; a claim that is forced has this value instead.
 pub fn claim(i: usize, value: bool, f: impl FnOnce() -> V) -> V {
-    if i == unsafe { FORCED } { truth(value) } else { f() }
+    if forced(i) { truth(value) } else { f() }
+}
+pub fn forced(i: usize) -> bool {
+    i == unsafe { FORCED }
 }
 
 /// A definition was reached.
 pub fn reached(i: usize) {
     unsafe { REACHED[i] = true }
+}
+
+pub fn titles_reached() -> Vec<&'static str> {
+    (0..TITLES.len()).filter(|i| unsafe { REACHED[*i] }).map(|i| TITLES[i]).collect()
 }
 
 // ---- making and taking apart

@@ -1,0 +1,206 @@
+//! The calls that upstream has too: whatever crate is compared has them, with upstream's names and types. Answers are compared as Rust's
+//! `{:?}` shows them, so that no table joins the two sides; where it shows otherwise than the definition, the words are replaced here.
+use crate::inputs;
+use crate::report::Report;
+use definitions::spec as s;
+use definitions::values::{con, eq, function, named, text as v, V};
+use std::fmt::{self, Debug};
+use target_lexicon::{
+    Aarch64Architecture, Architecture, ArmArchitecture, BinaryFormat, CDataModel, CleverArchitecture, CustomVendor, Environment, Mips32Architecture,
+    Mips64Architecture, OperatingSystem, ParseError, Riscv32Architecture, Riscv64Architecture, Triple, Vendor, X86_32Architecture,
+};
+
+/// What a triple prints as: upstream's own crate has no `shows_unknowns`.
+pub const PRINTED: fn(V) -> V = if cfg!(feature = "port") { s::text_of } else { s::upstream_text_of };
+
+/// `answers!(report, input, (arguments): definition = call; ..)`
+#[macro_export]
+macro_rules! answers {
+    ($report:ident, $input:expr, $arguments:tt: $($definition:ident = $call:expr;)*) => {
+        $($report.same(stringify!($definition), $crate::apply!($definition $arguments), &$call, $input);)*
+    };
+}
+#[macro_export]
+macro_rules! apply {
+    ($definition:ident ($($argument:expr),*)) => { s::$definition($($argument),*) };
+}
+
+// ---- values as the definitions show them
+
+struct ShownVendor<'a>(&'a Vendor);
+
+impl Debug for ShownVendor<'_> {
+    fn fmt(&self, f: &mut fmt::Formatter) -> fmt::Result {
+        match self.0 {
+            Vendor::Custom(custom) => write!(f, "Custom({:?})", custom.as_str()),
+            known => write!(f, "Known({known:?})"),
+        }
+    }
+}
+
+pub struct Shown<'a>(pub &'a Triple);
+
+impl Debug for Shown<'_> {
+    fn fmt(&self, f: &mut fmt::Formatter) -> fmt::Result {
+        let Triple { architecture: a, vendor: w, operating_system: o, environment: e, binary_format: b } = self.0;
+        write!(f, "{{ architecture: {a:?}, vendor: {:?}, operating_system: {o:?}, environment: {e:?}, binary_format: {b:?} }}", ShownVendor(w))
+    }
+}
+
+/// An error is named after the field that was expected.
+fn refusal(error: &ParseError) -> String {
+    let shown = format!("{error:?}");
+    let (name, part) = shown.strip_suffix(')').and_then(|it| it.split_once('(')).unwrap_or((&shown, ""));
+    let field = name.trim_start_matches("Unrecognized");
+    let expected = if field == "Field" { "None".to_string() } else { format!("Some({field})") };
+    format!("{{ expected: {expected}, part: {part} }}")
+}
+
+// ---- what is compared
+
+/// What a word is in each field, and in each type of an architecture.
+pub fn word(r: &mut Report, word: &str) {
+    let x = v(word);
+    answers! { r, &word, (x):
+        architecture_of = word.parse::<Architecture>().ok();
+        vendor_of = word.parse::<Vendor>().ok().as_ref().map(ShownVendor);
+        operating_system_of = word.parse::<OperatingSystem>().ok();
+        environment_of = word.parse::<Environment>().ok();
+        binary_format_of = word.parse::<BinaryFormat>().ok();
+    }
+    macro_rules! parts_of_architectures {
+        ($($definition:ident = $type:ident;)*) => {
+            $(answers! { r, &word, (function(s::$definition), x): sub_architecture_of = word.parse::<$type>().ok(); })*
+        };
+    }
+    parts_of_architectures! {
+        as_arm = ArmArchitecture; as_aarch64 = Aarch64Architecture; as_x86_32 = X86_32Architecture; as_mips32 = Mips32Architecture;
+        as_mips64 = Mips64Architecture; as_riscv32 = Riscv32Architecture; as_riscv64 = Riscv64Architecture; as_clever = CleverArchitecture;
+    }
+}
+
+/// A row for each field in which the crate has a word of its source and the definitions don't.
+pub fn rows_to_add(r: &mut Report, word: &str) {
+    macro_rules! rows {
+        ($($definition:ident $type:ident;)*) => {$(
+            if let (V::C(s::Option__None, _), Ok(value)) = (s::$definition(v(word)), word.parse::<$type>()) {
+                r.row(stringify!($type), word, &value.to_string(), &format!("{value:?}"));
+            }
+        )*};
+    }
+    rows! { architecture_of Architecture; operating_system_of OperatingSystem; environment_of Environment; binary_format_of BinaryFormat; }
+    if let (false, Ok(value)) = (matches!(s::vendor_of(v(word)), V::C(s::Option__Some, [V::C(s::VendorValue__Known, _)])), word.parse::<Vendor>()) {
+        if !matches!(value, Vendor::Custom(_)) {
+            r.row("Vendor", word, &value.to_string(), &format!("{value:?}"));
+        }
+    }
+}
+
+/// What each value of a field answers.
+pub fn values(r: &mut Report) {
+    let fields = inputs::fields();
+    for (x, architecture) in fields.architectures {
+        answers! { r, &architecture, (x):
+            architecture_name = architecture.to_string();
+            architecture_name = architecture.into_str();
+            architecture_endianness = architecture.endianness().ok();
+            architecture_width = architecture.pointer_width().ok();
+            is_clever = architecture.is_clever();
+        }
+        if let (V::C(s::Architecture__Arm, of), Architecture::Arm(arm)) = (x, architecture) {
+            answers! { r, &arm, (of[0]): is_thumb = arm.is_thumb(); arm_endianness = arm.endianness(); }
+            r.same("the width of Arm", s::architecture_width(x).at(0), &arm.pointer_width(), &arm);
+        }
+        if let (V::C(s::Architecture__Aarch64, of), Architecture::Aarch64(arm)) = (x, architecture) {
+            answers! { r, &arm, (of[0]): aarch64_endianness = arm.endianness(); }
+            r.same("the width of AArch64", s::architecture_width(x).at(0), &arm.pointer_width(), &arm);
+            r.holds("AArch64 is no Thumb", !arm.is_thumb(), &arm);
+        }
+        macro_rules! parts_of_architectures {
+            ($($tag:ident $variant:ident $name:ident;)*) => {$(
+                if let (V::C(s::$tag, of), Architecture::$variant(part)) = (x, architecture) {
+                    answers! { r, &part, (of[0]): $name = part.into_str(); $name = part.to_string(); }
+                }
+            )*};
+        }
+        parts_of_architectures! {
+            Architecture__Arm Arm arm_name; Architecture__Aarch64 Aarch64 aarch64_name; Architecture__X86_32 X86_32 x86_32_name;
+            Architecture__Mips32 Mips32 mips32_name; Architecture__Mips64 Mips64 mips64_name; Architecture__Riscv32 Riscv32 riscv32_name;
+            Architecture__Riscv64 Riscv64 riscv64_name; Architecture__Clever Clever clever_name;
+        }
+        if let (V::C(s::Option__Some, of), Ok(width)) = (s::architecture_width(x), architecture.pointer_width()) {
+            answers! { r, &width, (of[0]): width_bits = width.bits(); width_bytes = width.bytes(); }
+        }
+    }
+    for (x, vendor) in fields.vendors.concat() {
+        answers! { r, &vendor, (x): vendor_name = vendor.as_str(); vendor_name = vendor.to_string(); }
+    }
+    for (x, system) in fields.systems.concat() {
+        answers! { r, &system, (x):
+            operating_system_name = system.to_string(); operating_system_name = system.into_str(); is_like_darwin = system.is_like_darwin();
+        }
+    }
+    for (x, environment) in fields.environments {
+        answers! { r, &environment, (x): environment_name = environment.into_str(); environment_name = environment.to_string(); }
+    }
+    for (x, format) in fields.formats {
+        answers! { r, &format, (x): binary_format_name = format.into_str(); binary_format_name = format.to_string(); }
+    }
+    for text in ["foo", "", "a\0"] {
+        let (owned, borrowed) = (CustomVendor::Owned(Box::new(text.to_string())), CustomVendor::Static(text));
+        r.holds("equality of custom vendors", owned == borrowed && owned != CustomVendor::Static("bar"), &text);
+    }
+    r.same("unknown_values", s::unknown_values(), &Shown(&Triple::unknown()), &"the unknown triple");
+    use CDataModel::*;
+    for model in [LP32, ILP32, LLP64, LP64, ILP64] {
+        let x = named("CDataModel", &format!("{model:?}")).expect("a model");
+        let sizes = [
+            ("pointer", model.pointer_width()), ("short", model.short_size()), ("int", model.int_size()), ("long", model.long_size()),
+            ("long_long", model.long_long_size()), ("float", model.float_size()), ("double", model.double_size()),
+        ];
+        for (name, size) in sizes {
+            let specified = s::sizes_of(x).field(name);
+            r.same("sizes_of", specified, &size, &(model, name));
+            answers! { r, &size, (specified): size_bits = size.bits(); size_bytes = size.bytes(); }
+        }
+    }
+}
+
+/// How a string parses, or is refused.
+pub fn string(r: &mut Report, string: &str) {
+    let reading = s::reading(v(string));
+    match string.parse::<Triple>() {
+        Ok(triple) => r.same("reading", reading, &format_args!("Ok({:?})", Shown(&triple)), &string),
+        Err(error) => {
+            r.same("reading", reading, &format_args!("Err({})", refusal(&error)), &string);
+            if let V::C(s::Result__Err, it) = reading {
+                answers! { r, &string, (it[0]): refusal_line = error.to_string(); }
+            }
+        }
+    }
+}
+
+/// What a triple prints as and answers, and what its string parses as.
+pub fn triple(r: &mut Report, t: V, triple: &Triple) {
+    let input = Shown(triple);
+    let printed = triple.to_string();
+    r.same("the printed string", PRINTED(t), &printed, &input);
+    answers! { r, &input, (t):
+        endianness = triple.endianness().ok();
+        pointer_width = triple.pointer_width().ok();
+        calling_convention = triple.default_calling_convention().ok();
+        data_model = triple.data_model().ok();
+    }
+    let again = printed.parse::<Triple>();
+    let (comes_back, family) = (again.as_ref() == Ok(triple), s::family(t));
+    let hides_unknowns = !eq(PRINTED(t), s::text_of(t));
+    let is_in_none = eq(family, V::C(s::Option__None, &[])) && !hides_unknowns;
+    r.holds("a triple comes back exactly if it is in no family", comes_back == is_in_none, &input);
+    if s::is_plain(s::get_vendor(t)).yes() && !hides_unknowns {
+        r.same("the round trip", con(s::Result__Ok, &[s::normal_step(t)]), &again.as_ref().map(Shown), &input);
+    }
+    if !comes_back {
+        let rule = if hides_unknowns { "HasUnimpliedUnknowns, the rule of `text_of`".into() } else { definitions::values::shown(family) };
+        r.family(rule, &printed);
+    }
+}
