@@ -4,6 +4,7 @@ use crate::inputs;
 use crate::report::Report;
 use definitions::spec as s;
 use definitions::values::{con, eq, function, library, named, text as v, with, V};
+use target_lexicon::{Named as _, OperatingSystemExt as _, ParseErrorExt as _, TripleExt as _};
 use target_lexicon::tool_names::{self as tools, Dialect, LinuxLibc};
 use target_lexicon::{
     Aarch64Architecture, Architecture, ArmArchitecture, BinaryFormat, CleverArchitecture, Environment, Mips32Architecture, Mips64Architecture,

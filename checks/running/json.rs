@@ -4,7 +4,7 @@ use crate::report::Report;
 use definitions::spec as s;
 use definitions::values::{con, eq, library, text as v, truth, N, TRIED, V};
 use serde_json::{from_str, from_value, to_string, to_value, Value};
-use target_lexicon::{Triple, TripleRef};
+use target_lexicon::{Triple, TripleExt as _, TripleRef};
 
 /// A JSON value as the definitions have it.
 fn data(value: &Value) -> V {

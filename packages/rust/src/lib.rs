@@ -17,15 +17,18 @@
 //! # Ok::<(), target_lexicon::ParseError>(())
 //! ```
 //!
-//! [`Triple::parse`] has an error that shows the place and owns the string, [`TripleRef`] is a triple that borrows from the
-//! string, [`TripleRef::explain`] says which part gave each field, and [`Triple::settle`] gives a key.
+//! [`TripleExt::parse`] has an error that shows the place and owns the string, [`TripleRef`] is a triple that borrows from the
+//! string, [`TripleRef::explain`] says which part gave each field, and [`TripleExt::settle`] gives a key.
+//!
+//! Upstream's types have upstream's methods. What they have besides is in traits, which a program imports: [`TripleExt`], [`Named`],
+//! [`OperatingSystemExt`] and [`ParseErrorExt`].
 //!
 //! # Features
 //!
 //! Only `alloc` is on by default.
 //!
-//! - `alloc`: what owns a string, such as the errors of [`Triple::parse`]. Without it no allocator is linked: [`TripleRef`] has its
-//!   calls except `parse`, `normal`, `settle` and those that make an owned value.
+//! - `alloc`: what owns a string, such as the errors of [`TripleExt::parse`]. Without it no allocator is linked: [`TripleRef`] has its
+//!   calls except `parse`, `settle` and those that make an owned value.
 //! - `tool_names`: names of targets in other tools, and what toolchains write.
 //! - `serde_support`: a triple and each field is its string in serde.
 //! - `upstream_printing`: each triple is printed as upstream does.
@@ -68,6 +71,8 @@ mod dialects;
 mod display;
 mod errors;
 mod explain;
+mod extensions;
+mod hash;
 mod host;
 mod order;
 #[cfg(feature = "alloc")]
@@ -83,6 +88,7 @@ mod proved;
 /// The proved crates, for the package of the folder `internal`.
 #[cfg(lexicon_internal)]
 pub mod proved;
+mod queries;
 #[cfg(feature = "serde_support")]
 mod serde;
 mod suggestions;
@@ -90,6 +96,10 @@ mod suggestions;
 pub mod tool_names;
 
 pub use canonical::NotPlain;
+pub use conversions::ParseVersionError;
+#[cfg(feature = "alloc")]
+pub use extensions::ParseErrorExt;
+pub use extensions::{Named, OperatingSystemExt, TripleExt};
 pub use host::HOST;
 #[cfg(feature = "alloc")]
 pub use parse_error::ParseError;
@@ -103,7 +113,7 @@ pub use proved::{
     Riscv32Architecture, Riscv64Architecture, Size, Source, Sources, TextPart, Triple, TripleRef,
     Vendor, VendorRef, X86_32Architecture, Z80Architecture,
 };
-
+pub use queries::NoAnswer;
 pub use suggestions::Suggestion;
 
 /// The samples of the page are tested; the first one uses this feature.

@@ -159,7 +159,7 @@ pub(crate) fn is_other_system(part: &str) -> bool {
 
 #[cfg_attr(not(feature = "tool_names"), inline)]
 fn is_custom_vendor(part: &str) -> bool {
-    match VendorRef::from_str(part) {
+    match VendorRef::from_text(part) {
         Ok(vendor) => vendor.is_custom(),
         Err(_) => false,
     }
