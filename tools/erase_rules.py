@@ -40,13 +40,13 @@ NON_EXHAUSTIVE = set(
 HASHED = set("Explanation Family Field Name NameError Refusal Source Sources TextPart".split())
 
 # Methods that only the crates above need, of which documentation doesn't speak.
-HIDDEN = {"DeploymentTarget::from_text", "Refusal::write_to", "TripleRef::step"}
+HIDDEN = {"Refusal::write_to", "TripleRef::step"}
 # Methods that only the Rust crate sees. Upstream's types have no others than upstream's: the layer has these in traits, so that none of them
 # takes precedence over a method of a trait that somebody else wrote for the type.
 OF_THE_CRATE = set(
     """Architecture::name BinaryFormat::name CallingConvention::name CDataModel::name Endianness::name Environment::name
     PointerWidth::name OperatingSystem::prefix OperatingSystem::version Vendor::as_vendor_ref Vendor::is_plain Triple::as_triple_ref
-    Triple::comes_back Triple::family Triple::settles_as TripleRef::write_upstream_to""".split())
+    DeploymentTarget::from_text Triple::comes_back Triple::family Triple::settles_as TripleRef::write_upstream_to""".split())
 # Calls that the layer has with an error of its own, and the names that the crate has for those with `()`.
 WITHOUT_ERROR = {
     "VendorRef::from_str": "from_text", "TripleRef::endianness": "known_endianness", "TripleRef::pointer_width": "known_pointer_width",

@@ -1,9 +1,9 @@
-//! Conversions. Those into a [`Triple`] or a [`Vendor`] copy the string of a custom vendor, and so allocate. No other one does.
+//! Conversions, of which only parsing a [`Triple`] allocates. None is into a type of upstream's by `From`: with a second one rustc would no longer know
+//! what `Vendor::from(string.parse()?)` parses.
 #[cfg(feature = "alloc")]
 use crate::ParseTripleError;
 use crate::{
-    DeploymentTarget, Field, KnownVendor, Refusal, TextPart, Triple, TripleRef,
-    Vendor, VendorRef,
+    DeploymentTarget, Field, KnownVendor, Refusal, TextPart, Triple, TripleRef, Vendor, VendorRef,
 };
 use core::fmt;
 use core::str::FromStr;
@@ -24,37 +24,11 @@ impl<'a> From<&TripleRef<'a>> for TripleRef<'a> {
     }
 }
 
-#[cfg(feature = "alloc")]
-impl From<TripleRef<'_>> for Triple {
-    /// The same as [`TripleRef::to_triple`], which copies the string of a custom vendor.
-    #[inline]
-    fn from(triple: TripleRef<'_>) -> Self {
-        triple.to_triple()
-    }
-}
-
 impl<'a> From<&'a Vendor> for VendorRef<'a> {
     /// The same vendor, borrowed. Nothing is allocated.
     #[inline]
     fn from(vendor: &'a Vendor) -> Self {
         vendor.as_vendor_ref()
-    }
-}
-
-#[cfg(feature = "alloc")]
-impl From<VendorRef<'_>> for Vendor {
-    /// The same as [`VendorRef::to_vendor`], which copies the string of a custom vendor.
-    #[inline]
-    fn from(vendor: VendorRef<'_>) -> Self {
-        vendor.to_vendor()
-    }
-}
-
-impl From<KnownVendor> for Vendor {
-    /// The same as [`KnownVendor::to_vendor`].
-    #[inline]
-    fn from(known: KnownVendor) -> Self {
-        known.to_vendor()
     }
 }
 

@@ -169,11 +169,11 @@ fn conversions_are_those_of_the_methods() {
         let triple = Triple::try_from(string).unwrap();
         assert_eq!(string.parse(), Ok(triple.clone()));
         assert_eq!(TripleRef::try_from(string), Ok(TripleRef::from(&triple)));
-        assert_eq!(Triple::from(triple.as_triple_ref()), triple);
-        assert_eq!(Vendor::from(VendorRef::from(&triple.vendor)), triple.vendor);
+        assert_eq!(triple.as_triple_ref().to_triple(), triple);
+        assert_eq!(VendorRef::from(&triple.vendor).to_vendor(), triple.vendor);
     }
-    let apple = Vendor::from(KnownVendor::Apple);
-    assert_eq!(VendorRef::from(&apple), KnownVendor::Apple.into());
+    let apple: VendorRef = KnownVendor::Apple.into();
+    assert_eq!(apple, VendorRef::from(&Vendor::Apple));
 }
 
 #[test]
