@@ -57,6 +57,8 @@ PROOFS = ("all proofs, must-fail edits, tests and proved programs", "rt ci", "rt
 WITHOUT_PROOF = [
     ("the Rust crate, as its users build it: tests, samples of the documentation, public surface, features, a dependent",
      "packages/rust/test", "cargo"),
+    ("the crate of other tools' names: each row, shape and rule, laws over generated strings, samples of the documentation",
+     "packages/names/test", "cargo"),
     ("the definitions run, and say what the Rust crate answers", "checks/specification quick", "cargo"),
     ("what they take from the kit's library, written again, is the kit's", 'checks/specification library "$(dirname "$(rt doc)")/rattle"', "rt cargo"),
     ("the command `target-lexicon`: arguments, output and statuses", "packages/command/test", "cargo"),

@@ -1,5 +1,5 @@
 """Compares what the Rust crate says of C libraries, floating-point arguments and types of C with what rustc and clang say, the
-rules of packages/rust/examples/linkers.rs with rustc's, and variants and versions with LLVM's."""
+rules of packages/names/examples/linkers.rs with rustc's, and variants and versions with LLVM's."""
 import concurrent.futures
 import re
 import shutil

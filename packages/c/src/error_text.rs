@@ -3,8 +3,8 @@ use crate::error::{expected_at, TextError};
 use crate::text::Text;
 use crate::{Status, NAME_WITHOUT_TRIPLE, NEEDS_C_LIBRARY, NOT_UTF8, NO_SUCH_VALUE, TRIPLE_WITHOUT_NAME, UNKNOWN_NAME};
 use core::str;
-use target_lexicon::proved::refusal_prefix;
-use target_lexicon::{Refusal, Suggestion, TextPart};
+use target_lexicon::spellings::{architecture_in, refusal_prefix, suggestion_on};
+use target_lexicon::Suggestion;
 
 /// What stands for a character that could change what a terminal or a log shows, and for bytes that are no character.
 const REPLACEMENT: char = '\u{fffd}';
@@ -59,9 +59,9 @@ pub(crate) fn line_and_caret(bytes: &[u8], error: &TextError, out: &mut Text) ->
 /// What may have been meant.
 pub(crate) fn suggestion<'a>(bytes: &'a [u8], error: &TextError) -> Option<Suggestion<'a>> {
     let text = str::from_utf8(part(bytes, error).ok()?).ok()?;
-    let refusal = Refusal { expected: expected_at(error.status)?, part: TextPart { text, start: error.start } };
     // What follows the part may be no text.
-    refusal.suggestion_in(str::from_utf8(&bytes[..error.start]).ok()?)
+    let machine = architecture_in(str::from_utf8(&bytes[..error.start]).ok()?);
+    suggestion_on(machine, expected_at(error.status)??, text)
 }
 
 /// The characters of some bytes. Each run of bytes that is none is a replacement character.

@@ -1,8 +1,8 @@
 //! The facts of a triple, as numbers: where an enum has no answer, 0, and otherwise 1 more than its index. The functions return wide
 //! values, and so are inlined.
 use crate::values::{binary_format_number, family_number};
-use target_lexicon::tool_names::{self, TypeLayout};
 use target_lexicon::{Architecture, CDataModel, PointerWidth, TripleRef};
+use target_names::{TargetInfo, TypeLayout};
 
 /// The sizes of C's types in bytes; all 0 if they aren't known.
 #[repr(C)]
@@ -175,15 +175,15 @@ impl From<Option<TypeLayout>> for LayoutNumbers {
 /// The sizes of C's types by the number of the data model; all 0 without one.
 static TYPE_SIZES: [TypeSizes; 6] = [
     TypeSizes { short: 0, int: 0, long: 0, long_long: 0, float: 0, double: 0 },
-    TypeSizes::new(tool_names::TypeSizes::in_model(CDataModel::LP32)),
-    TypeSizes::new(tool_names::TypeSizes::in_model(CDataModel::ILP32)),
-    TypeSizes::new(tool_names::TypeSizes::in_model(CDataModel::LLP64)),
-    TypeSizes::new(tool_names::TypeSizes::in_model(CDataModel::LP64)),
-    TypeSizes::new(tool_names::TypeSizes::in_model(CDataModel::ILP64)),
+    TypeSizes::new(target_names::TypeSizes::in_model(CDataModel::LP32)),
+    TypeSizes::new(target_names::TypeSizes::in_model(CDataModel::ILP32)),
+    TypeSizes::new(target_names::TypeSizes::in_model(CDataModel::LLP64)),
+    TypeSizes::new(target_names::TypeSizes::in_model(CDataModel::LP64)),
+    TypeSizes::new(target_names::TypeSizes::in_model(CDataModel::ILP64)),
 ];
 
 impl TypeSizes {
-    pub(crate) const fn new(of: tool_names::TypeSizes) -> TypeSizes {
+    pub(crate) const fn new(of: target_names::TypeSizes) -> TypeSizes {
         TypeSizes { short: of.short, int: of.int, long: of.long, long_long: of.long_long, float: of.float, double: of.double }
     }
 }

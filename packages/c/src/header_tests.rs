@@ -6,6 +6,7 @@ use crate::values::{architecture_at, c_library_at, dialect_at, environment_at, f
 use std::collections::BTreeMap;
 use target_lexicon::Named as _;
 use target_lexicon::TripleRef;
+use target_names::TargetInfo;
 
 const HEADER: &str = include_str!("../include/target_lexicon.h");
 const CPP_HEADER: &str = include_str!("../include/target_lexicon.hpp");

@@ -34,8 +34,8 @@ use facts::{Facts, FirstFacts, QueryFacts};
 use lines::settle_lines;
 use names::{c_name, c_reason};
 use sources::FieldSources;
-use target_lexicon::tool_names::{self, Dialect, Name, NameError, Suggestion, TranslateError, WriteError};
-use target_lexicon::{DeploymentTarget, Endianness, PointerWidth, TripleRef};
+use target_lexicon::{DeploymentTarget, Endianness, PointerWidth, Suggestion, TripleRef};
+use target_names::{Dialect, Name, NameError, TargetInfo, TranslateError, WriteError};
 use text::{shown, write_text, written, Text};
 use triple::{NumberedTriple, TripleNumbers};
 use values::{architecture_at, c_library_at, dialect_at, environment_at, field_at, name_at, name_of_number, number_in, operating_system_at, CUSTOM_VENDOR};
@@ -451,7 +451,7 @@ pub unsafe extern "C" fn lexicon_read(
 fn meant(dialect: Option<Dialect>, text: &str) -> Result<TripleRef<'_>, TextError> {
     match dialect {
         Some(dialect) => dialect.read_loosely(text).map_err(|error| TextError::of_name(TranslateError::Read(error), text)),
-        None => Ok(tool_names::read(text)?),
+        None => Ok(target_names::read(text)?),
     }
 }
 
@@ -556,7 +556,7 @@ pub unsafe extern "C" fn lexicon_changes(
         if out_size > MAX_SIZE {
             return Err(TOO_LARGE);
         }
-        tool_names::changes(text).nth(number).ok_or(NO_SUCH_CHANGE)
+        target_names::changes(text).nth(number).ok_or(NO_SUCH_CHANGE)
     };
     let found = match find() {
         Ok(found) => found,
@@ -580,7 +580,7 @@ pub unsafe extern "C" fn lexicon_meaning(
 ) -> Status {
     let find = || {
         let text = unsafe { text_at(text, text_size) }.map_err(|error| error.status)?;
-        tool_names::meanings(text).nth(number).ok_or(NO_SUCH_MEANING)
+        target_names::meanings(text).nth(number).ok_or(NO_SUCH_MEANING)
     };
     match find() {
         Ok(found) => unsafe {
@@ -628,7 +628,7 @@ pub unsafe extern "C" fn lexicon_translate_reason(from: u32, name: *const u8, na
         let c_library = c_library_at(linux_libc)?;
         let name = unsafe { text_at(name, name_size) }.ok()?;
         let triple = match from.map(|from| from.read_loosely(name)) {
-            None => tool_names::read(name).ok()?,
+            None => target_names::read(name).ok()?,
             Some(Ok(triple)) => triple,
             Some(Err(NameError::WithoutTriple(why))) => return Some(why),
             Some(Err(_)) => return None,

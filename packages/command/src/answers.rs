@@ -5,10 +5,10 @@ use crate::json::{Json, Object};
 use crate::refusal::Parsed;
 use std::io::{self, Write};
 use target_lexicon::{Named as _, OperatingSystemExt as _};
-use target_lexicon::tool_names::{changes, read, Change};
 use target_lexicon::{
     Architecture, Endianness, Field, OperatingSystem, PointerWidth, Source, TripleRef,
 };
+use target_names::{changes, read, Change, TargetInfo};
 
 pub fn canonical(triple: TripleRef<'_>) -> TripleRef<'_> {
     triple.settle().expect("a vendor that was parsed is plain")

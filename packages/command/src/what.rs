@@ -5,8 +5,8 @@ use crate::input::{Place, Target};
 use crate::json::{Json, Object};
 use crate::refusal::{reason, Refusal};
 use std::io::{self, Write};
-use target_lexicon::tool_names::{hint, meanings, Hint, LinuxLibc, Meaning, Name, WriteError};
 use target_lexicon::{OperatingSystem, TripleRef, VendorRef};
+use target_names::{hint, meanings, Hint, LinuxLibc, Meaning, Name, TargetInfo, WriteError};
 
 /// What stands around the names of a list: in YAML, JSON, or a line of words with commas.
 const AROUND: &[char] = &[' ', '\t', ',', '"', '\'', '[', ']'];

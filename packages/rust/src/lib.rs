@@ -29,7 +29,6 @@
 //!
 //! - `alloc`: what owns a string, such as the errors of [`TripleExt::parse`]. Without it no allocator is linked: [`TripleRef`] has its
 //!   calls except `parse`, `settle` and those that make an owned value.
-//! - `tool_names`: names of targets in other tools, and what toolchains write.
 //! - `serde_support`: a triple and each field is its string in serde.
 //! - `upstream_printing`: each triple is printed as upstream does.
 //! - `std`: the errors implement `Error` before Rust 1.81 too.
@@ -54,20 +53,16 @@
 // docs.rs marks what needs a feature.
 #![cfg_attr(docsrs, feature(doc_cfg))]
 #![cfg_attr(docsrs, doc(auto_cfg(hide(core_error, feature = "std"))))]
-#![cfg_attr(not(lexicon_internal), warn(missing_docs))]
+#![warn(missing_docs)]
 
 #[cfg(feature = "alloc")]
 extern crate alloc;
 #[cfg(all(feature = "std", not(core_error)))]
 extern crate std;
 
-#[cfg(feature = "tool_names")]
-mod answers;
 mod canonical;
 mod compat;
 mod conversions;
-#[cfg(feature = "tool_names")]
-mod dialects;
 mod display;
 mod errors;
 mod explain;
@@ -79,21 +74,17 @@ mod order;
 mod owned;
 #[cfg(feature = "alloc")]
 mod parse_error;
-#[cfg(all(feature = "alloc", feature = "tool_names"))]
-mod parse_name_error;
 #[cfg(feature = "alloc")]
 mod parse_triple_error;
-#[cfg(not(lexicon_internal))]
 mod proved;
-/// The proved crates, for the package of the folder `internal`.
-#[cfg(lexicon_internal)]
-pub mod proved;
 mod queries;
 #[cfg(feature = "serde_support")]
 mod serde;
+#[doc(hidden)]
+pub mod spellings;
 mod suggestions;
-#[cfg(feature = "tool_names")]
-pub mod tool_names;
+#[rustfmt::skip]
+mod words;
 
 pub use canonical::NotPlain;
 pub use conversions::ParseVersionError;
@@ -116,8 +107,8 @@ pub use proved::{
 pub use queries::NoAnswer;
 pub use suggestions::Suggestion;
 
-/// The samples of the page are tested; the first one uses this feature.
-#[cfg(all(doctest, feature = "tool_names"))]
+/// The samples of the page are tested.
+#[cfg(all(doctest, feature = "alloc"))]
 #[doc = include_str!("../README.md")]
 struct Readme;
 

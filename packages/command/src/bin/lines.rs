@@ -8,15 +8,15 @@ mod edits;
 #[path = "../../../../checks/comparisons/lines.rs"]
 mod lines;
 #[allow(dead_code)] // its main
-#[path = "../../../rust/examples/linkers.rs"]
+#[path = "../../../names/examples/linkers.rs"]
 mod linkers;
 
 use serde_json::Value;
 use std::fmt::Write as _;
 use std::io::{self, Read};
 use std::process::ExitCode;
-use target_lexicon::tool_names::{CLibrary, FloatAbi, TypeLayout};
 use target_lexicon::{DeploymentTarget, Endianness, PointerWidth, TripleRef};
+use target_names::{CLibrary, FloatAbi, TargetInfo, TypeLayout};
 
 /// What mode `json` writes, or why the input is no list.
 fn json(input: Vec<u8>) -> Result<String, &'static str> {

@@ -40,7 +40,7 @@ pub use z80::Z80Architecture;
 /// };
 /// assert_eq!(registers, 8);
 /// ```
-#[cfg_attr(not(lexicon_internal), non_exhaustive)]
+#[non_exhaustive]
 #[derive(Clone, Copy, Debug, PartialEq, Eq, Hash)]
 pub enum Architecture {
     /// An architecture that the string doesn't say.

@@ -68,7 +68,7 @@ impl Size {
 /// let model = triple!("x86_64-unknown-linux-gnu").data_model();
 /// assert_eq!(model, Ok(CDataModel::LP64));
 /// ```
-#[cfg_attr(not(lexicon_internal), non_exhaustive)]
+#[non_exhaustive]
 #[derive(Clone, Copy, Debug, PartialEq, Eq, Hash)]
 pub enum CDataModel {
     /// Mostly on 16-bit Windows: `long` and pointers have 32 bits.

@@ -17,7 +17,7 @@ use core::str::FromStr;
 /// let triple: Triple = "x86_64-unknown-linux-musl".parse().unwrap();
 /// assert_eq!(triple.environment, Environment::Musl);
 /// ```
-#[cfg_attr(not(lexicon_internal), non_exhaustive)]
+#[non_exhaustive]
 #[derive(Clone, Copy, Debug, PartialEq, Eq, Hash)]
 pub enum Environment {
     /// An environment that the string doesn't say.

@@ -19,7 +19,7 @@ use core::str::FromStr;
 ///     other => panic!("{other}"),
 /// }
 /// ```
-#[cfg_attr(not(lexicon_internal), non_exhaustive)]
+#[non_exhaustive]
 #[derive(Clone, Copy, Debug, PartialEq, Eq, Hash)]
 pub enum OperatingSystem {
     /// A system that the string doesn't say.

@@ -7,6 +7,7 @@ use crate::proved::triple_ref::TripleRef;
 use crate::proved::{fixed_row, Field, OperatingSystem, VendorRef};
 
 /// The fields that the names so far fill, the others `Unknown`; and the first field that is still open.
+#[doc(hidden)]
 #[derive(Clone, Copy, Debug)]
 pub struct Reading<'a> {
     pub expected: Option<Field>,
@@ -15,6 +16,7 @@ pub struct Reading<'a> {
 }
 
 impl<'a> Reading<'a> {
+    #[doc(hidden)]
     #[must_use]
     pub fn start() -> Reading<'a> {
         Reading {
@@ -60,6 +62,7 @@ impl<'a> Reading<'a> {
 
     /// Takes a name into the first field that is open and that it parses as. `Err` if there is none; nothing changes
     /// then. A name that has a row in the table of names is looked up once, and the comparisons aren't counted.
+    #[doc(hidden)]
     #[inline(always)]
     pub fn take(&mut self, name: &'a str, part: TextPart<'a>) -> Result<(), Refusal<'a>> {
         match (self.expected, fixed_row(name)) {
@@ -123,6 +126,7 @@ impl<'a> Reading<'a> {
     }
 
     /// The triple of the names so far, and its sources. Without a binary format it has the implied one.
+    #[doc(hidden)]
     #[must_use]
     #[inline(always)]
     pub fn finish(self) -> (TripleRef<'a>, Sources<'a>) {

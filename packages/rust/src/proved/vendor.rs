@@ -69,7 +69,7 @@ impl Hash for CustomVendor {
 /// assert_eq!("acme".parse(), Ok(Vendor::Custom(CustomVendor::Static("acme"))));
 /// assert_eq!("ACME".parse::<Vendor>(), Err(()));
 /// ```
-#[cfg_attr(not(lexicon_internal), non_exhaustive)]
+#[non_exhaustive]
 #[derive(Debug, Clone, PartialEq, Eq, Hash)]
 pub enum Vendor {
     /// A vendor that the string doesn't say, or none.

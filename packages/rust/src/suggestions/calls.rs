@@ -1,5 +1,5 @@
 //! The known names of a field, and the one that was perhaps meant.
-use crate::proved::tool_names::known_names;
+use crate::words;
 use crate::suggestions::{architecture_in, suggestion, suggestion_on};
 use crate::{Architecture, Field, Refusal, Suggestion, TripleRef, VendorRef};
 
@@ -16,7 +16,7 @@ impl Field {
     /// ```
     #[must_use]
     pub fn names(self) -> &'static [&'static str] {
-        known_names::names(self)
+        words::names(self)
     }
 }
 
