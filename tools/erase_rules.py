@@ -13,7 +13,7 @@ LAYER = {"compat"}
 MODULES = {"laws", "steps", "json", "json_error", "list_error", "macros", "host", "parse_error", "round_trip"}
 # Types, functions and impls that are left out. The proved host is fixed; the layer has the others in Rust's form.
 ITEMS = {
-    "host", "VendorError", "Triple::normal", "Triple::settle", "TripleRef::normal", "TripleRef::settle",
+    "host", "VendorError", "Triple::normal", "Triple::settle", "TripleRef::normal", "TripleRef::settle", "Triple::write_to",
     "decimal_text", "MAX_DECIMAL_LENGTH",
 }
 
@@ -26,7 +26,18 @@ NON_EXHAUSTIVE = set(
 HASHED = set("Explanation Family Field Refusal Source Sources TextPart".split())
 
 # What only the crates above need, of which documentation doesn't speak.
-HIDDEN = {"DeploymentTarget::from_text", "Reading", "Reading::start", "Reading::take", "Reading::finish", "Refusal::write_to", "TripleRef::step", "TripleRef::write_upstream_to"}
+HIDDEN = {"Reading", "Reading::start", "Reading::take", "Reading::finish", "Refusal::write_to", "TripleRef::step"}
+# Methods that only the Rust crate sees. Upstream's types have no others than upstream's: the layer has these in traits, so that none of them
+# takes precedence over a method of a trait that somebody else wrote for the type.
+OF_THE_CRATE = set(
+    """Architecture::name BinaryFormat::name CallingConvention::name CDataModel::name Endianness::name Environment::name
+    PointerWidth::name OperatingSystem::prefix OperatingSystem::version Vendor::as_vendor_ref Vendor::is_plain Triple::as_triple_ref
+    DeploymentTarget::from_text Triple::comes_back Triple::family Triple::settles_as TripleRef::write_upstream_to""".split())
+# Calls that the layer has with an error of its own, and the names that the crate has for those with `()`.
+WITHOUT_ERROR = {
+    "VendorRef::from_str": "from_text", "TripleRef::endianness": "known_endianness", "TripleRef::pointer_width": "known_pointer_width",
+    "TripleRef::default_calling_convention": "known_default_calling_convention", "TripleRef::data_model": "known_data_model",
+}
 
 # What needs an allocator, and the functions that do.
 ALLOCATES = 'cfg(feature = "alloc")'
@@ -83,9 +94,12 @@ REPLACEMENTS = [
     ("", ", &mut Steps::new()", ""),
     ("target_lexicon/src/settles_as.rt", "settles_as(&other.as_triple_ref())", "settles_as(other)"),
     # A `const fn` of Rust has no `?`; and the layer asks without a vendor too.
-    ("target_lexicon/src/queries.rt", "self.pointer_width()?", "match self.pointer_width() { Ok(it) => it, Err(error) => return Err(error) }"),
+    ("target_lexicon/src/queries.rt", "self.pointer_width()?", "match self.known_pointer_width() { Ok(it) => it, Err(error) => return Err(error) }"),
     ("target_lexicon/src/queries.rt", "self.default_calling_convention()?",
-     "match self.default_calling_convention() { Ok(it) => it, Err(error) => return Err(error) }"),
+     "match self.known_default_calling_convention() { Ok(it) => it, Err(error) => return Err(error) }"),
+    ("target_lexicon/src/queries.rt", "self.without_vendor().", "self.without_vendor().known_"),
+    # The layer hashes it as the `Vendor` of the same value.
+    ("lexicon_fields/src/vendor_ref.rt", "PartialEq, Eq, Hash)", "PartialEq, Eq)"),
     ("target_lexicon/src/queries.rt", "    fn without_vendor", "    pub(crate) fn without_vendor"),
     # With the feature, printing follows upstream's rule.
     ("target_lexicon/src/display.rt", ") && self.binary_format != self.default_binary_format()",

@@ -5,7 +5,7 @@
 // machine that the edited name states by its whole word.
 use std::collections::HashMap;
 use target_names::{Dialect, FloatAbi, NameError, TargetInfo};
-use target_lexicon::{Architecture, Endianness, PointerWidth, Triple, TripleRef};
+use target_lexicon::{Architecture, Endianness, PointerWidth, Triple, TripleExt as _, TripleRef};
 
 type Said = (String, Option<PointerWidth>, Option<Endianness>, Option<FloatAbi>);
 

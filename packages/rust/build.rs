@@ -5,6 +5,8 @@ extern crate alloc;
 
 #[path = "src/compat.rs"]
 mod compat;
+#[path = "src/hash.rs"]
+mod hash;
 
 /// What parsing needs of the proved source: the rest isn't compiled twice.
 #[path = "src/proved"]

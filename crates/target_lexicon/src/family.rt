@@ -17,9 +17,9 @@ use lexicon_fields::{
 /// # Examples
 ///
 /// ```
-/// use target_lexicon::{Family, triple};
+/// use target_lexicon::{Family, TripleRef};
 ///
-/// let triple = triple!("riscv32imc-esp-espidf-elf");
+/// let triple = TripleRef::from_str("riscv32imc-esp-espidf-elf").unwrap();
 /// assert_eq!((triple.comes_back(), triple.family()), (false, Some(Family::PrintsTheEspIdfText)));
 /// ```
 #[derive(Clone, Copy, Debug, PartialEq, Eq)]

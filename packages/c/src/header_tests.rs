@@ -4,6 +4,7 @@ use crate::facts::Facts;
 use crate::triple::{NumberedTriple, TripleNumbers};
 use crate::values::{architecture_at, c_library_at, dialect_at, environment_at, field_at, name_at, operating_system_at};
 use std::collections::BTreeMap;
+use target_lexicon::Named as _;
 use target_lexicon::TripleRef;
 use target_names::TargetInfo;
 

@@ -1,6 +1,7 @@
 //! The numbers of values, fields, dialects and C libraries, each by an ordered list: the number is the index, from 0.
 use core::fmt::{Display, Error, Result, Write};
 use core::str::FromStr as _;
+use target_lexicon::{Named as _, OperatingSystemExt as _};
 use target_lexicon::{
     Aarch64Architecture, Architecture, ArmArchitecture, BinaryFormat, CleverArchitecture, DeploymentTarget, Environment, Field,
     KnownVendor, Mips32Architecture, Mips64Architecture, OperatingSystem, Riscv32Architecture, Riscv64Architecture, VendorRef,

@@ -4,6 +4,7 @@ use crate::input::{Place, Target};
 use crate::json::{Json, Object};
 use crate::refusal::Parsed;
 use std::io::{self, Write};
+use target_lexicon::{Named as _, OperatingSystemExt as _};
 use target_lexicon::{
     Architecture, Endianness, Field, OperatingSystem, PointerWidth, Source, TripleRef,
 };

@@ -279,7 +279,7 @@ impl TypeSizes {
     pub(crate) const fn of(triple: &TripleRef<'_>) -> Option<TypeSizes> {
         match triple.data_model() {
             Ok(model) => Some(TypeSizes::in_model(model)),
-            Err(()) => TypeSizes::without_model(triple),
+            Err(_) => TypeSizes::without_model(triple),
         }
     }
 

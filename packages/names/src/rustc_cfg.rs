@@ -1,6 +1,7 @@
 //! The values of rustc's cfg options for a triple. `checks/compare elsewhere` asks rustc for those of each of its targets.
 
 use core::fmt;
+use target_lexicon::{Named as _, OperatingSystemExt as _};
 use target_lexicon::{
     Architecture, Endianness, Environment, KnownVendor, Mips32Architecture, Mips64Architecture,
     OperatingSystem, PointerWidth, TripleRef, VendorRef,

@@ -125,7 +125,7 @@ impl<'a> Spelling<'a> {
                 left = others;
             }
         }
-        if let Some(version) = DeploymentTarget::from_text(self.version) {
+        if let Ok(version) = self.version.parse::<DeploymentTarget>() {
             reading.triple.operating_system = OperatingSystem::MacOSX(Some(version));
         }
         Ok(())

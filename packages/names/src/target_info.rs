@@ -319,7 +319,7 @@ pub trait TargetInfo<'a>: Copy + Into<TripleRef<'a>> {
     /// # Examples
     ///
     /// ```
-    /// use target_lexicon::{triple, DeploymentTarget};
+    /// use target_lexicon::{triple, DeploymentTarget, OperatingSystemExt};
     /// use target_names::TargetInfo;
     ///
     /// let catalina = DeploymentTarget { major: 10, minor: 15, patch: 0 };

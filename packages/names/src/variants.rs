@@ -1,5 +1,6 @@
 //! Variants of a triple's architecture: that of another pointer width, and that of the other byte order. `checks/compare llvm` asks LLVM of each.
 use crate::{LinuxLibc, TargetInfo};
+use target_lexicon::Named as _;
 use target_lexicon::{
     Architecture, ArmArchitecture, Endianness, Environment, OperatingSystem, PointerWidth,
     TripleRef, X86_32Architecture,

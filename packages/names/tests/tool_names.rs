@@ -1,4 +1,5 @@
 //! What the plain modules of `tool_names` say: what a compiler's driver asks, the values of rustc's cfg options, and suggestions.
+use target_lexicon::{Named as _, TripleExt as _};
 use target_lexicon::{DeploymentTarget, Endianness, Field, PointerWidth, Triple, TripleRef};
 use target_names::{suggestion, CLibrary, Dialect, FloatAbi, TargetInfo, TypeLayout};
 

@@ -7,7 +7,9 @@ mod impls {
     #[cfg(not(core_error))]
     use std::error::Error;
 
+    impl Error for crate::NoAnswer {}
     impl Error for crate::NotPlain {}
+    impl Error for crate::ParseVersionError {}
     #[cfg(feature = "alloc")]
     impl Error for crate::ParseError {}
     #[cfg(feature = "alloc")]

@@ -17,15 +17,18 @@
 //! # Ok::<(), target_lexicon::ParseError>(())
 //! ```
 //!
-//! [`Triple::parse`] has an error that shows the place and owns the string, [`TripleRef`] is a triple that borrows from the
-//! string, [`TripleRef::explain`] says which part gave each field, and [`Triple::settle`] gives a key.
+//! [`TripleExt::parse`] has an error that shows the place and owns the string, [`TripleRef`] is a triple that borrows from the
+//! string, [`TripleRef::explain`] says which part gave each field, and [`TripleExt::settle`] gives a key.
+//!
+//! Upstream's types have upstream's methods. What they have besides is in traits, which a program imports: [`TripleExt`], [`Named`],
+//! [`OperatingSystemExt`] and [`ParseErrorExt`].
 //!
 //! # Features
 //!
 //! Only `alloc` is on by default.
 //!
-//! - `alloc`: what owns a string, such as the errors of [`Triple::parse`]. Without it no allocator is linked: [`TripleRef`] has its
-//!   calls except `parse`, `normal`, `settle` and those that make an owned value.
+//! - `alloc`: what owns a string, such as the errors of [`TripleExt::parse`]. Without it no allocator is linked: [`TripleRef`] has its
+//!   calls except `parse`, `settle` and those that make an owned value.
 //! - `serde_support`: a triple and each field is its string in serde.
 //! - `upstream_printing`: each triple is printed as upstream does.
 //! - `std`: the errors implement `Error` before Rust 1.81 too.
@@ -63,6 +66,8 @@ mod conversions;
 mod display;
 mod errors;
 mod explain;
+mod extensions;
+mod hash;
 mod host;
 mod order;
 #[cfg(feature = "alloc")]
@@ -72,6 +77,7 @@ mod parse_error;
 #[cfg(feature = "alloc")]
 mod parse_triple_error;
 mod proved;
+mod queries;
 #[cfg(feature = "serde_support")]
 mod serde;
 #[doc(hidden)]
@@ -81,6 +87,10 @@ mod suggestions;
 mod words;
 
 pub use canonical::NotPlain;
+pub use conversions::ParseVersionError;
+#[cfg(feature = "alloc")]
+pub use extensions::ParseErrorExt;
+pub use extensions::{Named, OperatingSystemExt, TripleExt};
 pub use host::HOST;
 #[cfg(feature = "alloc")]
 pub use parse_error::ParseError;
@@ -94,7 +104,7 @@ pub use proved::{
     Riscv32Architecture, Riscv64Architecture, Size, Source, Sources, TextPart, Triple, TripleRef,
     Vendor, VendorRef, X86_32Architecture, Z80Architecture,
 };
-
+pub use queries::NoAnswer;
 pub use suggestions::Suggestion;
 
 /// The samples of the page are tested.

@@ -1,6 +1,8 @@
 //! The traits that the layer implements: orders, conversions, `Display`, and the error that owns its string.
-use std::collections::{BTreeMap, HashSet};
+use std::collections::hash_map::DefaultHasher;
+use std::collections::{BTreeMap, HashMap, HashSet};
 use std::error::Error;
+use std::hash::{Hash, Hasher};
 use target_lexicon::*;
 
 /// The values of the known names of a field.
@@ -127,7 +129,7 @@ fn versions_are_parsed() {
         );
     }
     for text in ["", "x", "1.", "1.2.3.4", "65536", "1.256", "-1"] {
-        assert_eq!(text.parse::<DeploymentTarget>(), Err(()), "{text}");
+        assert!(text.parse::<DeploymentTarget>().is_err(), "{text}");
     }
 }
 
@@ -167,13 +169,11 @@ fn conversions_are_those_of_the_methods() {
         let triple = Triple::try_from(string).unwrap();
         assert_eq!(string.parse(), Ok(triple.clone()));
         assert_eq!(TripleRef::try_from(string), Ok(TripleRef::from(&triple)));
-        assert_eq!(Triple::from(triple.as_triple_ref()), triple);
-        assert_eq!(Vendor::from(VendorRef::from(&triple.vendor)), triple.vendor);
+        assert_eq!(triple.as_triple_ref().to_triple(), triple);
+        assert_eq!(VendorRef::from(&triple.vendor).to_vendor(), triple.vendor);
     }
-    assert_eq!(
-        Vendor::from(KnownVendor::Apple).as_vendor_ref(),
-        KnownVendor::Apple.into()
-    );
+    let apple: VendorRef = KnownVendor::Apple.into();
+    assert_eq!(apple, VendorRef::from(&Vendor::Apple));
 }
 
 #[test]
@@ -192,6 +192,99 @@ fn an_error_leaves_the_function_that_owns_its_string() {
     assert_eq!(
         ParseError::from(*error),
         "x86_64-é-linux".parse::<Triple>().unwrap_err()
+    );
+}
+
+fn hash(value: impl Hash) -> u64 {
+    let mut hasher = DefaultHasher::new();
+    value.hash(&mut hasher);
+    hasher.finish()
+}
+
+#[test]
+fn a_borrowed_triple_is_equal_to_the_owned_one_and_hashed_as_it() {
+    let known = values::<Vendor>(Field::Vendor);
+    let custom = ["", "pc", "acme"].map(|it| Vendor::Custom(CustomVendor::Static(it)));
+    let vendors: Vec<Vendor> = known.into_iter().chain(custom).collect();
+    let mut values = HashMap::new();
+    for vendor in &vendors {
+        let mut triple: Triple = "aarch64-apple-ios17.1".parse().unwrap();
+        triple.vendor = vendor.clone();
+        let borrowed = TripleRef::from(&triple);
+        assert_eq!(borrowed, triple);
+        assert_eq!(hash(borrowed), hash(&triple), "{triple:?}");
+        assert_eq!(hash(borrowed.vendor), hash(vendor));
+        // A map by the hash of the owned one is asked with what was parsed.
+        values.insert(hash(&triple), triple);
+    }
+    for (string, is_there) in [
+        ("aarch64-acme-ios17.1", true),
+        ("aarch64-pc-ios17.1", true),
+        ("aarch64-acme-ios17", false),
+    ] {
+        let asked = TripleRef::from_str(string).unwrap();
+        assert_eq!(
+            values.get(&hash(asked)).map_or(false, |it| asked == *it),
+            is_there
+        );
+    }
+}
+
+#[test]
+fn what_is_equal_in_a_map_of_borrowed_triples_is_found_with_an_owned_one() {
+    let targets = HashMap::from([(TripleRef::from_str("x86_64-acme-linux").unwrap(), 1)]);
+    let owned: Triple = "x86_64-acme-linux".parse().unwrap();
+    assert_eq!(targets[&TripleRef::from(&owned)], 1);
+}
+
+#[test]
+fn each_error_leaves_a_function() {
+    fn long(target: &'static str) -> Result<u8, Box<dyn Error>> {
+        Ok(TripleRef::from_str(target)?
+            .data_model()?
+            .long_size()
+            .bytes())
+    }
+    fn is_custom(vendor: &'static str) -> Result<bool, Box<dyn Error>> {
+        Ok(VendorRef::from_str(vendor)?.is_custom())
+    }
+    fn major(version: &str) -> Result<u16, Box<dyn Error>> {
+        Ok(version.parse::<DeploymentTarget>()?.major)
+    }
+    assert_eq!(long("x86_64-unknown-linux-gnu").unwrap(), 8);
+    assert_eq!(
+        (is_custom("acme").unwrap(), major("14").unwrap()),
+        (true, 14)
+    );
+    for (error, shown) in [
+        (
+            long("avr-unknown-none").unwrap_err(),
+            "The data model of C of the target is unknown",
+        ),
+        (
+            is_custom("Linux").unwrap_err(),
+            "Unrecognized vendor: Linux",
+        ),
+        (
+            major("x").unwrap_err(),
+            "Not a version: it is one to three numbers, at most 65535.255.255",
+        ),
+    ] {
+        assert_eq!(error.to_string(), shown);
+    }
+    let unknown = TripleRef::unknown();
+    let said = [
+        unknown.endianness().unwrap_err().to_string(),
+        unknown.pointer_width().unwrap_err().to_string(),
+        unknown
+            .default_calling_convention()
+            .unwrap_err()
+            .to_string(),
+    ];
+    let expected = ["byte order", "pointer width", "calling convention"];
+    assert_eq!(
+        said,
+        expected.map(|it| format!("The {it} of the target is unknown"))
     );
 }
 

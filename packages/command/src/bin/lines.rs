@@ -15,7 +15,7 @@ use serde_json::Value;
 use std::fmt::Write as _;
 use std::io::{self, Read};
 use std::process::ExitCode;
-use target_lexicon::{DeploymentTarget, Endianness, PointerWidth, TripleRef};
+use target_lexicon::{DeploymentTarget, Endianness, PointerWidth, TripleExt, TripleRef};
 use target_names::{CLibrary, FloatAbi, TargetInfo, TypeLayout};
 
 /// What mode `json` writes, or why the input is no list.

@@ -271,15 +271,8 @@ impl Architecture {
     }
 
     /// The name.
-    ///
-    /// # Examples
-    ///
-    /// ```
-    /// assert_eq!(target_lexicon::Architecture::Bpfel.name(), "bpfel");
-    /// ```
-    #[must_use]
     #[inline(always)]
-    pub const fn name(self) -> &'static str {
+    pub(crate) const fn name(self) -> &'static str {
         match self {
             Architecture::Unknown => "unknown",
             Architecture::Arm(sub) => sub.name(),

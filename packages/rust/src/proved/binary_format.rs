@@ -57,14 +57,7 @@ impl BinaryFormat {
     }
 
     /// The name.
-    ///
-    /// # Examples
-    ///
-    /// ```
-    /// assert_eq!(target_lexicon::BinaryFormat::Macho.name(), "macho");
-    /// ```
-    #[must_use]
-    pub const fn name(self) -> &'static str {
+    pub(crate) const fn name(self) -> &'static str {
         match self {
             BinaryFormat::Unknown => "unknown",
             BinaryFormat::Elf => "elf",

@@ -30,14 +30,7 @@ pub enum CallingConvention {
 
 impl CallingConvention {
     /// The name of the convention.
-    ///
-    /// # Examples
-    ///
-    /// ```
-    /// assert_eq!(target_lexicon::CallingConvention::SystemV.name(), "SystemV");
-    /// ```
-    #[must_use]
-    pub const fn name(self) -> &'static str {
+    pub(crate) const fn name(self) -> &'static str {
         match self {
             CallingConvention::SystemV => "SystemV",
             CallingConvention::WasmBasicCAbi => "WasmBasicCAbi",

@@ -85,14 +85,7 @@ pub enum CDataModel {
 
 impl CDataModel {
     /// The name of the model.
-    ///
-    /// # Examples
-    ///
-    /// ```
-    /// assert_eq!(target_lexicon::CDataModel::LLP64.name(), "LLP64");
-    /// ```
-    #[must_use]
-    pub const fn name(self) -> &'static str {
+    pub(crate) const fn name(self) -> &'static str {
         match self {
             CDataModel::LP32 => "LP32",
             CDataModel::ILP32 => "ILP32",

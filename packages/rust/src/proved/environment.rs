@@ -115,14 +115,7 @@ impl Environment {
     }
 
     /// The name.
-    ///
-    /// # Examples
-    ///
-    /// ```
-    /// assert_eq!(target_lexicon::Environment::Gnu.name(), "gnu");
-    /// ```
-    #[must_use]
-    pub const fn name(self) -> &'static str {
+    pub(crate) const fn name(self) -> &'static str {
         match self {
             Environment::Unknown => "unknown",
             Environment::AmdGiz => "amdgiz",

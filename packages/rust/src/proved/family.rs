@@ -13,9 +13,9 @@ use crate::proved::{
 /// # Examples
 ///
 /// ```
-/// use target_lexicon::{Family, triple};
+/// use target_lexicon::{Family, TripleRef};
 ///
-/// let triple = triple!("riscv32imc-esp-espidf-elf");
+/// let triple = TripleRef::from_str("riscv32imc-esp-espidf-elf").unwrap();
 /// assert_eq!((triple.comes_back(), triple.family()), (false, Some(Family::PrintsTheEspIdfText)));
 /// ```
 #[derive(Clone, Copy, Debug, PartialEq, Eq, Hash)]
@@ -36,23 +36,13 @@ pub enum Family {
 
 impl Triple {
     /// The first family that the triple is in. `None` if it comes back. Nothing is allocated.
-    ///
-    /// # Examples
-    ///
-    /// ```
-    /// use target_lexicon::{Family, triple};
-    ///
-    /// assert_eq!(triple!("x86_64-unknown-linux-gnu").family(), None);
-    /// assert_eq!(triple!("armv7-nintendo-horizon-newlib").family(), Some(Family::HidesNewlib));
-    /// ```
-    #[must_use]
-    pub fn family(&self) -> Option<Family> {
+    pub(crate) fn family(&self) -> Option<Family> {
         self.as_triple_ref().family()
     }
 }
 
 impl TripleRef<'_> {
-    /// The first family that the triple is in, as [`Triple::family`] says.
+    /// The first family that the triple is in, as [`TripleExt::family`](crate::TripleExt::family) says.
     ///
     /// # Examples
     ///

@@ -167,15 +167,7 @@ impl OperatingSystem {
     }
 
     /// The name without the version.
-    ///
-    /// # Examples
-    ///
-    /// ```
-    /// let system: target_lexicon::OperatingSystem = "ios17.2".parse().unwrap();
-    /// assert_eq!(system.prefix(), "ios");
-    /// ```
-    #[must_use]
-    pub const fn prefix(self) -> &'static str {
+    pub(crate) const fn prefix(self) -> &'static str {
         match self {
             OperatingSystem::Unknown => "unknown",
             OperatingSystem::Aix => "aix",
@@ -221,17 +213,7 @@ impl OperatingSystem {
     }
 
     /// The version of the deployment target. Only a system like Darwin can have one.
-    ///
-    /// # Examples
-    ///
-    /// ```
-    /// use target_lexicon::OperatingSystem;
-    ///
-    /// let system: OperatingSystem = "ios17.2".parse().unwrap();
-    /// assert_eq!(system.version().map(|it| (it.major, it.minor, it.patch)), Some((17, 2, 0)));
-    /// ```
-    #[must_use]
-    pub const fn version(self) -> Option<DeploymentTarget> {
+    pub(crate) const fn version(self) -> Option<DeploymentTarget> {
         match self {
             OperatingSystem::Darwin(version)
             | OperatingSystem::IOS(version)

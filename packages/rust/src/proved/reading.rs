@@ -104,7 +104,7 @@ impl<'a> Reading<'a> {
             }
             (Some(expected), None) => {
                 if expected == Field::Vendor {
-                    if let Ok(vendor) = VendorRef::from_str(name) {
+                    if let Ok(vendor) = VendorRef::from_text(name) {
                         self.triple.vendor = vendor;
                         self.fill(Field::Vendor, part);
                         return Ok(());
