@@ -207,7 +207,7 @@ proptest! {
     fn given_object_formats_are_kept(text in spelled(), format in select(vec!["elf", "coff", "macho", "wasm", "xcoff"])) {
         if let Ok(mut it) = Triple::from_str(&text) {
             it.binary_format = format.parse().unwrap();
-            let implied = it.as_triple_ref().default_binary_format();
+            let implied = TripleRef::from(&it).default_binary_format();
             prop_assert!(it.object_format() == it.binary_format || it.binary_format == implied || it.binary_format == BinaryFormat::Unknown);
         }
     }
