@@ -39,6 +39,7 @@ impl<'a> VendorRef<'a> {
     ///
     /// assert_eq!(VendorRef::from_str("ACME"), Err(()));
     /// ```
+    #[inline(always)]
     pub fn from_str(text: &'a str) -> Result<VendorRef<'a>, ()> {
         match fixed_row(text) {
             Some(row) => match row.vendor {
