@@ -118,7 +118,7 @@ impl<'a> Spelling<'a> {
             while let Some(names) = left {
                 let (name, others) = first_part(names);
                 let named = TextPart { text: name, ..part };
-                reading.take(name, named).map_err(|mut refusal| {
+                reading.take(named).map_err(|mut refusal| {
                     refusal.part = part;
                     refusal
                 })?;
