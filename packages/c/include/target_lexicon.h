@@ -60,7 +60,10 @@
 #endif
 
 #ifdef __cplusplus
+#define LEXICON_AS(of, it) static_cast<of>(it)
 extern "C" {
+#else
+#define LEXICON_AS(of, it) ((of)(it))
 #endif
 
 enum lexicon_status {
@@ -467,6 +470,11 @@ enum lexicon_arm_profile {
   /* end of what is written */
 };
 
+/* Zeros are the unknown triple. What the library writes has 0 in every field that is not read, and its custom_vendor
+   points into the string that was parsed. Compare two structs with lexicon_equal: memcmp would compare their padding too.
+
+   LEXICON_BINARY_FORMAT_UNKNOWN is a format of its own, which parsing gives only if no other is implied. If you fill in a
+   struct yourself, call lexicon_facts and set binary_format to facts.implied_format. */
 struct lexicon_triple {
   uint16_t architecture;     /* enum lexicon_architecture */
   uint8_t vendor;            /* enum lexicon_vendor */
@@ -479,11 +487,6 @@ struct lexicon_triple {
   const char *custom_vendor; /* read only if the vendor is LEXICON_VENDOR_CUSTOM; no zero byte follows it */
   size_t custom_vendor_size;
 };
-/* Zeros are the unknown triple. What the library writes has 0 in every field that is not read, and its custom_vendor
-   points into the string that was parsed. Compare two structs with lexicon_equal: memcmp would compare their padding too.
-
-   LEXICON_BINARY_FORMAT_UNKNOWN is a format of its own, which parsing gives only if no other is implied. If you fill in a
-   struct yourself, call lexicon_facts and set binary_format to facts.implied_format. */
 
 /* Why a string is refused: the status, from 1 to 7 or one that lexicon_read names, and where the refused part is. Here and
    below, start and end are byte indices: of the part's first byte, and of the byte after its last. They are equal for an empty
@@ -593,9 +596,10 @@ enum lexicon_status lexicon_equal(const struct lexicon_triple *first, const stru
 LEXICON_CHECKED LEXICON_NONNULL(1, 2, 3)
 enum lexicon_status lexicon_same_target(const struct lexicon_triple *first, const struct lexicon_triple *second, bool *answer);
 
-/* What a compiler asks about a triple. facts_size is sizeof *facts: so the library may be newer than the header that a program
-   was compiled with, and have more members, or older, and then the members that it doesn't have become 0. What comes after the
-   size isn't computed: up to implied_format takes the least time, then up to c_library. */
+/* What a compiler asks about a triple. Call lexicon_all_facts(triple, facts), which passes facts_size: sizeof *facts, so that the library
+   may be older than the header that a program was compiled with, and then the members that it doesn't have become 0. What comes
+   after the size isn't computed: offsetof implied_format takes the least time, then offsetof c_library; 0 only says whether the struct
+   is a triple. Any other size that is less than a struct's gives LEXICON_NO_SUCH_VALUE, and nothing is written. */
 LEXICON_CHECKED LEXICON_NONNULL(1, 2)
 enum lexicon_status lexicon_facts(const struct lexicon_triple *triple, struct lexicon_triple_facts *facts, size_t facts_size);
 
@@ -860,12 +864,18 @@ LEXICON_NAMES(lexicon_arm_profile_name, NULL, "A", "R", "M")
 LEXICON_NONNULL(1)
 static inline enum lexicon_dialect lexicon_dialect_named(const char *name) {
   for (uint32_t number = 1; lexicon_dialect_name(number); number++)
-    if (strcmp(name, lexicon_dialect_name(number)) == 0) return (enum lexicon_dialect)number;
+    if (strcmp(name, lexicon_dialect_name(number)) == 0) return LEXICON_AS(enum lexicon_dialect, number);
   /* written by tools/names/write: the other names of dialects for C */
   if (strcmp(name, "docker") == 0) return LEXICON_DIALECT_OCI;
   if (strcmp(name, "npm") == 0) return LEXICON_DIALECT_NODE;
   /* end of what is written */
   return LEXICON_DIALECT_NONE;
+}
+
+/* lexicon_facts with the size of this header's struct. */
+LEXICON_CHECKED LEXICON_NONNULL(1, 2)
+static inline enum lexicon_status lexicon_all_facts(const struct lexicon_triple *triple, struct lexicon_triple_facts *facts) {
+  return lexicon_facts(triple, facts, sizeof *facts);
 }
 
 /* lexicon_parse for strings that people type: a custom vendor is refused too, as in x86_64-linx and x86_64-unknwon-linux. */
@@ -881,7 +891,7 @@ static inline enum lexicon_status lexicon_parse_strict(const char *text, size_t 
   }
   if (error) {
     error->status = LEXICON_UNRECOGNIZED_VENDOR;
-    error->start = (size_t)(parsed.custom_vendor - text);
+    error->start = LEXICON_AS(size_t, parsed.custom_vendor - text);
     error->end = error->start + parsed.custom_vendor_size;
   }
   return LEXICON_UNRECOGNIZED_VENDOR;
@@ -891,6 +901,7 @@ static inline enum lexicon_status lexicon_parse_strict_z(const char *text, struc
   return lexicon_parse_strict(text, strlen(text), triple, error);
 }
 
+#undef LEXICON_AS
 #ifdef __cplusplus
 }
 #endif

@@ -76,7 +76,7 @@ enum class Environment : std::uint8_t {
   Unknown = 0, AmdGiz = 1, Android = 2, Androideabi = 3, Eabi = 4, Eabihf = 5, Gnu = 6, Gnuabi64 = 7, Gnueabi = 8,
   Gnueabihf = 9, Gnuspe = 10, Gnux32 = 11, GnuIlp32 = 12, GnuLlvm = 13, HermitKernel = 14, HurdKernel = 15,
   LinuxKernel = 16, Macabi = 17, Musl = 18, Musleabi = 19, Musleabihf = 20, Muslabi64 = 21, Msvc = 22, Newlib = 23,
-  None = 24, Kernel = 25, Uclibc = 26, Uclibceabi = 27, Uclibceabihf = 28, Sgx = 29, Sim = 30, Softfloat = 31,
+  None_ = 24, Kernel = 25, Uclibc = 26, Uclibceabi = 27, Uclibceabihf = 28, Sgx = 29, Sim = 30, Softfloat = 31,
   Spe = 32, Threads = 33, Ohos = 34,
   // end of what is written
 };

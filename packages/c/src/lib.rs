@@ -25,8 +25,8 @@ mod text;
 mod triple;
 mod values;
 
-use core::mem::{size_of, MaybeUninit};
-use core::ptr::{self, addr_of, null};
+use core::mem::size_of;
+use core::ptr::{addr_of, null};
 use core::{slice, str};
 use error::{unwritten_status, Fault, TextError};
 use error_text::{line, line_and_caret, suggestion};
@@ -328,10 +328,18 @@ unsafe fn both<'a>(first: *const Triple, second: *const Triple) -> Result<(Tripl
 #[no_mangle]
 pub unsafe extern "C" fn lexicon_facts(triple: *const Triple, facts: *mut u8, facts_size: usize) -> Status {
     match facts_size {
+        0 => unsafe { Triple::read(triple) }.map_or_else(Status::from, |_| OK),
         QUERIES => unsafe { write_facts::<QueryFacts>(triple, facts) },
         FIRST => unsafe { write_facts::<FirstFacts>(triple, facts) },
-        ALL => unsafe { write_facts::<Facts>(triple, facts) },
-        0..=MAX_SIZE => unsafe { write_facts_of_size(triple, facts, facts_size) },
+        ALL..=MAX_SIZE => unsafe {
+            let status = write_facts::<Facts>(triple, facts);
+            if status == OK {
+                // A later version's struct: what this one doesn't answer has no answer.
+                facts.add(ALL).write_bytes(0, facts_size - ALL);
+            }
+            status
+        },
+        0..=MAX_SIZE => NO_SUCH_VALUE,
         _ => TOO_LARGE,
     }
 }
@@ -371,20 +379,6 @@ unsafe fn write_sizes(triple: *const Triple, facts: *mut QueryFacts) -> Status {
         }
     }
     OK
-}
-
-/// Writes as many of the facts as a struct of another size has room for. What this version doesn't answer has no answer.
-unsafe fn write_facts_of_size(triple: *const Triple, facts: *mut u8, facts_size: usize) -> Status {
-    let mut all = MaybeUninit::<Facts>::uninit();
-    unsafe {
-        let status = write_facts::<Facts>(triple, all.as_mut_ptr().cast());
-        if status == OK {
-            let known = facts_size.min(ALL);
-            ptr::copy_nonoverlapping(all.as_ptr().cast(), facts, known);
-            facts.add(known).write_bytes(0, facts_size - known);
-        }
-        status
-    }
 }
 
 #[no_mangle]

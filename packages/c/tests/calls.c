@@ -203,8 +203,9 @@ static void try_bad(struct lexicon_triple bad, enum lexicon_status status, const
   fill(&facts, sizeof facts);
   fill(&version, sizeof version);
   expect(lexicon_print(&bad, out, sizeof out, &length) == status && length == 77 && is_filled(out, sizeof out), "bad print", what);
-  for (size_t size = 0; size <= sizeof facts; size++)
-    expect(lexicon_facts(&bad, &facts, size) == status && is_filled(&facts, sizeof facts), "bad facts", what);
+  expect(lexicon_facts(&bad, &facts, 0) == status && lexicon_facts(&bad, &facts, offsetof(struct lexicon_triple_facts, implied_format)) == status &&
+         lexicon_facts(&bad, &facts, offsetof(struct lexicon_triple_facts, c_library)) == status && lexicon_all_facts(&bad, &facts) == status &&
+         is_filled(&facts, sizeof facts), "bad facts", what);
   expect(lexicon_settle(&copy) == status && are_same(&copy, &bad), "bad settle", what);
   expect(lexicon_complete(&copy, LEXICON_LINUX_LIBC_GLIBC) == status && are_same(&copy, &bad), "bad complete", what);
   expect(lexicon_set_pointer_width(&copy, 32) == status && lexicon_set_endianness(&copy, LEXICON_ENDIANNESS_BIG) == status && are_same(&copy, &bad), "bad variant", what);
@@ -271,13 +272,17 @@ static void try_pairs(void) {
 static void try_facts(const char *text, const uint8_t *first, size_t first_size) {
   struct lexicon_triple triple = triple_of(text);
   struct lexicon_triple_facts facts;
-  expect(lexicon_facts(&triple, &facts, sizeof facts) == LEXICON_OK && memcmp(&facts, first, first_size) == 0, "facts", text);
-  /* with the struct of an older header, and of a newer one */
+  expect(lexicon_all_facts(&triple, &facts) == LEXICON_OK && memcmp(&facts, first, first_size) == 0, "facts", text);
+  /* with each group, and with the struct of a newer header; no other size is one of the struct, such as that of a pointer */
   struct { struct lexicon_triple_facts facts; unsigned char more[4]; } newer;
   for (size_t size = 0; size <= sizeof newer; size++) {
     unsigned char *bytes = (unsigned char *)&newer;
     size_t i, known = size < sizeof facts ? size : sizeof facts;
     fill(&newer, sizeof newer);
+    if (size != 0 && size != offsetof(struct lexicon_triple_facts, implied_format) && size != offsetof(struct lexicon_triple_facts, c_library) && size < sizeof facts) {
+      expect(lexicon_facts(&triple, &newer.facts, size) == LEXICON_NO_SUCH_VALUE && is_filled(&newer, sizeof newer), "facts of no size", text);
+      continue;
+    }
     expect(lexicon_facts(&triple, &newer.facts, size) == LEXICON_OK && memcmp(bytes, &facts, known) == 0, "facts of a size", text);
     for (i = known; i < size && bytes[i] == 0; i++) {}
     expect(i >= size && is_filled(bytes + i, sizeof newer - i), "facts of a size", text);
