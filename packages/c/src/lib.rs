@@ -87,6 +87,21 @@ pub struct Version {
     patch: u8,
 }
 
+/// `struct lexicon_stated_version`.
+#[repr(C)]
+pub struct StatedVersion {
+    major: u32,
+    minor: u32,
+    patch: u32,
+}
+
+/// `struct lexicon_versions`.
+#[repr(C)]
+pub struct StatedVersions {
+    operating_system: StatedVersion,
+    environment: StatedVersion,
+}
+
 /// `struct lexicon_change`.
 #[repr(C)]
 pub struct Change {
@@ -95,7 +110,7 @@ pub struct Change {
 }
 
 // written by tools/names/write: the size of the facts
-const FACT_COUNT: usize = 25;
+const FACT_COUNT: usize = 28;
 // end of what is written
 
 /// The sizes that the structs of target_lexicon.h have, with words of 64 bits or of 32.
@@ -120,6 +135,15 @@ impl From<TripleRef<'_>> for Triple {
 impl From<DeploymentTarget> for Version {
     fn from(it: DeploymentTarget) -> Version {
         Version { major: it.major, minor: it.minor, patch: it.patch }
+    }
+}
+
+impl From<tool_names::StatedVersions> for StatedVersions {
+    fn from(it: tool_names::StatedVersions) -> StatedVersions {
+        let numbers = |it: Option<tool_names::StatedVersion>| {
+            it.map_or(StatedVersion { major: 0, minor: 0, patch: 0 }, |it| StatedVersion { major: it.major, minor: it.minor, patch: it.patch })
+        };
+        StatedVersions { operating_system: numbers(it.operating_system), environment: numbers(it.environment) }
     }
 }
 
@@ -287,6 +311,24 @@ pub unsafe extern "C" fn lexicon_multiarch_tuple(triple: *const Triple, out: *mu
 }
 
 #[no_mangle]
+pub unsafe extern "C" fn lexicon_dynamic_linker(triple: *const Triple, out: *mut u8, out_size: usize, length: *mut usize) -> Status {
+    let found = unsafe { answer_of(triple, |it| it.dynamic_linker()) };
+    unsafe { write_text(out, out_size, length, |out| Ok(written(found?, out))) }
+}
+
+#[no_mangle]
+pub unsafe extern "C" fn lexicon_linker_emulation(triple: *const Triple, out: *mut u8, out_size: usize, length: *mut usize) -> Status {
+    let found = unsafe { answer_of(triple, |it| it.linker_emulation()) };
+    unsafe { write_text(out, out_size, length, |out| Ok(written(found?, out))) }
+}
+
+#[no_mangle]
+pub unsafe extern "C" fn lexicon_program_suffix(triple: *const Triple, out: *mut u8, out_size: usize, length: *mut usize) -> Status {
+    let triple = unsafe { Triple::read(triple) };
+    unsafe { write_text(out, out_size, length, |out| Ok(written(triple?.program_suffix(), out))) }
+}
+
+#[no_mangle]
 pub unsafe extern "C" fn lexicon_settle(triple: *mut Triple) -> Status {
     unsafe { answer(triple, Triple::read(triple).map(|it| it.step())) }
 }
@@ -446,6 +488,22 @@ fn meant(dialect: Option<Dialect>, text: &str) -> Result<TripleRef<'_>, TextErro
     match dialect {
         Some(dialect) => dialect.read_loosely(text).map_err(|error| TextError::of_name(TranslateError::Read(error), text)),
         None => Ok(tool_names::read(text)?),
+    }
+}
+
+#[no_mangle]
+pub unsafe extern "C" fn lexicon_stated_versions(
+    text: *const u8,
+    text_size: usize,
+    versions: *mut StatedVersions,
+    error: *mut TextError,
+) -> Status {
+    match unsafe { text_at(text, text_size) }.and_then(|text| Ok(tool_names::stated_versions(text)?)) {
+        Ok(found) => unsafe {
+            versions.write(found.into());
+            OK
+        },
+        Err(it) => unsafe { refused(it, error) },
     }
 }
 

@@ -2,7 +2,7 @@
 //! triples is in the order of what a reader sees, except that a version is a number: `ios9` comes before `ios17`. Only
 //! equal values have the same place: a custom vendor comes after the known one of its name.
 #[cfg(feature = "tool_names")]
-use crate::tool_names::{CLibrary, Dialect, FloatAbi, LinuxLibc, Name};
+use crate::tool_names::{CLibrary, Dialect, FloatAbi, LinuxLibc, Name, Signedness};
 use crate::{
     Aarch64Architecture, Architecture, ArmArchitecture, BinaryFormat, CDataModel,
     CallingConvention, CleverArchitecture, CustomVendor, Endianness, Environment, Family, Field,
@@ -68,4 +68,5 @@ order! {
     FloatAbi, it => it.name();
     LinuxLibc, it => it.name();
     Name, it => it.as_str();
+    Signedness, it => it.name();
 }

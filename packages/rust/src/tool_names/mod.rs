@@ -15,6 +15,7 @@ mod meanings;
 mod mistakes;
 mod multiarch;
 mod rustc_cfg;
+mod stated_versions;
 mod translation;
 mod variants;
 
@@ -27,7 +28,10 @@ pub use crate::suggestions::{suggestion, Suggestion};
 pub(crate) use apple_versions::{macos_version, minimum_os_version};
 pub(crate) use arm::arm_version;
 pub use arm::ArmProfile;
-pub use driver::{CLibrary, FloatAbi, TypeLayout, TypeSizes};
+pub(crate) use driver::{
+    dynamic_linker, has_comdat, has_emulated_tls, linker_emulation, program_suffix,
+};
+pub use driver::{CLibrary, FloatAbi, Signedness, TypeLayout, TypeSizes};
 pub use hints::{hint, Hint};
 pub use llvm_target::LlvmTarget;
 pub use meanings::{meanings, Meaning, NameOf};
@@ -35,5 +39,6 @@ pub use mistakes::Mistake;
 pub use multiarch::MultiarchTuple;
 pub(crate) use rustc_cfg::is_unix;
 pub use rustc_cfg::RustcCfg;
+pub use stated_versions::{stated_versions, StatedVersion, StatedVersions};
 pub use translation::{TranslateError, WriteError};
 pub(crate) use variants::{with_endianness, with_pointer_width};
