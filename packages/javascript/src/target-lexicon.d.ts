@@ -155,6 +155,9 @@ export type CLibrary = "bionic" | "glibc" | "mingw" | "msvc" | "musl" | "newlib"
 // written by tools/names/write: the answers of arm_profile for TypeScript
 export type ArmProfile = "A" | "R" | "M";
 // end of what is written
+// written by tools/names/write: the answers of signedness for TypeScript
+export type Signedness = "signed" | "unsigned";
+// end of what is written
 // written by tools/names/write: the answers of float_abi for TypeScript
 export type FloatAbi = "soft" | "hard";
 // end of what is written
@@ -212,6 +215,12 @@ export interface Facts {
   armVersion: number | null;
   /** The profile of a 32-bit Arm architecture, where its name states one. */
   armProfile: ArmProfile | null;
+  /** Whether C's `char` has a sign, as clang has it. */
+  charSignedness: Signedness | null;
+  /** Whether LLVM emulates thread-local storage: on OpenBSD, Cygwin, OpenHarmony, and Android before API level 29. */
+  hasEmulatedTls: boolean;
+  /** Whether the object format has COMDAT sections. */
+  hasComdat: boolean;
   // end of what is written
 }
 

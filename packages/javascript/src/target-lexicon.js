@@ -36,6 +36,7 @@ const MODELS = [null, "LP32", "ILP32", "LLP64", "LP64", "ILP64"];
 const C_LIBRARIES = [null, "bionic", "glibc", "mingw", "msvc", "musl", "newlib", "relibc", "system", "uclibc"];
 const FLOAT_ABIS = [null, "soft", "hard"];
 const ARM_PROFILES = [null, "A", "R", "M"];
+const SIGNEDNESS = [null, "signed", "unsigned"];
 const LINUX_LIBCS = [null, "glibc", "musl", "msvc", "mingw", "gnullvm"];
 // end of what is written
 
@@ -44,7 +45,7 @@ const LINUX_LIBCS = [null, "glibc", "musl", "msvc", "mingw", "gnullvm"];
 // custom vendor and its size are at 12 and 16.
 const FIRST = 0, SECOND = 20, LENGTH = 40, ANSWER = 44, ERROR = 48, FACTS = 60, VENDOR = 12, SOURCE_SIZE = 12;
 // written by tools/names/write: the size of the facts for JavaScript
-const FACTS_SIZE = 25;
+const FACTS_SIZE = 28;
 // end of what is written
 const SOURCE_TABLE = FACTS + ((FACTS_SIZE + 3) & ~3), TEXTS = SOURCE_TABLE + FIELDS.length * SOURCE_SIZE;
 const RANGE = ERROR + 4; // that of an error, or of a change
@@ -566,6 +567,9 @@ export class Triple {
       wcharAlignment: n[22] || null,
       armVersion: n[23] || null,
       armProfile: ARM_PROFILES[n[24]],
+      charSignedness: SIGNEDNESS[n[25]],
+      hasEmulatedTls: n[26] === 1,
+      hasComdat: n[27] === 1,
       // end of what is written
     };
   }

@@ -99,7 +99,7 @@ impl<'a> Iterator for SpelledParts<'a> {
 #[derive(Clone, Copy, Debug, PartialEq, Eq)]
 pub struct Spelling<'a> {
     /// The part, or known names with dashes between them.
-    names: &'a str,
+    pub(crate) names: &'a str,
     /// The version that stays, of `macosx`.
     version: &'a str,
     /// The part after the name `unknown`, if it is a system and no vendor.

@@ -7,7 +7,7 @@ from itertools import islice
 from typing import Any, Callable, Dict, Iterable, List, NamedTuple, Optional, Sequence, Tuple, TypeVar
 
 from . import _library
-from ._facts import ArmProfile, CallingConvention, CLibrary, DataModel, Endianness, FloatAbi
+from ._facts import ArmProfile, CallingConvention, CLibrary, DataModel, Endianness, FloatAbi, Signedness
 from ._named import members
 from ._triple import Triple
 from ._values import Architecture, BinaryFormat, Environment, Family, OperatingSystem, Vendor
@@ -20,8 +20,8 @@ _AT_ONCE, _REMEMBERED = 1 << 12, 1 << 16
 # The names of values by number; those of facts begin with None, for no answer.
 _ARCHITECTURES, _VENDORS, _SYSTEMS, _ENVIRONMENTS, _FORMATS, _FAMILIES = (
     [it.value for it in members(of)] for of in (Architecture, Vendor, OperatingSystem, Environment, BinaryFormat, Family))
-_ENDIANNESS, _CONVENTIONS, _MODELS, _C_LIBRARIES, _FLOAT_ABIS, _ARM_PROFILES = (
-    [None, *(it.value for it in members(of))] for of in (Endianness, CallingConvention, DataModel, CLibrary, FloatAbi, ArmProfile))
+_ENDIANNESS, _CONVENTIONS, _MODELS, _C_LIBRARIES, _FLOAT_ABIS, _ARM_PROFILES, _SIGNEDNESS = (
+    [None, *(it.value for it in members(of))] for of in (Endianness, CallingConvention, DataModel, CLibrary, FloatAbi, ArmProfile, Signedness))
 
 
 class Facts(NamedTuple):
@@ -62,6 +62,9 @@ class Facts(NamedTuple):
     wchar_alignment: Optional[int] = None
     arm_version: Optional[int] = None
     arm_profile: Optional[str] = None
+    char_signedness: Optional[str] = None
+    has_emulated_tls: Optional[bool] = None
+    has_comdat: Optional[bool] = None
     # end of what is written
     llvm_target: Optional[str] = None
     multiarch_tuple: Optional[str] = None
@@ -143,7 +146,7 @@ class _Answered(ctypes.Structure):
 
 
 # written by tools/names/write: the facts of columns
-_FACTS = "BBBBBBBBBB???BBBBB?BBBBBB"
+_FACTS = "BBBBBBBBBB???BBBBB?BBBBBBB??"
 
 
 def _answers(numbers: Sequence[Any]) -> Tuple[Any, ...]:
@@ -174,6 +177,9 @@ def _answers(numbers: Sequence[Any]) -> Tuple[Any, ...]:
         wchar_alignment,
         arm_version,
         arm_profile,
+        char_signedness,
+        has_emulated_tls,
+        has_comdat,
     ) = numbers
     return (
         _ENDIANNESS[endianness],
@@ -201,6 +207,9 @@ def _answers(numbers: Sequence[Any]) -> Tuple[Any, ...]:
         wchar_alignment or None,
         arm_version or None,
         _ARM_PROFILES[arm_profile],
+        _SIGNEDNESS[char_signedness],
+        has_emulated_tls,
+        has_comdat,
     )
 # end of what is written
 

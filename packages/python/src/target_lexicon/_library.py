@@ -120,6 +120,9 @@ class FactsStruct(Structure):
     wchar_alignment: int
     arm_version: int
     arm_profile: int
+    char_signedness: int
+    has_emulated_tls: bool
+    has_comdat: bool
     _fields_ = [
         ("endianness", c_uint8),
         ("pointer_width", c_uint8),
@@ -146,6 +149,9 @@ class FactsStruct(Structure):
         ("wchar_alignment", c_uint8),
         ("arm_version", c_uint8),
         ("arm_profile", c_uint8),
+        ("char_signedness", c_uint8),
+        ("has_emulated_tls", c_bool),
+        ("has_comdat", c_bool),
     ]
     # end of what is written
 
