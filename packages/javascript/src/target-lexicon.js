@@ -309,7 +309,7 @@ function givenValues(values) {
 const INSPECT = Symbol.for("nodejs.util.inspect.custom");
 
 function tripleOf(value) {
-  if (!(value instanceof Triple)) throw new TypeError("only a Triple can be compared with a Triple");
+  if (!(value instanceof Triple)) throw new TypeError(`only a Triple can be compared with a Triple, not ${kindOf(value)}`);
   return value;
 }
 
@@ -469,11 +469,10 @@ export class Triple {
       numbers[field] = known;
       names[field] = known === CUSTOM && field === "vendor" ? name : it.names[index][known];
     }
-    const triple = make(names, version === null ? null : fullVersion(version), numbers);
-    const { impliedFormat } = triple.facts(); // the module refuses a version of a system that has none
-    if (values.binaryFormat != null) return triple;
-    names.binaryFormat = impliedFormat;
-    return make(names, triple.version, { ...numbers, binaryFormat: it.numbers[4].get(impliedFormat) });
+    const full = version === null ? null : fullVersion(version), { impliedFormat, isLikeDarwin } = make(names, null, numbers).facts();
+    if (full !== null && !isLikeDarwin) throw new RangeError(`the operating system ${names.operatingSystem} has no version`);
+    if (values.binaryFormat != null) return make(names, full, numbers);
+    return make({ ...names, binaryFormat: impliedFormat }, full, { ...numbers, binaryFormat: it.numbers[4].get(impliedFormat) });
   }
 
   /**

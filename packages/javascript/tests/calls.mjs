@@ -77,15 +77,22 @@ const tests = {
   "a refusal may be no error": () => {
     for (const text of ["x86_64-pc-linx", "", "linux/amd64", "\ud800", "x".repeat(100000)]) assert.equal(Triple.tryParse(text), null);
     for (const text of ["arm64-apple-ios17.1", "x86_64-acme-linux"]) assert(Triple.tryParse(text).equals(Triple.parse(text)));
-    const time = (call) => Math.min(...Array.from({ length: 15 }, () => {
-      const begin = performance.now();
-      for (let i = 0; i < 500; i++) call();
-      return performance.now() - begin;
-    }));
-    const caught = (call) => () => { try { call(); } catch {} };
-    const bare = time(caught(() => { throw new Error("x"); })), refused = time(caught(() => Triple.parse("x86_64-pc-linx")));
-    assert(refused < 6 * bare, `a refusal takes ${refused / bare} times as long as an error`);
-    assert(time(() => Triple.tryParse("x86_64-pc-linx")) < refused / 4, "tryParse saves too little");
+    for (const wrong of [7, null, ["avr"]]) assert.throws(() => Triple.tryParse(wrong), TypeError);
+  },
+  "a refusal asks the module no more than it must": () => {
+    const { Instance } = WebAssembly, asked = [];
+    const counted = ([name, it]) => [name, typeof it === "function" ? (...values) => (asked.push(name.replace("lexicon_", "")), it(...values)) : it];
+    WebAssembly.Instance = function (module) {
+      return { exports: Object.fromEntries(Object.entries(new Instance(module).exports).map(counted)) };
+    };
+    load(new WebAssembly.Module(readFileSync(file)));
+    WebAssembly.Instance = Instance;
+    const askedBy = (call) => (asked.length = 0, call(), asked.join(" "));
+    assert.equal(askedBy(() => Triple.tryParse("x86_64-pc-linx")), "parse");
+    assert.equal(askedBy(() => refusal("x86_64-pc-linx")), "parse error_line");
+    assert.equal(askedBy(() => refusal("linux/amd46", (it) => Triple.read(it, "go"))), "read reason error_line");
+    assert.equal(askedBy(() => { const error = refusal("amd63"); for (let i = 0; i < 3; i++) error.suggestion; }).split(" ").filter((it) => it === "suggestion").length, 1);
+    load(new WebAssembly.Module(readFileSync(file)));
   },
   "an error has its stack, and a suggestion when somebody asks": () => {
     const error = refusal("x86_64-pc-linx"), other = refusal("x86_64-linux-gnuu");
@@ -107,6 +114,8 @@ const tests = {
       [() => linux.with({ environment: "mulsl" }), RangeError, "no environment has the name mulsl; did you mean musl?"],
       [() => Triple.of({ operatingSystem: "widnows" }), RangeError, "no operatingSystem has the name widnows; did you mean windows?"],
       [() => Triple.of({ architecture: "amd64" }), RangeError, "no architecture has the name amd64; did you mean x86_64?"],
+      [() => linux.with({ version: { major: 1 } }), RangeError, "the operating system linux has no version"],
+      [() => Triple.of({ vendor: "ACME" }), RangeError, "no vendor has the name ACME"], [() => linux.equals("x"), TypeError, "only a Triple can be compared with a Triple, not a string"],
       [() => Triple.of({ environment: "\u{1f600}" }), RangeError, "no environment has the name \u{1f600}"],
       [() => linux.nameIn("Debian"), TypeError, "there is no dialect Debian; did you mean debian?"],
       [() => Triple.read("x", "golang"), TypeError, "there is no dialect golang; did you mean go?"],
