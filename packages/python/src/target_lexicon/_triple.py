@@ -667,7 +667,8 @@ def _number(value: Any, of: Type[NamedValue], name: str) -> int:
         if of is Architecture:
             with suppress(ParseError):
                 return Architecture.parse(value).number  # an alias, such as arm64
-        raise ValueError(f"no {name} has the name {value!r}") from None
+        meant = ParseError(value, name).suggestion
+        raise ValueError(f"no {name} has the name {value!r}{f'; did you mean {meant!r}?' if meant else ''}") from None
 
 
 def _stated_version(version: Optional[Sequence[int]]) -> Optional[Tuple[int, int]]:
