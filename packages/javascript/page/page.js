@@ -50,8 +50,15 @@ const cell = (label, ...inside) => {
 
 /** The targets in a text: one a line, or as lists have them, with commas, quotes, brackets, or a dash before each. */
 const linesOf = (text) => text.split(/[\n,]/).map(bare).filter((line) => line !== "");
-const AROUND = /^[\s"'[\]]+|[\s"'[\]]+$/g;
-const bare = (item) => item.replace(AROUND, "").replace(/^- /, "").replace(AROUND, "");
+const AROUND = /[\s"'[\]]/;
+/** A string without what is around it. A pattern that ends in `+$` would take quadratic time. */
+function stripped(item) {
+  let start = 0, end = item.length;
+  while (start < end && AROUND.test(item[start])) start++;
+  while (start < end && AROUND.test(item[end - 1])) end--;
+  return item.slice(start, end);
+}
+const bare = (item) => stripped(stripped(item).replace(/^- /, ""));
 
 // ---- rows
 
@@ -399,7 +406,8 @@ async function show() {
     const named = counts.named ? `, ${countOf(counts.named)} named by tools` : "";
     say(`${chipOf("all").textContent}: ${countOf(lines.length - counts.refused - counts.named)} parsed${named}, ${chipOf("refused").textContent}${more}.`, true);
   } else {
-    say("No targets. Paste some above, or names of any tool: one a line or as a list, such as what `rustc --print target-list` writes.");
+    const whyNone = isLongLink() ? `The link isn't followed: its targets are longer than ${countOf(LONGEST_LINK)} characters. ` : "";
+    say(`${whyNone}No targets. Paste some above, or names of any tool: one a line or as a list, such as what \`rustc --print target-list\` writes.`);
   }
   showLink(lines);
 }
@@ -409,6 +417,9 @@ const countOf = (count) => count.toLocaleString("en");
 
 // ---- the link and the copy
 
+/** Where this page is, with the host: a path alone that begins with two slashes would be another host. */
+const pageUrl = () => location.href.split(/[?#]/, 1)[0];
+
 /** What is chosen, as the query of a link. */
 const chosen = () => {
   const query = new URLSearchParams(CHOICES.filter((id) => byId(id).value).map((id) => [id, byId(id).value])).toString();
@@ -417,7 +428,10 @@ const chosen = () => {
 
 const hashOf = (lines) => "#" + lines.map((line) => encodeURIComponent(line.toWellFormed?.() ?? line)).join(",");
 
+const isLongLink = () => location.hash.length > LONGEST_LINK;
+
 function linesOfHash() {
+  if (isLongLink()) return [];
   try {
     return location.hash.slice(1).split(",").map(decodeURIComponent).filter((line) => line !== "");
   } catch {
@@ -433,7 +447,7 @@ function showLink(lines) {
   const fits = hash.length <= LONGEST_LINK && (hash !== "#" || !lines.length);
   byId("link").hidden = !fits;
   byId("link_status").hidden = fits;
-  byId("link").href = fits ? `${location.pathname}${chosen()}${hash}` : "#";
+  byId("link").href = fits ? `${pageUrl()}${chosen()}${hash}` : "#";
 }
 
 function followLink() {
@@ -491,7 +505,7 @@ async function copy(button, entryOf) {
 /** Empties the text field, where the focus then is. */
 function clear() {
   field.value = "";
-  history.replaceState(null, "", location.pathname + location.search);
+  history.replaceState(null, "", pageUrl() + location.search);
   field.focus();
   return show();
 }
