@@ -440,7 +440,8 @@ async function show() {
     const named = counts.named ? `, ${countOf(counts.named)} named by tools` : "";
     say(`${chipOf("all").textContent}: ${countOf(lines.length - counts.refused - counts.named)} parsed${named}, ${chipOf("refused").textContent}${more}.`, true);
   } else {
-    say("No targets. Paste some above, or names of any tool: one a line or as a list, such as what `rustc --print target-list` writes.");
+    const whyNone = isLongLink() ? `The link isn't followed: its targets are longer than ${countOf(LONGEST_LINK)} characters. ` : "";
+    say(`${whyNone}No targets. Paste some above, or names of any tool: one a line or as a list, such as what \`rustc --print target-list\` writes.`);
   }
   notice(leftOut(field.value));
 }
@@ -450,15 +451,20 @@ const countOf = (count) => count.toLocaleString("en");
 
 // ---- the link and the copy
 
+/** Where this page is, with the host: a path alone that begins with two slashes would be another host. */
+const pageUrl = () => location.href.split(/[?#]/, 1)[0];
+
 /** What is chosen, as the query of a link. */
 const chosen = () => {
   const query = new URLSearchParams(CHOICES.filter((id) => byId(id).value).map((id) => [id, byId(id).value])).toString();
   return query && `?${query}`;
 };
 
+const isLongLink = () => location.hash.length > LONGEST_LINK;
+
 /** The link to what is in the text field, or null if that is too long for one. */
 function linkOf(lines) {
-  const page = `${location.href.split(/[?#]/, 1)[0]}${chosen()}`;
+  const page = `${pageUrl()}${chosen()}`;
   if (field.value.length > LONGEST_LINK) return null;
   try {
     const hash = lines.map((line) => encodeURIComponent(line.toWellFormed?.() ?? line)).join(",");
@@ -485,6 +491,7 @@ function leftOut(text) {
 function followLink() {
   const lines = [];
   unread = [];
+  if (isLongLink()) return;
   for (const item of location.hash.slice(1).split(",").filter(Boolean)) {
     try {
       lines.push(decodeURIComponent(item));
@@ -500,7 +507,7 @@ let linking;
 function edited() {
   unread = [];
   clearTimeout(linking);
-  linking = setTimeout(() => history.replaceState(null, "", linkOf(linesOf(field.value)) ?? location.pathname + chosen()), 400);
+  linking = setTimeout(() => history.replaceState(null, "", linkOf(linesOf(field.value)) ?? pageUrl() + chosen()), 400);
   return show();
 }
 

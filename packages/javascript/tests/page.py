@@ -552,8 +552,27 @@ def has_a_link(page):
     page.until(f"location.href === {json.dumps(address)}")
 
 
+def takes_time_in_proportion(page):
+    """A line of a million quotes, and a link that is longer than the page makes."""
+    page.run("""document.getElementById('targets').value = 'x' + '"'.repeat(1e6) + 'x'""")
+    begun = time.monotonic()
+    page.run("document.getElementById('targets').dispatchEvent(new Event('input'))")
+    page.until(f"{STATUS}.startsWith('1 target: 0 parsed')")
+    holds(time.monotonic() - begun < 20, f"{time.monotonic() - begun:.0f} s")
+    page.run("document.getElementById('targets').value = ''")
+    page.run("location.hash = 'x'.repeat(32001)")
+    page.until(f"{STATUS}.startsWith('The link isn\\'t followed')")
+    same(page.run("document.getElementById('targets').value"), "")
+
+
 def opens_a_link(url):
     """What can't be decoded of it is said, until something is edited."""
+    with Page(f"{url}//example.invalid/..//#avr") as page:
+        loaded(page)
+        page.run("document.getElementById('clear').click()")
+        same(page.run("location.host"), url.split("//")[1])
+        page.until(f"{STATUS}.startsWith('No targets. Paste')")
+        same(page.errors(), [])
     with Page(f"{url}/#wasm32-wasi,x86_64-pc%3Blinux") as page:
         loaded(page)
         same(page.run("document.getElementById('targets').value"), "wasm32-wasi\nx86_64-pc;linux")
@@ -672,7 +691,7 @@ def page_tests(url, folder, program):
              says_what_is_left_out, is_in_sight_on_a_phone, unfolds_what_is_left, takes_targets_of_rustc, refuses_and_suggests,
              mistakes_come_first, has_a_head_that_stays, is_typed_in_a_column_of_60, is_cleared, links_to_pages,
              says_what_ten_names_mean, says_what_a_driver_asks, says_why_there_is_no_name, names_are_folded, says_what_other_tools_mean, has_large_touch_targets, is_a_card, breaks_no_name, folds_on_a_phone,
-             says_what_to_paste, is_accessible, has_a_link, functools.partial(copies_the_matrix, program), functools.partial(copies_names, program), stays_responsive]
+             says_what_to_paste, is_accessible, has_a_link, takes_time_in_proportion, functools.partial(copies_the_matrix, program), functools.partial(copies_names, program), stays_responsive]
     for test in tests:
         name = getattr(test, "func", test).__name__
         yield name.replace("_", " "), functools.partial(opened, f"{url}/", "", test)

@@ -334,8 +334,14 @@ class Samples(Folder):
 
     @unittest.skipUnless(HAS_DASK, "no pandas and distributed")
     def test_two_processes_count_as_one(self):
-        ran = run(DEBIAN_PYTHON, os.path.join(SOURCE, "speed_many"), "50000", PYTHONPATH=PACKAGES)
+        """No process binds a port."""
+        with open(os.path.join(self.folder, "sitecustomize.py"), "w", encoding="utf-8") as it:
+            it.write("import os, socket, sys\n"
+                     "sys.addaudithook(lambda event, words: event == 'socket.bind' and words[0].family != socket.AF_UNIX and os._exit(9))\n")
+        ran = run(DEBIAN_PYTHON, os.path.join(SOURCE, "speed_many"), "50000", PYTHONPATH=f"{self.folder}:{PACKAGES}")
         self.assertEqual((ran.stdout.count("   50000 lines: "), ran.returncode), (2, 0), ran.stdout + ran.stderr)
+        ran = run(DEBIAN_PYTHON, os.path.join(SOURCE, "count.py"), os.path.join(SOURCE, "README.md"), "tcp://127.0.0.1:1", PYTHONPATH=PACKAGES)
+        self.assertRegex(ran.stderr, "encryption required")
 
     def test_command(self):
         installed = os.path.join(os.path.dirname(sys.executable), "target-lexicon")
