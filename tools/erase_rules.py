@@ -1,63 +1,58 @@
 """What tools/erase changes besides ghost parts. checks/erased.txt has what comes of it."""
 
-# The crates of each folder of packages/, and the module below src/proved that each becomes. The files of a crate without a
-# module are in src/proved itself.
-PACKAGES = {
-    "packages/rust": {
-        "lexicon_fields": "",
-        "target_lexicon": "",
-        "tool_names": "tool_names",
-    },
-}
-# The modules that are compiled only with a feature of their name, and what of each is always compiled: suggestions need it.
-FEATURES = {"tool_names": {"known_names", "macos", "rules", "spelled", "spelling"}}
-# The modules of which only the names of other tools use all, by the module that they are in; and the public names of those.
-PARTLY = {"": {"decimal", "reading"}, "tool_names": {"macos", "rules", "spelled", "spelling"}}
-ONLY_FOR_TOOL_NAMES = {"MAX_DECIMAL_LENGTH", "decimal_text", "Spelling"}
+# The folder that the files of these crates become Rust in.
+FOLDER = "packages/rust/src/proved"
+CRATES = ["lexicon_fields", "target_lexicon"]
 # Public names that no package uses.
 NOT_EXPORTED = {"FixedRow", "ROW_COUNT", "row_order"}
 # The module of the layer that proved files name: what older versions of Rust lack.
 LAYER = {"compat"}
-# Where one package finds the crates of another.
-OUTSIDE = "target_lexicon::proved::"
 
 # Modules that are left out: laws, the counter of steps, JSON, the host, the error that has an allocation's failure, and the
 # round trip, which Rust writes as `triple.to_string().parse()`.
 MODULES = {"laws", "steps", "json", "json_error", "list_error", "macros", "host", "parse_error", "round_trip"}
 # Types, functions and impls that are left out. The proved host is fixed; the layer has the others in Rust's form.
 ITEMS = {
-    "host", "VendorError", "Triple::normal", "Triple::settle", "TripleRef::normal", "TripleRef::settle",
-    "FromStr for Dialect", "FromStr for LinuxLibc",
+    "host", "VendorError", "Triple::normal", "Triple::settle", "TripleRef::normal", "TripleRef::settle", "Triple::write_to",
+    "decimal_text", "MAX_DECIMAL_LENGTH",
 }
 
-# The types to which upstream, or a later version, may add variants or fields. The packages of the same repository match on each.
-GROWS = 'cfg_attr(not(lexicon_internal), non_exhaustive)'
+# The types to which upstream, or a later version, may add variants or fields.
 NON_EXHAUSTIVE = set(
     """Architecture ArmArchitecture Aarch64Architecture CleverArchitecture Riscv32Architecture Riscv64Architecture
     X86_32Architecture Mips32Architecture Mips64Architecture Z80Architecture Vendor KnownVendor OperatingSystem Environment BinaryFormat
-    CallingConvention CDataModel Dialect Explanation Refusal Sources""".split())
+    CallingConvention CDataModel Explanation Refusal Sources""".split())
 # The public types that get the derive `Hash` too.
-HASHED = set("Explanation Family Field Name NameError Refusal Source Sources TextPart".split())
+HASHED = set("Explanation Family Field Refusal Source Sources TextPart".split())
 
-# Methods that only the crates above need, of which documentation doesn't speak.
-HIDDEN = {"DeploymentTarget::from_text", "Refusal::write_to", "TripleRef::step", "TripleRef::write_upstream_to"}
+# What only the crates above need, of which documentation doesn't speak.
+HIDDEN = {"Reading", "Reading::start", "Reading::take", "Reading::finish", "Refusal::write_to", "TripleRef::step"}
+# Methods that only the Rust crate sees. Upstream's types have no others than upstream's: the layer has these in traits, so that none of them
+# takes precedence over a method of a trait that somebody else wrote for the type.
+OF_THE_CRATE = set(
+    """Architecture::name BinaryFormat::name CallingConvention::name CDataModel::name Endianness::name Environment::name
+    PointerWidth::name OperatingSystem::prefix OperatingSystem::version Vendor::as_vendor_ref Vendor::is_plain Triple::as_triple_ref
+    DeploymentTarget::from_text Triple::comes_back Triple::family Triple::settles_as TripleRef::write_upstream_to""".split())
+# Calls that the layer has with an error of its own, and the names that the crate has for those with `()`.
+WITHOUT_ERROR = {
+    "VendorRef::from_str": "from_text", "TripleRef::endianness": "known_endianness", "TripleRef::pointer_width": "known_pointer_width",
+    "TripleRef::default_calling_convention": "known_default_calling_convention", "TripleRef::data_model": "known_data_model",
+}
 
 # What needs an allocator, and the functions that do.
 ALLOCATES = 'cfg(feature = "alloc")'
 ALLOCATING = {"into_str"}
 
 # Calls that take a `Triple` as well as a `TripleRef`, by reference or by value.
-EITHER = {"Dialect::write", "Dialect::write_versioned", "Triple::settles_as", "TripleRef::settles_as"}
+EITHER = {"Triple::settles_as", "TripleRef::settles_as"}
 
 # What few programs call: rustc compiles it only where it is called, which saves a third of a build. Functions, and modules
-# of which it is each function. What only suggestions need without the feature `tool_names` is compiled once with it.
+# of which it is each function.
 INLINE = {
     "TripleRef::from_str", "Triple::write_to", "TripleRef::write_to", "TripleRef::write_upstream_to", "Pieces::write_to",
     "piece_length", "put_piece", "put", "Refusal::write_to", "Triple::as_triple_ref", "Vendor::as_vendor_ref",
 }
-INLINE_MODULES = {
-    "aarch64", "arm", "change", "clever", "macos", "mips", "queries", "riscv", "rules", "settle", "settles_as", "spelled", "spelling", "x86_32", "z80",
-}
+INLINE_MODULES = {"aarch64", "arm", "clever", "mips", "queries", "riscv", "settle", "settles_as", "x86_32", "z80"}
 
 # Calls that constants can use: what `const fn` can have in Rust 1.65.
 CONST = set(
@@ -67,10 +62,10 @@ CONST = set(
     CleverArchitecture::name Mips32Architecture::name Mips64Architecture::name Riscv32Architecture::name
     Riscv64Architecture::name X86_32Architecture::name Z80Architecture::name BinaryFormat::name CallingConvention::name
     CDataModel::double_size CDataModel::float_size CDataModel::int_size CDataModel::long_long_size CDataModel::long_size
-    CDataModel::name CDataModel::pointer_width CDataModel::short_size Dialect::name Endianness::name
+    CDataModel::name CDataModel::pointer_width CDataModel::short_size Endianness::name
     Environment::name KnownVendor::name KnownVendor::to_vendor OperatingSystem::is_like_darwin OperatingSystem::prefix
     OperatingSystem::version PointerWidth::bits PointerWidth::bytes PointerWidth::name Refusal::range Size::bits Size::bytes
-    TextPart::range leaves_format_open object_format toolchain_format wasm_or Triple::data_model Triple::default_calling_convention
+    TextPart::range leaves_format_open wasm_or Triple::data_model Triple::default_calling_convention
     Triple::endianness Triple::pointer_width Triple::unknown
     Triple::without_vendor TripleRef::data_model TripleRef::data_model_32 TripleRef::data_model_64
     TripleRef::default_binary_format TripleRef::default_calling_convention
@@ -94,18 +89,18 @@ REPLACEMENTS = [
     ("lexicon_fields/src/table.rt", ", steps: &mut Steps", ""),
     ("lexicon_fields/src/table.rt", ", steps)", ")"),
     ("lexicon_fields/src/table.rt", "steps.tick();", ""),
-    ("lexicon_fields/src/table.rt", "/// `steps` ticks once for each row that is compared with the string: at least once, and at most eight times.\n", ""),
+    ("lexicon_fields/src/table.rt", "/// `steps` ticks exactly as often as that compares a row with the string: at least once, and at most eight times. No\n/// clause excludes a comparison without a tick: that only [`row_order`] compares can be read in the code.\n", ""),
     ("lexicon_fields/src/table.rt", " `steps` ticks once.", ""),
     ("", ", &mut Steps::new()", ""),
     ("target_lexicon/src/settles_as.rt", "settles_as(&other.as_triple_ref())", "settles_as(other)"),
     # A `const fn` of Rust has no `?`; and the layer asks without a vendor too.
-    ("target_lexicon/src/queries.rt", "self.pointer_width()?", "match self.pointer_width() { Ok(it) => it, Err(error) => return Err(error) }"),
+    ("target_lexicon/src/queries.rt", "self.pointer_width()?", "match self.known_pointer_width() { Ok(it) => it, Err(error) => return Err(error) }"),
     ("target_lexicon/src/queries.rt", "self.default_calling_convention()?",
-     "match self.default_calling_convention() { Ok(it) => it, Err(error) => return Err(error) }"),
+     "match self.known_default_calling_convention() { Ok(it) => it, Err(error) => return Err(error) }"),
+    ("target_lexicon/src/queries.rt", "self.without_vendor().", "self.without_vendor().known_"),
+    # The layer hashes it as the `Vendor` of the same value.
+    ("lexicon_fields/src/vendor_ref.rt", "PartialEq, Eq, Hash)", "PartialEq, Eq)"),
     ("target_lexicon/src/queries.rt", "    fn without_vendor", "    pub(crate) fn without_vendor"),
-    # A name has the width that is asked for. Triples and their fields have none, as upstream's.
-    ("tool_names/src/", "f.write_str(self.name())", "f.pad(self.name())"),
-    ("tool_names/src/name.rt", "f.write_str(self.as_str())", "f.pad(self.as_str())"),
     # With the feature, printing follows upstream's rule.
     ("target_lexicon/src/display.rt", ") && self.binary_format != self.default_binary_format()",
      ') && !cfg!(feature = "upstream_printing") && self.binary_format != self.default_binary_format()'),

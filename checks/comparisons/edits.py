@@ -37,7 +37,7 @@ def names():
                 yield f"field {field}", text, text
     for target in output("rustc", "--print", "target-list").split():
         yield "triple", target, target
-    for line in open(f"{built.ROOT}/tools/names/elsewhere.tsv", encoding="utf-8"):
+    for line in open(f"{built.ROOT}/packages/names/elsewhere.tsv", encoding="utf-8"):
         dialect, name, triple, ways, *_ = [*line.rstrip("\n").split("\t"), "", "", ""]
         if dialect == "first":
             yield "word", name.rstrip("!"), f"{triple}-unknown"

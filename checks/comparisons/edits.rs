@@ -4,8 +4,8 @@
 // the same.) A suggestion must have its place, and keep machine, width, byte order and float ABI: those of the name, or of a
 // machine that the edited name states by its whole word.
 use std::collections::HashMap;
-use target_lexicon::tool_names::{Dialect, FloatAbi, NameError};
-use target_lexicon::{Architecture, Endianness, PointerWidth, Triple, TripleRef};
+use target_names::{Dialect, FloatAbi, NameError, TargetInfo};
+use target_lexicon::{Architecture, Endianness, PointerWidth, Triple, TripleExt as _, TripleRef};
 
 type Said = (String, Option<PointerWidth>, Option<Endianness>, Option<FloatAbi>);
 

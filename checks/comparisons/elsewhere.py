@@ -1,4 +1,4 @@
-"""Asks the tools that the names of targets come from whether the rows of tools/names/elsewhere.tsv mean what the tools mean.
+"""Asks the tools that the names of targets come from whether the rows of packages/names/elsewhere.tsv mean what the tools mean.
 
 dpkg says byte order, pointer width and GNU type of each name; Go and containerd, which names they have and how they write
 them; esbuild and Node's manual, the words; config.sub, which strings there are, and what it makes of them. The crate cc has a
@@ -111,7 +111,7 @@ Row = collections.namedtuple("Row", "dialect name triple ways note", defaults=["
 class Comparison(Report):
     def __init__(self, options, folder):
         super().__init__(options, folder)
-        lines = upstream.read(f"{built.ROOT}/tools/names/elsewhere.tsv").splitlines()
+        lines = upstream.read(f"{built.ROOT}/packages/names/elsewhere.tsv").splitlines()
         self.rows, self.folder = [Row(*line.split("\t")) for line in lines if not line.startswith("#")], folder
         self.dialects = [it for it in dict.fromkeys(row.dialect for row in self.rows) if it not in (*LISTS, *OF_TRIPLES)]
 

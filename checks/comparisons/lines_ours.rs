@@ -2,6 +2,7 @@
 extern crate ours as target_lexicon;
 mod lines;
 
+use ours::TripleExt as _;
 use std::fmt::Write;
 
 fn main() -> std::io::Result<()> {

@@ -8,6 +8,7 @@ use definitions::values::{apply, con, eq, function, library, named, text as v, t
 use std::cmp::Ordering;
 use std::fmt::Debug;
 use std::hash::{Hash, Hasher};
+use target_lexicon::TripleExt as _;
 use target_lexicon::{
     Architecture, CDataModel, CallingConvention, CustomVendor, DeploymentTarget, Endianness, Field, PointerWidth, Size, Triple, Vendor,
 };

@@ -4,6 +4,7 @@ use crate::report::Report;
 use crate::{answers, inputs};
 use definitions::spec as s;
 use definitions::values::{con, eq, function, library, named, text as v, with, V};
+use target_lexicon::{Named as _, OperatingSystemExt as _, ParseErrorExt as _, TripleExt as _};
 use target_lexicon::{
     CallingConvention, CDataModel, CustomVendor, Endianness, NotPlain, ParseError, ParseTripleError, Source, Triple, TripleRef, Vendor, VendorRef,
     Z80Architecture,

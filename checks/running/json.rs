@@ -6,6 +6,7 @@ use definitions::values::{con, eq, library, text as v, truth, N, TRIED, V};
 use serde::Deserialize;
 use serde_json::{from_str, from_value, to_string, to_value, Value};
 use target_lexicon::{Architecture, BinaryFormat, Environment, OperatingSystem, Triple, TripleRef, Vendor, VendorRef};
+use target_lexicon::TripleExt as _;
 
 /// A JSON value as the definitions have it.
 fn data(value: &Value) -> V {

@@ -23,9 +23,9 @@ LICENCES = ("LICENSE", "COPYRIGHT")
 # The table of the names that other tools have for targets.
 TABLES = ("names.json", "names.csv", "names.schema.json")
 # What an sdist has of the repository, below `native`: what cargo builds the library from, what the tests read, and the licence.
-SOURCES = ("Cargo.toml", "Cargo.lock", "packages/rust/internal",
+SOURCES = ("Cargo.toml", "Cargo.lock", "packages/names",
            *(f"packages/{package}/{name}" for package in ("c", "rust") for name in ("Cargo.toml", "build.rs", "src")))
-LISTS = ("packages/c/include", "packages/names", "tools/names/names.tsv", "checks/known_triples.txt", "checks/target_lines.py",
+LISTS = ("packages/c/include", "tools/names/names.tsv", "checks/known_triples.txt", "checks/target_lines.py",
          "checks/failing_allocator.c", "crates/tests/src")
 
 

@@ -5,6 +5,8 @@ extern crate alloc;
 
 #[path = "src/compat.rs"]
 mod compat;
+#[path = "src/hash.rs"]
+mod hash;
 
 /// What parsing needs of the proved source: the rest isn't compiled twice.
 #[path = "src/proved"]
@@ -58,10 +60,7 @@ use std::{env, fs, mem, path::Path, time::Duration};
 
 fn main() {
     println!("cargo:rerun-if-env-changed=TARGET_LEXICON_HOST");
-    println!("cargo:rustc-check-cfg=cfg(core_error, lexicon_internal)");
-    if env::var("CARGO_PKG_NAME").as_deref() == Ok("target-lexicon-internal") {
-        println!("cargo:rustc-cfg=lexicon_internal");
-    }
+    println!("cargo:rustc-check-cfg=cfg(core_error)");
     if has_core_error() {
         println!("cargo:rustc-cfg=core_error");
     }

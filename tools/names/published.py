@@ -1,4 +1,4 @@
-"""The table of other tools' names as it is published, from tools/names/elsewhere.tsv: packages/names/names.json and names.csv."""
+"""The table of other tools' names as it is published, from packages/names/elsewhere.tsv: packages/names/names.json and names.csv."""
 import csv
 import fnmatch
 import io
@@ -43,7 +43,7 @@ def as_json(tables, version, of_rows):
                for it in tables.sources.values()}
     parts = [{"place": place, "part": name, "read_as": meaning} for place, found in tables.parts.items() for name, meaning, _ in found]
     reasons = [{"reason": name, "text": text} for name, text in tables.reasons]
-    head = {"$schema": "names.schema.json", "generated_by": "tools/names/write, from tools/names/elsewhere.tsv", "version": version,
+    head = {"$schema": "names.schema.json", "generated_by": "tools/names/write, from packages/names/elsewhere.tsv", "version": version,
             "licence": "Apache-2.0 WITH LLVM-exception"}
     lines = [f"  {dumped(name)}: {dumped(value)}" for name, value in head.items()]
     lines.append('  "sources": {\n' + ",\n".join(f"    {dumped(name)}: {dumped(it)}" for name, it in sources.items()) + "\n  }")

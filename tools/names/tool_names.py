@@ -1,14 +1,11 @@
-"""The tables of crates/tool_names, from tools/names/elsewhere.tsv."""
+"""Names of other tools, from packages/names/elsewhere.tsv."""
 import re
 from dataclasses import dataclass, field
 
 from names_table import Mistake, columns, filled
 
-PATH = "tools/names/elsewhere.tsv"
+PATH = "packages/names/elsewhere.tsv"
 DAY = re.compile(r"\d{4}-\d\d-\d\d")
-# The check of a function that lends a table grows with the square of its rows, so a dialect has several tables: with 100 rows in each, a new
-# row of rust takes 57 seconds of a processor instead of 36.
-TABLE_ROWS = 50
 WAYS = {"rw": "Both", "r": "Read", "w": "Written", "-": "NoTriple"}
 DIALECT, ONLY_WRITTEN = "# dialect ", "# only written: "
 # The rules of a dialect: for each word of its line the field of `Rules`, and its value for each choice. The first choice goes
@@ -63,12 +60,6 @@ class Dialect:
     @property
     def is_written(self):
         return any(way in ("Both", "Written") for _, _, way in self.rows)
-
-    @property
-    def tables(self):
-        """The name of each table, and its rows."""
-        starts = range(0, len(self.rows), TABLE_ROWS)
-        return [(f"rows_{number}" if number > 1 else "rows", self.rows[start:start + TABLE_ROWS]) for number, start in enumerate(starts, 1)]
 
 
 @dataclass
@@ -198,7 +189,7 @@ def add_row(found, cells, known, cited):
 
 
 def check_triple(triple, known, of):
-    """Each part is a known name. That the triple is canonical is proved, and tried by `packages/python/test`."""
+    """Each part is a known name. That the triple is canonical is tried by the tests of packages/names."""
     first, *later = triple.split("-")
     if first not in (known[""] if of else known[""] | known["-"]):
         raise Mistake(f"`{first}` of {triple} is no known name of tools/names/names.tsv")
@@ -233,62 +224,24 @@ PLACES = {"first": "First", "second": "Second", "hard": "AfterHardFloats", "late
 FORMS = {"*": "Dropped", "+": "MacOs", "!": "HardFloats", "-": "PairWithin"}
 
 
-def spelling_rules(tables, name, lists, is_wide):
-    """The table of those rules of these lists that look at more than a part, or of the others."""
-    rows = [(PLACES[it], *row[:2]) for it in lists for row in tables.parts[it] if (it == "hard" or "-" in row[0]) == is_wide]
+def spelling_rules(tables, lists):
+    """The rules of these lists, those that look at more than a part before the others."""
+    rows = [(PLACES[it], text, names) for is_wide in (True, False) for it in lists for text, names, _ in tables.parts[it] if (it == "hard" or "-" in text) == is_wide]
     form = lambda text: FORMS.get(text[-1:], "Pair" if "-" in text else "Whole")
-    return [f"static {name}: [(Place, &str, Form, &str); {len(rows)}] = [",
-            *(f'    ({place}, "{text[:-1] if text[-1:] in FORMS else text}", {form(text)}, "{names}"),' for place, text, names in rows), "];"]
+    return [f'    ({place}, "{text[:-1] if text[-1:] in FORMS else text}", {form(text)}, "{names}"),' for place, text, names in rows]
 
 
 NO_SYSTEM = "triples have no system "
 
 
-def no_system(words):
-    return [f"{NO_SYSTEM}{word}" for word in words]
-
-
-def text_array(declaration, texts):
-    return [f"{declaration}: [&str; {len(texts)}] = [", *filled([f'"{text}",' for text in texts], " ", "    "), "];"]
-
-
-def rules(it, equals):
-    return [(name, equals(values[it.rules[word]])) for word, (name, values) in RULES.items()]
-
-
 def rust_lists(tables):
     dialects = tables.dialects.values()
-    later = ["second", "hard", "later"]
-    lists = {"the rules that look at more than a part": spelling_rules(tables, "WIDE_RULES", later, True),
-             "the rules for the first part": spelling_rules(tables, "FIRST_RULES", ["first"], False),
-             "the rules for later parts": spelling_rules(tables, "LATER_RULES", later, False)}
-    words = tables.words
-    systems = no_system(words["system"])
-    lists |= {"the start of what is said of a system": [f'pub(crate) const NO_SYSTEM: &str = "{NO_SYSTEM}";'],
-              "the makers of config.sub": text_array("pub(crate) static MAKERS", words["maker"]),
-              "the kernels of config.sub": text_array("pub(crate) static KERNELS", words["kernel"]),
-              "the systems without a triple": text_array("static SYSTEMS", systems)}
-    reasons = {tables.only_written, *systems} | {text for _, text in tables.reasons} | {meaning for it in dialects for _, meaning, way in it.rows if way == "NoTriple"}
-    return lists | {
+    reasons = {tables.only_written, *(f"{NO_SYSTEM}{word}" for word in tables.words["system"])}
+    reasons |= {text for _, text in tables.reasons} | {meaning for it in dialects for _, meaning, way in it.rows if way == "NoTriple"}
+    return {
         "the reasons for C": [rf'"{reason}\0",' for reason in sorted(reasons)],
-        "the reason of names that are only written": [f'pub(crate) const ONLY_WRITTEN: &str = "{tables.only_written}";'],
         "the reasons": [line for name, text in tables.reasons for line in (f"/// {text[0].upper()}{text[1:]}.", f"{name},")],
         "the texts of reasons": [line for name, text in tables.reasons for line in (f"WriteError::{name} => {{", f'    "{text}"', "}")],
-        "the ranges of versions": [f"static VERSION_RANGES: [(&str, u16, u16); {len(tables.versions)}] = [",
-                                   *(f'    ("{text}", {least}, {most}),' for text, least, most, _ in tables.versions), "];"],
-        "the dialects": [line for it in dialects for line in (f"/// {it.about}", f"{it.variant},")],
-        "the names of the dialects": [f'Dialect::{it.variant} => "{it.name}",' for it in dialects],
-        "the dialects by name": [f"static DIALECTS: [(&str, Dialect); {len(dialects) + len(other_names(tables))}] = [",
-                                 *(f'    ("{name}", Dialect::{it.variant}),' for name, it in [*((it.name, it) for it in dialects), *other_names(tables)]),
-                                 "];"],
-        "each dialect": [f"Dialect::{it.variant}," for it in dialects],
-        "the rules of the dialects": [f"Dialect::{it.variant} => Rules {{ {', '.join(f'{name}: {value}' for name, value in rules(it, str))} }},"
-                                      for it in dialects],
-        "the most tables of a dialect": [f"const TABLE_COUNT: usize = {table_count(dialects)};"],
-        "the tables of each dialect": [
-            f"Dialect::{it.variant} => [{', '.join([f'{it.name}::{name}()' for name, _ in it.tables] + ['&[]'] * (table_count(dialects) - len(it.tables)))}],"
-            for it in dialects],
-        "the modules of the dialects": [f"mod {name};" for name in sorted(tables.dialects)],
         **lists_of_languages(list(dialects), other_names(tables)),
     }
 
@@ -303,7 +256,6 @@ def lists_of_languages(dialects, others):
         "the dialects for C++": [f"{it.variant} = LEXICON_DIALECT_{it.constant}," for it in dialects],
         "the dialects' names for C": [f"{names},"],
         "the other names of dialects for C": [f'if (strcmp(name, "{name}") == 0) return LEXICON_DIALECT_{it.constant};' for name, it in others],
-        "the dialects for Rust": ["pub const ALL: &'static [Dialect] = &[", *(f"    Dialect::{it.variant}," for it in dialects), "];"],
         "the dialects that are only read": ["fn is_only_read(dialect: Dialect) -> bool {",
                                             f"    matches!(dialect, {' | '.join(f'Dialect::{it.variant}' for it in dialects if not it.is_written)})", "}"],
         "the other names of dialects for the command": [f"const OTHER_NAMES: [(&str, Dialect); {len(others)}] = "
@@ -330,41 +282,55 @@ def literal(names):
     return "Literal[" + ", ".join(f'"{it}"' for it in names) + "]"
 
 
-def table_count(dialects):
-    return max(len(it.tables) for it in dialects)
+def table_rules(it):
+    said = [f"{name}: {values[it.rules[word]]}" for word, (name, values) in RULES.items() if it.rules[word] != next(iter(values))]
+    return f"Rules {{ {', '.join([*said, '..USUAL'])} }}" if said else "USUAL"
+
+
+def row_orders(it):
+    """The numbers of the rows without a star in the order of their names, of which the first row has the name; and those of the others."""
+    numbers = {}
+    for number, (name, _, _) in enumerate(it.rows):
+        numbers.setdefault(name, number)
+    by_name = [numbers[name] for name in sorted(numbers, key=str.encode) if "*" not in name]
+    return [[f"{number}," for number in of] for of in (by_name, [number for name, number in numbers.items() if "*" in name])]
 
 
 def files(tables):
-    """The file of each dialect's rows."""
-    return {f"crates/tool_names/src/tables/{it.name}.rt": "\n".join([*file_of(it), ""]) for it in tables.dialects.values()}
-
-
-def file_of(it):
-    ways = sorted({way for _, _, way in it.rows})
-    ways = f"{{{', '.join(ways)}}}" if ways[1:] else ways[0]
-    yield from ["// @generated by tools/names/write. Don't edit it here.", f"//! {it.about}", "ghost use Rattle.std.specs.Prelude.{◌≡◌};", "ghost use Rattle.tool_names.specs.Tables.{constant_rows, plain_rows};",
-                "", f"use crate::tables::Way::{ways};", "use crate::tables::{Row, Way};"]
-    for name, rows in it.tables:
-        constant = name.upper()
-        yield from ["", f"pub(crate) fn {name}() -> &'static [Row]", f"    ensures {{ plain_rows result.now ≡ constant_rows {constant} }}", "{", f"    &{constant}", "}",
-                    "", "#[rattlefmt::skip]", f"static {constant}: [(&str, &str, Way); {len(rows)}] = [",
-                    *(f'    ("{name}", "{meaning}", {way}),' for name, meaning, way in rows), "];"]
-
-
-def antt_lists(tables):
-    dialects = tables.dialects.values()
-    return {
-        "dialect_name": [f'dialect_name dialect.{it.variant} = codes "{it.name}"' for it in dialects],
-        "dialects": ["dialects = " + " ∷ ".join([*(f"dialect.{it.variant}" for it in dialects), "[]"])],
-        "other_dialect_names": ["other_dialect_names = " + " ∷ ".join([*(f'(codes "{name}", dialect.{it.variant})' for name, it in other_names(tables)), "[]"])],
-        "rules_of": [f"rules_of dialect.{it.variant} = record {{ "
-                     + "; ".join(f"{name} = {value}" for name, value in rules(it, lambda value: value.replace("AbiRule::", "abi.").replace("MachineRule::", "machine."))) + " }"
-                     for it in dialects],
-        "tables_of": [f"tables_of dialect.{it.variant} = {' ∷ '.join([*(f'constant_rows {it.name}.{name.upper()}' for name, _ in it.tables), '[]'])}"
-                      for it in dialects],
-        "the rows of each dialect pass": [line for it in dialects for line in (
-            f"{it.name}-rows : RowsPass dialect.{it.variant}", "unfolding shape triple_name is_another_target rows_of target_lexicon_on_literals",
-            f"{it.name}-rows = record {{ apart = refl; canonical = refl; formed = refl; versions_short = refl; paired = refl; plain_back = refl; versioned_back = λ a b. refl }}", "")][:-1],
-        "what the rows of each dialect pass": [f"rows-pass dialect.{it.variant} = {it.name}-rows" for it in dialects],
-        "the rows of each dialect": [f"use Rattle.tool_names.specs.declared.tables.{it.name}.TheConstants as {it.name}" for it in dialects],
-    }
+    """The table of names, which says of the dialects what isn't the same for all."""
+    words, dialects, others = tables.words, tables.dialects.values(), other_names(tables)
+    texts = lambda name, of: ["", f"pub(crate) static {name}: &[&str] = &[", *filled([f'"{it}",' for it in words[of]], " ", "    "), "];"]
+    lines = [
+        "// @generated by tools/names/write from packages/names/elsewhere.tsv. Don't edit it here.",
+        "//! The dialects, the rules and rows of each in their order, and the words of config.sub.",
+        "use crate::dialect::{Table, Way::*};", "use crate::shape::{AbiRule, MachineRule, Rules, USUAL};", "",
+        "/// A tool, or a group of tools, that names targets in its own way.", "///", "/// # Examples", "///", "/// ```",
+        "/// use target_lexicon::TripleRef;", "/// use target_names::Dialect;", "///",
+        '/// let triple = TripleRef::from_str("x86_64-unknown-linux-gnu").unwrap();',
+        '/// assert_eq!(Dialect::Debian.write(&triple).unwrap().as_str(), "amd64");', '/// assert_eq!("go".parse(), Ok(Dialect::Go));', "/// ```",
+        "#[non_exhaustive]", "#[derive(Clone, Copy, Debug, PartialEq, Eq, Hash)]", "pub enum Dialect {",
+        *(line for it in dialects for line in (f"    /// {it.about}", f"    {it.variant},")), "}", "",
+        "impl Dialect {", "    /// All dialects, in the order of the variants.", "    ///", "    /// # Examples", "    ///", "    /// ```",
+        "    /// use target_lexicon::triple;", "    /// use target_names::Dialect;", "    ///", '    /// let triple = triple!("aarch64-apple-darwin");',
+        "    /// let names = Dialect::ALL.iter().filter_map(|it| it.write(&triple));",
+        '    /// assert!(names.map(|it| it.to_string()).any(|it| it == "darwin/arm64"));', "    /// ```",
+        "    pub const ALL: &'static [Dialect] = &[", *(f"        Dialect::{it.variant}," for it in dialects), "    ];", "}", "",
+        f"pub(crate) const DIALECT_NAMES: [&str; {len(dialects)}] = [", *filled([f'"{it.name}",' for it in dialects], " ", "    "), "];",
+        f"pub(crate) const OTHER_NAMES: [(&str, Dialect); {len(others)}] = [{', '.join(f'({chr(34)}{name}{chr(34)}, Dialect::{it.variant})' for name, it in others)}];", "",
+        f'pub(crate) const ONLY_WRITTEN: &str = "{tables.only_written}";', "",
+        "/// Why a string isn't read that has such a system, by its name.",
+        "macro_rules! systems {", "    ($($word:literal)*) => {",
+        f'        &[$(($word, concat!("{NO_SYSTEM}", $word))),*]', "    };", "}", "",
+        "/// A text that patterns begin or end with, the least first number of a version, and the most.",
+        "pub(crate) static VERSION_RANGES: &[(&str, u16, u16)] = &[",
+        *(f'    ("{text}", {least}, {most}),' for text, least, most, _ in tables.versions), "];", "",
+        f"pub(crate) static TABLES: [Table; {len(dialects)}] = [",
+    ]
+    for it in dialects:
+        lines += [f"    Table {{ rules: {table_rules(it)}, rows: &[", *(f'        ("{name}", "{meaning}", {way}),' for name, meaning, way in it.rows), "    ],"]
+        for word, numbers in zip(("by_name", "patterns"), row_orders(it)):
+            lines += [f"    {word}: &[", *(filled(numbers, " ", "        ") if numbers else []), "    ],"]
+        lines += ["    },"]
+    lines += ["];", *texts("MAKERS", "maker"), *texts("KERNELS", "kernel"), "",
+              "pub(crate) static SYSTEMS: &[(&str, &str)] = systems![", *filled([f'"{it}"' for it in words["system"]], " ", "    "), "];", ""]
+    return {"packages/names/src/table.rs": "\n".join(lines)}

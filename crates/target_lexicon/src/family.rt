@@ -17,9 +17,9 @@ use lexicon_fields::{
 /// # Examples
 ///
 /// ```
-/// use target_lexicon::{Family, triple};
+/// use target_lexicon::{Family, TripleRef};
 ///
-/// let triple = triple!("riscv32imc-esp-espidf-elf");
+/// let triple = TripleRef::from_str("riscv32imc-esp-espidf-elf").unwrap();
 /// assert_eq!((triple.comes_back(), triple.family()), (false, Some(Family::PrintsTheEspIdfText)));
 /// ```
 #[derive(Clone, Copy, Debug, PartialEq, Eq)]
@@ -34,12 +34,14 @@ pub enum Family {
     PrintsTheEspIdfText,
     /// On Clever with an unknown system, the environment is `None`, which parses as the system.
     ShowsOnlyNone,
-    /// The vendor isn't plain: no string parses as it.
+    /// The vendor isn't plain: no string parses as it. A triple that is in `ShowsOnlyNone` too has that family.
     VendorIsNotPlain,
 }
 
 impl Triple {
     /// The first family that the triple is in. `None` if it comes back. Nothing is allocated.
+    ///
+    /// Only on Clever can a triple be in two: `ShowsOnlyNone` comes before `VendorIsNotPlain`.
     ///
     /// # Examples
     ///

@@ -7,15 +7,11 @@ mod all_names;
 #[cfg(test)]
 mod callers;
 #[cfg(test)]
-mod completion;
-#[cfg(test)]
 mod json;
 #[cfg(test)]
 mod known_triples;
 #[cfg(test)]
 mod names;
-#[cfg(test)]
-mod other_names;
 #[cfg(test)]
 mod printing;
 #[cfg(test)]

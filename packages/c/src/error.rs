@@ -1,8 +1,8 @@
 //! Why a string is refused, as numbers.
 use crate::values::field_at;
 use crate::{Status, NAME_WITHOUT_TRIPLE, NEEDS_C_LIBRARY, NO_SUCH_VALUE, NO_SUCH_VENDOR, TRIPLE_WITHOUT_NAME, UNKNOWN_NAME};
-use target_lexicon::tool_names::{NameError, TranslateError, WriteError};
 use target_lexicon::{Field, Refusal};
+use target_names::{NameError, TranslateError, WriteError};
 
 /// `struct lexicon_error`: why a string is refused, and the range of the refused part in bytes.
 #[repr(C)]

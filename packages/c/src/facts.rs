@@ -1,8 +1,8 @@
 //! The facts of a triple, as numbers: where an enum has no answer, 0, and otherwise 1 more than its index. The functions return wide
 //! values, and so are inlined.
 use crate::values::{binary_format_number, family_number};
-use target_lexicon::tool_names::{self, TypeLayout};
 use target_lexicon::{Architecture, CDataModel, PointerWidth, TripleRef};
+use target_names::{TargetInfo, TypeLayout};
 
 /// The sizes of C's types in bytes; all 0 if they aren't known.
 #[repr(C)]
@@ -81,6 +81,12 @@ pub struct DriverFacts {
     pub arm_version: u8,
     /// The profile of a 32-bit Arm architecture, where its name states one.
     pub arm_profile: u8,
+    /// Whether C's `char` has a sign, as clang has it.
+    pub char_signedness: u8,
+    /// Whether LLVM emulates thread-local storage: on OpenBSD, Cygwin, OpenHarmony, and Android before API level 29.
+    pub has_emulated_tls: bool,
+    /// Whether the object format has COMDAT sections.
+    pub has_comdat: bool,
     // end of what is written
 }
 
@@ -145,6 +151,9 @@ impl From<&TripleRef<'_>> for DriverFacts {
             is_unix: triple.is_unix(),
             arm_version: triple.arm_version().unwrap_or(0),
             arm_profile: triple.arm_profile().map_or(0, |it| 1 + it as u8),
+            char_signedness: triple.char_signedness().map_or(0, |it| 1 + it as u8),
+            has_emulated_tls: triple.has_emulated_tls(),
+            has_comdat: triple.has_comdat(),
             long_double: long_double(),
             wchar: wchar(),
             // end of what is written
@@ -175,15 +184,15 @@ impl From<Option<TypeLayout>> for LayoutNumbers {
 /// The sizes of C's types by the number of the data model; all 0 without one.
 static TYPE_SIZES: [TypeSizes; 6] = [
     TypeSizes { short: 0, int: 0, long: 0, long_long: 0, float: 0, double: 0 },
-    TypeSizes::new(tool_names::TypeSizes::in_model(CDataModel::LP32)),
-    TypeSizes::new(tool_names::TypeSizes::in_model(CDataModel::ILP32)),
-    TypeSizes::new(tool_names::TypeSizes::in_model(CDataModel::LLP64)),
-    TypeSizes::new(tool_names::TypeSizes::in_model(CDataModel::LP64)),
-    TypeSizes::new(tool_names::TypeSizes::in_model(CDataModel::ILP64)),
+    TypeSizes::new(target_names::TypeSizes::in_model(CDataModel::LP32)),
+    TypeSizes::new(target_names::TypeSizes::in_model(CDataModel::ILP32)),
+    TypeSizes::new(target_names::TypeSizes::in_model(CDataModel::LLP64)),
+    TypeSizes::new(target_names::TypeSizes::in_model(CDataModel::LP64)),
+    TypeSizes::new(target_names::TypeSizes::in_model(CDataModel::ILP64)),
 ];
 
 impl TypeSizes {
-    pub(crate) const fn new(of: tool_names::TypeSizes) -> TypeSizes {
+    pub(crate) const fn new(of: target_names::TypeSizes) -> TypeSizes {
         TypeSizes { short: of.short, int: of.int, long: of.long, long_long: of.long_long, float: of.float, double: of.double }
     }
 }

@@ -4,7 +4,9 @@ use crate::facts::Facts;
 use crate::triple::{NumberedTriple, TripleNumbers};
 use crate::values::{architecture_at, c_library_at, dialect_at, environment_at, field_at, name_at, operating_system_at};
 use std::collections::BTreeMap;
+use target_lexicon::Named as _;
 use target_lexicon::TripleRef;
+use target_names::TargetInfo;
 
 const HEADER: &str = include_str!("../include/target_lexicon.h");
 const CPP_HEADER: &str = include_str!("../include/target_lexicon.hpp");
@@ -257,6 +259,7 @@ fn the_structs_are_those_of_the_library() {
     };
     assert_eq!(members("lexicon_triple_facts"), groups.flat_map(layout).collect::<Vec<_>>());
     assert_eq!(members("lexicon_change"), fields(library, "Change"));
+    assert_eq!(members("lexicon_stated_version"), fields(library, "StatedVersion"));
     assert_eq!(members("lexicon_error"), fields(error, "TextError"));
     assert_eq!(members("lexicon_source"), fields(sources, "FieldSource"));
     assert_eq!(members("lexicon_sources"), fields(sources, "FieldSources"));

@@ -482,7 +482,7 @@ mod tests {
     use super::*;
     use crate::values::{field_at, name_at};
     use std::ffi::CStr;
-    use target_lexicon::tool_names::{Dialect, NameError};
+    use target_names::{Dialect, NameError};
 
     #[test]
     fn every_name_has_a_zero_byte_after_it() {
@@ -501,7 +501,7 @@ mod tests {
 
     /// The rows of the table of names in other tools.
     fn rows() -> impl Iterator<Item = Vec<&'static str>> {
-        include_str!("../../../tools/names/elsewhere.tsv").lines().map(|row| row.split('\t').collect())
+        include_str!("../../names/elsewhere.tsv").lines().map(|row| row.split('\t').collect())
     }
 
     #[test]

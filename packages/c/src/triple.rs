@@ -6,6 +6,7 @@ use crate::values::{
     known_vendor_at, operating_system_at, operating_system_number, vendor_number, CUSTOM_VENDOR,
 };
 use core::str;
+use target_lexicon::OperatingSystemExt as _;
 use target_lexicon::{DeploymentTarget, TripleRef, VendorRef};
 
 /// The numbers of a triple's values.

@@ -1,12 +1,13 @@
 //! The numbers of values, fields, dialects and C libraries, each by an ordered list: the number is the index, from 0.
 use core::fmt::{Display, Error, Result, Write};
 use core::str::FromStr as _;
-use target_lexicon::tool_names::{Dialect, LinuxLibc, NameOf};
+use target_lexicon::{Named as _, OperatingSystemExt as _};
 use target_lexicon::{
     Aarch64Architecture, Architecture, ArmArchitecture, BinaryFormat, CleverArchitecture, DeploymentTarget, Environment, Field,
     KnownVendor, Mips32Architecture, Mips64Architecture, OperatingSystem, Riscv32Architecture, Riscv64Architecture, VendorRef,
     X86_32Architecture, Z80Architecture,
 };
+use target_names::{Dialect, LinuxLibc, NameOf};
 
 /// The number that says that a vendor is a custom one.
 pub(crate) const CUSTOM_VENDOR: u8 = 255;
@@ -20,6 +21,7 @@ macro_rules! numbers {
         pub(crate) fn $number_of(value: $type) -> $int {
             match value {
                 $($type::$variant $(($($inner)+))? => $number,)+
+                _ => 0, // there is no other one
             }
         }
 
@@ -157,6 +159,7 @@ pub(crate) fn family_number(architecture: Architecture) -> u8 {
         Architecture::ZkAsm => 35,
         Architecture::Z80(_) => 36,
         // end of what is written
+        _ => 0, // there is no other one
     }
 }
 

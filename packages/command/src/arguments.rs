@@ -3,8 +3,8 @@ use clap::builder::PossibleValuesParser;
 use clap::{value_parser, Arg, ArgAction, Command, ValueHint};
 use std::num::NonZeroUsize;
 use std::path::PathBuf;
-use target_lexicon::tool_names::Dialect;
 use target_lexicon::Field;
+use target_names::Dialect;
 
 /// The fields of a triple, by the names that they have in arguments and in answers.
 pub const FIELDS: [(&str, Field); 5] = [

@@ -29,8 +29,8 @@ use std::io::{self, Write};
 use std::num::NonZeroUsize;
 use std::path::Path;
 use std::process;
-use target_lexicon::tool_names::{Dialect, LinuxLibc, Name};
 use target_lexicon::{TripleRef, HOST};
+use target_names::{Dialect, LinuxLibc, Name, TargetInfo};
 use what::What;
 
 /// What ends a run early.

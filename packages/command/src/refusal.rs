@@ -4,10 +4,10 @@ use crate::input::{Place, Target};
 use crate::json::{Json, Object};
 use crate::From;
 use std::io::{self, Write};
-use target_lexicon::tool_names::{
-    self, hint, Dialect, Hint, LinuxLibc, Mistake, Name, NameError, TranslateError, WriteError,
-};
 use target_lexicon::{Field, Source, Sources, TextPart, TripleRef, VendorRef};
+use target_names::{
+    hint, Dialect, Hint, LinuxLibc, Mistake, Name, NameError, TranslateError, WriteError,
+};
 
 pub struct Refusal<'a> {
     error: String,
@@ -67,13 +67,13 @@ pub fn read(text: &str, from: From) -> Result<TripleRef<'_>, Refusal<'_>> {
         From::Dialect(dialect) => dialect
             .read_loosely(text)
             .map_err(|error| Refusal::of_name(text, dialect, error)),
-        _ => tool_names::read(text).map_err(Refusal::of_part),
+        _ => target_names::read(text).map_err(Refusal::of_part),
     }
 }
 
 /// The triple that a name means to each tool that has it.
 pub fn meanings(text: &str) -> Result<Vec<(&'static str, TripleRef<'_>)>, Refusal<'_>> {
-    let found = tool_names::meanings(text);
+    let found = target_names::meanings(text);
     let meanings: Vec<_> = found
         .filter_map(|it| Some((it.of.name(), it.triple.ok()?)))
         .collect();

@@ -5,8 +5,8 @@ use crate::input::{Place, Target};
 use crate::json::{Json, Object};
 use crate::refusal::{reason, Refusal};
 use std::io::{self, Write};
-use target_lexicon::tool_names::{hint, meanings, Hint, LinuxLibc, Meaning, Name, WriteError};
 use target_lexicon::{OperatingSystem, TripleRef, VendorRef};
+use target_names::{hint, meanings, Hint, LinuxLibc, Meaning, Name, TargetInfo, WriteError};
 
 /// What stands around the names of a list: in YAML, JSON, or a line of words with commas.
 const AROUND: &[char] = &[' ', '\t', ',', '"', '\'', '[', ']'];
@@ -144,7 +144,7 @@ impl<'a> What<'a> {
                 (*tool, name.into())
             };
             let why = |(tool, found): &(&'static str, Result<Name, WriteError>)| {
-                Some((*tool, reason(*found.as_ref().err()?).into()))
+                Some((*tool, found.as_ref().err()?.reason().into()))
             };
             Json::Object(vec![
                 ("canonical", triple.to_string().into()),

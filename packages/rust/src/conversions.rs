@@ -1,12 +1,15 @@
-//! Conversions. Those into a [`Triple`] or a [`Vendor`] copy the string of a custom vendor, and so allocate. No other one does.
-use core::str::FromStr;
-
+//! Conversions, of which only parsing a [`Triple`] allocates. None is into a type of upstream's by `From`: with a second one rustc would no longer know
+//! what `Vendor::from(string.parse()?)` parses.
 #[cfg(feature = "alloc")]
 use crate::ParseTripleError;
-use crate::{DeploymentTarget, KnownVendor, Triple, TripleRef, Vendor, VendorRef};
+use crate::{
+    DeploymentTarget, Field, KnownVendor, Refusal, TextPart, Triple, TripleRef, Vendor, VendorRef,
+};
+use core::fmt;
+use core::str::FromStr;
 
 impl<'a> From<&'a Triple> for TripleRef<'a> {
-    /// The same as [`Triple::as_triple_ref`], which allocates nothing.
+    /// The same triple, borrowed. Nothing is allocated.
     #[inline]
     fn from(triple: &'a Triple) -> Self {
         triple.as_triple_ref()
@@ -21,37 +24,11 @@ impl<'a> From<&TripleRef<'a>> for TripleRef<'a> {
     }
 }
 
-#[cfg(feature = "alloc")]
-impl From<TripleRef<'_>> for Triple {
-    /// The same as [`TripleRef::to_triple`], which copies the string of a custom vendor.
-    #[inline]
-    fn from(triple: TripleRef<'_>) -> Self {
-        triple.to_triple()
-    }
-}
-
 impl<'a> From<&'a Vendor> for VendorRef<'a> {
-    /// The same as [`Vendor::as_vendor_ref`], which allocates nothing.
+    /// The same vendor, borrowed. Nothing is allocated.
     #[inline]
     fn from(vendor: &'a Vendor) -> Self {
         vendor.as_vendor_ref()
-    }
-}
-
-#[cfg(feature = "alloc")]
-impl From<VendorRef<'_>> for Vendor {
-    /// The same as [`VendorRef::to_vendor`], which copies the string of a custom vendor.
-    #[inline]
-    fn from(vendor: VendorRef<'_>) -> Self {
-        vendor.to_vendor()
-    }
-}
-
-impl From<KnownVendor> for Vendor {
-    /// The same as [`KnownVendor::to_vendor`].
-    #[inline]
-    fn from(known: KnownVendor) -> Self {
-        known.to_vendor()
     }
 }
 
@@ -62,14 +39,23 @@ impl From<KnownVendor> for VendorRef<'_> {
     }
 }
 
+impl PartialEq<Triple> for TripleRef<'_> {
+    /// Whether the values are the same. Equal ones have the same hash.
+    // Not the other way round: if a `Triple` were compared with two types, rustc wouldn't know what `triple == string.parse()?` parses.
+    #[inline]
+    fn eq(&self, other: &Triple) -> bool {
+        *self == other.as_triple_ref()
+    }
+}
+
 #[cfg(feature = "alloc")]
 impl TryFrom<&str> for Triple {
     type Error = ParseTripleError;
 
-    /// The same as [`Triple::parse`].
+    /// The same as [`TripleExt::parse`](crate::TripleExt::parse).
     #[inline]
     fn try_from(text: &str) -> Result<Self, ParseTripleError> {
-        Triple::parse(text)
+        TripleRef::parse(text).map(|triple| triple.to_triple())
     }
 }
 
@@ -84,10 +70,31 @@ impl<'a> TryFrom<&'a str> for TripleRef<'a> {
     }
 }
 
-impl FromStr for DeploymentTarget {
-    type Err = ();
+/// The string is no version.
+///
+/// # Examples
+///
+/// ```
+/// use target_lexicon::{DeploymentTarget, ParseVersionError};
+///
+/// let error: ParseVersionError = "14.256".parse::<DeploymentTarget>().unwrap_err();
+/// assert_eq!(error.to_string(), "Not a version: it is one to three numbers, at most 65535.255.255");
+/// ```
+#[derive(Clone, Copy, Debug, PartialEq, Eq, Hash)]
+#[non_exhaustive]
+pub struct ParseVersionError;
 
-    /// The version that a string such as `10.15.7` or `14` parses as, as after the name of a system. `Err` for every other one.
+impl fmt::Display for ParseVersionError {
+    #[inline]
+    fn fmt(&self, f: &mut fmt::Formatter<'_>) -> fmt::Result {
+        f.write_str("Not a version: it is one to three numbers, at most 65535.255.255")
+    }
+}
+
+impl FromStr for DeploymentTarget {
+    type Err = ParseVersionError;
+
+    /// The version that a string such as `10.15.7` or `14` parses as, as after the name of a system.
     ///
     /// # Examples
     ///
@@ -95,9 +102,35 @@ impl FromStr for DeploymentTarget {
     /// use target_lexicon::DeploymentTarget;
     ///
     /// assert_eq!("14.1".parse(), Ok(DeploymentTarget { major: 14, minor: 1, patch: 0 }));
-    /// assert_eq!("14.256".parse::<DeploymentTarget>(), Err(()));
+    /// assert!("14.256".parse::<DeploymentTarget>().is_err());
     /// ```
-    fn from_str(text: &str) -> Result<Self, ()> {
-        DeploymentTarget::from_text(text).ok_or(())
+    #[inline]
+    fn from_str(text: &str) -> Result<Self, ParseVersionError> {
+        DeploymentTarget::from_text(text).ok_or(ParseVersionError)
+    }
+}
+
+impl<'a> VendorRef<'a> {
+    /// The vendor that the string parses as: a known one, or a custom one that borrows the string, if
+    /// [`Vendor::Custom`] admits it.
+    ///
+    /// # Errors
+    ///
+    /// [`Refusal`] for every other string.
+    ///
+    /// # Examples
+    ///
+    /// ```
+    /// use target_lexicon::VendorRef;
+    ///
+    /// assert_eq!(VendorRef::from_str("acme"), Ok(VendorRef::Custom("acme")));
+    /// assert_eq!(VendorRef::from_str("linux").unwrap_err().to_string(), "Unrecognized vendor: linux");
+    /// ```
+    #[inline]
+    pub fn from_str(text: &'a str) -> Result<VendorRef<'a>, Refusal<'a>> {
+        VendorRef::from_text(text).map_err(|()| Refusal {
+            expected: Some(Field::Vendor),
+            part: TextPart { text, start: 0 },
+        })
     }
 }

@@ -17,16 +17,18 @@
 //! # Ok::<(), target_lexicon::ParseError>(())
 //! ```
 //!
-//! [`Triple::parse`] has an error that shows the place and owns the string, [`TripleRef`] is a triple that borrows from the
-//! string, [`TripleRef::explain`] says which part gave each field, and [`Triple::settle`] gives a key.
+//! [`TripleExt::parse`] has an error that shows the place and owns the string, [`TripleRef`] is a triple that borrows from the
+//! string, [`TripleRef::explain`] says which part gave each field, and [`TripleExt::settle`] gives a key.
+//!
+//! Upstream's types have upstream's methods. What they have besides is in traits, which a program imports: [`TripleExt`], [`Named`],
+//! [`OperatingSystemExt`] and [`ParseErrorExt`].
 //!
 //! # Features
 //!
 //! Only `alloc` is on by default.
 //!
-//! - `alloc`: what owns a string, such as the errors of [`Triple::parse`]. Without it no allocator is linked: [`TripleRef`] has its
-//!   calls except `parse`, `normal`, `settle` and those that make an owned value.
-//! - `tool_names`: names of targets in other tools, and what toolchains write.
+//! - `alloc`: what owns a string, such as the errors of [`TripleExt::parse`]. Without it no allocator is linked: [`TripleRef`] has its
+//!   calls except `parse`, `settle` and those that make an owned value.
 //! - `serde_support`: a triple and each field is its string in serde.
 //! - `upstream_printing`: each triple is printed as upstream does.
 //! - `std`: the errors implement `Error` before Rust 1.81 too.
@@ -51,45 +53,44 @@
 // docs.rs marks what needs a feature.
 #![cfg_attr(docsrs, feature(doc_cfg))]
 #![cfg_attr(docsrs, doc(auto_cfg(hide(core_error, feature = "std"))))]
-#![cfg_attr(not(lexicon_internal), warn(missing_docs))]
+#![warn(missing_docs)]
 
 #[cfg(feature = "alloc")]
 extern crate alloc;
 #[cfg(all(feature = "std", not(core_error)))]
 extern crate std;
 
-#[cfg(feature = "tool_names")]
-mod answers;
 mod canonical;
 mod compat;
 mod conversions;
-#[cfg(feature = "tool_names")]
-mod dialects;
 mod display;
 mod errors;
 mod explain;
+mod extensions;
+mod hash;
 mod host;
 mod order;
 #[cfg(feature = "alloc")]
 mod owned;
 #[cfg(feature = "alloc")]
 mod parse_error;
-#[cfg(all(feature = "alloc", feature = "tool_names"))]
-mod parse_name_error;
 #[cfg(feature = "alloc")]
 mod parse_triple_error;
-#[cfg(not(lexicon_internal))]
 mod proved;
-/// The proved crates, for the package of the folder `internal`.
-#[cfg(lexicon_internal)]
-pub mod proved;
+mod queries;
 #[cfg(feature = "serde_support")]
 mod serde;
+#[doc(hidden)]
+pub mod spellings;
 mod suggestions;
-#[cfg(feature = "tool_names")]
-pub mod tool_names;
+#[rustfmt::skip]
+mod words;
 
 pub use canonical::NotPlain;
+pub use conversions::ParseVersionError;
+#[cfg(feature = "alloc")]
+pub use extensions::ParseErrorExt;
+pub use extensions::{Named, OperatingSystemExt, TripleExt};
 pub use host::HOST;
 #[cfg(feature = "alloc")]
 pub use parse_error::ParseError;
@@ -103,11 +104,11 @@ pub use proved::{
     Riscv32Architecture, Riscv64Architecture, Size, Source, Sources, TextPart, Triple, TripleRef,
     Vendor, VendorRef, X86_32Architecture, Z80Architecture,
 };
-
+pub use queries::NoAnswer;
 pub use suggestions::Suggestion;
 
-/// The samples of the page are tested; the first one uses this feature.
-#[cfg(all(doctest, feature = "tool_names"))]
+/// The samples of the page are tested.
+#[cfg(all(doctest, feature = "alloc"))]
 #[doc = include_str!("../README.md")]
 struct Readme;
 

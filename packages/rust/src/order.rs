@@ -1,8 +1,6 @@
 //! Orders. Fields are in the order of their names, and triples in that of their fields, the first one first. So a list of
 //! triples is in the order of what a reader sees, except that a version is a number: `ios9` comes before `ios17`. Only
 //! equal values have the same place: a custom vendor comes after the known one of its name.
-#[cfg(feature = "tool_names")]
-use crate::tool_names::{CLibrary, Dialect, FloatAbi, LinuxLibc, Name};
 use crate::{
     Aarch64Architecture, Architecture, ArmArchitecture, BinaryFormat, CDataModel,
     CallingConvention, CleverArchitecture, CustomVendor, Endianness, Environment, Family, Field,
@@ -59,13 +57,4 @@ order! {
     Endianness, it => it.name();
     CallingConvention, it => it.name();
     CDataModel, it => it.name();
-}
-
-#[cfg(feature = "tool_names")]
-order! {
-    CLibrary, it => it.name();
-    Dialect, it => it.name();
-    FloatAbi, it => it.name();
-    LinuxLibc, it => it.name();
-    Name, it => it.as_str();
 }

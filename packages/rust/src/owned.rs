@@ -1,7 +1,7 @@
 //! The calls that allocate.
 use crate::{
-    CustomVendor, KnownVendor, OperatingSystem, ParseError, Refusal, Triple,
-    TripleRef, Vendor, VendorRef,
+    CustomVendor, KnownVendor, OperatingSystem, ParseError, Refusal, Triple, TripleRef, Vendor,
+    VendorRef,
 };
 use alloc::borrow::Cow;
 use alloc::boxed::Box;
@@ -24,7 +24,7 @@ impl FromStr for Vendor {
     /// assert_eq!("linux".parse::<Vendor>(), Err(()));
     /// ```
     fn from_str(text: &str) -> Result<Self, ()> {
-        VendorRef::from_str(text).map(|vendor| vendor.to_vendor())
+        VendorRef::from_text(text).map(|vendor| vendor.to_vendor())
     }
 }
 
@@ -146,25 +146,8 @@ impl Refusal<'_> {
     }
 }
 
-impl Triple {
-    /// The text that upstream prints for the triple, whatever the features are. It differs from the printed text only if
-    /// environment and format are both unknown and another format is implied.
-    ///
-    /// # Examples
-    ///
-    /// ```
-    /// let triple = target_lexicon::triple!("x86_64-unknown-linux-unknown-unknown");
-    /// assert_eq!(triple.to_upstream_text(), "x86_64-unknown-linux-unknown");
-    /// ```
-    #[must_use]
-    #[inline]
-    pub fn to_upstream_text(&self) -> String {
-        self.as_triple_ref().to_upstream_text()
-    }
-}
-
 impl TripleRef<'_> {
-    /// The text that upstream prints for the triple, as [`Triple::to_upstream_text`] says.
+    /// The string that upstream prints for the triple, as [`TripleExt::to_upstream_text`](crate::TripleExt::to_upstream_text) says.
     ///
     /// # Examples
     ///

@@ -1,5 +1,6 @@
 //! Why a string doesn't parse as a triple.
 use crate::proved::{refusal_prefix, Field};
+use crate::ParseErrorExt as _;
 use alloc::string::String;
 use core::fmt;
 
@@ -40,48 +41,6 @@ impl ParseError {
             Some(Field::Environment) => ParseError::UnrecognizedEnvironment(part),
             Some(Field::BinaryFormat) => ParseError::UnrecognizedBinaryFormat(part),
             None => ParseError::UnrecognizedField(part),
-        }
-    }
-
-    /// The field that was expected: this one or a later one. After a binary format none was, and it is `None`.
-    ///
-    /// # Examples
-    ///
-    /// ```
-    /// use target_lexicon::{Field, Triple};
-    ///
-    /// let error = "x86_64-foo-bar".parse::<Triple>().unwrap_err();
-    /// assert_eq!(error.expected(), Some(Field::OperatingSystem));
-    /// ```
-    #[must_use]
-    pub const fn expected(&self) -> Option<Field> {
-        match self {
-            ParseError::UnrecognizedArchitecture(_) => Some(Field::Architecture),
-            ParseError::UnrecognizedVendor(_) => Some(Field::Vendor),
-            ParseError::UnrecognizedOperatingSystem(_) => Some(Field::OperatingSystem),
-            ParseError::UnrecognizedEnvironment(_) => Some(Field::Environment),
-            ParseError::UnrecognizedBinaryFormat(_) => Some(Field::BinaryFormat),
-            ParseError::UnrecognizedField(_) => None,
-        }
-    }
-
-    /// The refused part.
-    ///
-    /// # Examples
-    ///
-    /// ```
-    /// let error = "x86_64-foo-bar".parse::<target_lexicon::Triple>().unwrap_err();
-    /// assert_eq!(error.part(), "bar");
-    /// ```
-    #[must_use]
-    pub fn part(&self) -> &str {
-        match self {
-            ParseError::UnrecognizedArchitecture(part)
-            | ParseError::UnrecognizedVendor(part)
-            | ParseError::UnrecognizedOperatingSystem(part)
-            | ParseError::UnrecognizedEnvironment(part)
-            | ParseError::UnrecognizedBinaryFormat(part)
-            | ParseError::UnrecognizedField(part) => part,
         }
     }
 }

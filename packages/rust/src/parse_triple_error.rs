@@ -1,5 +1,5 @@
 //! Why a string doesn't parse as a triple, in an error that owns the string and shows the place in it.
-use crate::{Field, ParseError, Refusal, Suggestion, TextPart, Triple, TripleRef};
+use crate::{Field, ParseError, Refusal, Suggestion, TextPart, TripleRef};
 use alloc::boxed::Box;
 use alloc::string::String;
 use core::fmt::{self, Write as _};
@@ -9,14 +9,14 @@ use core::ops::Range;
 /// function. It is shown in three lines: what is wrong, the string, and carets below the refused part, followed by the name
 /// that was perhaps meant.
 ///
-/// [`Triple::parse`] and [`TripleRef::parse`] return it, and so do conversions with `TryFrom`. `str::parse` returns upstream's
+/// [`TripleExt::parse`](crate::TripleExt::parse) and [`TripleRef::parse`] return it, and so do conversions with `TryFrom`. `str::parse` returns upstream's
 /// [`ParseError`] instead, which this one converts into. [`TripleRef::from_str`] returns a [`Refusal`], which borrows from the
 /// string.
 ///
 /// # Examples
 ///
 /// ```
-/// use target_lexicon::{Field, Triple};
+/// use target_lexicon::{Field, Triple, TripleExt};
 ///
 /// let error = Triple::parse("x86_64-pc-linxu").unwrap_err();
 /// assert_eq!((error.expected(), error.part(), error.range()), (Some(Field::OperatingSystem), "linxu", 10..15));
@@ -34,31 +34,6 @@ pub struct ParseTripleError {
     expected: Option<Field>,
     /// The refused part, which is in the text.
     range: Range<usize>,
-}
-
-impl Triple {
-    /// The triple that a string parses as. It is that of `str::parse`, with another error.
-    ///
-    /// # Errors
-    ///
-    /// [`ParseTripleError`] if the string is refused.
-    ///
-    /// # Examples
-    ///
-    /// ```
-    /// use target_lexicon::{OperatingSystem, ParseTripleError, Triple};
-    ///
-    /// fn is_windows(target: String) -> Result<bool, ParseTripleError> {
-    ///     Ok(Triple::parse(&target)?.operating_system == OperatingSystem::Windows)
-    /// }
-    ///
-    /// assert_eq!(is_windows("x86_64-pc-windows-msvc".into()), Ok(true));
-    /// assert_eq!(is_windows("x86_64-pc-window".into()).unwrap_err().suggestion().unwrap(), "windows");
-    /// ```
-    #[inline]
-    pub fn parse(text: &str) -> Result<Triple, ParseTripleError> {
-        TripleRef::parse(text).map(|triple| triple.to_triple())
-    }
 }
 
 impl<'a> TripleRef<'a> {
@@ -127,7 +102,7 @@ impl ParseTripleError {
     /// # Examples
     ///
     /// ```
-    /// let error = target_lexicon::Triple::parse("x86_64-foo-bar").unwrap_err();
+    /// let error = target_lexicon::TripleRef::parse("x86_64-foo-bar").unwrap_err();
     /// assert_eq!(error.text(), "x86_64-foo-bar");
     /// ```
     #[must_use]
@@ -141,7 +116,7 @@ impl ParseTripleError {
     /// # Examples
     ///
     /// ```
-    /// let error = target_lexicon::Triple::parse("x86_64-foo-bar").unwrap_err();
+    /// let error = target_lexicon::TripleRef::parse("x86_64-foo-bar").unwrap_err();
     /// assert_eq!(error.part(), "bar");
     /// ```
     #[must_use]
@@ -155,7 +130,7 @@ impl ParseTripleError {
     /// # Examples
     ///
     /// ```
-    /// let error = target_lexicon::Triple::parse("x86_64-foo-bar").unwrap_err();
+    /// let error = target_lexicon::TripleRef::parse("x86_64-foo-bar").unwrap_err();
     /// assert_eq!(&error.text()[error.range()], "bar");
     /// ```
     #[must_use]
@@ -169,7 +144,7 @@ impl ParseTripleError {
     /// # Examples
     ///
     /// ```
-    /// use target_lexicon::{Field, Triple};
+    /// use target_lexicon::{Field, Triple, TripleExt};
     ///
     /// let error = Triple::parse("x86_64-foo-bar").unwrap_err();
     /// assert_eq!(error.expected(), Some(Field::OperatingSystem));
@@ -185,7 +160,7 @@ impl ParseTripleError {
     /// # Examples
     ///
     /// ```
-    /// let error = target_lexicon::Triple::parse("amd64-linux").unwrap_err();
+    /// let error = target_lexicon::TripleRef::parse("amd64-linux").unwrap_err();
     /// assert_eq!(error.suggestion().unwrap(), "x86_64");
     /// ```
     #[must_use]

@@ -30,11 +30,11 @@ fn a_triple_is_its_string() {
     let triple = triple!("x86_64-acme-linux");
     assert_eq!(Written(&triple).to_string(), "x86_64-acme-linux");
     assert_eq!(
-        Written(triple.as_triple_ref()).to_string(),
+        Written(TripleRef::from(&triple)).to_string(),
         "x86_64-acme-linux"
     );
     assert_eq!(read("x86_64-acme-linux"), Ok(triple.clone()));
-    assert_eq!(borrow("x86_64-acme-linux"), Ok(triple.as_triple_ref()));
+    assert_eq!(borrow("x86_64-acme-linux"), Ok(TripleRef::from(&triple)));
     let refused = "Unrecognized operating system: bar";
     assert_eq!(
         read::<Triple>("x86_64-foo-bar").unwrap_err().to_string(),

@@ -1,6 +1,8 @@
 //! The traits that the layer implements: orders, conversions, `Display`, and the error that owns its string.
-use std::collections::{BTreeMap, HashSet};
+use std::collections::hash_map::DefaultHasher;
+use std::collections::{BTreeMap, HashMap, HashSet};
 use std::error::Error;
+use std::hash::{Hash, Hasher};
 use target_lexicon::*;
 
 /// The values of the known names of a field.
@@ -127,7 +129,7 @@ fn versions_are_parsed() {
         );
     }
     for text in ["", "x", "1.", "1.2.3.4", "65536", "1.256", "-1"] {
-        assert_eq!(text.parse::<DeploymentTarget>(), Err(()), "{text}");
+        assert!(text.parse::<DeploymentTarget>().is_err(), "{text}");
     }
 }
 
@@ -167,13 +169,11 @@ fn conversions_are_those_of_the_methods() {
         let triple = Triple::try_from(string).unwrap();
         assert_eq!(string.parse(), Ok(triple.clone()));
         assert_eq!(TripleRef::try_from(string), Ok(TripleRef::from(&triple)));
-        assert_eq!(Triple::from(triple.as_triple_ref()), triple);
-        assert_eq!(Vendor::from(VendorRef::from(&triple.vendor)), triple.vendor);
+        assert_eq!(triple.as_triple_ref().to_triple(), triple);
+        assert_eq!(VendorRef::from(&triple.vendor).to_vendor(), triple.vendor);
     }
-    assert_eq!(
-        Vendor::from(KnownVendor::Apple).as_vendor_ref(),
-        KnownVendor::Apple.into()
-    );
+    let apple: VendorRef = KnownVendor::Apple.into();
+    assert_eq!(apple, VendorRef::from(&Vendor::Apple));
 }
 
 #[test]
@@ -192,6 +192,99 @@ fn an_error_leaves_the_function_that_owns_its_string() {
     assert_eq!(
         ParseError::from(*error),
         "x86_64-é-linux".parse::<Triple>().unwrap_err()
+    );
+}
+
+fn hash(value: impl Hash) -> u64 {
+    let mut hasher = DefaultHasher::new();
+    value.hash(&mut hasher);
+    hasher.finish()
+}
+
+#[test]
+fn a_borrowed_triple_is_equal_to_the_owned_one_and_hashed_as_it() {
+    let known = values::<Vendor>(Field::Vendor);
+    let custom = ["", "pc", "acme"].map(|it| Vendor::Custom(CustomVendor::Static(it)));
+    let vendors: Vec<Vendor> = known.into_iter().chain(custom).collect();
+    let mut values = HashMap::new();
+    for vendor in &vendors {
+        let mut triple: Triple = "aarch64-apple-ios17.1".parse().unwrap();
+        triple.vendor = vendor.clone();
+        let borrowed = TripleRef::from(&triple);
+        assert_eq!(borrowed, triple);
+        assert_eq!(hash(borrowed), hash(&triple), "{triple:?}");
+        assert_eq!(hash(borrowed.vendor), hash(vendor));
+        // A map by the hash of the owned one is asked with what was parsed.
+        values.insert(hash(&triple), triple);
+    }
+    for (string, is_there) in [
+        ("aarch64-acme-ios17.1", true),
+        ("aarch64-pc-ios17.1", true),
+        ("aarch64-acme-ios17", false),
+    ] {
+        let asked = TripleRef::from_str(string).unwrap();
+        assert_eq!(
+            values.get(&hash(asked)).map_or(false, |it| asked == *it),
+            is_there
+        );
+    }
+}
+
+#[test]
+fn what_is_equal_in_a_map_of_borrowed_triples_is_found_with_an_owned_one() {
+    let targets = HashMap::from([(TripleRef::from_str("x86_64-acme-linux").unwrap(), 1)]);
+    let owned: Triple = "x86_64-acme-linux".parse().unwrap();
+    assert_eq!(targets[&TripleRef::from(&owned)], 1);
+}
+
+#[test]
+fn each_error_leaves_a_function() {
+    fn long(target: &'static str) -> Result<u8, Box<dyn Error>> {
+        Ok(TripleRef::from_str(target)?
+            .data_model()?
+            .long_size()
+            .bytes())
+    }
+    fn is_custom(vendor: &'static str) -> Result<bool, Box<dyn Error>> {
+        Ok(VendorRef::from_str(vendor)?.is_custom())
+    }
+    fn major(version: &str) -> Result<u16, Box<dyn Error>> {
+        Ok(version.parse::<DeploymentTarget>()?.major)
+    }
+    assert_eq!(long("x86_64-unknown-linux-gnu").unwrap(), 8);
+    assert_eq!(
+        (is_custom("acme").unwrap(), major("14").unwrap()),
+        (true, 14)
+    );
+    for (error, shown) in [
+        (
+            long("avr-unknown-none").unwrap_err(),
+            "The data model of C of the target is unknown",
+        ),
+        (
+            is_custom("Linux").unwrap_err(),
+            "Unrecognized vendor: Linux",
+        ),
+        (
+            major("x").unwrap_err(),
+            "Not a version: it is one to three numbers, at most 65535.255.255",
+        ),
+    ] {
+        assert_eq!(error.to_string(), shown);
+    }
+    let unknown = TripleRef::unknown();
+    let said = [
+        unknown.endianness().unwrap_err().to_string(),
+        unknown.pointer_width().unwrap_err().to_string(),
+        unknown
+            .default_calling_convention()
+            .unwrap_err()
+            .to_string(),
+    ];
+    let expected = ["byte order", "pointer width", "calling convention"];
+    assert_eq!(
+        said,
+        expected.map(|it| format!("The {it} of the target is unknown"))
     );
 }
 
@@ -222,110 +315,4 @@ fn a_refusal_of_another_string_is_about_its_part() {
     let error = refusal.in_text("x86_64");
     assert_eq!((error.text(), error.range()), ("linxu", 0..5));
     assert_eq!(error.suggestion().unwrap(), "linux");
-}
-
-#[cfg(feature = "tool_names")]
-mod of_tool_names {
-    use std::collections::{BTreeSet, HashSet};
-    use target_lexicon::tool_names::{
-        CLibrary, Dialect, FloatAbi, LinuxLibc, Name, ParseNameError, UnknownWord,
-    };
-    use target_lexicon::TripleRef;
-
-    #[test]
-    fn names_have_the_width_that_is_asked_for() {
-        let triple = TripleRef::from_str("x86_64-unknown-linux-gnu").unwrap();
-        let name = Dialect::Debian.write(triple).unwrap();
-        assert_eq!(
-            format!(
-                "{:>6}|{:<6}|{:^7}|{name:>7}|{:6}|",
-                Dialect::Go,
-                LinuxLibc::Musl,
-                CLibrary::Glibc,
-                FloatAbi::Hard
-            ),
-            "    go|musl  | glibc |  amd64|hard  |"
-        );
-    }
-
-    #[test]
-    fn a_name_is_compared_like_a_string() {
-        let triple = TripleRef::from_str("x86_64-unknown-linux-gnu").unwrap();
-        let names: Vec<Name> = Dialect::ALL
-            .iter()
-            .filter_map(|it| it.write(triple))
-            .collect();
-        assert!(names
-            .iter()
-            .any(|it| *it == "linux/amd64" && *it == *"linux/amd64"));
-        let texts = names.iter().map(|it| it.as_ref().to_string());
-        assert_eq!(
-            texts.collect::<HashSet<String>>().len(),
-            names.iter().collect::<HashSet<_>>().len()
-        );
-        let sorted: Vec<&str> = names
-            .iter()
-            .map(Name::as_str)
-            .collect::<BTreeSet<_>>()
-            .into_iter()
-            .collect();
-        assert_eq!(
-            names
-                .iter()
-                .collect::<BTreeSet<_>>()
-                .into_iter()
-                .map(Name::as_str)
-                .collect::<Vec<_>>(),
-            sorted
-        );
-    }
-
-    #[test]
-    fn an_error_of_a_name_leaves_the_function_that_owns_it() {
-        fn read(name: String) -> Result<String, Box<dyn std::error::Error + Send + Sync>> {
-            Ok(Dialect::Oci.parse(&name)?.to_string())
-        }
-        assert_eq!(read("linux/arm64".into()).unwrap(), "aarch64-unknown-linux");
-        let error = read("linux/\u{202e}".into()).unwrap_err();
-        assert_eq!(error.to_string(), "Unknown name of oci: linux/\\u{202e}");
-        let error = error.downcast::<ParseNameError>().unwrap();
-        assert_eq!(
-            (error.dialect(), error.name(), error.suggestion()),
-            (Dialect::Oci, "linux/\u{202e}", None)
-        );
-    }
-
-    #[test]
-    fn a_word_that_is_no_dialect_is_named() {
-        fn of(word: &str) -> Result<Dialect, Box<dyn std::error::Error>> {
-            Ok(word.parse()?)
-        }
-        assert_eq!(of("docker").unwrap(), Dialect::Oci);
-        let error = *of("golang").unwrap_err().downcast::<UnknownWord>().unwrap();
-        assert_eq!((error.word(), error.suggestion()), ("golang", Some("go")));
-        let none = of("\u{202e}x").unwrap_err().to_string();
-        assert!(none.starts_with("Unknown dialect: \\u{202e}x; it is one of debian go oci "));
-        for dialect in Dialect::ALL {
-            assert_eq!(dialect.name().parse(), Ok(*dialect));
-            assert_eq!(
-                dialect
-                    .name()
-                    .to_uppercase()
-                    .parse::<Dialect>()
-                    .unwrap_err()
-                    .suggestion(),
-                Some(dialect.name())
-            );
-        }
-    }
-
-    #[test]
-    fn a_word_that_is_no_c_library_is_named() {
-        assert_eq!("musl".parse(), Ok(LinuxLibc::Musl));
-        let error = "gnu".parse::<LinuxLibc>().unwrap_err();
-        assert_eq!(
-            error.to_string(),
-            "Unknown C library: gnu; it is glibc, musl, msvc, mingw or gnullvm"
-        );
-    }
 }

@@ -8,15 +8,15 @@ mod edits;
 #[path = "../../../../checks/comparisons/lines.rs"]
 mod lines;
 #[allow(dead_code)] // its main
-#[path = "../../../rust/examples/linkers.rs"]
+#[path = "../../../names/examples/linkers.rs"]
 mod linkers;
 
 use serde_json::Value;
 use std::fmt::Write as _;
 use std::io::{self, Read};
 use std::process::ExitCode;
-use target_lexicon::tool_names::{CLibrary, FloatAbi, TypeLayout};
-use target_lexicon::{DeploymentTarget, Endianness, PointerWidth, TripleRef};
+use target_lexicon::{DeploymentTarget, Endianness, PointerWidth, TripleExt, TripleRef};
+use target_names::{CLibrary, FloatAbi, TargetInfo, TypeLayout};
 
 /// What mode `json` writes, or why the input is no list.
 fn json(input: Vec<u8>) -> Result<String, &'static str> {
@@ -58,7 +58,7 @@ fn driver(triple: &TripleRef) -> String {
         layout(triple.long_double_layout()),
         layout(triple.wchar_layout()),
         linkers::linker(triple),
-        linkers::program_suffix(triple),
+        triple.program_suffix(),
         triple.llvm_target(),
         string(triple.with_pointer_width(PointerWidth::U32)),
         string(triple.with_pointer_width(PointerWidth::U64)),

@@ -40,7 +40,7 @@ pub use z80::Z80Architecture;
 /// };
 /// assert_eq!(registers, 8);
 /// ```
-#[cfg_attr(not(lexicon_internal), non_exhaustive)]
+#[non_exhaustive]
 #[derive(Clone, Copy, Debug, PartialEq, Eq, Hash)]
 pub enum Architecture {
     /// An architecture that the string doesn't say.
@@ -271,15 +271,8 @@ impl Architecture {
     }
 
     /// The name.
-    ///
-    /// # Examples
-    ///
-    /// ```
-    /// assert_eq!(target_lexicon::Architecture::Bpfel.name(), "bpfel");
-    /// ```
-    #[must_use]
     #[inline(always)]
-    pub const fn name(self) -> &'static str {
+    pub(crate) const fn name(self) -> &'static str {
         match self {
             Architecture::Unknown => "unknown",
             Architecture::Arm(sub) => sub.name(),

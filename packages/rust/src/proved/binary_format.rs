@@ -17,7 +17,7 @@ use core::str::FromStr;
 /// let triple: Triple = "x86_64-pc-windows-gnu".parse().unwrap();
 /// assert_eq!(triple.binary_format, BinaryFormat::Coff);
 /// ```
-#[cfg_attr(not(lexicon_internal), non_exhaustive)]
+#[non_exhaustive]
 #[derive(Clone, Copy, Debug, PartialEq, Eq, Hash)]
 pub enum BinaryFormat {
     /// A format that isn't known.
@@ -57,14 +57,7 @@ impl BinaryFormat {
     }
 
     /// The name.
-    ///
-    /// # Examples
-    ///
-    /// ```
-    /// assert_eq!(target_lexicon::BinaryFormat::Macho.name(), "macho");
-    /// ```
-    #[must_use]
-    pub const fn name(self) -> &'static str {
+    pub(crate) const fn name(self) -> &'static str {
         match self {
             BinaryFormat::Unknown => "unknown",
             BinaryFormat::Elf => "elf",

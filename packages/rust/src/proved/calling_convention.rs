@@ -11,7 +11,7 @@
 /// let convention = triple!("x86_64-pc-windows-msvc").default_calling_convention();
 /// assert_eq!(convention, Ok(CallingConvention::WindowsFastcall));
 /// ```
-#[cfg_attr(not(lexicon_internal), non_exhaustive)]
+#[non_exhaustive]
 #[derive(Clone, Copy, Debug, PartialEq, Eq, Hash)]
 pub enum CallingConvention {
     /// "System V", on most systems like Unix. It differs by architecture: that of 32-bit x86 has nothing in common with
@@ -30,14 +30,7 @@ pub enum CallingConvention {
 
 impl CallingConvention {
     /// The name of the convention.
-    ///
-    /// # Examples
-    ///
-    /// ```
-    /// assert_eq!(target_lexicon::CallingConvention::SystemV.name(), "SystemV");
-    /// ```
-    #[must_use]
-    pub const fn name(self) -> &'static str {
+    pub(crate) const fn name(self) -> &'static str {
         match self {
             CallingConvention::SystemV => "SystemV",
             CallingConvention::WasmBasicCAbi => "WasmBasicCAbi",

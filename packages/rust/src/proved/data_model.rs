@@ -68,7 +68,7 @@ impl Size {
 /// let model = triple!("x86_64-unknown-linux-gnu").data_model();
 /// assert_eq!(model, Ok(CDataModel::LP64));
 /// ```
-#[cfg_attr(not(lexicon_internal), non_exhaustive)]
+#[non_exhaustive]
 #[derive(Clone, Copy, Debug, PartialEq, Eq, Hash)]
 pub enum CDataModel {
     /// Mostly on 16-bit Windows: `long` and pointers have 32 bits.
@@ -85,14 +85,7 @@ pub enum CDataModel {
 
 impl CDataModel {
     /// The name of the model.
-    ///
-    /// # Examples
-    ///
-    /// ```
-    /// assert_eq!(target_lexicon::CDataModel::LLP64.name(), "LLP64");
-    /// ```
-    #[must_use]
-    pub const fn name(self) -> &'static str {
+    pub(crate) const fn name(self) -> &'static str {
         match self {
             CDataModel::LP32 => "LP32",
             CDataModel::ILP32 => "ILP32",

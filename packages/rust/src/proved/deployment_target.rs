@@ -30,10 +30,7 @@ pub struct DeploymentTarget {
 
 impl DeploymentTarget {
     /// The version that the string parses as, if any: one to three pieces between dots, each an optional plus and
-    /// digits.
-    #[doc(hidden)]
-    #[must_use]
-    pub fn from_text(text: &str) -> Option<DeploymentTarget> {
+    pub(crate) fn from_text(text: &str) -> Option<DeploymentTarget> {
         let (major, rest) = first_piece(text);
         let Ok(major) = major.parse::<u16>() else {
             return None;

@@ -23,25 +23,6 @@ impl fmt::Display for Triple {
     }
 }
 
-impl Triple {
-    /// Writes the printed string at the front of the buffer if it fits there, and returns its length. If it doesn't
-    /// fit, the buffer is unchanged: compare the result with `out.len()`. Nothing is allocated.
-    ///
-    /// # Examples
-    ///
-    /// ```
-    /// use target_lexicon::triple;
-    ///
-    /// let mut bytes = [0; 64];
-    /// let length = triple!("wasm32-unknown-wasi").write_to(&mut bytes);
-    /// assert_eq!(&bytes[..length], b"wasm32-wasi");
-    /// ```
-    #[inline]
-    pub fn write_to(&self, out: &mut [u8]) -> usize {
-        self.as_triple_ref().write_to(out)
-    }
-}
-
 impl<'a> TripleRef<'a> {
     /// Writes the printed string at the front of the buffer if it fits there, and returns its length. If it doesn't
     /// fit, the buffer is unchanged: compare the result with `out.len()`. Nothing is allocated.
@@ -60,10 +41,8 @@ impl<'a> TripleRef<'a> {
         self.pieces(self.shows_unknowns()).write_to(out)
     }
 
-    /// Writes the string that upstream prints for the triple, as [`TripleRef::write_to`] writes the printed one.
-    #[doc(hidden)]
     #[inline]
-    pub fn write_upstream_to(&self, out: &mut [u8]) -> usize {
+    pub(crate) fn write_upstream_to(&self, out: &mut [u8]) -> usize {
         self.pieces(false).write_to(out)
     }
 

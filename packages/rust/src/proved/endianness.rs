@@ -21,14 +21,7 @@ pub enum Endianness {
 
 impl Endianness {
     /// The name of the byte order.
-    ///
-    /// # Examples
-    ///
-    /// ```
-    /// assert_eq!(target_lexicon::Endianness::Little.name(), "little");
-    /// ```
-    #[must_use]
-    pub const fn name(self) -> &'static str {
+    pub(crate) const fn name(self) -> &'static str {
         match self {
             Endianness::Little => "little",
             Endianness::Big => "big",

@@ -17,7 +17,7 @@ use core::str::FromStr;
 /// let triple: Triple = "x86_64-unknown-linux-musl".parse().unwrap();
 /// assert_eq!(triple.environment, Environment::Musl);
 /// ```
-#[cfg_attr(not(lexicon_internal), non_exhaustive)]
+#[non_exhaustive]
 #[derive(Clone, Copy, Debug, PartialEq, Eq, Hash)]
 pub enum Environment {
     /// An environment that the string doesn't say.
@@ -115,14 +115,7 @@ impl Environment {
     }
 
     /// The name.
-    ///
-    /// # Examples
-    ///
-    /// ```
-    /// assert_eq!(target_lexicon::Environment::Gnu.name(), "gnu");
-    /// ```
-    #[must_use]
-    pub const fn name(self) -> &'static str {
+    pub(crate) const fn name(self) -> &'static str {
         match self {
             Environment::Unknown => "unknown",
             Environment::AmdGiz => "amdgiz",

@@ -72,7 +72,7 @@ pub enum Source<'a> {
 ///     other => panic!("{other:?}"),
 /// }
 /// ```
-#[cfg_attr(not(lexicon_internal), non_exhaustive)]
+#[non_exhaustive]
 #[derive(Clone, Copy, Debug, PartialEq, Eq, Hash)]
 pub struct Sources<'a> {
     /// Never `NotGiven` if the string parses: each string has an architecture.
@@ -98,7 +98,7 @@ pub struct Sources<'a> {
 /// assert_eq!(explanation.triple.unwrap().binary_format, BinaryFormat::Elf);
 /// assert_eq!(explanation.sources.binary_format, Source::Implied);
 /// ```
-#[cfg_attr(not(lexicon_internal), non_exhaustive)]
+#[non_exhaustive]
 #[derive(Clone, Copy, Debug, PartialEq, Eq, Hash)]
 pub struct Explanation<'a> {
     /// The triple that the string parses as, or why it is refused.

@@ -13,9 +13,9 @@ use crate::proved::{
 /// # Examples
 ///
 /// ```
-/// use target_lexicon::{Family, triple};
+/// use target_lexicon::{Family, TripleRef};
 ///
-/// let triple = triple!("riscv32imc-esp-espidf-elf");
+/// let triple = TripleRef::from_str("riscv32imc-esp-espidf-elf").unwrap();
 /// assert_eq!((triple.comes_back(), triple.family()), (false, Some(Family::PrintsTheEspIdfText)));
 /// ```
 #[derive(Clone, Copy, Debug, PartialEq, Eq, Hash)]
@@ -30,29 +30,21 @@ pub enum Family {
     PrintsTheEspIdfText,
     /// On Clever with an unknown system, the environment is `None`, which parses as the system.
     ShowsOnlyNone,
-    /// The vendor isn't plain: no string parses as it.
+    /// The vendor isn't plain: no string parses as it. A triple that is in `ShowsOnlyNone` too has that family.
     VendorIsNotPlain,
 }
 
 impl Triple {
     /// The first family that the triple is in. `None` if it comes back. Nothing is allocated.
     ///
-    /// # Examples
-    ///
-    /// ```
-    /// use target_lexicon::{Family, triple};
-    ///
-    /// assert_eq!(triple!("x86_64-unknown-linux-gnu").family(), None);
-    /// assert_eq!(triple!("armv7-nintendo-horizon-newlib").family(), Some(Family::HidesNewlib));
-    /// ```
-    #[must_use]
-    pub fn family(&self) -> Option<Family> {
+    /// Only on Clever can a triple be in two: `ShowsOnlyNone` comes before `VendorIsNotPlain`.
+    pub(crate) fn family(&self) -> Option<Family> {
         self.as_triple_ref().family()
     }
 }
 
 impl TripleRef<'_> {
-    /// The first family that the triple is in, as [`Triple::family`] says.
+    /// The first family that the triple is in, as [`TripleExt::family`](crate::TripleExt::family) says.
     ///
     /// # Examples
     ///

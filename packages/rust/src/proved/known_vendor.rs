@@ -12,7 +12,7 @@ use crate::proved::vendor::Vendor;
 ///
 /// assert_eq!(VendorRef::from_str("apple"), Ok(VendorRef::Known(KnownVendor::Apple)));
 /// ```
-#[cfg_attr(not(lexicon_internal), non_exhaustive)]
+#[non_exhaustive]
 #[derive(Clone, Copy, Debug, PartialEq, Eq, Hash)]
 pub enum KnownVendor {
     /// A vendor that the string doesn't say, or none.

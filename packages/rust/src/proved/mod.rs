@@ -1,10 +1,8 @@
 // @generated: erased from crates/lexicon_fields/src/lib.rt and crates/target_lexicon/src/lib.rt by tools/erase. Don't edit it here.
-
 pub(crate) mod architecture;
 pub(crate) mod binary_format;
 pub(crate) mod calling_convention;
 pub(crate) mod data_model;
-#[cfg_attr(not(feature = "tool_names"), allow(dead_code, unused_imports))]
 pub(crate) mod decimal;
 pub(crate) mod default_format;
 pub(crate) mod defaults;
@@ -20,14 +18,12 @@ pub(crate) mod operating_system;
 pub(crate) mod pointer_width;
 pub(crate) mod queries;
 pub(crate) mod read;
-#[cfg_attr(not(feature = "tool_names"), allow(dead_code, unused_imports))]
 pub(crate) mod reading;
 pub(crate) mod refusal;
 pub(crate) mod settle;
 pub(crate) mod settles_as;
 pub(crate) mod special;
 pub(crate) mod table;
-pub mod tool_names;
 pub(crate) mod triple;
 pub(crate) mod triple_ref;
 pub(crate) mod vendor;
@@ -41,8 +37,6 @@ pub use architecture::{
 pub use binary_format::BinaryFormat;
 pub use calling_convention::CallingConvention;
 pub use data_model::{CDataModel, Size};
-#[cfg(feature = "tool_names")]
-pub use decimal::{decimal_text, MAX_DECIMAL_LENGTH};
 pub use default_format::default_binary_format;
 pub use defaults::{DefaultToHost, DefaultToUnknown};
 pub use deployment_target::{version_text, DeploymentTarget, MAX_VERSION_LENGTH};

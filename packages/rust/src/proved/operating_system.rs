@@ -19,7 +19,7 @@ use core::str::FromStr;
 ///     other => panic!("{other}"),
 /// }
 /// ```
-#[cfg_attr(not(lexicon_internal), non_exhaustive)]
+#[non_exhaustive]
 #[derive(Clone, Copy, Debug, PartialEq, Eq, Hash)]
 pub enum OperatingSystem {
     /// A system that the string doesn't say.
@@ -109,6 +109,7 @@ impl OperatingSystem {
     ///
     /// A string is a fixed name, or the prefix of a system like Darwin with nothing or a version after it: one to three
     /// pieces between dots, each an optional plus and digits, the first at most 65535, the others at most 255.
+    #[inline(always)]
     pub(crate) fn from_str(s: &str) -> Result<Self, ()> {
         match fixed_row(s) {
             Some(row) => row.operating_system.ok_or(()),
@@ -167,15 +168,7 @@ impl OperatingSystem {
     }
 
     /// The name without the version.
-    ///
-    /// # Examples
-    ///
-    /// ```
-    /// let system: target_lexicon::OperatingSystem = "ios17.2".parse().unwrap();
-    /// assert_eq!(system.prefix(), "ios");
-    /// ```
-    #[must_use]
-    pub const fn prefix(self) -> &'static str {
+    pub(crate) const fn prefix(self) -> &'static str {
         match self {
             OperatingSystem::Unknown => "unknown",
             OperatingSystem::Aix => "aix",
@@ -221,17 +214,7 @@ impl OperatingSystem {
     }
 
     /// The version of the deployment target. Only a system like Darwin can have one.
-    ///
-    /// # Examples
-    ///
-    /// ```
-    /// use target_lexicon::OperatingSystem;
-    ///
-    /// let system: OperatingSystem = "ios17.2".parse().unwrap();
-    /// assert_eq!(system.version().map(|it| (it.major, it.minor, it.patch)), Some((17, 2, 0)));
-    /// ```
-    #[must_use]
-    pub const fn version(self) -> Option<DeploymentTarget> {
+    pub(crate) const fn version(self) -> Option<DeploymentTarget> {
         match self {
             OperatingSystem::Darwin(version)
             | OperatingSystem::IOS(version)

@@ -54,14 +54,7 @@ impl PointerWidth {
     }
 
     /// The number of bits in a pointer, in digits.
-    ///
-    /// # Examples
-    ///
-    /// ```
-    /// assert_eq!(target_lexicon::PointerWidth::U32.name(), "32");
-    /// ```
-    #[must_use]
-    pub const fn name(self) -> &'static str {
+    pub(crate) const fn name(self) -> &'static str {
         match self {
             PointerWidth::U16 => "16",
             PointerWidth::U32 => "32",

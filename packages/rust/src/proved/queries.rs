@@ -11,40 +11,14 @@ use crate::proved::{
 
 impl TripleRef<'_> {
     /// The byte order, as [`Triple::endianness`] says.
-    ///
-    /// # Errors
-    ///
-    /// `()` for the architecture `Unknown`.
-    ///
-    /// # Examples
-    ///
-    /// ```
-    /// use target_lexicon::{Endianness, TripleRef};
-    ///
-    /// let triple = TripleRef::from_str("s390x-unknown-linux-gnu").unwrap();
-    /// assert_eq!(triple.endianness(), Ok(Endianness::Big));
-    /// ```
     #[inline]
-    pub const fn endianness(&self) -> Result<Endianness, ()> {
+    pub(crate) const fn known_endianness(&self) -> Result<Endianness, ()> {
         self.architecture.endianness()
     }
 
     /// The width of a pointer, as [`Triple::pointer_width`] says.
-    ///
-    /// # Errors
-    ///
-    /// `()` if the width is that of the architecture, which is `Unknown`.
-    ///
-    /// # Examples
-    ///
-    /// ```
-    /// use target_lexicon::{PointerWidth, TripleRef};
-    ///
-    /// let triple = TripleRef::from_str("avr-unknown-none").unwrap();
-    /// assert_eq!(triple.pointer_width(), Ok(PointerWidth::U16));
-    /// ```
     #[inline]
-    pub const fn pointer_width(&self) -> Result<PointerWidth, ()> {
+    pub(crate) const fn known_pointer_width(&self) -> Result<PointerWidth, ()> {
         match self.environment {
             Environment::Gnux32 | Environment::GnuIlp32 => Ok(PointerWidth::U32),
             _ => self.architecture.pointer_width(),
@@ -52,21 +26,8 @@ impl TripleRef<'_> {
     }
 
     /// The calling convention, as [`Triple::default_calling_convention`] says.
-    ///
-    /// # Errors
-    ///
-    /// `()` if no convention is known.
-    ///
-    /// # Examples
-    ///
-    /// ```
-    /// use target_lexicon::{CallingConvention, TripleRef};
-    ///
-    /// let triple = TripleRef::from_str("x86_64-unknown-linux-gnu").unwrap();
-    /// assert_eq!(triple.default_calling_convention(), Ok(CallingConvention::SystemV));
-    /// ```
     #[inline]
-    pub const fn default_calling_convention(&self) -> Result<CallingConvention, ()> {
+    pub(crate) const fn known_default_calling_convention(&self) -> Result<CallingConvention, ()> {
         match self.operating_system {
             OperatingSystem::Darwin(_)
             | OperatingSystem::IOS(_)
@@ -118,22 +79,9 @@ impl TripleRef<'_> {
     }
 
     /// The data model of C, as [`Triple::data_model`] says.
-    ///
-    /// # Errors
-    ///
-    /// `()` if no model is known.
-    ///
-    /// # Examples
-    ///
-    /// ```
-    /// use target_lexicon::{CDataModel, TripleRef};
-    ///
-    /// let triple = TripleRef::from_str("x86_64-pc-windows-msvc").unwrap();
-    /// assert_eq!(triple.data_model(), Ok(CDataModel::LLP64));
-    /// ```
     #[inline]
-    pub const fn data_model(&self) -> Result<CDataModel, ()> {
-        match match self.pointer_width() {
+    pub(crate) const fn known_data_model(&self) -> Result<CDataModel, ()> {
+        match match self.known_pointer_width() {
             Ok(it) => it,
             Err(error) => return Err(error),
         } {
@@ -150,7 +98,7 @@ impl TripleRef<'_> {
             OperatingSystem::Windows => Ok(CDataModel::LLP64),
             _ => match self.architecture {
                 Architecture::Wasm64 => Ok(CDataModel::LP64),
-                _ => match match self.default_calling_convention() {
+                _ => match match self.known_default_calling_convention() {
                     Ok(it) => it,
                     Err(error) => return Err(error),
                 } {
@@ -170,7 +118,7 @@ impl TripleRef<'_> {
             OperatingSystem::Windows => Ok(CDataModel::ILP32),
             _ => match self.architecture {
                 Architecture::Wasm32 => Ok(CDataModel::ILP32),
-                _ => match match self.default_calling_convention() {
+                _ => match match self.known_default_calling_convention() {
                     Ok(it) => it,
                     Err(error) => return Err(error),
                 } {
@@ -210,7 +158,7 @@ impl Triple {
     /// ```
     #[inline]
     pub const fn endianness(&self) -> Result<Endianness, ()> {
-        self.without_vendor().endianness()
+        self.without_vendor().known_endianness()
     }
 
     /// The width of a pointer: 32 bits in the environments `Gnux32` and `GnuIlp32`, in every other environment the
@@ -230,7 +178,7 @@ impl Triple {
     /// ```
     #[inline]
     pub const fn pointer_width(&self) -> Result<PointerWidth, ()> {
-        self.without_vendor().pointer_width()
+        self.without_vendor().known_pointer_width()
     }
 
     /// The calling convention. It depends on the operating system, and on systems like Darwin and those that run
@@ -251,7 +199,7 @@ impl Triple {
     /// ```
     #[inline]
     pub const fn default_calling_convention(&self) -> Result<CallingConvention, ()> {
-        self.without_vendor().default_calling_convention()
+        self.without_vendor().known_default_calling_convention()
     }
 
     /// The data model of C. It depends on the pointer width, the operating system, the calling convention and the
@@ -271,6 +219,6 @@ impl Triple {
     /// ```
     #[inline]
     pub const fn data_model(&self) -> Result<CDataModel, ()> {
-        self.without_vendor().data_model()
+        self.without_vendor().known_data_model()
     }
 }

@@ -21,7 +21,7 @@ use core::ops::Range;
 /// let refusal = TripleRef::from_str("x86_64-linux-gnu-elf-foo").unwrap_err();
 /// assert_eq!(refusal.expected, None);
 /// ```
-#[cfg_attr(not(lexicon_internal), non_exhaustive)]
+#[non_exhaustive]
 #[derive(Clone, Copy, Debug, PartialEq, Eq, Hash)]
 pub struct Refusal<'a> {
     /// The field that was expected: this one or a later one. After a binary format none was, and it is `None`.

@@ -10,19 +10,9 @@ impl Triple {
     /// Whether the triple comes back: printed and parsed again, it is itself. No string is made and nothing is
     /// allocated.
     ///
-    /// A triple comes back unless it is in one of five families, which [`Family`] lists, and [`Triple::family`] names.
-    ///
-    /// # Examples
-    ///
-    /// ```
-    /// use target_lexicon::triple;
-    ///
-    /// assert!(triple!("x86_64-unknown-linux-gnu").comes_back());
-    /// assert!(!triple!("armv7-nintendo-horizon-newlib").comes_back());
-    /// ```
-    #[must_use]
+    /// A triple comes back unless it is in one of five families, which [`Family`] lists, and [`TripleExt::family`](crate::TripleExt::family) names.
     #[inline]
-    pub fn comes_back(&self) -> bool {
+    pub(crate) fn comes_back(&self) -> bool {
         self.as_triple_ref().comes_back()
     }
 
@@ -44,7 +34,7 @@ impl Triple {
 }
 
 impl<'a> TripleRef<'a> {
-    /// Whether the triple comes back, as [`Triple::comes_back`] says.
+    /// Whether the triple comes back, as [`TripleExt::comes_back`](crate::TripleExt::comes_back) says.
     ///
     /// # Examples
     ///

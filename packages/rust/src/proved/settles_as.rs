@@ -6,27 +6,16 @@ use crate::proved::triple_ref::TripleRef;
 
 impl Triple {
     /// Whether both triples have the same canonical form. Nothing is moved, copied or allocated. The cases that
-    /// [`Triple::comes_back`] lists give one to a triple whose vendor isn't plain too, but its string is no key.
-    ///
-    /// # Examples
-    ///
-    /// ```
-    /// use target_lexicon::triple;
-    ///
-    /// let (one, other) = (triple!("riscv32imc-esp-espidf"), triple!("riscv32imc-esp-espidf-elf"));
-    /// assert_ne!(one, other);
-    /// assert!(one.settles_as(&other));
-    /// ```
-    #[must_use]
+    /// [`TripleExt::comes_back`](crate::TripleExt::comes_back) lists give one to a triple whose vendor isn't plain too, but its string is no key.
     #[inline]
-    pub fn settles_as<'t>(&self, other: impl Into<TripleRef<'t>>) -> bool {
+    pub(crate) fn settles_as<'t>(&self, other: impl Into<TripleRef<'t>>) -> bool {
         let other: &TripleRef<'_> = &other.into();
         self.as_triple_ref().settles_as(other)
     }
 }
 
 impl TripleRef<'_> {
-    /// Whether both triples have the same canonical form, as [`Triple::settles_as`] says.
+    /// Whether both triples have the same canonical form, as [`TripleExt::settles_as`](crate::TripleExt::settles_as) says.
     ///
     /// # Examples
     ///

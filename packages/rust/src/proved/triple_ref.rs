@@ -55,18 +55,8 @@ impl<'a> TripleRef<'a> {
 
 impl Triple {
     /// The same triple, borrowed.
-    ///
-    /// # Examples
-    ///
-    /// ```
-    /// use target_lexicon::{TripleRef, triple};
-    ///
-    /// let triple = triple!("x86_64-linux");
-    /// assert_eq!(Ok(triple.as_triple_ref()), TripleRef::from_str("x86_64-linux"));
-    /// ```
-    #[must_use]
     #[inline]
-    pub fn as_triple_ref(&self) -> TripleRef<'_> {
+    pub(crate) fn as_triple_ref(&self) -> TripleRef<'_> {
         TripleRef {
             architecture: self.architecture,
             vendor: self.vendor.as_vendor_ref(),

@@ -69,7 +69,7 @@ impl Hash for CustomVendor {
 /// assert_eq!("acme".parse(), Ok(Vendor::Custom(CustomVendor::Static("acme"))));
 /// assert_eq!("ACME".parse::<Vendor>(), Err(()));
 /// ```
-#[cfg_attr(not(lexicon_internal), non_exhaustive)]
+#[non_exhaustive]
 #[derive(Debug, Clone, PartialEq, Eq, Hash)]
 pub enum Vendor {
     /// A vendor that the string doesn't say, or none.
@@ -122,18 +122,7 @@ impl Vendor {
     }
 
     /// Whether parsing can produce the vendor: it is known, or custom with a string that [`Vendor::Custom`] admits.
-    ///
-    /// # Examples
-    ///
-    /// ```
-    /// use target_lexicon::{CustomVendor, Vendor};
-    ///
-    /// assert!(Vendor::Apple.is_plain());
-    /// assert!(Vendor::Custom(CustomVendor::Static("acme")).is_plain());
-    /// assert!(!Vendor::Custom(CustomVendor::Static("linux")).is_plain());
-    /// ```
-    #[must_use]
-    pub fn is_plain(&self) -> bool {
+    pub(crate) fn is_plain(&self) -> bool {
         self.as_vendor_ref().is_plain()
     }
 }

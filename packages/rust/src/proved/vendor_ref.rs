@@ -16,7 +16,7 @@ use core::fmt;
 ///
 /// assert_eq!(VendorRef::from_str("acme"), Ok(VendorRef::Custom("acme")));
 /// ```
-#[derive(Clone, Copy, Debug, PartialEq, Eq, Hash)]
+#[derive(Clone, Copy, Debug, PartialEq, Eq)]
 pub enum VendorRef<'a> {
     /// A vendor that has a fixed name.
     Known(KnownVendor),
@@ -27,19 +27,8 @@ pub enum VendorRef<'a> {
 impl<'a> VendorRef<'a> {
     /// The vendor that the string parses as: a known one, or a custom one that borrows the string, if
     /// [`Vendor::Custom`] admits it.
-    ///
-    /// # Errors
-    ///
-    /// `()` for every other string.
-    ///
-    /// # Examples
-    ///
-    /// ```
-    /// use target_lexicon::VendorRef;
-    ///
-    /// assert_eq!(VendorRef::from_str("ACME"), Err(()));
-    /// ```
-    pub fn from_str(text: &'a str) -> Result<VendorRef<'a>, ()> {
+    #[inline(always)]
+    pub(crate) fn from_text(text: &'a str) -> Result<VendorRef<'a>, ()> {
         match fixed_row(text) {
             Some(row) => match row.vendor {
                 Some(known) => Ok(VendorRef::Known(known)),
@@ -84,7 +73,7 @@ impl<'a> VendorRef<'a> {
     pub fn is_plain(&self) -> bool {
         match *self {
             VendorRef::Known(_) => true,
-            VendorRef::Custom(text) => match VendorRef::from_str(text) {
+            VendorRef::Custom(text) => match VendorRef::from_text(text) {
                 Ok(VendorRef::Custom(_)) => true,
                 Ok(VendorRef::Known(_)) => false,
                 Err(_) => false,
@@ -110,17 +99,8 @@ impl<'a> VendorRef<'a> {
 
 impl Vendor {
     /// The same vendor, borrowed.
-    ///
-    /// # Examples
-    ///
-    /// ```
-    /// use target_lexicon::{CustomVendor, Vendor, VendorRef};
-    ///
-    /// assert_eq!(Vendor::Custom(CustomVendor::Static("acme")).as_vendor_ref(), VendorRef::Custom("acme"));
-    /// ```
-    #[must_use]
     #[inline]
-    pub fn as_vendor_ref(&self) -> VendorRef<'_> {
+    pub(crate) fn as_vendor_ref(&self) -> VendorRef<'_> {
         match self {
             Vendor::Unknown => VendorRef::Known(KnownVendor::Unknown),
             Vendor::Amd => VendorRef::Known(KnownVendor::Amd),

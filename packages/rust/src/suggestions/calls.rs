@@ -1,9 +1,7 @@
 //! The known names of a field, and the one that was perhaps meant.
-use crate::proved::tool_names::known_names;
+use crate::words;
 use crate::suggestions::{architecture_in, suggestion, suggestion_on};
 use crate::{Architecture, Field, Refusal, Suggestion, TripleRef, VendorRef};
-#[cfg(feature = "alloc")]
-use crate::{ParseError, Triple};
 
 impl Field {
     /// The known names of the field, each once. A system like Darwin has its name without a version.
@@ -18,7 +16,7 @@ impl Field {
     /// ```
     #[must_use]
     pub fn names(self) -> &'static [&'static str] {
-        known_names::names(self)
+        words::names(self)
     }
 }
 
@@ -94,24 +92,6 @@ impl<'a> TripleRef<'a> {
     }
 }
 
-#[cfg(feature = "alloc")]
-impl Triple {
-    /// The name that was perhaps meant by a custom vendor, as [`TripleRef::vendor_suggestion`] says.
-    ///
-    /// # Examples
-    ///
-    /// ```
-    /// use target_lexicon::triple;
-    ///
-    /// assert_eq!(triple!("x86_64-linx").vendor_suggestion().unwrap(), "linux");
-    /// ```
-    #[must_use]
-    #[inline]
-    pub fn vendor_suggestion(&self) -> Option<Suggestion<'_>> {
-        self.as_triple_ref().vendor_suggestion()
-    }
-}
-
 impl PartialEq<str> for Suggestion<'_> {
     /// Whether the suggestion is displayed as this string.
     #[inline]
@@ -125,24 +105,5 @@ impl PartialEq<&str> for Suggestion<'_> {
     #[inline]
     fn eq(&self, text: &&str) -> bool {
         *self == **text
-    }
-}
-
-#[cfg(feature = "alloc")]
-impl ParseError {
-    /// The name that was perhaps meant, as [`Refusal::suggestion`] says.
-    ///
-    /// # Examples
-    ///
-    /// ```
-    /// use target_lexicon::Triple;
-    ///
-    /// let error = "x86_64-pc-linxu".parse::<Triple>().unwrap_err();
-    /// assert_eq!(error.suggestion().unwrap(), "linux");
-    /// ```
-    #[must_use]
-    #[inline]
-    pub fn suggestion(&self) -> Option<Suggestion<'_>> {
-        suggestion(self.expected()?, self.part())
     }
 }

@@ -19,7 +19,7 @@ use core::str::FromStr;
 /// let architecture: Architecture = "aarch64_be".parse().unwrap();
 /// assert_eq!(architecture, Architecture::Aarch64(Aarch64Architecture::Aarch64be));
 /// ```
-#[cfg_attr(not(lexicon_internal), non_exhaustive)]
+#[non_exhaustive]
 #[derive(Clone, Copy, Debug, PartialEq, Eq, Hash)]
 pub enum Aarch64Architecture {
     /// Little-endian.

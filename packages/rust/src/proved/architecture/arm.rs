@@ -19,7 +19,7 @@ use core::str::FromStr;
 /// let architecture: Architecture = "thumbv7em".parse().unwrap();
 /// assert_eq!(architecture, Architecture::Arm(ArmArchitecture::Thumbv7em));
 /// ```
-#[cfg_attr(not(lexicon_internal), non_exhaustive)]
+#[non_exhaustive]
 #[derive(Clone, Copy, Debug, PartialEq, Eq, Hash)]
 pub enum ArmArchitecture {
     /// Arm of no stated version.

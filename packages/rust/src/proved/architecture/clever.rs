@@ -17,7 +17,7 @@ use core::str::FromStr;
 /// let architecture: Architecture = "clever1.0".parse().unwrap();
 /// assert_eq!(architecture, Architecture::Clever(CleverArchitecture::Clever1_0));
 /// ```
-#[cfg_attr(not(lexicon_internal), non_exhaustive)]
+#[non_exhaustive]
 #[derive(Clone, Copy, Debug, PartialEq, Eq, Hash)]
 pub enum CleverArchitecture {
     /// No stated version.

@@ -17,7 +17,7 @@ use core::str::FromStr;
 /// let architecture: Architecture = "mipsel".parse().unwrap();
 /// assert_eq!(architecture, Architecture::Mips32(Mips32Architecture::Mipsel));
 /// ```
-#[cfg_attr(not(lexicon_internal), non_exhaustive)]
+#[non_exhaustive]
 #[derive(Clone, Copy, Debug, PartialEq, Eq, Hash)]
 pub enum Mips32Architecture {
     /// Big-endian.
@@ -91,7 +91,7 @@ impl fmt::Display for Mips32Architecture {
 /// let architecture: Architecture = "mips64el".parse().unwrap();
 /// assert_eq!(architecture, Architecture::Mips64(Mips64Architecture::Mips64el));
 /// ```
-#[cfg_attr(not(lexicon_internal), non_exhaustive)]
+#[non_exhaustive]
 #[derive(Clone, Copy, Debug, PartialEq, Eq, Hash)]
 pub enum Mips64Architecture {
     /// Big-endian.

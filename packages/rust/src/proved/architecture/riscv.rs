@@ -17,7 +17,7 @@ use core::str::FromStr;
 /// let architecture: Architecture = "riscv32imac".parse().unwrap();
 /// assert_eq!(architecture, Architecture::Riscv32(Riscv32Architecture::Riscv32imac));
 /// ```
-#[cfg_attr(not(lexicon_internal), non_exhaustive)]
+#[non_exhaustive]
 #[derive(Clone, Copy, Debug, PartialEq, Eq, Hash)]
 pub enum Riscv32Architecture {
     /// No stated extensions.
@@ -103,7 +103,7 @@ impl fmt::Display for Riscv32Architecture {
 /// let architecture: Architecture = "riscv64gc".parse().unwrap();
 /// assert_eq!(architecture, Architecture::Riscv64(Riscv64Architecture::Riscv64gc));
 /// ```
-#[cfg_attr(not(lexicon_internal), non_exhaustive)]
+#[non_exhaustive]
 #[derive(Clone, Copy, Debug, PartialEq, Eq, Hash)]
 pub enum Riscv64Architecture {
     /// No stated extensions.

@@ -17,7 +17,7 @@ use core::str::FromStr;
 /// let architecture: Architecture = "i686".parse().unwrap();
 /// assert_eq!(architecture, Architecture::X86_32(X86_32Architecture::I686));
 /// ```
-#[cfg_attr(not(lexicon_internal), non_exhaustive)]
+#[non_exhaustive]
 #[derive(Clone, Copy, Debug, PartialEq, Eq, Hash)]
 pub enum X86_32Architecture {
     /// Intel's 80386 and later.

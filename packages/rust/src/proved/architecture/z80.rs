@@ -17,7 +17,7 @@ use core::str::FromStr;
 /// let architecture: Architecture = "z180".parse().unwrap();
 /// assert_eq!(architecture, Architecture::Z80(Z80Architecture::Z180));
 /// ```
-#[cfg_attr(not(lexicon_internal), non_exhaustive)]
+#[non_exhaustive]
 #[derive(Clone, Copy, Debug, PartialEq, Eq, Hash)]
 pub enum Z80Architecture {
     /// Zilog's Z80.

@@ -2,6 +2,7 @@
 #![no_std]
 #![no_main]
 use target_lexicon::{CDataModel, Field, Source, TripleRef, VendorRef, HOST};
+use target_names::{read, Dialect, LinuxLibc, TargetInfo};
 
 #[link(name = "c")]
 extern "C" {
@@ -36,14 +37,10 @@ pub extern "C" fn main() -> i32 {
     assert_eq!(refusal.suggestion().unwrap(), "linux");
     // A `Triple` is there too; only its custom vendor can't own a string.
     assert_eq!(HOST.pointer_width(), HOST.as_triple_ref().pointer_width());
-    #[cfg(feature = "tool_names")]
-    {
-        use target_lexicon::tool_names::{read, Dialect, LinuxLibc};
-        let platform = Dialect::Oci.read("linux/arm64").unwrap();
-        let triple = platform.with_c_library(LinuxLibc::Musl);
-        assert_eq!(Dialect::Rust.write(triple).unwrap(), "aarch64-unknown-linux-musl");
-        assert_eq!(read("amd64-unknown-linux").unwrap().rustc_cfg().target_arch, "x86_64");
-        assert_eq!(Dialect::Go.suggestion("linux/amd46"), Some("linux/amd64"));
-    }
+    let platform = Dialect::Oci.read("linux/arm64").unwrap();
+    let triple = platform.with_c_library(LinuxLibc::Musl);
+    assert_eq!(Dialect::Rust.write(triple).unwrap(), "aarch64-unknown-linux-musl");
+    assert_eq!(read("amd64-unknown-linux").unwrap().rustc_cfg().target_arch, "x86_64");
+    assert_eq!(Dialect::Go.suggestion("linux/amd46"), Some("linux/amd64"));
     0
 }

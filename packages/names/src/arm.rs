@@ -1,0 +1,92 @@
+//! The version of a 32-bit Arm architecture, and its profile. `checks/compare llvm` asks LLVM of each.
+use core::fmt;
+use target_lexicon::{Architecture, ArmArchitecture, TripleRef};
+
+/// The profile of a 32-bit Arm architecture: for what its processors are made.
+///
+/// # Examples
+///
+/// ```
+/// use target_lexicon::triple;
+/// use target_names::{ArmProfile, TargetInfo};
+///
+/// assert_eq!(triple!("thumbv7em-none-eabihf").arm_profile(), Some(ArmProfile::Microcontroller));
+/// ```
+#[non_exhaustive]
+#[derive(Clone, Copy, Debug, PartialEq, Eq, Hash)]
+pub enum ArmProfile {
+    /// A: applications, such as phones and servers.
+    Application,
+    /// R: real-time systems.
+    RealTime,
+    /// M: microcontrollers.
+    Microcontroller,
+}
+
+impl ArmProfile {
+    /// The letter.
+    ///
+    /// # Examples
+    ///
+    /// ```
+    /// assert_eq!(target_names::ArmProfile::RealTime.name(), "R");
+    /// ```
+    #[must_use]
+    #[inline]
+    pub const fn name(self) -> &'static str {
+        match self {
+            ArmProfile::Application => "A",
+            ArmProfile::RealTime => "R",
+            ArmProfile::Microcontroller => "M",
+        }
+    }
+
+    /// The answer of [`TargetInfo::arm_profile`].
+    #[inline]
+    pub(crate) const fn of(triple: &TripleRef<'_>) -> Option<ArmProfile> {
+        use ArmArchitecture::*;
+        let Architecture::Arm(sub) = triple.architecture else {
+            return None;
+        };
+        match sub {
+            Armv7a | Armv7k | Armv7s | Armv7ve | Thumbv7a | Thumbv7neon => {
+                Some(ArmProfile::Application)
+            }
+            Armv8a | Armv8_1a | Armv8_2a | Armv8_3a | Armv8_4a | Armv8_5a => {
+                Some(ArmProfile::Application)
+            }
+            Armv7r | Armebv7r | Armv8r => Some(ArmProfile::RealTime),
+            Armv6m | Armv7m | Armv8mBase | Armv8mMain => Some(ArmProfile::Microcontroller),
+            Thumbv6m | Thumbv7em | Thumbv7m | Thumbv8mBase | Thumbv8mMain => {
+                Some(ArmProfile::Microcontroller)
+            }
+            _ => None,
+        }
+    }
+}
+
+impl fmt::Display for ArmProfile {
+    #[inline]
+    fn fmt(&self, f: &mut fmt::Formatter<'_>) -> fmt::Result {
+        f.pad(self.name())
+    }
+}
+
+/// The answer of [`TargetInfo::arm_version`].
+#[inline]
+pub(crate) const fn arm_version(triple: &TripleRef<'_>) -> Option<u8> {
+    use ArmArchitecture::*;
+    let Architecture::Arm(sub) = triple.architecture else {
+        return None;
+    };
+    match sub {
+        Armv4 | Armv4t | Thumbv4t => Some(4),
+        Armv5t | Armv5te | Armv5tej | Thumbv5te => Some(5),
+        Armv6 | Armv6j | Armv6k | Armv6z | Armv6kz | Armv6t2 | Armv6m | Thumbv6m => Some(6),
+        Armv7 | Armv7a | Armv7k | Armv7ve | Armv7m | Armv7r | Armv7s | Armebv7r => Some(7),
+        Thumbv7a | Thumbv7em | Thumbv7m | Thumbv7neon => Some(7),
+        Armv8 | Armv8a | Armv8_1a | Armv8_2a | Armv8_3a | Armv8_4a | Armv8_5a => Some(8),
+        Armv8mBase | Armv8mMain | Armv8r | Thumbv8mBase | Thumbv8mMain => Some(8),
+        _ => None,
+    }
+}

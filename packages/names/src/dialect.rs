@@ -1,0 +1,393 @@
+//! The dialects, whose names are read and written by the rows of [`TABLES`].
+use crate::gnu::read_as_gnu;
+use crate::name::Name;
+use crate::platform::row_of_platform;
+use crate::shape::{is_another_target, unversioned, AbiRule, Rules};
+use crate::table::{Dialect, DIALECT_NAMES, ONLY_WRITTEN, OTHER_NAMES, TABLES, VERSION_RANGES};
+use core::cmp::Ordering;
+use core::fmt;
+use target_lexicon::{DeploymentTarget, OperatingSystem, TripleRef};
+
+/// How a name is used.
+#[derive(Clone, Copy, Debug, PartialEq, Eq)]
+pub(crate) enum Way {
+    /// It is read and written.
+    Both,
+    Read,
+    Written,
+    /// It is known, and no triple means the same.
+    NoTriple,
+}
+
+/// A name, the canonical triple that it means or why it has none, and how it is used. A star in the name is a number.
+pub(crate) type Row = (&'static str, &'static str, Way);
+
+/// What names of a dialect state, and its rows, in the order in which they are tried where a triple has several.
+pub(super) struct Table {
+    pub rules: Rules,
+    pub rows: &'static [Row],
+    /// The numbers of the rows without a star, in the order of the bytes of their names, and those of the others.
+    pub by_name: &'static [u16],
+    pub patterns: &'static [u16],
+}
+
+/// The numbers of a name where its pattern has stars: two, or one and 0.
+pub(super) type Numbers = Option<(u16, u8)>;
+
+/// The most bytes of a triple's text with a known vendor, and more.
+pub(super) const MAX_LENGTH: usize = 64;
+
+/// Why a name isn't read.
+///
+/// # Examples
+///
+/// ```
+/// use target_names::Dialect;
+///
+/// let error = Dialect::Debian.read("foo").unwrap_err();
+/// assert_eq!(error.to_string(), "Unknown name");
+/// ```
+#[derive(Clone, Copy, Debug, PartialEq, Eq, Hash)]
+pub enum NameError {
+    /// The dialect has no such name.
+    Unknown,
+    /// The dialect has the name, but no triple means the same, for this reason.
+    WithoutTriple(&'static str),
+}
+
+impl Dialect {
+    /// The name of the dialect.
+    ///
+    /// # Examples
+    ///
+    /// ```
+    /// assert_eq!(target_names::Dialect::Go.name(), "go");
+    /// ```
+    #[must_use]
+    pub const fn name(self) -> &'static str {
+        DIALECT_NAMES[self as usize]
+    }
+
+    /// The dialect with this name. `Err` for every other text.
+    pub(crate) fn from_str(name: &str) -> Result<Self, ()> {
+        let names = Dialect::ALL.iter().map(|it| (it.name(), *it));
+        let mut found = names.chain(OTHER_NAMES).filter(|it| it.0 == name);
+        found.next().map(|it| it.1).ok_or(())
+    }
+
+    #[inline]
+    pub(super) fn table(self) -> &'static Table {
+        &TABLES[self as usize]
+    }
+
+    /// The rows of all names.
+    #[inline]
+    pub(crate) fn rows(self) -> &'static [Row] {
+        self.table().rows
+    }
+
+    /// The triple that a name of this dialect means. It is canonical, and has a known vendor. What the name doesn't
+    /// state is unknown: `linux/arm64` of Go is `aarch64-unknown-linux`, without a C library. Nothing is allocated.
+    ///
+    /// A name of Python is read by its tag: `macosx-11.0-arm64` and `macosx_11_0_arm64` mean the same. A name of GNU that is
+    /// none of its cross compilers' is read by its spelling, as by [`read`](crate::read), and completed as `config.sub` does:
+    /// its vendor says nothing, Linux is with `gnu`, and without a system `gnu` is the Hurd's; otherwise there is none. A
+    /// second part that is the last one is a system, unless `config.sub` lists it as a maker.
+    ///
+    /// # Errors
+    ///
+    /// The name is unknown, or it has no triple, and why. No other dialect is tried.
+    ///
+    /// # Examples
+    ///
+    /// ```
+    /// use target_names::{Dialect, NameError};
+    ///
+    /// let triple = Dialect::Go.read("linux/arm64").unwrap();
+    /// assert_eq!(triple.to_string(), "aarch64-unknown-linux");
+    /// assert_eq!(Dialect::Go.read("linux/foo"), Err(NameError::Unknown));
+    /// ```
+    pub fn read(self, name: &str) -> Result<TripleRef<'static>, NameError> {
+        let Table { rules, rows, .. } = self.table();
+        if let Some((row, numbers)) = self.table().row_named(name) {
+            return meaning(row, numbers);
+        }
+        if rules.spelled {
+            return read_as_gnu(name);
+        }
+        let platform = if rules.platforms {
+            row_of_platform(rows, name)
+        } else {
+            None
+        };
+        platform.map_or(Err(NameError::Unknown), |row| meaning(row, None))
+    }
+
+    /// The name of a triple in this dialect: that of its [shape](Dialect::shape). `None` if it has none, and if its vendor
+    /// says that the target is another one: a system that no triple has, such as `wasip3`, or a variant such as `uwp`.
+    /// Nothing is allocated.
+    ///
+    /// # Examples
+    ///
+    /// ```
+    /// use target_lexicon::TripleRef;
+    /// use target_names::Dialect;
+    ///
+    /// let triple = TripleRef::from_str("aarch64-apple-darwin").unwrap();
+    /// assert_eq!(Dialect::Node.write(&triple).unwrap().to_string(), "darwin-arm64");
+    /// ```
+    #[must_use]
+    pub fn write<'t>(self, triple: impl Into<TripleRef<'t>>) -> Option<Name> {
+        self.name_of(&triple.into(), None)
+    }
+
+    /// The name in this dialect that states a version which triples don't have: `manylinux_2_17_x86_64` of glibc 2.17,
+    /// `musllinux_1_2_aarch64` of musl 1.2, `macosx_11_0_arm64` of macOS 11.0, also for `darwin`, or `android_21_x86_64` of
+    /// Android's API level 21, which has no second number: 0 is passed. `None` if no name that [`read`](Dialect::read) knows
+    /// has such a version and means the triple. A version is one of the system or C library: that of glibc is 2.x, that of
+    /// musl 1.x, and that of macOS 10.x or a later one. Nothing is allocated.
+    ///
+    /// # Examples
+    ///
+    /// ```
+    /// use target_lexicon::TripleRef;
+    /// use target_names::Dialect;
+    ///
+    /// let triple = TripleRef::from_str("x86_64-unknown-linux-gnu").unwrap();
+    /// let name = Dialect::Python.write_versioned(&triple, 2, 17).unwrap();
+    /// assert_eq!(name.as_str(), "manylinux_2_17_x86_64");
+    /// ```
+    #[must_use]
+    pub fn write_versioned<'t>(
+        self,
+        triple: impl Into<TripleRef<'t>>,
+        major: u16,
+        minor: u8,
+    ) -> Option<Name> {
+        self.name_of(&triple.into(), Some((major, minor)))
+    }
+
+    /// The name of a triple, which states a version if one is said.
+    fn name_of(self, triple: &TripleRef<'_>, version: Numbers) -> Option<Name> {
+        if is_another_target(triple.vendor) {
+            return None;
+        }
+        let mut rules = self.table().rules;
+        if version.is_some() {
+            rules.abi = AbiRule::Kept;
+        }
+        let mut shape = rules.shape(triple);
+        let numbers = match (version, &mut shape.operating_system) {
+            (None, system) => version_in(system)
+                .and_then(Option::take)
+                .map(|it| (it.major, it.minor)),
+            // Of the two names of macOS the one that may have a version.
+            (Some(_), system) => {
+                *system = match unversioned(*system) {
+                    OperatingSystem::Darwin(_) => OperatingSystem::MacOSX(None),
+                    other => other,
+                };
+                version
+            }
+        };
+        let stars = if numbers.is_some() { 2 } else { 0 };
+        let is_wanted = |row: &Row| match version {
+            Some((major, minor)) => is_read(row) && has_version(major, minor, row.0),
+            None => is_written(row) && star_count(row.0) == stars,
+        };
+        let mut buffer = [0; MAX_LENGTH];
+        let length = shape.write_to(&mut buffer);
+        let text = buffer.get(..length)?;
+        let mut rows = self.rows().iter().filter(|row| row.1.as_bytes() == text);
+        rows.find(|row| is_wanted(row))
+            .map(|row| Name::filled(row.0, numbers))
+    }
+
+    /// The triple without what the dialect doesn't name: the vendor, which is the usual one of the system; the version
+    /// of the system, and how much of that of the architecture isn't stated; where names don't state them, also the C
+    /// library and the floating-point ABI, as in Go, OCI and Python, and in Node except on Linux. Python keeps versions of
+    /// macOS and iOS, with two numbers. The binary format stays.
+    ///
+    /// # Examples
+    ///
+    /// ```
+    /// use target_lexicon::TripleRef;
+    /// use target_names::Dialect;
+    ///
+    /// let triple = TripleRef::from_str("x86_64-acme-linux-musl").unwrap();
+    /// assert_eq!(Dialect::Go.shape(&triple).to_string(), "x86_64-unknown-linux");
+    /// ```
+    #[must_use]
+    pub fn shape(self, triple: &TripleRef<'_>) -> TripleRef<'static> {
+        self.table().rules.shape(triple)
+    }
+}
+
+impl fmt::Display for Dialect {
+    fn fmt(&self, f: &mut fmt::Formatter<'_>) -> fmt::Result {
+        f.pad(self.name())
+    }
+}
+
+impl Table {
+    /// The row that has a name, or its tag, and the numbers of the name.
+    pub(super) fn row_named(&self, name: &str) -> Option<(&'static Row, Numbers)> {
+        let tags = self.rules.tags;
+        let row = |number: &u16| self.rows.get(usize::from(*number));
+        let compared = |number: &u16| match row(number) {
+            Some(row) if tags => row.0.bytes().cmp(name.bytes().map(|it| key(it, tags))),
+            Some(row) => row.0.cmp(name),
+            None => Ordering::Greater,
+        };
+        if let Ok(at) = self.by_name.binary_search_by(compared) {
+            return Some((row(self.by_name.get(at)?)?, None));
+        }
+        let numbered = |row: &'static Row| Some((row, numbers_of(row.0, name, tags)?));
+        self.patterns.iter().filter_map(row).find_map(numbered)
+    }
+}
+
+/// The byte by which a name is looked up: in a tag `_` for each separator.
+#[inline]
+fn key(byte: u8, tags: bool) -> u8 {
+    if tags && matches!(byte, b'-' | b'.') {
+        b'_'
+    } else {
+        byte
+    }
+}
+
+/// What a name with some numbers means by its row.
+fn meaning(row: &Row, numbers: Numbers) -> Result<TripleRef<'static>, NameError> {
+    match row.2 {
+        Way::Both | Way::Read => {}
+        Way::Written => return Err(NameError::WithoutTriple(ONLY_WRITTEN)),
+        Way::NoTriple => return Err(NameError::WithoutTriple(row.1)),
+    }
+    let mut triple = TripleRef::from_str(row.1).map_err(|_| NameError::Unknown)?;
+    if let (Some((major, minor)), Some(version)) =
+        (numbers, version_in(&mut triple.operating_system))
+    {
+        *version = Some(DeploymentTarget {
+            major,
+            minor,
+            patch: 0,
+        });
+    }
+    Ok(triple)
+}
+
+/// The version of a system that names may have: that of macOS and iOS.
+fn version_in(system: &mut OperatingSystem) -> Option<&mut Option<DeploymentTarget>> {
+    match system {
+        OperatingSystem::MacOSX(version) | OperatingSystem::IOS(version) => Some(version),
+        _ => None,
+    }
+}
+
+/// The numbers that a name, or its tag, has where a pattern has stars. `None` if it doesn't have the pattern.
+#[inline]
+pub(super) fn numbers_of(pattern: &str, name: &str, tags: bool) -> Option<Numbers> {
+    let (pattern, mut rest) = (pattern.as_bytes(), name.as_bytes());
+    // Most patterns differ in length, or at their ends.
+    let ends_alike = match (pattern.last(), rest.last()) {
+        (Some(b'*'), _) => true,
+        (Some(last), Some(byte)) => *last == key(*byte, tags),
+        _ => false,
+    };
+    if !ends_alike || rest.len().wrapping_sub(pattern.len()) > MOST_DIGITS {
+        return None;
+    }
+    let mut numbers = None;
+    for byte in pattern {
+        if *byte == b'*' {
+            let (digits, after) =
+                rest.split_at(rest.iter().take_while(|it| it.is_ascii_digit()).count());
+            numbers = Some(match numbers {
+                None => (number(digits)?, 0),
+                Some((major, _)) => (major, u8::try_from(number(digits)?).ok()?),
+            });
+            rest = after;
+        } else {
+            match rest {
+                [first, after @ ..] if *byte == key(*first, tags) => rest = after,
+                _ => return None,
+            }
+        }
+    }
+    rest.is_empty().then_some(numbers)
+}
+
+/// How many bytes longer than its pattern a name is at most: two stars are eight digits.
+const MOST_DIGITS: usize = 6;
+
+/// The number of some digits, of which the first is 0 only if it is the only one.
+fn number(digits: &[u8]) -> Option<u16> {
+    if digits.is_empty() || digits.len() > 1 && digits[0] == b'0' {
+        return None;
+    }
+    let add =
+        |number: u16, digit: &u8| number.checked_mul(10)?.checked_add(u16::from(digit - b'0'));
+    digits.iter().try_fold(0, add)
+}
+
+/// How many stars a pattern has.
+fn star_count(pattern: &str) -> usize {
+    pattern.bytes().filter(|it| *it == b'*').count()
+}
+
+pub(crate) fn is_written(row: &Row) -> bool {
+    matches!(row.2, Way::Both | Way::Written)
+}
+
+fn is_read(row: &Row) -> bool {
+    matches!(row.2, Way::Both | Way::Read)
+}
+
+/// Whether names with a pattern may have a version: it has a place for both numbers, or for the first, if the second is 0; and
+/// the first is one of its system or C library.
+pub(crate) fn has_version(major: u16, minor: u8, pattern: &str) -> bool {
+    let has_places = match star_count(pattern) {
+        2 => true,
+        1 => minor == 0,
+        _ => false,
+    };
+    has_places
+        && VERSION_RANGES.iter().any(|(text, least, most)| {
+            (pattern.starts_with(text) || pattern.ends_with(text))
+                && (*least..=*most).contains(&major)
+        })
+}
+
+impl Dialect {
+    /// The rows of names without a version that are read: first those that are written, too.
+    #[inline]
+    pub(crate) fn rows_read(self) -> impl Iterator<Item = &'static Row> + Clone {
+        let of = move |way| {
+            let rows = self.rows().iter();
+            rows.filter(move |row| row.2 == way && !row.0.contains('*'))
+        };
+        of(Way::Both).chain(of(Way::Read))
+    }
+}
+
+impl AsRef<str> for Name {
+    #[inline]
+    fn as_ref(&self) -> &str {
+        self.as_str()
+    }
+}
+
+impl PartialEq<str> for Name {
+    #[inline]
+    fn eq(&self, text: &str) -> bool {
+        self.as_str() == text
+    }
+}
+
+impl PartialEq<&str> for Name {
+    #[inline]
+    fn eq(&self, text: &&str) -> bool {
+        self.as_str() == *text
+    }
+}

@@ -1,0 +1,224 @@
+//! The name that is suggested for an unknown name of a dialect.
+use crate::dialect::{Row, Way};
+use crate::{Dialect, FloatAbi};
+use core::ops::Range;
+use target_lexicon::spellings::meant;
+use target_lexicon::spellings::{architecture_of, machine_of, Abi, Machine};
+use target_lexicon::{Architecture, PointerWidth, TripleRef};
+
+impl Dialect {
+    /// The name that is suggested for an unknown one, of those without a version that [`read`](Dialect::read) knows. Nothing is
+    /// allocated.
+    ///
+    /// It is the name that is the same but for capital letters, white space around it or a path. Otherwise it is the name that
+    /// differs only in the word for the same machine: `linux-x64` of Node for `linux-amd64`. Otherwise it is
+    /// the nearest name, if the unknown one may be a misspelling of it, and states no other machine or way to pass floating-point
+    /// arguments. Where two edits give names of another machine too, width, byte order or such a way, nothing is suggested, unless
+    /// a name follows another one and a dash.
+    ///
+    /// # Examples
+    ///
+    /// ```
+    /// use target_names::Dialect;
+    ///
+    /// assert_eq!(Dialect::Go.suggestion("linux/amd46"), Some("linux/amd64"));
+    /// assert_eq!(Dialect::Node.suggestion("linux-amd64"), Some("linux-x64"));
+    /// assert_eq!(Dialect::Node.suggestion("turbo-linux-arm64"), Some("linux-arm64"));
+    /// assert_eq!(Dialect::Node.suggestion("linux-arm-gnueabi"), None); // only `gnueabihf` is known
+    /// ```
+    #[must_use]
+    #[inline]
+    pub fn suggestion(self, name: &str) -> Option<&'static str> {
+        let found = self.name_in_other_letters(name);
+        if let Some(known) = found.or_else(|| self.name_inside(name)) {
+            return Some(known);
+        }
+        let read = self.rows_read();
+        let stated = Stated::of(name);
+        if let Some(word) = &stated.machine {
+            let mut others = read.clone().filter(|row| word.is_in(name, row));
+            // A machine of Arm's says nothing of floating-point arguments by itself.
+            let says_no_more = |row: &Row| match word.architecture {
+                Architecture::Arm(_) => {
+                    Said::of(row).map_or(false, |it| it.floats == stated.floats)
+                }
+                _ => true,
+            };
+            if let Some(row) = others.find(|row| stated.allows(row) && says_no_more(row)) {
+                return Some(row.0);
+            }
+        }
+        // the lengths first: all others are farther than a misspelling
+        let is_near = |row: &&Row| row.0.len().abs_diff(name.len()) <= 2;
+        let only_written = self.rows().iter().filter(|row| row.2 == Way::Written);
+        meant(
+            name.as_bytes(),
+            name.as_bytes(),
+            read.filter(is_near).map(|row| (row.0, row)),
+            only_written.filter(is_near).map(|row| (row.0, row)),
+            Said::of,
+            |row| stated.allows(row),
+        )
+        .or_else(|| self.name_at_end(name))
+    }
+}
+
+/// What a name says of the machine.
+#[derive(Clone, Copy, PartialEq, Eq)]
+struct Said {
+    machine: Machine,
+    floats: Option<FloatAbi>,
+}
+
+/// The triple of a row.
+#[inline(never)]
+fn triple_of(row: &Row) -> Option<TripleRef<'static>> {
+    TripleRef::from_str(row.1).ok()
+}
+
+impl Said {
+    /// What the triple of a row says.
+    #[inline]
+    fn of(row: &Row) -> Option<Said> {
+        let triple = triple_of(row)?;
+        let (machine, _, order) = machine_of(triple.architecture);
+        Some(Said {
+            machine: (machine, triple.pointer_width().ok(), order),
+            floats: FloatAbi::of(&triple),
+        })
+    }
+}
+
+/// What the words of an unknown name state: a machine, and how floating-point arguments are passed.
+struct Stated {
+    machine: Option<MachineWord>,
+    floats: Option<FloatAbi>,
+}
+
+impl Stated {
+    #[inline]
+    fn of(name: &str) -> Stated {
+        Stated {
+            machine: words(name).find_map(|range| MachineWord::at(range, name)),
+            floats: Stated::floats_in(name),
+        }
+    }
+
+    #[inline]
+    fn floats_in(name: &str) -> Option<FloatAbi> {
+        words(name).find_map(|range| floats_of(name.get(range)?))
+    }
+
+    /// Whether a row says nothing else. Where its triple says nothing of floating-point arguments, its name may, as Zig's of MIPS do.
+    #[inline]
+    fn allows(&self, row: &Row) -> bool {
+        let has = |said: Said| {
+            let machine = self.machine.as_ref().map_or(said.machine, |it| it.machine);
+            let floats = said.floats.or_else(|| Stated::floats_in(row.0));
+            machine == said.machine && (self.floats.is_none() || self.floats == floats)
+        };
+        Said::of(row).map_or(false, has)
+    }
+}
+
+/// A word of a name that names a machine.
+pub(super) struct MachineWord {
+    range: Range<usize>,
+    pub(super) architecture: Architecture,
+    pub(super) machine: Machine,
+}
+
+impl MachineWord {
+    #[inline]
+    pub(super) fn at(range: Range<usize>, name: &str) -> Option<MachineWord> {
+        let word = name.get(range.clone())?;
+        let known = WORDS.iter().find(|it| it.0 == word).map_or(word, |it| it.1);
+        let architecture = architecture_of(known).filter(|it| *it != Architecture::Unknown)?;
+        let (machine, width, order) = machine_of(architecture);
+        let width = if word == "x32" {
+            Some(PointerWidth::U32)
+        } else {
+            width
+        };
+        let machine = (machine, width, order);
+        Some(MachineWord {
+            range,
+            architecture,
+            machine,
+        })
+    }
+
+    /// Whether a row has the name with another word for this machine.
+    #[inline]
+    fn is_in(&self, name: &str, row: &Row) -> bool {
+        let (before, after) = (&name[..self.range.start], &name[self.range.end..]);
+        let rest = row.0.strip_prefix(before);
+        let Some(word) = rest.and_then(|rest| rest.strip_suffix(after)) else {
+            return false;
+        };
+        let is_word = word.bytes().all(|byte| byte.is_ascii_alphanumeric());
+        if !is_word && MachineWord::at(0..word.len(), word).is_none() {
+            return false;
+        }
+        // A version of Arm or x86 is a machine of its own.
+        let is_version = |word: &str| WORDS.iter().all(|it| it.0 != word);
+        let are_versions = is_version(word) && is_version(&name[self.range.clone()]);
+        match (triple_of(row), self.architecture) {
+            (Some(triple), Architecture::Arm(_)) => triple.architecture == self.architecture,
+            (Some(triple), Architecture::X86_32(_)) => {
+                !are_versions || triple.architecture == self.architecture
+            }
+            (triple, _) => triple.is_some(),
+        }
+    }
+}
+
+/// The words of a name, and two of them with `_` or `-` between, as in `x86_64`: two before the first of them, which isn't a word
+/// by itself before a number.
+#[inline]
+pub(super) fn words(name: &str) -> impl Iterator<Item = Range<usize>> + '_ {
+    let bytes = name.as_bytes();
+    let end = move |start: usize| {
+        let rest = bytes.get(start..).unwrap_or(&[]);
+        let length = rest.iter().position(|byte| !byte.is_ascii_alphanumeric());
+        start + length.unwrap_or(rest.len())
+    };
+    let begins = move |at: &usize| *at == 0 || !bytes[at - 1].is_ascii_alphanumeric();
+    (0..bytes.len()).filter(begins).flat_map(move |start| {
+        let first = end(start);
+        let second = matches!(bytes.get(first), Some(b'_' | b'-')).then(|| end(first + 1));
+        let is_number = matches!(bytes.get(first + 1), Some(b'0'..=b'9'));
+        let alone = (second.is_none() || !is_number).then_some(first);
+        second.into_iter().chain(alone).map(move |end| start..end)
+    })
+}
+
+/// Words for machines that are neither known names nor spellings of parts.
+const WORDS: [(&str, &str); 14] = [
+    ("386", "i386"),
+    ("x86", "i386"),
+    ("ia32", "i386"),
+    ("x86-64", "x86_64"),
+    ("x32", "x86_64"),
+    ("armhf", "arm"),
+    ("mipsle", "mipsel"),
+    ("mips64le", "mips64el"),
+    ("loong64", "loongarch64"),
+    ("aarch_64", "aarch64"),
+    ("ppcle_64", "powerpc64le"),
+    ("s390_64", "s390x"),
+    ("x86_32", "i386"),
+    ("armeabi", "armv7"),
+];
+
+/// How floating-point arguments are passed, by a word.
+#[inline]
+fn floats_of(word: &str) -> Option<FloatAbi> {
+    match (word, Abi::of(word)) {
+        ("armel", _) | (_, Some(Abi::Soft | Abi::Embedded | Abi::Softfloat)) => {
+            Some(FloatAbi::Soft)
+        }
+        ("armhf", _) | (_, Some(Abi::Hard)) => Some(FloatAbi::Hard),
+        _ => None,
+    }
+}

@@ -1,0 +1,602 @@
+//! What a compiler's driver asks of a triple besides the queries. `checks/compare llvm` asks rustc and clang of each of rustc's targets.
+
+use crate::object_format::object_format;
+use crate::rustc_cfg::UnlistedSystem;
+use core::fmt;
+use target_lexicon::{
+    Aarch64Architecture, Architecture, BinaryFormat, CDataModel, Endianness, Environment,
+    Mips32Architecture, Mips64Architecture, OperatingSystem, PointerWidth, Riscv32Architecture,
+    Riscv64Architecture, TripleRef,
+};
+
+/// The C library of a target.
+///
+/// # Examples
+///
+/// ```
+/// use target_lexicon::triple;
+/// use target_names::{CLibrary, TargetInfo};
+///
+/// assert_eq!(triple!("armv7-unknown-linux-musleabihf").c_library(), Some(CLibrary::Musl));
+/// ```
+#[non_exhaustive]
+#[derive(Clone, Copy, Debug, PartialEq, Eq, Hash)]
+pub enum CLibrary {
+    // written by tools/names/write: the C libraries
+    /// Android's.
+    Bionic,
+    /// The GNU C library.
+    Glibc,
+    /// MinGW, over a library of Windows.
+    Mingw,
+    /// Microsoft's Visual C++.
+    Msvc,
+    /// musl.
+    Musl,
+    /// Newlib, of embedded systems.
+    Newlib,
+    /// That of Redox.
+    Relibc,
+    /// The system's own, which no other system has.
+    System,
+    /// uClibc.
+    Uclibc,
+    // end of what is written
+}
+
+/// How floating-point arguments are passed.
+///
+/// # Examples
+///
+/// ```
+/// use target_lexicon::triple;
+/// use target_names::{FloatAbi, TargetInfo};
+///
+/// assert_eq!(triple!("armv7-unknown-linux-gnueabi").float_abi(), Some(FloatAbi::Soft));
+/// ```
+#[non_exhaustive]
+#[derive(Clone, Copy, Debug, PartialEq, Eq, Hash)]
+pub enum FloatAbi {
+    /// In integer registers. The processor may have floating-point registers.
+    Soft,
+    /// In floating-point registers.
+    Hard,
+}
+
+/// Whether C's `char` has a sign.
+///
+/// # Examples
+///
+/// ```
+/// use target_lexicon::{tool_names::Signedness, triple};
+/// use target_names::TargetInfo;
+///
+/// assert_eq!(triple!("aarch64-unknown-linux-gnu").char_signedness(), Some(Signedness::Unsigned));
+/// ```
+#[non_exhaustive]
+#[derive(Clone, Copy, Debug, PartialEq, Eq, Hash)]
+pub enum Signedness {
+    /// As `signed char`.
+    Signed,
+    /// As `unsigned char`.
+    Unsigned,
+}
+
+/// The size and the alignment of a type of C, in bytes.
+///
+/// # Examples
+///
+/// ```
+/// use target_names::TargetInfo;
+/// let layout = target_lexicon::triple!("i686-unknown-linux-gnu").long_double_layout().unwrap();
+/// assert_eq!((layout.size, layout.alignment), (12, 4));
+/// ```
+#[derive(Clone, Copy, Debug, PartialEq, Eq, Hash)]
+pub struct TypeLayout {
+    /// The size in bytes.
+    pub size: u8,
+    /// The alignment in bytes.
+    pub alignment: u8,
+}
+
+/// The sizes of C's arithmetic types, in bytes.
+///
+/// # Examples
+///
+/// ```
+/// use target_lexicon::triple;
+/// use target_names::TargetInfo;
+///
+/// let sizes = triple!("x86_64-pc-cygwin").type_sizes().unwrap();
+/// assert_eq!((sizes.int, sizes.long), (4, 8));
+/// ```
+#[non_exhaustive]
+#[derive(Clone, Copy, Debug, PartialEq, Eq, Hash)]
+pub struct TypeSizes {
+    /// The bytes of `short`.
+    pub short: u8,
+    /// The bytes of `int`.
+    pub int: u8,
+    /// The bytes of `long`.
+    pub long: u8,
+    /// The bytes of `long long`.
+    pub long_long: u8,
+    /// The bytes of `float`.
+    pub float: u8,
+    /// The bytes of `double`.
+    pub double: u8,
+}
+
+impl CLibrary {
+    /// The answer of [`TargetInfo::c_library`].
+    #[inline]
+    pub(crate) fn of(triple: &TripleRef<'_>) -> Option<CLibrary> {
+        use {Environment::*, OperatingSystem::*};
+        match (triple.environment, triple.operating_system) {
+            (Android | Androideabi, _) => Some(CLibrary::Bionic),
+            (
+                Gnu | Gnuabi64 | Gnueabi | Gnueabihf | Gnuspe | Gnux32 | GnuIlp32 | GnuLlvm,
+                Hurd | Linux,
+            ) => Some(CLibrary::Glibc),
+            (
+                Gnu | Gnuabi64 | Gnueabi | Gnueabihf | Gnuspe | Gnux32 | GnuIlp32 | GnuLlvm,
+                OperatingSystem::Windows,
+            ) => Some(CLibrary::Mingw),
+            (Environment::Msvc, _) => Some(CLibrary::Msvc),
+            (Environment::Musl | Muslabi64 | Musleabi | Musleabihf | Ohos, _) => {
+                Some(CLibrary::Musl)
+            }
+            (Environment::Newlib, _) => Some(CLibrary::Newlib),
+            (Environment::Uclibc | Uclibceabi | Uclibceabihf, _) => Some(CLibrary::Uclibc),
+            _ => library_of_system(triple),
+        }
+    }
+
+    /// The name.
+    ///
+    /// # Examples
+    ///
+    /// ```
+    /// assert_eq!(target_names::CLibrary::Glibc.name(), "glibc");
+    /// ```
+    #[must_use]
+    #[inline]
+    pub const fn name(self) -> &'static str {
+        match self {
+            // written by tools/names/write: the names of C libraries
+            CLibrary::Bionic => "bionic",
+            CLibrary::Glibc => "glibc",
+            CLibrary::Mingw => "mingw",
+            CLibrary::Msvc => "msvc",
+            CLibrary::Musl => "musl",
+            CLibrary::Newlib => "newlib",
+            CLibrary::Relibc => "relibc",
+            CLibrary::System => "system",
+            CLibrary::Uclibc => "uclibc",
+            // end of what is written
+        }
+    }
+}
+
+impl fmt::Display for CLibrary {
+    #[inline]
+    fn fmt(&self, f: &mut fmt::Formatter<'_>) -> fmt::Result {
+        f.pad(self.name())
+    }
+}
+
+/// The library of a system that has only one.
+#[inline]
+fn library_of_system(triple: &TripleRef<'_>) -> Option<CLibrary> {
+    use OperatingSystem::*;
+    match UnlistedSystem::of(triple) {
+        Some(UnlistedSystem::Nuttx) => return Some(CLibrary::System),
+        Some(UnlistedSystem::Rtems) => return Some(CLibrary::Newlib),
+        Some(UnlistedSystem::WasiP3) => return None,
+        None => {}
+    }
+    match triple.operating_system {
+        Espidf | Horizon => Some(CLibrary::Newlib),
+        Redox => Some(CLibrary::Relibc),
+        Aix | Bitrig | Cygwin | Darwin(_) | Dragonfly | Freebsd | Fuchsia | Haiku | Illumos
+        | IOS(_) | MacOSX(_) | Netbsd | Openbsd | Solaris | TvOS(_) | VisionOS(_) | VxWorks
+        | WatchOS(_) | XROS(_) => Some(CLibrary::System),
+        _ => None,
+    }
+}
+
+impl FloatAbi {
+    /// The answer of [`TargetInfo::float_abi`].
+    #[inline]
+    pub(crate) const fn of(triple: &TripleRef<'_>) -> Option<FloatAbi> {
+        use Environment::*;
+        let is_arm = matches!(triple.architecture, Architecture::Arm(_));
+        match (triple.environment, triple.operating_system) {
+            (Softfloat, _) => Some(FloatAbi::Soft),
+            _ if !is_arm => Option::None,
+            (Androideabi | Eabi | Gnueabi | Musleabi | Ohos | Uclibceabi, _) => {
+                Some(FloatAbi::Soft)
+            }
+            (Eabihf | Gnueabihf | Musleabihf | Uclibceabihf, _) => Some(FloatAbi::Hard),
+            (_, OperatingSystem::Freebsd | OperatingSystem::Horizon) => Some(FloatAbi::Hard),
+            (_, OperatingSystem::Windows | OperatingSystem::WatchOS(_)) => Some(FloatAbi::Hard),
+            _ => Option::None,
+        }
+    }
+
+    /// The name.
+    ///
+    /// # Examples
+    ///
+    /// ```
+    /// assert_eq!(target_names::FloatAbi::Hard.name(), "hard");
+    /// ```
+    #[must_use]
+    #[inline]
+    pub const fn name(self) -> &'static str {
+        match self {
+            FloatAbi::Soft => "soft",
+            FloatAbi::Hard => "hard",
+        }
+    }
+}
+
+impl fmt::Display for FloatAbi {
+    #[inline]
+    fn fmt(&self, f: &mut fmt::Formatter<'_>) -> fmt::Result {
+        f.pad(self.name())
+    }
+}
+
+impl Signedness {
+    /// The answer of [`TargetInfo::char_signedness`].
+    #[inline]
+    pub(crate) const fn of_char(triple: &TripleRef<'_>) -> Option<Signedness> {
+        use {Architecture::*, OperatingSystem::*};
+        match (triple.architecture, triple.operating_system) {
+            (_, Uefi | VxWorks) => None,
+            (Aarch64(_) | Arm(_), Windows) => Some(Signedness::Signed),
+            (Aarch64(_) | Arm(_) | Powerpc | Powerpc64, system) if system.is_like_darwin() => {
+                Some(Signedness::Signed)
+            }
+            (Aarch64(_) | Arm(_) | Hexagon | Powerpc | Powerpc64 | Powerpc64le, _)
+            | (Riscv32(_) | Riscv64(_) | S390x, _) => Some(Signedness::Unsigned),
+            (Avr | Bpfeb | Bpfel | M68k | Mips32(_) | Mips64(_) | Msp430 | Nvptx64, _)
+            | (Sparc | Sparc64 | Sparcv9 | Wasm32 | Wasm64 | X86_32(_) | X86_64 | X86_64h, _) => {
+                Some(Signedness::Signed)
+            }
+            _ => None,
+        }
+    }
+
+    /// The name.
+    ///
+    /// # Examples
+    ///
+    /// ```
+    /// assert_eq!(target_names::Signedness::Signed.name(), "signed");
+    /// ```
+    #[must_use]
+    #[inline]
+    pub const fn name(self) -> &'static str {
+        match self {
+            Signedness::Signed => "signed",
+            Signedness::Unsigned => "unsigned",
+        }
+    }
+}
+
+impl fmt::Display for Signedness {
+    #[inline]
+    fn fmt(&self, f: &mut fmt::Formatter<'_>) -> fmt::Result {
+        f.pad(self.name())
+    }
+}
+
+/// The answer of [`TargetInfo::has_emulated_tls`].
+#[inline]
+pub(crate) const fn has_emulated_tls(triple: &TripleRef<'_>) -> bool {
+    use {Environment::*, OperatingSystem::*};
+    matches!(
+        (triple.operating_system, triple.environment),
+        (Cygwin | Openbsd, _) | (Linux, Android | Androideabi | Ohos)
+    )
+}
+
+/// The answer of [`TargetInfo::has_comdat`].
+#[inline]
+pub(crate) const fn has_comdat(triple: &TripleRef<'_>) -> bool {
+    use BinaryFormat::*;
+    matches!(object_format(triple), Coff | Elf | Wasm)
+}
+
+/// The answer of [`TargetInfo::program_suffix`].
+#[inline]
+pub(crate) const fn program_suffix(triple: &TripleRef<'_>) -> &'static str {
+    use OperatingSystem::*;
+    match (triple.operating_system, triple.architecture) {
+        (Windows | Cygwin, _) => ".exe",
+        (Uefi, _) => ".efi",
+        (VxWorks, _) => ".vxe",
+        (Cuda, _) => ".ptx",
+        (Emscripten, _) => ".js",
+        (_, Architecture::Wasm32 | Architecture::Wasm64) => ".wasm",
+        (Horizon, _) | (_, Architecture::Avr) => ".elf",
+        _ => "",
+    }
+}
+
+/// The answer of [`TargetInfo::dynamic_linker`].
+pub(crate) fn dynamic_linker(triple: &TripleRef<'_>) -> Option<&'static str> {
+    use OperatingSystem::*;
+    match (triple.operating_system, CLibrary::of(triple)?) {
+        (Dragonfly, _) => Some("/usr/libexec/ld-elf.so.2"),
+        (Freebsd, _) => Some("/libexec/ld-elf.so.1"),
+        (Fuchsia, _) => Some("ld.so.1"),
+        (Netbsd, _) => Some("/libexec/ld.elf_so"),
+        (Openbsd, _) => Some("/usr/libexec/ld.so"),
+        (Linux, CLibrary::Bionic) => match triple.pointer_width() {
+            Ok(PointerWidth::U64) => Some("/system/bin/linker64"),
+            Ok(_) => Some("/system/bin/linker"),
+            Err(_) => None,
+        },
+        (Hurd, CLibrary::Glibc) => match triple.architecture {
+            Architecture::X86_32(_) => Some("/lib/ld.so"),
+            _ => None,
+        },
+        (Linux, CLibrary::Glibc) => linker_of_glibc(triple),
+        (Linux, CLibrary::Musl) if triple.environment != Environment::Ohos => {
+            linker_of_musl(triple)
+        }
+        _ => None,
+    }
+}
+
+fn linker_of_glibc(triple: &TripleRef<'_>) -> Option<&'static str> {
+    use {Aarch64Architecture::*, Architecture::*, Environment::*, Mips32Architecture::*};
+    use {Mips64Architecture::*, Riscv32Architecture::*, Riscv64Architecture::*};
+    Some(match (triple.architecture, triple.environment) {
+        (_, GnuIlp32) => return Option::None,
+        (Architecture::Aarch64(Aarch64Architecture::Aarch64), _) => "/lib/ld-linux-aarch64.so.1",
+        (Architecture::Aarch64(Aarch64be), _) => "/lib/ld-linux-aarch64_be.so.1",
+        (Arm(_), Gnueabi) => "/lib/ld-linux.so.3",
+        (Arm(_), Gnueabihf) => "/lib/ld-linux-armhf.so.3",
+        (M68k | Mips32(Mips | Mipsel) | Powerpc, _) => "/lib/ld.so.1",
+        (Mips32(_), _) => "/lib/ld-linux-mipsn8.so.1",
+        (Architecture::Mips64(Mips64Architecture::Mips64 | Mips64el), Gnuabi64) => "/lib64/ld.so.1",
+        (Architecture::Mips64(_), Gnuabi64) => "/lib64/ld-linux-mipsn8.so.1",
+        (Powerpc64, _) => "/lib64/ld64.so.1",
+        (Powerpc64le, _) => "/lib64/ld64.so.2",
+        (Architecture::Riscv32(Riscv32Architecture::Riscv32 | Riscv32gc), _) => {
+            "/lib/ld-linux-riscv32-ilp32d.so.1"
+        }
+        (Architecture::Riscv64(Riscv64Architecture::Riscv64 | Riscv64gc | Riscv64a23), _) => {
+            "/lib/ld-linux-riscv64-lp64d.so.1"
+        }
+        (S390x, _) => "/lib/ld64.so.1",
+        (Sparc | X86_32(_), _) => "/lib/ld-linux.so.2",
+        (Sparc64 | Sparcv9, _) => "/lib64/ld-linux.so.2",
+        (X86_64 | X86_64h, Gnux32) => "/libx32/ld-linux-x32.so.2",
+        (X86_64 | X86_64h, _) => "/lib64/ld-linux-x86-64.so.2",
+        _ => return Option::None,
+    })
+}
+
+fn linker_of_musl(triple: &TripleRef<'_>) -> Option<&'static str> {
+    use {Aarch64Architecture::*, Architecture::*, Mips32Architecture::*, Mips64Architecture::*};
+    let is_hard = triple.environment == Environment::Musleabihf;
+    Some(match (triple.architecture, triple.endianness()) {
+        (Architecture::Aarch64(Aarch64Architecture::Aarch64), _) => "/lib/ld-musl-aarch64.so.1",
+        (Architecture::Aarch64(Aarch64be), _) => "/lib/ld-musl-aarch64_be.so.1",
+        (Arm(_), Ok(Endianness::Big)) if is_hard => "/lib/ld-musl-armebhf.so.1",
+        (Arm(_), Ok(Endianness::Big)) => "/lib/ld-musl-armeb.so.1",
+        (Arm(_), _) if is_hard => "/lib/ld-musl-armhf.so.1",
+        (Arm(_), _) => "/lib/ld-musl-arm.so.1",
+        (Hexagon, _) => "/lib/ld-musl-hexagon.so.1",
+        (M68k, _) => "/lib/ld-musl-m68k.so.1",
+        (Mips32(Mips), _) => "/lib/ld-musl-mips.so.1",
+        (Mips32(Mipsel), _) => "/lib/ld-musl-mipsel.so.1",
+        (Architecture::Mips64(Mips64Architecture::Mips64), _) => "/lib/ld-musl-mips64.so.1",
+        (Architecture::Mips64(Mips64el), _) => "/lib/ld-musl-mips64el.so.1",
+        (Powerpc, _) => "/lib/ld-musl-powerpc.so.1",
+        (Powerpc64, _) => "/lib/ld-musl-powerpc64.so.1",
+        (Powerpc64le, _) => "/lib/ld-musl-powerpc64le.so.1",
+        (Riscv32(_), _) => "/lib/ld-musl-riscv32.so.1",
+        (Riscv64(_), _) => "/lib/ld-musl-riscv64.so.1",
+        (S390x, _) => "/lib/ld-musl-s390x.so.1",
+        (X86_32(_), _) => "/lib/ld-musl-i386.so.1",
+        (X86_64 | X86_64h, _) => "/lib/ld-musl-x86_64.so.1",
+        _ => return None,
+    })
+}
+
+/// The answer of [`TargetInfo::linker_emulation`].
+pub(crate) fn linker_emulation(triple: &TripleRef<'_>) -> Option<&'static str> {
+    use {Architecture::*, OperatingSystem::*};
+    match (triple.operating_system, triple.architecture) {
+        (_, Wasm32) => Some("wasm32"),
+        (_, Wasm64) => Some("wasm64"),
+        (Linux, _) => emulation_of_linux(triple),
+        (Hurd, X86_32(_)) => Some("elf_i386"),
+        (Hurd, X86_64) => Some("elf_x86_64"),
+        (Windows, X86_32(_)) if has_mingw(triple) => Some("i386pe"),
+        (Windows, X86_64) if has_mingw(triple) => Some("i386pep"),
+        (Windows, Arm(_)) if has_mingw(triple) => Some("thumb2pe"),
+        (Windows, Architecture::Aarch64(_)) if has_mingw(triple) => Some("arm64pe"),
+        (Freebsd, X86_32(_)) => Some("elf_i386_fbsd"),
+        (Freebsd, Powerpc) => Some("elf32ppc_fbsd"),
+        (Freebsd, Riscv32(_)) => Some("elf32lriscv"),
+        (Freebsd, Riscv64(_)) => Some("elf64lriscv"),
+        (Dragonfly | Netbsd, X86_32(_)) => Some("elf_i386"),
+        (Netbsd, Powerpc) => Some("elf32ppc_nbsd"),
+        (Netbsd, Sparc) => Some("elf32_sparc"),
+        (Netbsd, Sparc64 | Sparcv9) => Some("elf64_sparc"),
+        _ => None,
+    }
+}
+
+#[inline]
+fn has_mingw(triple: &TripleRef<'_>) -> bool {
+    CLibrary::of(triple) == Some(CLibrary::Mingw) && triple.endianness() == Ok(Endianness::Little)
+}
+
+fn emulation_of_linux(triple: &TripleRef<'_>) -> Option<&'static str> {
+    use {Aarch64Architecture::*, Architecture::*, Environment::*};
+    Some(match (triple.architecture, triple.endianness()) {
+        (_, _) if triple.environment == GnuIlp32 => return Option::None,
+        (Architecture::Aarch64(Aarch64Architecture::Aarch64), _) => "aarch64linux",
+        (Architecture::Aarch64(Aarch64be), _) => "aarch64linuxb",
+        (Arm(_), Ok(Endianness::Little)) => "armelf_linux_eabi",
+        (Arm(_), _) => "armelfb_linux_eabi",
+        (M68k, _) => "m68kelf",
+        (Mips32(_), Ok(Endianness::Little)) => "elf32ltsmip",
+        (Mips32(_), _) => "elf32btsmip",
+        (Mips64(_), Ok(Endianness::Little)) => "elf64ltsmip",
+        (Mips64(_), _) => "elf64btsmip",
+        (Powerpc, _) => "elf32ppclinux",
+        (Powerpc64, _) => "elf64ppc",
+        (Powerpc64le, _) => "elf64lppc",
+        (Riscv32(_), _) => "elf32lriscv",
+        (Riscv64(_), _) => "elf64lriscv",
+        (S390x, _) => "elf64_s390",
+        (Sparc, _) => "elf32_sparc",
+        (Sparc64 | Sparcv9, _) => "elf64_sparc",
+        (X86_32(_), _) => "elf_i386",
+        (X86_64 | X86_64h, _) if triple.environment == Gnux32 => "elf32_x86_64",
+        (X86_64 | X86_64h, _) => "elf_x86_64",
+        _ => return Option::None,
+    })
+}
+
+impl TypeLayout {
+    /// The answer of [`TargetInfo::long_double_layout`].
+    #[inline]
+    pub(crate) const fn of_long_double(triple: &TripleRef<'_>) -> Option<TypeLayout> {
+        use {Architecture::*, OperatingSystem::*};
+        let (size, alignment) = match (triple.architecture, triple.operating_system) {
+            (_, Uefi | VxWorks) => return None,
+            (_, Windows) => return windows_long_double(triple),
+            (Aarch64(_), system) if system.is_like_darwin() => (8, 8),
+            (X86_32(_) | X86_64 | X86_64h, system) if system.is_like_darwin() => (16, 16),
+            (_, system) if system.is_like_darwin() => return None,
+            (Arm(_) | Hexagon | Mips32(_), _) => (8, 8),
+            (Aarch64(_) | LoongArch64 | Riscv32(_) | Riscv64(_), _) => (16, 16),
+            (Sparc64 | Sparcv9 | X86_64 | X86_64h, _) => (16, 16),
+            (Mips64(_), Linux) => (16, 16),
+            (Msp430, _) => (8, 2),
+            (Powerpc | Powerpc64 | Powerpc64le, _) => return powerpc_long_double(triple),
+            (S390x, _) => (16, 8),
+            (Wasm32 | Wasm64, Emscripten) => (16, 8),
+            (Wasm32 | Wasm64, _) => (16, 16),
+            (X86_32(_), _) if matches!(triple.environment, Environment::Android) => (8, 4),
+            (X86_32(_), _) => (12, 4),
+            _ => return None,
+        };
+        Some(TypeLayout { size, alignment })
+    }
+
+    /// The answer of [`TargetInfo::wchar_layout`].
+    #[inline]
+    pub(crate) const fn of_wchar(triple: &TripleRef<'_>) -> Option<TypeLayout> {
+        use {Architecture::*, OperatingSystem::*};
+        let size = match (triple.architecture, triple.operating_system) {
+            (_, Windows | Cygwin | Uefi) => 2,
+            (_, Aix | VxWorks) => return None,
+            (Msp430, _) => 2,
+            (Arm(_) | Aarch64(_) | Hexagon | X86_32(_) | LoongArch64 | Mips32(_), _) => 4,
+            (Mips64(_) | Powerpc | Powerpc64 | Powerpc64le | Riscv32(_) | Riscv64(_), _) => 4,
+            (S390x | Sparc | Sparc64 | Sparcv9 | Wasm32 | Wasm64 | X86_64 | X86_64h, _) => 4,
+            _ => return None,
+        };
+        Some(TypeLayout {
+            size,
+            alignment: size,
+        })
+    }
+}
+
+impl TypeSizes {
+    /// The answer of [`TargetInfo::type_sizes`].
+    #[inline]
+    pub(crate) const fn of(triple: &TripleRef<'_>) -> Option<TypeSizes> {
+        match triple.data_model() {
+            Ok(model) => Some(TypeSizes::in_model(model)),
+            Err(_) => TypeSizes::without_model(triple),
+        }
+    }
+
+    /// The sizes in a data model.
+    ///
+    /// # Examples
+    ///
+    /// ```
+    /// use target_lexicon::CDataModel;
+    /// use target_names::TypeSizes;
+    ///
+    /// assert_eq!(TypeSizes::in_model(CDataModel::LLP64).long, 4);
+    /// ```
+    #[must_use]
+    #[inline]
+    pub const fn in_model(model: CDataModel) -> TypeSizes {
+        TypeSizes {
+            short: model.short_size().bytes(),
+            int: model.int_size().bytes(),
+            long: model.long_size().bytes(),
+            long_long: model.long_long_size().bytes(),
+            float: model.float_size().bytes(),
+            double: model.double_size().bytes(),
+        }
+    }
+
+    /// The sizes of a triple without a data model: on machines of 32 and 64 bits where the size of `wchar_t` is sure.
+    #[cold]
+    const fn without_model(triple: &TripleRef<'_>) -> Option<TypeSizes> {
+        use {Architecture::*, OperatingSystem::*};
+        // An `int` of two bytes.
+        let of_16_bits = TypeSizes::in_model(CDataModel::LP32);
+        match (triple.architecture, triple.operating_system) {
+            (_, Uefi | VxWorks) => return None,
+            (Msp430, _) => return Some(of_16_bits),
+            (Avr, _) => {
+                return Some(TypeSizes {
+                    double: 4,
+                    ..of_16_bits
+                })
+            }
+            _ => {}
+        }
+        match (TypeLayout::of_wchar(triple), triple.pointer_width()) {
+            (Some(_), Ok(PointerWidth::U32)) => Some(TypeSizes::in_model(CDataModel::ILP32)),
+            (Some(_), Ok(PointerWidth::U64)) => Some(TypeSizes::in_model(CDataModel::LP64)),
+            _ => None,
+        }
+    }
+}
+
+#[inline]
+const fn windows_long_double(triple: &TripleRef<'_>) -> Option<TypeLayout> {
+    use {Architecture::*, Environment::*};
+    let (size, alignment) = match (triple.environment, triple.architecture) {
+        (Msvc, Arm(_) | Aarch64(_) | X86_32(_) | X86_64) => (8, 8),
+        (Gnu | GnuLlvm, Arm(_) | Aarch64(_)) => (8, 8),
+        (Gnu | GnuLlvm, X86_32(_)) => (12, 4),
+        (Gnu | GnuLlvm, X86_64) => (16, 16),
+        _ => return Option::None,
+    };
+    Some(TypeLayout { size, alignment })
+}
+
+#[inline]
+const fn powerpc_long_double(triple: &TripleRef<'_>) -> Option<TypeLayout> {
+    use {Environment::*, OperatingSystem::*};
+    let size = match (triple.operating_system, triple.environment) {
+        (Linux, Gnu | Gnuspe) => 16,
+        (Linux, Musl) => 8,
+        (Freebsd | Netbsd | Openbsd, _) => 8,
+        _ => return Option::None,
+    };
+    Some(TypeLayout {
+        size,
+        alignment: size,
+    })
+}

@@ -1,0 +1,91 @@
+// SPDX-License-Identifier: Apache-2.0 WITH LLVM-exception
+//! Names of targets in other tools, and what toolchains, drivers and rustc say of a target.
+//!
+//! ```
+//! use target_lexicon::TripleRef;
+//! use target_names::{Dialect, LinuxLibc, TargetInfo};
+//!
+//! let platform = Dialect::Oci.read("linux/arm64").unwrap();
+//! assert_eq!(platform, TripleRef::from_str("aarch64-unknown-linux").unwrap());
+//! // The platform doesn't state the C library: the caller does.
+//! let triple = platform.with_c_library(LinuxLibc::Glibc);
+//! assert_eq!(Dialect::Debian.write(triple).unwrap(), "arm64");
+//! assert_eq!(triple.rustc_cfg().target_env, "gnu");
+//! ```
+//!
+//! What names mean is data, with a source for each name; tests try each row, and these tools are asked. Nothing here is proved: the triples are
+//! those of the crate `target-lexicon-verified`, whose parser and printer are compiled from a proved source.
+//!
+//! # Features
+//!
+//! - `std`, which is on by default: the errors implement `Error`.
+//! - `alloc`, which `std` switches on: [`ParseNameError`] and [`UnknownWord`], which own a string. Without it no allocator is linked.
+#![no_std]
+#![forbid(unsafe_code)]
+#![warn(missing_docs)]
+#![cfg_attr(not(feature = "alloc"), allow(dead_code))]
+
+#[cfg(feature = "alloc")]
+extern crate alloc;
+#[cfg(feature = "std")]
+extern crate std;
+
+mod apple_versions;
+mod arm;
+mod buffer;
+mod c_library;
+mod dialect;
+mod dialect_suggestions;
+mod driver;
+mod errors;
+mod gnu;
+mod hints;
+mod llvm_target;
+mod loose;
+mod meanings;
+mod mistakes;
+mod multiarch;
+mod name;
+mod object_format;
+mod order;
+#[cfg(feature = "alloc")]
+mod parse_name_error;
+mod platform;
+mod reading;
+mod rustc_cfg;
+mod shape;
+mod spelled;
+mod stated_versions;
+#[rustfmt::skip]
+mod table;
+#[cfg(all(test, feature = "alloc"))]
+mod table_tests;
+mod target_info;
+mod translation;
+mod variants;
+
+pub use arm::ArmProfile;
+pub use c_library::LinuxLibc;
+pub use dialect::NameError;
+pub use driver::{CLibrary, FloatAbi, Signedness, TypeLayout, TypeSizes};
+pub use hints::{hint, Hint};
+pub use llvm_target::LlvmTarget;
+pub use meanings::{meanings, Meaning, NameOf};
+pub use mistakes::Mistake;
+pub use multiarch::MultiarchTuple;
+pub use name::Name;
+#[cfg(feature = "alloc")]
+pub use parse_name_error::{ParseNameError, UnknownWord};
+pub use reading::{changes, read, Change, ChangedParts};
+pub use rustc_cfg::RustcCfg;
+pub use spelled::Spelling;
+pub use stated_versions::{stated_versions, StatedVersion, StatedVersions};
+pub use table::Dialect;
+pub use target_info::TargetInfo;
+pub use target_lexicon::spellings::suggestion;
+pub use translation::{TranslateError, WriteError};
+
+/// The samples of the page are tested.
+#[cfg(all(doctest, feature = "std"))]
+#[doc = include_str!("../README.md")]
+struct Readme;

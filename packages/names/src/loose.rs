@@ -1,0 +1,318 @@
+//! Names with what files and commands have around them.
+use crate::buffer::Buffer;
+use crate::{Dialect, NameError};
+use core::fmt::Write;
+use target_lexicon::{Environment, TripleRef};
+
+impl Dialect {
+    /// The triple that a name means, which may have around it what files and commands have. A name that
+    /// [`read`](Dialect::read) knows means the same. Nothing is allocated.
+    ///
+    /// | Dialect | What may be around the name |
+    /// |---|---|
+    /// | Node | the scope of a package, its path and version, and a name before the platform: `@rollup/rollup-linux-x64-gnu` |
+    /// | Python | a wheel's file name; the tags before that of the platform; several tags with dots between them that mean the same |
+    /// | uname | two lines, more spaces than one, or a dash or `_` instead of the space; any version of Windows after `_NT-`; other words between and after, as `uname -a` prints them |
+    /// | OCI | any version of Windows in parentheses |
+    /// | Go | `_` or a dash instead of the slash; how GoReleaser's folders go on, such as `linux_amd64_v1`, and its capitals: `Linux_x86_64` |
+    /// | GNU | a compiler's or another tool's name, its path and version: `aarch64-linux-gnu-gcc-12`; only a dash |
+    /// | rustc | the version of glibc that cargo-zigbuild takes: `x86_64-unknown-linux-gnu.2.17` |
+    /// | Zig | a range of versions of the system: `x86_64-linux.5.10...6.1-gnu.2.31`; what follows `native` |
+    /// | Go, Node, rustc | the file name of an archive: `helm-v3.14.0-linux-amd64.tar.gz` |
+    /// | Debian, RPM, pacman | the file name of a package; in Debian `uclibc-` instead of `musl-` |
+    ///
+    /// # Errors
+    ///
+    /// As those of [`read`](Dialect::read), for the name in the string.
+    ///
+    /// # Examples
+    ///
+    /// ```
+    /// use target_names::Dialect;
+    ///
+    /// for (dialect, text, triple) in [
+    ///     (Dialect::Node, "@esbuild/linux-x64", "x86_64-unknown-linux"),
+    ///     (Dialect::Python, "numpy-1.26.4-cp311-cp311-win_amd64.whl", "x86_64-pc-windows"),
+    ///     (Dialect::Uname, "Linux\nx86_64\n", "x86_64-unknown-linux"),
+    ///     (Dialect::Oci, "windows(10.0.25398.709)/amd64", "x86_64-pc-windows"),
+    ///     (Dialect::Debian, "hello_2.10-3_arm64.deb", "aarch64-unknown-linux-gnu"),
+    ///     (Dialect::Go, "linux_arm_7", "armv7-unknown-linux"),
+    ///     (Dialect::Gnu, "aarch64-linux-gnu-", "aarch64-unknown-linux-gnu"),
+    ///     (Dialect::Zig, "aarch64-macos.13.0...14.0", "aarch64-apple-macosx13.0.0"),
+    /// ] {
+    ///     assert_eq!(dialect.read_loosely(text).unwrap().to_string(), triple);
+    /// }
+    /// ```
+    #[inline]
+    pub fn read_loosely(self, text: &str) -> Result<TripleRef<'static>, NameError> {
+        let in_file = self.read_file(text);
+        let found = in_file.or_else(|| self.read_version_of_glibc(text));
+        match found.unwrap_or_else(|| self.read(text)) {
+            Err(NameError::Unknown) => self.read_within(text).unwrap_or(Err(NameError::Unknown)),
+            found => found,
+        }
+    }
+
+    /// What the name within a text means, if the text has the form of one that has a name within.
+    #[inline]
+    fn read_within(self, text: &str) -> Option<Result<TripleRef<'static>, NameError>> {
+        match self {
+            Dialect::Node => self.read_package(text),
+            Dialect::Python => self.read_tags(text),
+            Dialect::Uname => self.read_words(text),
+            Dialect::Oci => self.read_version_of_windows(text),
+            Dialect::Go => self.read_port(text),
+            Dialect::Gnu => self.read_compiler(text),
+            Dialect::Zig => self.read_versions(text),
+            Dialect::Debian => self.read_uclibc(text),
+            _ => None,
+        }
+    }
+
+    /// Of the file of a package or an archive: the longest end before its suffix that is a name. No name has such a suffix.
+    #[inline]
+    fn read_file(self, text: &str) -> Option<Result<TripleRef<'static>, NameError>> {
+        let file = match self {
+            Dialect::Debian => text.strip_suffix(".deb")?,
+            Dialect::Rpm => text.strip_suffix(".rpm")?,
+            Dialect::Pacman => text.split_once(".pkg.tar")?.0,
+            Dialect::Go | Dialect::Node | Dialect::Rust => {
+                ARCHIVES.iter().find_map(|it| text.strip_suffix(it))?
+            }
+            _ => return None,
+        };
+        self.read_end(file, ['-', '_', '.'])
+    }
+
+    /// Of a package with a scope, without its version: the longest end that is a platform, after a dash or whole.
+    #[inline]
+    fn read_package(self, text: &str) -> Option<Result<TripleRef<'static>, NameError>> {
+        let (_, scoped) = text.split_once('@')?;
+        let name = scoped.split_once('/')?.1.split(['@', '/']).next()?;
+        self.read_end(name, ['-'; 3])
+    }
+
+    /// What the longest end of a text means that is a name, after one of these signs or whole.
+    #[inline]
+    fn read_end(
+        self,
+        text: &str,
+        signs: [char; 3],
+    ) -> Option<Result<TripleRef<'static>, NameError>> {
+        let places = text.match_indices(signs).map(|(at, _)| at + 1);
+        let ends = core::iter::once(0)
+            .chain(places)
+            .map(|start| &text[start..]);
+        let may_be_name = |end: &&str| {
+            end.len() <= LONGEST_NAME && !end.starts_with(|it: char| it.is_ascii_digit())
+        };
+        let mut found = ends.filter(may_be_name).map(|end| match self.read(end) {
+            Err(NameError::Unknown) if self == Dialect::Go => self.read_port(end),
+            found => Some(found),
+        });
+        found.find_map(|it| it.filter(|it| *it != Err(NameError::Unknown)))
+    }
+
+    /// A port with `_` or a dash instead of the slash. GoReleaser's folders say after it which machine it is, as container images do, and
+    /// what it writes with capitals has container images' other words.
+    #[inline]
+    fn read_port(self, text: &str) -> Option<Result<TripleRef<'static>, NameError>> {
+        let (system, machine) = text.split_once(['_', '-'])?;
+        let machine = match machine.rsplit_once('_') {
+            Some((name, _)) if USUAL_MACHINES.contains(&machine) => name,
+            _ => machine,
+        };
+        let has_capital = system.starts_with(|it: char| it.is_ascii_uppercase());
+        let dialect = if has_capital { Dialect::Oci } else { self };
+        let mut name = Text::new();
+        write!(name, "{system}/{machine}").ok()?;
+        match (dialect.read(name.as_str()), machine.split_once('_')) {
+            (Err(NameError::Unknown), Some((machine, variant))) => {
+                let mut name = Text::new();
+                write!(name, "{system}/{machine}/{variant}").ok()?;
+                Some(Dialect::Oci.read(name.as_str()))
+            }
+            (found, _) => Some(found),
+        }
+    }
+
+    /// The prefix of a cross compiler, before the name of one of its tools or nothing.
+    #[inline]
+    fn read_compiler(self, text: &str) -> Option<Result<TripleRef<'static>, NameError>> {
+        let file = text.rsplit(['/', '\\']).next()?;
+        let file = file.strip_suffix(".exe").unwrap_or(file);
+        let (prefix, tool) = match file.rsplit_once('-')? {
+            (tool, version) if is_version(version) => tool.rsplit_once('-')?,
+            found => found,
+        };
+        let is_tool = prefix.contains('-') && TOOLS.contains(&tool);
+        is_tool.then(|| self.read(prefix))
+    }
+
+    /// A target of rustc with the version of glibc, as cargo-zigbuild takes it.
+    #[inline]
+    fn read_version_of_glibc(self, text: &str) -> Option<Result<TripleRef<'static>, NameError>> {
+        if self != Dialect::Rust {
+            return None;
+        }
+        let (target, minor) = text.rsplit_once(".2.")?;
+        let (_, environment) = target.rsplit_once('-')?;
+        let has_glibc = environment.starts_with("gnu") && is_version(minor);
+        has_glibc.then(|| self.read(target))
+    }
+
+    /// A target whose system has versions, without those after the least, or without any; or the machine that asks.
+    #[inline]
+    fn read_versions(self, text: &str) -> Option<Result<TripleRef<'static>, NameError>> {
+        let (machine, rest) = text.split_once('-')?;
+        if machine == "native" {
+            return Some(self.read(machine));
+        }
+        let (system, library) = rest.split_at(rest.find('-').unwrap_or(rest.len()));
+        let (system, versions) = system.split_once('.')?;
+        let (least, most) = versions.split_once("...").unwrap_or((versions, versions));
+        let are_versions = [least, most]
+            .iter()
+            .all(|it| it.starts_with("win") || is_version(it));
+        if !are_versions {
+            return None;
+        }
+        let mut name = Text::new();
+        write!(name, "{machine}-{system}.{least}{library}").ok()?;
+        match self.read(name.as_str()) {
+            Err(NameError::Unknown) => {
+                let mut name = Text::new();
+                write!(name, "{machine}-{system}{library}").ok()?;
+                Some(self.read(name.as_str()))
+            }
+            found => Some(found),
+        }
+    }
+
+    /// Of a wheel, or of its tags, the last: all platforms in it mean the same, or one means no triple.
+    #[inline]
+    fn read_tags(self, text: &str) -> Option<Result<TripleRef<'static>, NameError>> {
+        let platforms = match text.strip_suffix(".whl") {
+            Some(file) => file.rsplit_once('-')?.1,
+            None if is_python(text) => text.rsplit_once('-')?.1,
+            None if text.contains('.') => text,
+            None => return None,
+        };
+        let found = || platforms.split('.').map(|platform| self.read(platform));
+        let first = found().find(Result::is_err).or_else(|| found().next())?;
+        found()
+            .all(|it| it == first || first.is_err())
+            .then_some(first)
+    }
+
+    /// The words of `uname -s` and `uname -m`, with one space between them, and any version of Windows as Windows 10. Of more words the
+    /// machine is the last one that isn't a system's or `unknown`.
+    #[inline]
+    fn read_words(self, text: &str) -> Option<Result<TripleRef<'static>, NameError>> {
+        let (system, machine) = text
+            .trim()
+            .split_once(char::is_whitespace)
+            .or_else(|| text.rsplit_once('-'))
+            .or_else(|| text.split_once('_'))?;
+        match self.read_system_and_machine(system, machine.split_whitespace()) {
+            None | Some(Err(NameError::Unknown)) => {
+                let words = machine.split_whitespace().rev();
+                let machine = words.filter(|it| !AFTER_MACHINES.contains(it)).take(1);
+                self.read_system_and_machine(system, machine)
+            }
+            found => found,
+        }
+    }
+
+    #[inline]
+    fn read_system_and_machine<'w>(
+        self,
+        system: &str,
+        mut machine: impl Iterator<Item = &'w str>,
+    ) -> Option<Result<TripleRef<'static>, NameError>> {
+        let mut name = Text::new();
+        match system.split_once("_NT-") {
+            Some((kind, _)) => write!(name, "{kind}_NT-10.0").ok()?,
+            None => name.write_str(system).ok()?,
+        }
+        machine.try_for_each(|word| write!(name, " {word}")).ok()?;
+        Some(self.read(name.as_str()))
+    }
+
+    /// A platform of Windows without the version in parentheses.
+    #[inline]
+    fn read_version_of_windows(self, text: &str) -> Option<Result<TripleRef<'static>, NameError>> {
+        let (system, rest) = text.split_once('(')?;
+        let (version, machine) = rest.split_once(')')?;
+        if !system.eq_ignore_ascii_case("windows") || !is_version(version) {
+            return None;
+        }
+        let mut name = Text::new();
+        write!(name, "windows{machine}").ok()?;
+        Some(self.read(name.as_str()))
+    }
+
+    /// What the same name with musl means, with uClibc.
+    #[inline]
+    fn read_uclibc(self, text: &str) -> Option<Result<TripleRef<'static>, NameError>> {
+        let mut name = Text::new();
+        write!(name, "musl-{}", text.strip_prefix("uclibc-")?).ok()?;
+        Some(self.read(name.as_str()).map(|triple| TripleRef {
+            environment: match triple.environment {
+                Environment::Musleabihf => Environment::Uclibceabihf,
+                _ => Environment::Uclibc,
+            },
+            ..triple
+        }))
+    }
+}
+
+/// No name that ends a file's or a package's name is longer, in bytes.
+const LONGEST_NAME: usize = 40;
+
+/// What ends the names of archives and programs.
+const ARCHIVES: [&str; 7] = [
+    ".tar.gz", ".tar.xz", ".tar.zst", ".tar.bz2", ".tgz", ".zip", ".exe",
+];
+
+/// What the folders of GoReleaser say of the machines that Go takes if nothing else is said.
+const USUAL_MACHINES: [&str; 10] = [
+    "amd64_v1",
+    "arm64_v8.0",
+    "386_sse2",
+    "mips_hardfloat",
+    "mipsle_hardfloat",
+    "mips64_hardfloat",
+    "mips64le_hardfloat",
+    "ppc64_power8",
+    "ppc64le_power8",
+    "riscv64_rva20u64",
+];
+
+/// The tools after the prefix of a cross compiler.
+const TOOLS: [&str; 16] = [
+    "", "gcc", "g++", "cc", "c++", "cpp", "clang", "clang++", "gfortran", "ld", "as", "ar", "nm",
+    "ranlib", "strip", "objcopy",
+];
+
+/// What `uname` prints after the machine.
+const AFTER_MACHINES: [&str; 4] = ["GNU/Linux", "Msys", "Cygwin", "unknown"];
+
+/// Whether a text is numbers with dots between them.
+#[inline]
+fn is_version(text: &str) -> bool {
+    let is_number = |it: &str| !it.is_empty() && it.bytes().all(|it| it.is_ascii_digit());
+    text.split('.').all(is_number)
+}
+
+/// Whether a text begins with the tag of a version of Python, such as `cp311` or `py3`.
+#[inline]
+fn is_python(text: &str) -> bool {
+    let version = ["cp", "py", "pp"]
+        .iter()
+        .find_map(|word| text.strip_prefix(word));
+    version.map_or(false, |it| it.starts_with(|c: char| c.is_ascii_digit()))
+}
+
+/// A name that is put together. No row is longer.
+type Text = Buffer<32>;

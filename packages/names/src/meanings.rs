@@ -1,0 +1,119 @@
+//! What a name means to every tool that has it.
+use crate::{read, Dialect, NameError};
+use core::fmt;
+use target_lexicon::TripleRef;
+
+/// Whose name it is: that of a dialect, or of nobody but who spells triples. `Display` says it in a word.
+///
+/// # Examples
+///
+/// ```
+/// use target_names::{Dialect, NameOf};
+///
+/// assert_eq!(NameOf::Dialect(Dialect::Go).to_string(), "go");
+/// assert_eq!(NameOf::Triple.to_string(), "triple");
+/// ```
+#[derive(Clone, Copy, Debug, PartialEq, Eq, Hash)]
+pub enum NameOf {
+    /// A tool's name.
+    Dialect(Dialect),
+    /// A string that parses as a triple.
+    Triple,
+    /// A string that doesn't parse, and is spelled like a triple, as [`read`] reads it.
+    Spelling,
+}
+
+impl NameOf {
+    /// The name of the dialect, or `triple` or `spelling`.
+    ///
+    /// # Examples
+    ///
+    /// ```
+    /// use target_names::NameOf;
+    ///
+    /// assert_eq!(NameOf::Spelling.name(), "spelling");
+    /// ```
+    #[must_use]
+    #[inline]
+    pub fn name(self) -> &'static str {
+        match self {
+            NameOf::Dialect(dialect) => dialect.name(),
+            NameOf::Triple => "triple",
+            NameOf::Spelling => "spelling",
+        }
+    }
+}
+
+impl fmt::Display for NameOf {
+    #[inline]
+    fn fmt(&self, f: &mut fmt::Formatter<'_>) -> fmt::Result {
+        f.pad(self.name())
+    }
+}
+
+/// What a name means to one tool: an item of [`meanings`].
+///
+/// # Examples
+///
+/// ```
+/// use target_names::{meanings, Meaning};
+///
+/// let Meaning { of, triple, .. } = meanings("linux/amd64").next().unwrap();
+/// assert_eq!(of.name(), "go");
+/// assert_eq!(triple.unwrap().to_string(), "x86_64-unknown-linux");
+/// ```
+#[derive(Clone, Copy, Debug, PartialEq, Eq, Hash)]
+pub struct Meaning<'a> {
+    /// Whose name it is.
+    pub of: NameOf,
+    /// The canonical triple that it means, or why no triple has this name.
+    pub triple: Result<TripleRef<'a>, &'static str>,
+}
+
+/// What a name means to each dialect that has it, in the order of [`Dialect::ALL`], with what files and commands have
+/// [around it](Dialect::read_loosely); and then as a triple or its spelling. A single word isn't taken for a triple if some tool has the
+/// name. Nobody means anything by a name of which there is no meaning: [`hint`](crate::hint) says what its words may mean. Nothing is
+/// allocated.
+///
+/// # Examples
+///
+/// ```
+/// use target_names::{meanings, Dialect, NameOf};
+///
+/// let found = meanings("armhf").map(|it| (it.of.name(), it.triple.unwrap().to_string()));
+/// let triples = ["armv7-unknown-linux-gnueabihf", "armv6-unknown-linux-musleabihf"];
+/// assert!(found.eq([("debian", triples[0].into()), ("apk", triples[1].into())]));
+///
+/// let plan_9 = meanings("plan9/amd64").next().unwrap();
+/// assert_eq!((plan_9.of, plan_9.triple), (NameOf::Dialect(Dialect::Go), Err("Plan 9 is no known name")));
+/// assert!(meanings("x86_64-unknown-none").any(|it| it.of == NameOf::Triple));
+/// assert_eq!(meanings("foo/bar").next(), None);
+/// ```
+#[inline]
+pub fn meanings(text: &str) -> impl Iterator<Item = Meaning<'_>> + Clone {
+    let to_dialect = |dialect: &Dialect| {
+        let triple = match dialect.read_loosely(text) {
+            Ok(triple) => Ok(triple),
+            Err(NameError::WithoutTriple(why)) => Err(why),
+            Err(NameError::Unknown) => return None,
+        };
+        let of = NameOf::Dialect(*dialect);
+        Some(Meaning { of, triple })
+    };
+    let of_dialects = Dialect::ALL.iter().filter_map(to_dialect);
+    let is_triple = text.contains('-') || of_dialects.clone().next().is_none();
+    of_dialects.chain(is_triple.then(|| as_triple(text)).flatten())
+}
+
+/// What a string means that is a triple, or is spelled like one.
+#[inline]
+fn as_triple(text: &str) -> Option<Meaning<'_>> {
+    let (of, triple) = match TripleRef::from_str(text) {
+        Ok(triple) => (NameOf::Triple, triple),
+        Err(_) => (NameOf::Spelling, read(text).ok()?),
+    };
+    Some(Meaning {
+        of,
+        triple: Ok(triple.step()),
+    })
+}

@@ -1,0 +1,62 @@
+//! A name of a target in a dialect.
+use crate::buffer::Buffer;
+use crate::dialect::Numbers;
+use core::fmt::{self, Write};
+
+/// A name of a target in a dialect.
+///
+/// # Examples
+///
+/// ```
+/// use target_lexicon::TripleRef;
+/// use target_names::Dialect;
+///
+/// let triple = TripleRef::from_str("x86_64-unknown-freebsd").unwrap();
+/// assert_eq!(Dialect::Go.write(&triple).unwrap().to_string(), "freebsd/amd64");
+/// ```
+#[derive(Clone, Copy, PartialEq, Eq, Hash)]
+pub struct Name(Buffer<36>);
+
+impl Name {
+    /// The name. It has at most 36 bytes.
+    ///
+    /// # Examples
+    ///
+    /// ```
+    /// use target_lexicon::TripleRef;
+    /// use target_names::Dialect;
+    ///
+    /// let triple = TripleRef::from_str("x86_64-unknown-freebsd").unwrap();
+    /// assert_eq!(Dialect::Go.write(&triple).unwrap().as_str(), "freebsd/amd64");
+    /// ```
+    #[must_use]
+    pub fn as_str(&self) -> &str {
+        self.0.as_str()
+    }
+
+    /// The name that a pattern makes with these numbers. A test writes each row with the longest ones: all fit.
+    pub(super) fn filled(pattern: &str, numbers: Numbers) -> Name {
+        let mut name = Buffer::new();
+        let mut numbers = numbers
+            .into_iter()
+            .flat_map(|(major, minor)| [major, u16::from(minor)]);
+        let mut pieces = pattern.split('*');
+        let _ = name.write_str(pieces.next().unwrap_or(""));
+        for (piece, number) in pieces.zip(&mut numbers) {
+            let _ = write!(name, "{number}{piece}");
+        }
+        Name(name)
+    }
+}
+
+impl fmt::Display for Name {
+    fn fmt(&self, f: &mut fmt::Formatter<'_>) -> fmt::Result {
+        f.pad(self.as_str())
+    }
+}
+
+impl fmt::Debug for Name {
+    fn fmt(&self, f: &mut fmt::Formatter<'_>) -> fmt::Result {
+        fmt::Debug::fmt(self.as_str(), f)
+    }
+}

@@ -1,0 +1,56 @@
+//! Platforms of container images, as containerd normalises them.
+use crate::buffer::Buffer;
+use crate::dialect::Row;
+use core::fmt::Write;
+
+/// Other words for a machine, containerd's, and the variant that they state.
+const MACHINES: [(&str, &str, Option<&str>); 6] = [
+    ("i386", "386", Some("")),
+    ("x86_64", "amd64", None),
+    ("x86-64", "amd64", None),
+    ("aarch64", "arm64", None),
+    ("armhf", "arm", Some("/v7")),
+    ("armel", "arm", Some("/v6")),
+];
+
+/// A machine, a variant after its slash, and the variant that stands instead.
+const VARIANTS: [(&str, &str, &str); 8] = [
+    ("amd64", "/v1", ""),
+    ("arm64", "/v8", ""),
+    ("arm64", "/8", ""),
+    ("arm", "", "/v7"),
+    ("arm", "/7", "/v7"),
+    ("arm", "/5", "/v5"),
+    ("arm", "/6", "/v6"),
+    ("arm", "/8", "/v8"),
+];
+
+/// The row without a number whose name is a platform's normal form, in any case.
+pub(super) fn row_of_platform(rows: &'static [Row], name: &str) -> Option<&'static Row> {
+    let is = |word: &str, other: &str| word.eq_ignore_ascii_case(other);
+    let (system, rest) = name.split_once('/').unwrap_or((name, ""));
+    let (machine, variant) = rest.split_at(rest.find('/').unwrap_or(rest.len()));
+    let system = if is(system, "macos") {
+        "darwin"
+    } else {
+        system
+    };
+    let other = MACHINES.iter().find(|it| is(it.0, machine));
+    let (machine, variant) = other.map_or((machine, variant), |it| (it.1, it.2.unwrap_or(variant)));
+    let other = VARIANTS
+        .iter()
+        .find(|it| is(it.0, machine) && is(it.1, variant));
+    let variant = other.map_or(variant, |it| it.2);
+    let slash = if machine.is_empty() && variant.is_empty() {
+        ""
+    } else {
+        "/"
+    };
+    let mut normal = Buffer::<40>::new();
+    for word in [system, slash, machine, variant] {
+        normal.write_str(word).ok()?;
+    }
+    let normal = normal.as_str();
+    let mut named = rows.iter().filter(|row| is(row.0, normal));
+    named.find(|row| !row.0.contains('*'))
+}

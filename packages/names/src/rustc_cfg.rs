@@ -1,0 +1,316 @@
+//! The values of rustc's cfg options for a triple. `checks/compare elsewhere` asks rustc for those of each of its targets.
+
+use core::fmt;
+use target_lexicon::{
+    Architecture, Endianness, Environment, KnownVendor, Mips32Architecture, Mips64Architecture,
+    OperatingSystem, PointerWidth, TripleRef, VendorRef,
+};
+use target_lexicon::{Named as _, OperatingSystemExt as _};
+
+/// The values of rustc's cfg options for a triple, as `rustc --print cfg` prints them for its target.
+///
+/// Each is what `cfg(target_arch = "..")` and the like test in Rust, and what the variables `CARGO_CFG_TARGET_ARCH` and
+/// the like hold in a build script.
+///
+/// # Examples
+///
+/// ```
+/// use target_names::TargetInfo;
+/// let triple = target_lexicon::triple!("aarch64-apple-darwin");
+/// let cfg = triple.rustc_cfg();
+/// assert_eq!((cfg.target_arch, cfg.target_os, cfg.target_env), ("aarch64", "macos", ""));
+/// assert_eq!(cfg.target_family, ["unix"]);
+/// ```
+#[non_exhaustive]
+#[derive(Clone, Copy, Debug, PartialEq, Eq, Hash)]
+pub struct RustcCfg<'a> {
+    /// The instruction set, such as `x86_64`, `x86` or `arm`, without version and byte order.
+    pub target_arch: &'static str,
+    /// The operating system, such as `linux`, `macos` or `none`.
+    pub target_os: &'static str,
+    /// The C library or toolchain, such as `gnu`, `musl` or `msvc`; often empty.
+    pub target_env: &'static str,
+    /// The ABI, such as `eabihf`; often empty.
+    pub target_abi: &'static str,
+    /// No family, one of `unix`, `wasm` and `windows`, or `unix` and `wasm`.
+    pub target_family: &'static [&'static str],
+    /// The vendor, such as `unknown`, `apple` or `pc`.
+    pub target_vendor: &'a str,
+    /// The width of a pointer. `None` if the architecture is unknown.
+    pub target_pointer_width: Option<PointerWidth>,
+    /// The byte order. `None` if the architecture is unknown.
+    pub target_endian: Option<Endianness>,
+}
+
+impl<'a> RustcCfg<'a> {
+    /// The answer of [`TargetInfo::rustc_cfg`].
+    #[inline]
+    pub(crate) fn of(triple: &TripleRef<'a>) -> RustcCfg<'a> {
+        let is_unix = is_unix(triple);
+        RustcCfg {
+            target_arch: target_arch(triple.architecture),
+            target_os: target_os(triple),
+            target_env: target_env(triple),
+            target_abi: target_abi(triple),
+            target_family: match (triple.architecture, triple.operating_system) {
+                (Architecture::Wasm32 | Architecture::Wasm64, _) if is_unix => &["unix", "wasm"],
+                (Architecture::Wasm32 | Architecture::Wasm64, _) => &["wasm"],
+                (_, OperatingSystem::Windows) => &["windows"],
+                _ if is_unix => &["unix"],
+                _ => &[],
+            },
+            target_vendor: target_vendor(triple),
+            target_pointer_width: triple.pointer_width().ok(),
+            target_endian: triple.endianness().ok(),
+        }
+    }
+}
+
+impl<'a> RustcCfg<'a> {
+    /// Each option that is set, in the order of `rustc --print cfg`: its name, and its value if it has one.
+    ///
+    /// # Examples
+    ///
+    /// ```
+    /// use target_lexicon::triple;
+    /// use target_names::TargetInfo;
+    ///
+    /// let triple = triple!("aarch64-apple-darwin");
+    /// let cfg = triple.rustc_cfg();
+    /// assert!(cfg.options().any(|it| it == ("target_os", Some("macos"))));
+    /// assert!(cfg.options().any(|it| it == ("unix", None)));
+    /// ```
+    #[inline]
+    pub fn options(&self) -> impl Iterator<Item = (&'static str, Option<&'a str>)> {
+        let families = self.target_family;
+        let one = |name, value| core::iter::once((name, Some(value)));
+        one("target_abi", self.target_abi as &'a str)
+            .chain(one("target_arch", self.target_arch))
+            .chain(
+                self.target_endian
+                    .map(|it| ("target_endian", Some(it.name()))),
+            )
+            .chain(one("target_env", self.target_env))
+            .chain(families.iter().map(|it| ("target_family", Some(*it))))
+            .chain(one("target_os", self.target_os))
+            .chain(
+                self.target_pointer_width
+                    .map(|it| ("target_pointer_width", Some(it.name()))),
+            )
+            .chain(one("target_vendor", self.target_vendor))
+            // These families are options themselves.
+            .chain(
+                families
+                    .iter()
+                    .filter(|it| **it != "wasm")
+                    .map(|it| (*it, None)),
+            )
+    }
+}
+
+impl fmt::Display for RustcCfg<'_> {
+    #[inline]
+    fn fmt(&self, f: &mut fmt::Formatter<'_>) -> fmt::Result {
+        self.options().try_for_each(|option| match option {
+            (name, Some(value)) => writeln!(f, "{name}=\"{value}\""),
+            (name, None) => writeln!(f, "{name}"),
+        })
+    }
+}
+
+/// A system of rustc that is no known name, so that a triple has it as a custom vendor.
+pub(super) enum UnlistedSystem {
+    Nuttx,
+    Rtems,
+    WasiP3,
+}
+
+impl UnlistedSystem {
+    /// The unlisted system of a triple.
+    #[inline]
+    pub(super) fn of(triple: &TripleRef<'_>) -> Option<UnlistedSystem> {
+        match (triple.vendor, triple.operating_system) {
+            (VendorRef::Custom("nuttx"), OperatingSystem::Unknown) => Some(UnlistedSystem::Nuttx),
+            (VendorRef::Custom("rtems"), OperatingSystem::Unknown) => Some(UnlistedSystem::Rtems),
+            (VendorRef::Custom("wasip3"), OperatingSystem::Unknown) => Some(UnlistedSystem::WasiP3),
+            _ => None,
+        }
+    }
+}
+
+#[inline]
+fn target_arch(architecture: Architecture) -> &'static str {
+    use {Mips32Architecture::*, Mips64Architecture::*};
+    match architecture {
+        Architecture::Arm(_) => "arm",
+        Architecture::AmdGcn => "amdgpu",
+        Architecture::Aarch64(_) => "aarch64",
+        Architecture::Bpfeb | Architecture::Bpfel => "bpf",
+        Architecture::X86_32(_) => "x86",
+        Architecture::Mips32(Mips | Mipsel) => "mips",
+        Architecture::Mips32(Mipsisa32r6 | Mipsisa32r6el) => "mips32r6",
+        Architecture::Mips64(Mips64 | Mips64el) => "mips64",
+        Architecture::Mips64(Mipsisa64r6 | Mipsisa64r6el) => "mips64r6",
+        Architecture::Powerpc64le => "powerpc64",
+        Architecture::Riscv32(_) => "riscv32",
+        Architecture::Riscv64(_) => "riscv64",
+        Architecture::Sparcv9 => "sparc64",
+        Architecture::X86_64h => "x86_64",
+        other => other.name(),
+    }
+}
+
+#[inline]
+fn target_os(triple: &TripleRef<'_>) -> &'static str {
+    use OperatingSystem::*;
+    match UnlistedSystem::of(triple) {
+        Some(UnlistedSystem::Nuttx) => return "nuttx",
+        Some(UnlistedSystem::Rtems) => return "rtems",
+        Some(UnlistedSystem::WasiP3) => return "wasi",
+        None => {}
+    }
+    match (triple.operating_system, triple.environment) {
+        (Linux, Environment::Android | Environment::Androideabi) => "android",
+        (Darwin(_) | MacOSX(_), _) => "macos",
+        (VisionOS(_) | XROS(_), _) => "visionos",
+        (WasiP1 | WasiP2, _) => "wasi",
+        (other, _) => other.prefix(),
+    }
+}
+
+#[inline]
+fn target_env(triple: &TripleRef<'_>) -> &'static str {
+    use Environment::*;
+    match triple.environment {
+        Gnu | Gnuabi64 | Gnueabi | Gnueabihf | Gnuspe | Gnux32 | GnuIlp32 | GnuLlvm => "gnu",
+        Macabi => "macabi",
+        Msvc => "msvc",
+        Musl | Muslabi64 | Musleabi | Musleabihf => "musl",
+        Newlib => "newlib",
+        Ohos => "ohos",
+        Sgx => "sgx",
+        Sim => "sim",
+        Uclibc | Uclibceabi | Uclibceabihf => "uclibc",
+        _ => env_of_system(triple),
+    }
+}
+
+/// The value of a system where the environment states none.
+#[inline]
+fn env_of_system(triple: &TripleRef<'_>) -> &'static str {
+    match UnlistedSystem::of(triple) {
+        Some(UnlistedSystem::Nuttx) => return "",
+        Some(UnlistedSystem::Rtems) => return "newlib",
+        Some(UnlistedSystem::WasiP3) => return "p3",
+        None => {}
+    }
+    match triple.operating_system {
+        OperatingSystem::Espidf | OperatingSystem::Horizon => "newlib",
+        OperatingSystem::Redox => "relibc",
+        OperatingSystem::VxWorks => "gnu",
+        OperatingSystem::WasiP1 => "p1",
+        OperatingSystem::WasiP2 => "p2",
+        _ if is_simulator(triple) => "sim",
+        _ => "",
+    }
+}
+
+/// Whether this is a system of Apple's devices on x86, which only simulators have.
+#[inline]
+pub(super) fn is_simulator(triple: &TripleRef<'_>) -> bool {
+    use {Architecture::*, OperatingSystem::*};
+    matches!(triple.architecture, X86_32(_) | X86_64 | X86_64h)
+        && matches!(
+            triple.operating_system,
+            IOS(_) | TvOS(_) | VisionOS(_) | WatchOS(_) | XROS(_)
+        )
+}
+
+#[inline]
+fn target_abi(triple: &TripleRef<'_>) -> &'static str {
+    use Environment::*;
+    match (triple.vendor, triple.operating_system, triple.environment) {
+        (VendorRef::Known(KnownVendor::Uwp), OperatingSystem::Windows, _) => "uwp",
+        (VendorRef::Known(KnownVendor::Fortanix), _, Sgx) => "fortanix",
+        (_, _, Androideabi | Eabi | Gnueabi | Musleabi | Uclibceabi) => "eabi",
+        (_, _, Eabihf | Gnueabihf | Musleabihf | Uclibceabihf) => "eabihf",
+        (_, _, Gnuabi64 | Muslabi64) => "abi64",
+        (_, _, Gnuspe | Spe) => "spe",
+        (_, _, Gnux32) => "x32",
+        (_, _, GnuIlp32) => "ilp32",
+        (_, _, GnuLlvm) => "llvm",
+        (_, _, Macabi) => "macabi",
+        (_, _, Sim) => "sim",
+        (_, _, Softfloat) => "softfloat",
+        _ => abi_of_system(triple),
+    }
+}
+
+/// The ABI where neither vendor nor environment states one.
+#[inline]
+fn abi_of_system(triple: &TripleRef<'_>) -> &'static str {
+    use OperatingSystem::*;
+    let is_musl = matches!(triple.environment, Environment::Musl); // the others state their ABI
+    match (triple.architecture, triple.operating_system) {
+        (Architecture::Arm(_), Freebsd | Horizon) => "eabihf",
+        (Architecture::Arm(_), Linux) if triple.environment == Environment::Ohos => "eabi",
+        (Architecture::Mips64(_), Linux) => "abi64",
+        (Architecture::Powerpc64, Aix) => "vec-extabi",
+        (Architecture::Powerpc64, Freebsd | Openbsd) => "elfv2",
+        (Architecture::Powerpc64, Linux) if is_musl => "elfv2",
+        (Architecture::Powerpc64, Linux | VxWorks) => "elfv1",
+        (Architecture::Powerpc64le, _) => "elfv2",
+        _ if is_simulator(triple) => "sim",
+        _ => "",
+    }
+}
+
+/// The answer of [`TargetInfo::is_unix`].
+#[inline]
+pub(crate) fn is_unix(triple: &TripleRef<'_>) -> bool {
+    use OperatingSystem::*;
+    match UnlistedSystem::of(triple) {
+        Some(UnlistedSystem::Nuttx | UnlistedSystem::Rtems) => return true,
+        Some(UnlistedSystem::WasiP3) => return false,
+        None => {}
+    }
+    matches!(
+        triple.operating_system,
+        Aix | Bitrig
+            | Cygwin
+            | Darwin(_)
+            | Dragonfly
+            | Emscripten
+            | Espidf
+            | Freebsd
+            | Fuchsia
+            | Haiku
+            | Horizon
+            | Hurd
+            | Illumos
+            | IOS(_)
+            | L4re
+            | Linux
+            | MacOSX(_)
+            | Netbsd
+            | Openbsd
+            | Redox
+            | Solaris
+            | TvOS(_)
+            | VisionOS(_)
+            | VxWorks
+            | WatchOS(_)
+            | XROS(_)
+    )
+}
+
+#[inline]
+fn target_vendor<'a>(triple: &TripleRef<'a>) -> &'a str {
+    match triple.vendor {
+        _ if UnlistedSystem::of(triple).is_some() => "unknown",
+        VendorRef::Custom("esp" | "esp32" | "esp32s2" | "esp32s3") => "espressif",
+        VendorRef::Custom("wali") => "unknown",
+        VendorRef::Custom(text) => text,
+        VendorRef::Known(known) => known.name(),
+    }
+}

@@ -1,0 +1,240 @@
+//! The shape of a triple in a dialect: what names state.
+use crate::spelled::is_like_system;
+use target_lexicon::{
+    Architecture, ArmArchitecture, DeploymentTarget, Environment, KnownVendor, OperatingSystem,
+    Riscv32Architecture, Riscv64Architecture, TripleRef, VendorRef, X86_32Architecture,
+};
+
+/// How much of the architecture a dialect states.
+#[derive(Clone, Copy)]
+pub(super) enum MachineRule {
+    /// Of Arm the byte order.
+    Order,
+    /// Of Arm the versions 5 to 8.
+    Version,
+    /// As `Version`, and of x86 what Alpine builds for.
+    Alpine,
+    /// Of Arm what packages for its floating-point ABI are built for, or else the byte order.
+    Packages,
+    /// All that rustc tells apart.
+    Rustc,
+}
+
+/// How a dialect states the ABI.
+#[derive(Clone, Copy)]
+pub(super) enum AbiRule {
+    /// Every environment is kept.
+    Kept,
+    /// C libraries and floating-point ABIs aren't stated.
+    Dropped,
+    /// C libraries are stated on Linux only.
+    KeptOnLinux,
+    /// C libraries are stated on Linux and Windows only.
+    KeptOnLinuxAndWindows,
+    /// Every environment is kept, except that without a system `eabihf` is `eabi`.
+    KeptOnSystems,
+}
+
+/// What names state in a dialect.
+#[derive(Clone, Copy)]
+pub(super) struct Rules {
+    pub machine: MachineRule,
+    pub abi: AbiRule,
+    /// The version of macOS and iOS, in two numbers.
+    pub versions: bool,
+    /// `-` and `.` of a name are `_` in the names of the rows.
+    pub tags: bool,
+    /// A name that has no row is read by its spelling.
+    pub spelled: bool,
+    /// Names are platforms of container images, with containerd's other names.
+    pub platforms: bool,
+}
+
+/// The rules that go without saying.
+pub(super) const USUAL: Rules = Rules {
+    machine: MachineRule::Order,
+    abi: AbiRule::Kept,
+    versions: false,
+    tags: false,
+    spelled: false,
+    platforms: false,
+};
+
+impl Rules {
+    /// The triple without what isn't stated.
+    pub(super) fn shape(self, triple: &TripleRef<'_>) -> TripleRef<'static> {
+        let system = triple.operating_system;
+        let environment = self.abi.environment(system, triple.environment);
+        TripleRef {
+            architecture: self
+                .machine
+                .architecture(system, environment, triple.architecture),
+            vendor: VendorRef::Known(usual_vendor(system)),
+            operating_system: match system {
+                OperatingSystem::MacOSX(version) if self.versions => {
+                    OperatingSystem::MacOSX(two_numbers_of(version))
+                }
+                OperatingSystem::IOS(version) if self.versions => {
+                    OperatingSystem::IOS(two_numbers_of(version))
+                }
+                other => unversioned(other),
+            },
+            environment,
+            binary_format: triple.binary_format,
+        }
+    }
+}
+
+impl AbiRule {
+    /// The environment without an ABI that isn't stated.
+    fn environment(self, system: OperatingSystem, environment: Environment) -> Environment {
+        use {Environment::*, OperatingSystem::*};
+        let states_c_library = match (self, system, environment) {
+            (AbiRule::KeptOnSystems, None_, Eabihf) => return Eabi,
+            (AbiRule::KeptOnSystems | AbiRule::Kept, ..) => return environment,
+            (AbiRule::KeptOnLinux | AbiRule::KeptOnLinuxAndWindows, Linux, _) => true,
+            (AbiRule::KeptOnLinuxAndWindows, Windows, _) => true,
+            _ => false,
+        };
+        match environment {
+            Eabi | Eabihf | Environment::None => Environment::Unknown,
+            Gnu | Gnueabi | Gnueabihf | Gnuabi64 | Gnuspe | GnuLlvm | Musl | Musleabi
+            | Musleabihf | Muslabi64 | Uclibc | Uclibceabi | Uclibceabihf | Msvc
+                if !states_c_library =>
+            {
+                Environment::Unknown
+            }
+            other => other,
+        }
+    }
+}
+
+impl MachineRule {
+    /// The architecture without what isn't stated.
+    fn architecture(
+        self,
+        system: OperatingSystem,
+        environment: Environment,
+        architecture: Architecture,
+    ) -> Architecture {
+        use {
+            Architecture::*, Riscv32Architecture as Bits32, Riscv64Architecture as Bits64,
+            X86_32Architecture::*,
+        };
+        match (self, architecture) {
+            (_, Arm(arm)) => Arm(self.arm(system, environment, arm)),
+            (MachineRule::Rustc, Riscv32(Bits32::Riscv32)) => Riscv32(Bits32::Riscv32gc),
+            (MachineRule::Rustc, Riscv64(Bits64::Riscv64)) => Riscv64(Bits64::Riscv64gc),
+            (MachineRule::Rustc, Sparc64) if system == OperatingSystem::Solaris => Sparcv9,
+            (MachineRule::Rustc, other) => other,
+            // What Alpine builds runs on an i586 and an i686.
+            (MachineRule::Alpine, X86_32(x86)) => X86_32(if x86 == I386 { I386 } else { I586 }),
+            (_, X86_32(_)) => X86_32(I686),
+            (_, Riscv32(_)) => Riscv32(Bits32::Riscv32),
+            (_, Riscv64(_)) => Riscv64(Bits64::Riscv64),
+            (_, X86_64h) => X86_64,
+            (_, Sparcv9) => Sparc64,
+            (_, other) => other,
+        }
+    }
+
+    /// The Arm without what isn't stated.
+    fn arm(
+        self,
+        system: OperatingSystem,
+        environment: Environment,
+        arm: ArmArchitecture,
+    ) -> ArmArchitecture {
+        use {ArmArchitecture::*, Environment::*};
+        match (self, environment, system) {
+            (MachineRule::Version | MachineRule::Alpine, ..) => arm_of_version(arm),
+            // Packages for floating-point registers are for Armv7: that is an Arm on which they run, and one without a version.
+            (MachineRule::Packages, Gnueabihf | Musleabihf | Uclibceabihf, _) => match arm {
+                Arm | Armv7a | Armv7ve | Thumbv7a | Thumbv7neon | Armv8 | Armv8a => Armv7,
+                other => other,
+            },
+            // Those without are for Armv5.
+            (MachineRule::Packages, Gnueabi | Musleabi | Uclibceabi, _) => {
+                match arm_of_version(arm) {
+                    Arm | Armv6 | Armv7 | Armv8 => Armv5te,
+                    other => other,
+                }
+            }
+            (MachineRule::Order | MachineRule::Packages, ..) => match arm {
+                Armeb | Armebv7r | Thumbeb => Armeb,
+                _ => Arm,
+            },
+            // Of rustc `arm` is Armv6, except on Android, where it is older. Armv8 in 32 bits runs programs of Armv7.
+            (MachineRule::Rustc, environment, OperatingSystem::Linux) => match (arm, environment) {
+                (Armv6 | Armv6j | Armv6k | Armv6z | Armv6kz | Armv6t2, Androideabi) => Arm,
+                (Armv6j | Armv6k | Armv6z | Armv6kz | Armv6t2, _) => Armv6,
+                (Armv7a | Armv7ve | Armv8 | Armv8a, _) => Armv7,
+                (Arm, environment) if environment != Androideabi => Armv6,
+                (other, _) => other,
+            },
+            // Windows has needed Armv7 from the first.
+            (MachineRule::Rustc, _, OperatingSystem::Windows) => match arm {
+                Arm | Armv7 | Armv7a => Thumbv7a,
+                other => other,
+            },
+            (MachineRule::Rustc, ..) => arm,
+        }
+    }
+}
+
+/// The versions 5, 6, 7 and 8 of Arm for applications; every other Arm is itself.
+pub(super) fn arm_of_version(arm: ArmArchitecture) -> ArmArchitecture {
+    use ArmArchitecture::*;
+    match arm {
+        Armv5t | Armv5tej => Armv5te,
+        Armv6j | Armv6k | Armv6z | Armv6kz | Armv6t2 => Armv6,
+        Armv7a | Armv7ve | Thumbv7a | Thumbv7neon => Armv7,
+        Armv8a => Armv8,
+        other => other,
+    }
+}
+
+/// The system without a version; macOS has one name.
+pub(super) fn unversioned(system: OperatingSystem) -> OperatingSystem {
+    use OperatingSystem::*;
+    match system {
+        Darwin(_) | MacOSX(_) => Darwin(None),
+        IOS(_) => IOS(None),
+        TvOS(_) => TvOS(None),
+        VisionOS(_) => VisionOS(None),
+        WatchOS(_) => WatchOS(None),
+        XROS(_) => XROS(None),
+        other => other,
+    }
+}
+
+/// A version without its third number.
+fn two_numbers_of(version: Option<DeploymentTarget>) -> Option<DeploymentTarget> {
+    version.map(|version| DeploymentTarget {
+        patch: 0,
+        ..version
+    })
+}
+
+/// The vendor that triples on a system usually have.
+pub(super) fn usual_vendor(system: OperatingSystem) -> KnownVendor {
+    match system {
+        _ if system.is_like_darwin() => KnownVendor::Apple,
+        OperatingSystem::Windows | OperatingSystem::Cygwin | OperatingSystem::Solaris => {
+            KnownVendor::Pc
+        }
+        OperatingSystem::Aix => KnownVendor::Ibm,
+        _ => KnownVendor::Unknown,
+    }
+}
+
+/// Whether a vendor is a system that no triple has, or says which variant of a system it is: for Windows 7, for a unikernel, or
+/// WebAssembly with the system calls of Linux. A triple that keeps all but the vendor would be another target.
+pub(super) fn is_another_target(vendor: VendorRef<'_>) -> bool {
+    match vendor {
+        VendorRef::Custom(text) => {
+            ["win7", "unikraft", "wali"].contains(&text) || is_like_system(text)
+        }
+        VendorRef::Known(known) => known == KnownVendor::Uwp,
+    }
+}

@@ -1,0 +1,482 @@
+//! From a name in one dialect to the name in another, and why there is none.
+//!
+//! This is the composition of reading, completing and writing, and the reason where a triple has no name.
+use crate::dialect::{has_version, is_written, Row, Way, MAX_LENGTH};
+use crate::shape::is_another_target;
+use crate::{Dialect, LinuxLibc, Name, NameError, TargetInfo};
+use core::fmt;
+use target_lexicon::{
+    Architecture, ArmArchitecture, DeploymentTarget, Environment, OperatingSystem, TripleRef,
+    X86_32Architecture,
+};
+
+/// Why a triple has no name in a dialect. `Display` says it, and what would help.
+///
+/// # Examples
+///
+/// ```
+/// use target_lexicon::TripleRef;
+/// use target_names::{Dialect, WriteError};
+///
+/// let triple = TripleRef::from_str("x86_64-unknown-linux").unwrap();
+/// let error = Dialect::Debian.write_with(&triple, None).unwrap_err();
+/// assert_eq!(error, WriteError::NeedsCLibrary);
+/// assert_eq!(error.to_string(), "It depends on the C library: say glibc or musl");
+/// ```
+#[derive(Clone, Copy, Debug, PartialEq, Eq, Hash)]
+#[non_exhaustive]
+pub enum WriteError {
+    // written by tools/names/write: the reasons
+    /// The tool has no name for the system.
+    NoSystem,
+    /// The tool has names for the system, and none for this machine.
+    NoMachine,
+    /// The tool has no name for this machine on any system.
+    NoMachineOnAnySystem,
+    /// The tool has names for the machine and the system, and none with this C library or ABI.
+    NoAbi,
+    /// The tool's names for it are only read: they are old, or several, or of no release.
+    OnlyReadNames,
+    /// Names of this tool are only read.
+    OnlyRead,
+    /// It depends on the C library: say glibc or musl.
+    NeedsCLibrary,
+    /// It depends on the ABI of Windows: say msvc, mingw or gnullvm.
+    NeedsWindowsAbi,
+    /// It depends on the version of Arm: say armv5te, armv6 or armv7 as the machine.
+    NeedsArmVersion,
+    /// The name states a version: say that of the system or C library, such as 11.0 of macOS.
+    NeedsVersion,
+    /// It depends on the version of WASI: say wasm32-wasip1, which rustc named wasm32-wasi before, or wasm32-wasip2.
+    NeedsWasiVersion,
+    /// No version of its system or C library has these numbers: glibc has 2.x, musl 1.x, and macOS 10.x or later.
+    OtherVersion,
+    /// Packages and targets of the tool are for another version of the machine: armhf of Debian is for Armv7 and armel for Armv5, x86 of Alpine is for the i586.
+    Baseline,
+    /// The tool's name without `sim` is that of the simulator: say the triple without it.
+    Simulator,
+    /// Its vendor says that it is another target, such as `uwp`, or a system that no triple has: say the usual vendor if that is meant.
+    OtherTarget,
+    // end of what is written
+}
+
+impl WriteError {
+    /// The reason, and what would help, as the start of a sentence in lower case.
+    ///
+    /// # Examples
+    ///
+    /// ```
+    /// use target_names::WriteError;
+    ///
+    /// assert_eq!(WriteError::OnlyRead.reason(), "names of this tool are only read");
+    /// ```
+    pub fn reason(self) -> &'static str {
+        match self {
+            // written by tools/names/write: the texts of reasons
+            WriteError::NoSystem => {
+                "the tool has no name for the system"
+            }
+            WriteError::NoMachine => {
+                "the tool has names for the system, and none for this machine"
+            }
+            WriteError::NoMachineOnAnySystem => {
+                "the tool has no name for this machine on any system"
+            }
+            WriteError::NoAbi => {
+                "the tool has names for the machine and the system, and none with this C library or ABI"
+            }
+            WriteError::OnlyReadNames => {
+                "the tool's names for it are only read: they are old, or several, or of no release"
+            }
+            WriteError::OnlyRead => {
+                "names of this tool are only read"
+            }
+            WriteError::NeedsCLibrary => {
+                "it depends on the C library: say glibc or musl"
+            }
+            WriteError::NeedsWindowsAbi => {
+                "it depends on the ABI of Windows: say msvc, mingw or gnullvm"
+            }
+            WriteError::NeedsArmVersion => {
+                "it depends on the version of Arm: say armv5te, armv6 or armv7 as the machine"
+            }
+            WriteError::NeedsVersion => {
+                "the name states a version: say that of the system or C library, such as 11.0 of macOS"
+            }
+            WriteError::NeedsWasiVersion => {
+                "it depends on the version of WASI: say wasm32-wasip1, which rustc named wasm32-wasi before, or wasm32-wasip2"
+            }
+            WriteError::OtherVersion => {
+                "no version of its system or C library has these numbers: glibc has 2.x, musl 1.x, and macOS 10.x or later"
+            }
+            WriteError::Baseline => {
+                "packages and targets of the tool are for another version of the machine: armhf of Debian is for Armv7 and armel for Armv5, x86 of Alpine is for the i586"
+            }
+            WriteError::Simulator => {
+                "the tool's name without `sim` is that of the simulator: say the triple without it"
+            }
+            WriteError::OtherTarget => {
+                "its vendor says that it is another target, such as `uwp`, or a system that no triple has: say the usual vendor if that is meant"
+            }
+            // end of what is written
+        }
+    }
+}
+
+impl fmt::Display for WriteError {
+    #[inline]
+    fn fmt(&self, f: &mut fmt::Formatter<'_>) -> fmt::Result {
+        let mut letters = self.reason().chars();
+        let first = letters.next().map_or(' ', |it| it.to_ascii_uppercase());
+        write!(f, "{first}{}", letters.as_str())
+    }
+}
+
+/// Why a name isn't translated: which step fails, and why.
+///
+/// # Examples
+///
+/// ```
+/// use target_names::{Dialect, NameError, TranslateError, WriteError};
+///
+/// let to_debian = |platform| Dialect::Oci.translate(platform, None, Dialect::Debian).unwrap_err();
+/// assert_eq!(to_debian("linux/foo"), TranslateError::Read(NameError::Unknown));
+/// assert_eq!(to_debian("linux/amd64"), TranslateError::Write(WriteError::NeedsCLibrary));
+/// assert_eq!(to_debian("windows/amd64"), TranslateError::Write(WriteError::NoSystem));
+/// ```
+#[derive(Clone, Copy, Debug, PartialEq, Eq, Hash)]
+pub enum TranslateError {
+    /// The name isn't read.
+    Read(NameError),
+    /// What the name means isn't written in the other dialect.
+    Write(WriteError),
+}
+
+impl fmt::Display for TranslateError {
+    #[inline]
+    fn fmt(&self, f: &mut fmt::Formatter<'_>) -> fmt::Result {
+        match self {
+            TranslateError::Read(error) => error.fmt(f),
+            TranslateError::Write(error) => error.fmt(f),
+        }
+    }
+}
+
+impl Dialect {
+    /// The name in this dialect of a triple with a C library, if one is said: that of the triple
+    /// [`with_c_library`](TargetInfo::with_c_library) returns. Nothing is allocated.
+    ///
+    /// # Errors
+    ///
+    /// The triple has no name, and why.
+    ///
+    /// # Examples
+    ///
+    /// ```
+    /// use target_lexicon::TripleRef;
+    /// use target_names::{LinuxLibc, Dialect};
+    ///
+    /// let triple = TripleRef::from_str("aarch64-unknown-linux").unwrap();
+    /// let name = Dialect::Node.write_with(&triple, Some(LinuxLibc::Musl)).unwrap();
+    /// assert_eq!(name.as_str(), "linux-arm64-musl");
+    /// ```
+    #[inline]
+    pub fn write_with<'t>(
+        self,
+        triple: impl Into<TripleRef<'t>>,
+        c_library: Option<LinuxLibc>,
+    ) -> Result<Name, WriteError> {
+        let triple = triple.into();
+        let triple = c_library.map_or(triple, |it| triple.with_c_library(it));
+        match self.write(triple) {
+            Some(name) => Ok(name),
+            None => Err(self.why_unnamed(&triple)),
+        }
+    }
+
+    /// The name that states a version which triples don't have, as [`Dialect::write_versioned`] gives it. Where no name of
+    /// the triple states one, it is the name without: `win_amd64` of Python.
+    ///
+    /// # Errors
+    ///
+    /// The triple has no name with this version, and why: the version isn't one of its system or C library, or the C
+    /// library isn't said.
+    ///
+    /// # Examples
+    ///
+    /// ```
+    /// use target_lexicon::TripleRef;
+    /// use target_names::{Dialect, WriteError};
+    ///
+    /// let tag = |text, major, minor| {
+    ///     let triple = TripleRef::from_str(text).unwrap();
+    ///     Dialect::Python.write_with_version(&triple, major, minor).map(|it| it.to_string())
+    /// };
+    /// assert_eq!(tag("aarch64-apple-darwin", 11, 0).unwrap(), "macosx_11_0_arm64");
+    /// assert_eq!(tag("aarch64-apple-darwin", 2, 17), Err(WriteError::OtherVersion));
+    /// assert_eq!(tag("x86_64-pc-windows-msvc", 2, 17).unwrap(), "win_amd64");
+    /// ```
+    #[inline]
+    pub fn write_with_version<'t>(
+        self,
+        triple: impl Into<TripleRef<'t>>,
+        major: u16,
+        minor: u8,
+    ) -> Result<Name, WriteError> {
+        let triple = &triple.into();
+        if let Some(name) = self.write_versioned(triple, major, minor) {
+            return Ok(name);
+        }
+        if self.states_version(triple) {
+            return Err(WriteError::OtherVersion);
+        }
+        if self.states_version(&triple.with_c_library(LinuxLibc::Glibc)) {
+            return Err(WriteError::NeedsCLibrary);
+        }
+        self.write_with(triple, None)
+    }
+
+    /// The name in another dialect of what a name of this one means, with a C library if one is said. Nothing is
+    /// allocated.
+    ///
+    /// It is read [loosely](Dialect::read_loosely), [completed](TargetInfo::with_c_library) and written. Names of Debian, of GNU
+    /// and of rustc state the C library of Linux, and those of Go, OCI and Python don't: from one of the latter to one of the
+    /// former the C library has to be said. So has the ABI of Windows. It changes no name that states one.
+    ///
+    /// # Errors
+    ///
+    /// The name isn't read; or what it means has no name in the other dialect, and why.
+    ///
+    /// # Examples
+    ///
+    /// ```
+    /// use target_names::{LinuxLibc, Dialect};
+    ///
+    /// let name = Dialect::Oci.translate("linux/arm64/v8", Some(LinuxLibc::Glibc), Dialect::Gnu);
+    /// assert_eq!(name.unwrap().as_str(), "aarch64-linux-gnu");
+    /// let name = Dialect::Oci.translate("windows/amd64", Some(LinuxLibc::Msvc), Dialect::Rust);
+    /// assert_eq!(name.unwrap().as_str(), "x86_64-pc-windows-msvc");
+    /// let name = Dialect::Debian.translate("arm64", None, Dialect::Oci);
+    /// assert_eq!(name.unwrap().as_str(), "linux/arm64");
+    /// ```
+    #[inline]
+    pub fn translate(
+        self,
+        name: &str,
+        c_library: Option<LinuxLibc>,
+        to: Dialect,
+    ) -> Result<Name, TranslateError> {
+        let triple = self.read_loosely(name).map_err(TranslateError::Read)?;
+        to.write_with(triple, c_library)
+            .map_err(TranslateError::Write)
+    }
+
+    /// Why a triple without a name has none.
+    #[inline]
+    fn why_unnamed(self, triple: &TripleRef<'_>) -> WriteError {
+        if !self.rows().iter().any(is_written) {
+            return WriteError::OnlyRead;
+        }
+        if is_another_target(triple.vendor) {
+            return WriteError::OtherTarget;
+        }
+        let why = self.why_rows(triple);
+        // Where no row has the system, only another name of it may help, or another version.
+        let has_other_name = matches!(
+            triple.operating_system,
+            OperatingSystem::Wasi
+                | OperatingSystem::Darwin(_)
+                | OperatingSystem::MacOSX(_)
+                | OperatingSystem::IOS(Some(_))
+        );
+        let is_unknown = matches!(why, WriteError::NoSystem | WriteError::NoMachineOnAnySystem);
+        if is_unknown && !has_other_name {
+            return why;
+        }
+        self.why_c_library(triple, why)
+            .or_else(|| self.why_machine(triple))
+            .or_else(|| self.why_system(triple))
+            .unwrap_or(why)
+    }
+
+    /// The reason, if with a C library the triple has a name. It is given why without one it has none.
+    #[inline]
+    fn why_c_library(self, triple: &TripleRef<'_>, why: WriteError) -> Option<WriteError> {
+        if triple.environment != Environment::Unknown {
+            return None;
+        }
+        let (c_libraries, reason) = match triple.operating_system {
+            OperatingSystem::Linux => (
+                [LinuxLibc::Glibc, LinuxLibc::Musl],
+                WriteError::NeedsCLibrary,
+            ),
+            // The name would be that of a row with this machine and system. On Linux a C library may change the machine.
+            OperatingSystem::Windows if why != WriteError::NoMachine => (
+                [LinuxLibc::Msvc, LinuxLibc::Mingw],
+                WriteError::NeedsWindowsAbi,
+            ),
+            _ => return None,
+        };
+        let is_helped = |libc: &LinuxLibc| self.has_name(triple.with_c_library(*libc));
+        c_libraries.iter().any(is_helped).then_some(reason)
+    }
+
+    /// The reason, if another version of the machine has a name.
+    #[inline]
+    fn why_machine(self, triple: &TripleRef<'_>) -> Option<WriteError> {
+        let is_named = |architecture| {
+            let other = TripleRef {
+                architecture,
+                ..*triple
+            };
+            self.has_name(other)
+        };
+        let is_helped = match triple.architecture {
+            Architecture::Arm(_) => {
+                is_named(Architecture::Arm(ArmArchitecture::Armv7))
+                    || is_named(Architecture::Arm(ArmArchitecture::Armv5te))
+            }
+            Architecture::X86_32(_) => is_named(Architecture::X86_32(X86_32Architecture::I686)),
+            _ => false,
+        };
+        match triple.architecture {
+            _ if !is_helped => None,
+            Architecture::Arm(ArmArchitecture::Arm) => Some(WriteError::NeedsArmVersion),
+            _ => Some(WriteError::Baseline),
+        }
+    }
+
+    /// The reason, if a version of the system, or another name of it, has a name.
+    #[inline]
+    fn why_system(self, triple: &TripleRef<'_>) -> Option<WriteError> {
+        let is_named = |operating_system, environment| {
+            let other = TripleRef {
+                operating_system,
+                environment,
+                ..*triple
+            };
+            self.has_name(other)
+        };
+        let version = Some(DeploymentTarget {
+            major: 11,
+            minor: 0,
+            patch: 0,
+        });
+        let is_preview_1 = |row: &Row| row.1 == "wasm32-wasip1" && is_written(row);
+        let (is_helped, reason) = match triple.operating_system {
+            OperatingSystem::Wasi => (
+                self.rows().iter().any(is_preview_1),
+                WriteError::NeedsWasiVersion,
+            ),
+            OperatingSystem::Darwin(_) | OperatingSystem::MacOSX(_) => (
+                is_named(OperatingSystem::MacOSX(version), triple.environment),
+                WriteError::NeedsVersion,
+            ),
+            OperatingSystem::IOS(None)
+                if is_named(OperatingSystem::IOS(version), triple.environment) =>
+            {
+                (true, WriteError::NeedsVersion)
+            }
+            system => (
+                triple.environment == Environment::Sim && is_named(system, Environment::Unknown),
+                WriteError::Simulator,
+            ),
+        };
+        is_helped.then_some(reason)
+    }
+
+    /// The reason, by the machines and systems of the dialect's rows. Of the rows that are written one that begins as the
+    /// triple does says more than one that only has its system, and that more than one that only has its machine.
+    #[inline]
+    fn why_rows(self, triple: &TripleRef<'_>) -> WriteError {
+        let shape = self.shape(triple);
+        let (mut whole, mut bare) = ([0; MAX_LENGTH], [0; MAX_LENGTH]);
+        let whole = text_in(&mut whole, &shape);
+        let bare = text_in(
+            &mut bare,
+            &TripleRef {
+                environment: Environment::Unknown,
+                ..shape
+            },
+        );
+        let system = after_machine(bare);
+        let machine = &bare[..bare.len() - system.len()];
+        let mut why = WriteError::NoMachineOnAnySystem;
+        for row in self.rows() {
+            let text = row.1.as_bytes();
+            if is_written(row) {
+                why = match why {
+                    WriteError::NoAbi => why,
+                    _ if has_system(text, system) && begins(text, bare) => WriteError::NoAbi,
+                    _ if has_system(text, system) => WriteError::NoMachine,
+                    WriteError::NoMachineOnAnySystem if has_machine(text, machine) => {
+                        WriteError::NoSystem
+                    }
+                    _ => why,
+                };
+            } else if text == whole && row.2 == Way::Read {
+                let is_versioned = |major: &u16| {
+                    has_version(*major, 0, row.0)
+                        && self.write_versioned(triple, *major, 0).is_some()
+                };
+                return if FIRST_NUMBERS.iter().any(is_versioned) {
+                    WriteError::NeedsVersion
+                } else {
+                    WriteError::OnlyReadNames
+                };
+            }
+        }
+        why
+    }
+
+    /// Whether names of the triple state a version.
+    #[inline]
+    fn states_version(self, triple: &TripleRef<'_>) -> bool {
+        FIRST_NUMBERS
+            .iter()
+            .any(|major| self.write_versioned(triple, *major, 0).is_some())
+    }
+
+    /// Whether the triple has a name.
+    #[inline(never)]
+    fn has_name(self, triple: TripleRef<'_>) -> bool {
+        self.write(triple).is_some()
+    }
+}
+
+/// First numbers of versions, of which each system and C library has one.
+const FIRST_NUMBERS: [u16; 4] = [1, 2, 11, 10240];
+
+/// The text of a triple with a known vendor.
+#[inline]
+fn text_in<'a>(buffer: &'a mut [u8; MAX_LENGTH], triple: &TripleRef<'_>) -> &'a [u8] {
+    let length = triple.write_to(buffer).min(MAX_LENGTH);
+    &buffer[..length]
+}
+
+/// The system of a triple's text, and what follows it, or the text if it is only a machine.
+#[inline]
+fn after_machine(text: &[u8]) -> &[u8] {
+    let at = text.iter().position(|it| *it == b'-').unwrap_or(0);
+    &text[at..]
+}
+
+/// Whether a triple's text begins with this machine, or with another Arm of 32 bits.
+#[inline]
+fn has_machine(text: &[u8], machine: &[u8]) -> bool {
+    let is_arm = |it: &[u8]| it.starts_with(b"arm") || it.starts_with(b"thumb");
+    begins(text, machine) || is_arm(text) && is_arm(machine)
+}
+
+/// Whether a triple's text has this system after its machine. Of most texts the last byte says that it hasn't.
+#[inline]
+fn has_system(text: &[u8], system: &[u8]) -> bool {
+    let own = after_machine(text).get(..system.len());
+    own.map_or(false, |own| own.last() == system.last() && own == system)
+}
+
+/// Whether a triple's text begins with whole parts of another.
+#[inline]
+fn begins(text: &[u8], parts: &[u8]) -> bool {
+    matches!(text.get(parts.len()), None | Some(b'-')) && text.starts_with(parts)
+}
