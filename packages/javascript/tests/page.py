@@ -166,6 +166,7 @@ def says_what_is_left_out(page):
     for text, targets, keys in (("matrix:\n  os: [ubuntu-latest, macos-14]\n  target:\n    - avr\n    - arm64\nrunner: x", ["avr", "arm64"], "os and runner"),
                                 ("include:\n  - target: avr\n    os: ubuntu-latest\n  - os: windows\n    target: arm64", ["avr", "arm64"], "os"),
                                 ("{\"name\": \"one\", \"target\": \"avr\", \"features\": [\"a\", \"b\"]}", ["avr"], "name and features"),
+                                ("{\n  \"os\": [\n    \"linux\",\n    \"windows\"\n  ],\n  \"targets\": [\"avr\"]\n}", ["avr"], "os"),
                                 ("libc6:i386\navr", ["libc6:i386", "avr"], None), ("key:\navr", ["avr"], None)):
         page.run("document.getElementById('targets').select()")
         page.run("document.getElementById('targets').focus()")
