@@ -2,7 +2,7 @@
 use crate::spelled::{SpelledParts, Spelling};
 use crate::FloatAbi;
 use target_lexicon::spellings::{first_part, fit_alone, Place, Reading};
-use target_lexicon::{Refusal, TextPart, TripleRef};
+use target_lexicon::{Named, Refusal, TextPart, TripleRef};
 
 /// The triple that a string means which is spelled like a triple, as the tools of GNU and LLVM print them. Nothing is
 /// allocated.
@@ -47,10 +47,13 @@ pub fn read(text: &str) -> Result<TripleRef<'_>, Refusal<'_>> {
             let second = first_part(rest.unwrap_or("")).0;
             if is_soft_floats(second) && FloatAbi::of(&triple) != Some(FloatAbi::Soft) {
                 // It stays the vendor that isn't known.
-                let mut reading = Reading::start();
+                let (mut reading, start) = (Reading::start(), first.len() + 1);
                 let part = |text, start| TextPart { text, start };
-                reading.take(triple.architecture.name(), part(first, 0))?;
-                reading.take("", part(second, first.len() + 1))?;
+                reading.take(part(triple.architecture.name(), 0))?;
+                reading.take(part("", start)).map_err(|mut refusal| {
+                    refusal.part = part(second, start);
+                    refusal
+                })?;
             }
             Ok(triple)
         }
