@@ -4,26 +4,30 @@
 usage: .ci/run [--without NAME]..   NAME is a tool or Debian's package of it, as PACKAGES has them, or `kit`, `browser`, `wasm32`
 
 While `rt ci` proves, what needs no proof is built with cargo and tested; what the two built is tested after both. Each step
-runs by itself too, as it is printed, with BUILT as the folder that is said there. As root, Debian's packages of missing tools
-are installed. If a tool is still missing that no --without names, no step runs, and the gate fails. A step that needs a named
-tool isn't run; a step without a part that needs one fails, unless that is named in WITHOUT, where the steps get all names.
-With UPSTREAM, the folder of upstream's crate, its answers, upstream's tests, public surface and dependents are tried too. The last lines say
-how long each step took, what was left out, and which step failed.
+runs by itself too, as it is printed, with WORK as any folder, and BUILT as WORK/built. As root, Debian's packages of missing tools
+are installed; then every step runs as the user `nobody`, in a copy of the tree. If a tool is still missing, or too old, that no --without
+names, no step runs, and the gate fails. A step that needs a named tool isn't run; a step without a part that needs one fails,
+unless that is named in WITHOUT, where the steps get all names. A step fails that listens where other machines reach it. With
+UPSTREAM, the folder of upstream's crate, upstream's tests, public surface and dependents are tried too. The last lines say how
+long each step took, what was left out, and which step failed.
 """
 import argparse
+import contextlib
 import glob
+import ipaddress
 import os
 import re
 import shutil
 import signal
 import subprocess
+import sys
 import tempfile
 import threading
 import time
 
 # Debian's packages of the tools: commands, modules of Debian's Python, and paths.
-MODULES = {it: f"python3-{it}" for it in "hypothesis pip venv hatchling build installer pandas distributed packaging selenium jsonschema".split()} | {"ensurepip": "python3-venv"}
-PACKAGES = {it: it for it in "git clang valgrind cmake meson jq pkg-config mypy pypy3 shellcheck pyflakes3 chromium npm esbuild lintian rpm makepkg zsh fish".split()} | MODULES | {
+MODULES = {it: f"python3-{it}" for it in "hypothesis pip venv hatchling build installer pandas distributed packaging selenium jsonschema markdown".split()} | {"ensurepip": "python3-venv"}
+PACKAGES = {it: it for it in "git clang valgrind cmake meson cbindgen jq pkg-config mypy pypy3 shellcheck pyflakes3 chromium npm esbuild lintian rpm makepkg zsh fish".split()} | MODULES | {
     "cargo": "cargo-web", "rustc": "rustc-web", "rustfmt": "rustfmt-web", "cargo-clippy": "rust-web-clippy", "cc": "gcc", "c++": "g++", "nm": "binutils",
     "man": "man-db", "cram3": "python3-cram", "chromedriver": "chromium-driver", "node": "nodejs", "tsc": "node-typescript", "dpkg-buildpackage": "dpkg-dev",
     "dh": "debhelper", "dh_python3": "dh-python", "llvm-config": "llvm-dev", "go": "golang-go", "nix-instantiate": "nix-bin",
@@ -32,6 +36,8 @@ PACKAGES = {it: it for it in "git clang valgrind cmake meson jq pkg-config mypy 
     **{f"/usr/share/cargo/registry/{crate}": f"librust-{package}-dev" for crate, package in (
         ("clap-4.0.32", "clap-4"), ("clap_complete-4.0.7", "clap-complete"), ("serde_json-1.0.87", "serde-json"), ("cfg-expr-0.10.3", "cfg-expr"), ("cc-1*", "cc"))},
 }
+# The oldest versions that will do, also of what is in /usr/bin, where Debian's packages are built. An older tool is a missing one.
+OLDEST = {"rustc": "1.68", "cargo": "1.68", "cmake": "3.19", "node": "18.0", "clang": "14.0"}
 GROUPS = {"kit": ["rt"], "browser": ["chromium", "chromedriver", "selenium"]}
 
 
@@ -42,7 +48,9 @@ WITHOUT |= {tool for name in WITHOUT for tool in GROUPS.get(name, [])} | {tool f
 
 TOP = os.path.dirname(os.path.dirname(os.path.realpath(__file__)))
 WORK = tempfile.mkdtemp(prefix="gate-")
-BUILT, CARGO_HOME, WASM = f"{WORK}/built", f"{WORK}/cargo", f"{WORK}/rust"
+BUILT, CARGO_HOME, WASM = f"{WORK}/built", f"{WORK}/cargo", os.environ.get("WASM_RUST") or f"{WORK}/rust"
+# What starts a command as `nobody`, who can't become another user again.
+AS_NOBODY = ["setpriv", "--reuid=65534", "--regid=65534", "--clear-groups", "--no-new-privs"]
 COMMANDS = "packages/target/release"
 STARTED = time.time()
 
@@ -65,14 +73,14 @@ WITHOUT_PROOF = [
     ("what they take from the kit's library, written again, is the kit's", 'checks/specification library "$(dirname "$(rt doc)")/rattle"', "rt cargo"),
     ("the command `target-lexicon`: arguments, output and statuses", "packages/command/test", "cargo"),
     ("it is built for the next steps, and a program to compare with", "cd packages/command && cargo build --quiet --locked --release --all-features", "cargo"),
-    ("the library for C is built and installed for the next steps", f"packages/c/install {BUILT}", "cargo cc"),
+    ("the library for C is built and installed for the next steps", 'packages/c/install "$BUILT"', "cargo cc"),
     ("the library for C, header, packages and samples, as C and C++ users have them", "packages/c/test", "cargo cc"),
-    ("the Python package: each answer, wheels, types, samples", f"packages/python/test {BUILT}/lib/libtarget_lexicon.so {COMMANDS}/lines",
+    ("the Python package: each answer, wheels, types, samples", f'packages/python/test "$BUILT/lib/libtarget_lexicon.so" {COMMANDS}/lines',
      "cargo cc hatchling"),
-    ("Debian's packages are built, and lintian finds no error", f"packages/debian/build {WORK}/debian -d", "cargo cc dpkg-buildpackage"),
-    ("what is released is made, and works in clean folders", f"tools/release {WORK}/release", "cargo cc"),
-    ("the module, the package and the page for JavaScript are built", f"packages/javascript/build --out {WORK}/web", "cargo wasm32"),
-    ("they answer as the program does, in Node and in a browser", f"packages/javascript/test {WORK}/web --program {COMMANDS}/lines", "cargo wasm32"),
+    ("Debian's packages are built, and lintian finds no error", 'packages/debian/build "$WORK/debian" -d', "cargo cc dpkg-buildpackage"),
+    ("what is released is made, and works in clean folders", 'tools/release "$WORK/release"', "cargo cc"),
+    ("the module, the package and the page for JavaScript are built", 'packages/javascript/build --out "$WORK/web"', "cargo wasm32"),
+    ("they answer as the program does, in Node and in a browser", f'packages/javascript/test "$WORK/web" --program {COMMANDS}/lines', "cargo wasm32"),
 ]
 LAST = [
     ("links, names, samples, counts and versions of the pages, and the pictures", "checks/pages", "cargo cc"),
@@ -91,18 +99,27 @@ lock = threading.Lock()
 def missing():
     """The tools that aren't there, and that aren't named."""
     tools = dict.fromkeys([*PACKAGES, *(tool for step in [*FIRST, PROOFS, *WITHOUT_PROOF, *LAST] for tool in step[2].split())])
-    return [tool for tool in tools if tool not in WITHOUT and not has(tool)]
+    return [tool for tool in tools if tool not in WITHOUT and (not has(tool) or too_old(tool))]
+
+
+def too_old(tool):
+    """What is too old of a tool: the path and the version of each of its commands that is; empty if none is."""
+    paths = {*filter(os.path.exists, (shutil.which(tool) or "", f"/usr/bin/{tool}"))} if tool in OLDEST else ()
+    said = {path: subprocess.run([path, "--version"], capture_output=True, text=True).stdout for path in sorted(paths)}
+    versions = {path: re.search(r"\d+\.\d+", text) for path, text in said.items()}
+    return [f"{path} is {it[0]}, and {OLDEST[tool]} is needed" for path, it in versions.items()
+            if it and [*map(int, it[0].split("."))] < [*map(int, OLDEST[tool].split("."))]]
 
 
 def has(tool):
     """Whether there is a command, a module or a path, or for `wasm32` rustc's `std`."""
     if tool == "wasm32":
-        command = f'ls "$(PATH={WASM}/bin:$PATH rustc --print target-libdir --target wasm32-unknown-unknown)"/libcore-*.rlib'
+        command = 'ls "$(PATH=$WASM_RUST/bin:$PATH rustc --print target-libdir --target wasm32-unknown-unknown)"/libcore-*.rlib'
     elif tool in MODULES:
         command = f"/usr/bin/python3 -c 'import {tool}'"
     else:
         return bool(glob.glob(tool) if tool.startswith("/") else shutil.which(tool))
-    return subprocess.run(["bash", "-c", command], capture_output=True).returncode == 0
+    return subprocess.run(["bash", "-c", command], capture_output=True, env={**os.environ, "WASM_RUST": WASM}).returncode == 0
 
 
 def say(*lines):
@@ -173,7 +190,7 @@ def install(environment):
     packages = " ".join(sorted({PACKAGES[tool] for tool in tools if tool in PACKAGES}))
     apt = "apt-get -o DPkg::Lock::Timeout=600"
     commands = [f"{apt} update; {apt} install -y --no-install-recommends --no-remove {packages}"] * bool(packages)
-    commands += [f"packages/javascript/debian_rust {WASM}"] * ("wasm32" in tools)
+    commands += ['packages/javascript/debian_rust "$WASM_RUST"'] * ("wasm32" in tools)
     can = os.geteuid() == 0 and has("apt-get")
     say(f"missing packages: {packages or 'none'}{'' if can or not commands else ', and none is installed: that takes root and apt-get'}")
     for command in commands * can:
@@ -184,7 +201,8 @@ def install(environment):
         running.discard(process)
     tools = missing()
     if tools:
-        failed.append((f"missing: {' '.join(tools)}. Install these, or name what may be left out, as with --without {tools[0]}", 2))
+        old = "".join(f" ({it})" for tool in tools for it in too_old(tool))
+        failed.append((f"missing: {' '.join(tools)}{old}. Install these, or name what may be left out, as with --without {tools[0]}", 2))
 
 
 def beside(environment):
@@ -194,8 +212,83 @@ def beside(environment):
             return
 
 
+def listeners():
+    """Each process of a step that listens on another address than those of loopback, with the address."""
+    addresses = {}
+    for table in "/proc/net/tcp", "/proc/net/tcp6":
+        with contextlib.suppress(OSError), open(table, encoding="utf-8") as file:
+            for line in file.readlines()[1:]:
+                _, local, _, state, *_, number = line.split()[:10]
+                words, port = local.split(":")
+                address = ipaddress.ip_address(b"".join(bytes.fromhex(words[at:at + 8])[::-1] for at in range(0, len(words), 8)))
+                if state == "0A" and not (getattr(address, "ipv4_mapped", None) or address).is_loopback:
+                    addresses[f"socket:[{number}]"] = f"{address}, port {int(port, 16)}"
+    for folder in glob.glob("/proc/[0-9]*") if addresses else []:
+        with contextlib.suppress(OSError):  # it has ended, or is another user's
+            if os.getsid(int(os.path.basename(folder))) in {it.pid for it in running}:
+                for number in addresses.keys() & {os.readlink(it) for it in glob.glob(f"{folder}/fd/*")}:
+                    with open(f"{folder}/cmdline", encoding="utf-8", errors="replace") as file:
+                        yield f"{file.read(200).replace(chr(0), ' ')} listens on {addresses[number]}"
+
+
+def watch():
+    """Fails the gate when a step listens where other machines reach it."""
+    while not failed:
+        for what in listeners():
+            failed.append((what, 1))
+            stop()
+        time.sleep(0.5)
+
+
+def reached(path):
+    return subprocess.run([*AS_NOBODY, "test", "-x", path], capture_output=True).returncode == 0
+
+
+def hide():
+    """Leaves on the path only folders that `nobody` reaches, and a copy of the folder of rustc if it isn't among these."""
+    rustc = shutil.which("rustc")
+    os.environ["PATH"] = ":".join(it for it in os.environ["PATH"].split(":") if reached(it))
+    if not rustc or shutil.which("rustc") == rustc:
+        return
+    folder = subprocess.run([rustc, "--print", "sysroot"], capture_output=True, text=True, cwd=TOP).stdout.strip()
+    parts = [f"{folder}/{it}" for it in ("bin", "lib", "libexec") if os.path.isdir(f"{folder}/{it}")]
+    for how in "-al", "-a":  # links take no room, but another file system has none, and their rights are those of the file
+        copy = tempfile.mkdtemp(prefix="rust-", dir=WORK)
+        os.chmod(copy, 0o755)
+        subprocess.run(["cp", how, *parts, copy], capture_output=True)
+        if how == "-a":
+            subprocess.run(["chmod", "-R", "a+rX", copy])
+        if subprocess.run([*AS_NOBODY, f"{copy}/bin/rustc", "-V"], capture_output=True).returncode == 0:
+            os.environ["PATH"] = f"{copy}/bin:{os.environ['PATH']}"
+            return
+
+
+def run_as_nobody():
+    """As root, installs what is missing, and runs this script as `nobody`, in a copy of the tree. Returns its status."""
+    os.chmod(WORK, 0o755)
+    hide()
+    install({**os.environ, "WASM_RUST": WASM})
+    if failed:
+        return 2
+    shutil.copytree(TOP, f"{WORK}/tree", symlinks=True, ignore=shutil.ignore_patterns("out", "target", "rt-aside"))
+    for name in "home", "tmp":
+        os.mkdir(f"{WORK}/{name}")
+    subprocess.run(["chown", "-R", "--no-dereference", "65534:65534", *(f"{WORK}/{it}" for it in ("tree", "home", "tmp"))], check=True)
+    environment = {name: value for name, value in os.environ.items() if not name.startswith("XDG_") and name not in ("CARGO_HOME", "RUSTUP_HOME")}
+    environment |= {"HOME": f"{WORK}/home", "TMPDIR": f"{WORK}/tmp", "USER": "nobody", "LOGNAME": "nobody", "WASM_RUST": WASM}
+    say("every step runs as the user nobody, in a copy of the tree")
+    process = subprocess.Popen([*AS_NOBODY, "python3", f"{WORK}/tree/.ci/gate.py", *sys.argv[1:]], cwd=f"{WORK}/tree", env=environment)
+    try:
+        return process.wait()
+    finally:
+        process.terminate()
+        with contextlib.suppress(subprocess.TimeoutExpired):
+            process.wait(timeout=20)
+
+
 def main():
-    environment = {**os.environ, "BUILT": BUILT, "WASM_RUST": WASM, "PYTHONDONTWRITEBYTECODE": "1", "WITHOUT": " ".join(sorted(WITHOUT))}
+    environment = {**os.environ, "WORK": WORK, "BUILT": BUILT, "WASM_RUST": WASM, "PYTHONDONTWRITEBYTECODE": "1", "WITHOUT": " ".join(sorted(WITHOUT))}
+    threading.Thread(target=watch, daemon=True).start()
     with open("/proc/meminfo", encoding="utf-8") as file:
         memory = next(int(line.split()[1]) // 1000000 for line in file if line.startswith("MemAvailable"))
     if memory >= 5 * os.cpu_count():
@@ -230,11 +323,17 @@ def interrupted(number, _frame):
 
 
 begun, status = time.monotonic(), 1
+can_drop = os.geteuid() == 0 and has("setpriv") and subprocess.run([*AS_NOBODY, "true"], capture_output=True).returncode == 0
 for number in signal.SIGHUP, signal.SIGINT, signal.SIGTERM:
     signal.signal(number, interrupted)
 try:
-    main()
-    status = failed[0][1] if failed else 0
+    if can_drop:
+        status = run_as_nobody()
+    else:
+        if os.geteuid() == 0:
+            say("every step runs as root, since setpriv can't make it another user")
+        main()
+        status = failed[0][1] if failed else 0
 except SystemExit as end:
     failed.append(("a signal", end.code))
     status = end.code
@@ -243,12 +342,13 @@ finally:
         stop()
         time.sleep(0.2)
     shutil.rmtree(WORK, ignore_errors=True)
-    print(f"the steps of .ci/run, after {(time.monotonic() - begun) / 60:.0f} min")
-    for command, seconds in passed:
-        print(f"{seconds:6.0f} s  {command}")
-    for what in left_out:
-        print(f"left out: {what}")
-    for command, code in failed:
-        print(f"FAILED, with status {code}: {command}")
-    print(f"{len(passed)} passed, {len(failed)} failed", flush=True)
+    if failed or not can_drop:  # the steps' own run has printed the rest
+        print(f"the steps of .ci/run, after {(time.monotonic() - begun) / 60:.0f} min")
+        for command, seconds in passed:
+            print(f"{seconds:6.0f} s  {command}")
+        for what in left_out:
+            print(f"left out: {what}")
+        for command, code in failed:
+            print(f"FAILED, with status {code}: {command}")
+        print(f"{len(passed)} passed, {len(failed)} failed", flush=True)
     os._exit(status if 0 < status < 256 else int(bool(status)))

@@ -89,7 +89,7 @@ REPLACEMENTS = [
     ("lexicon_fields/src/table.rt", ", steps: &mut Steps", ""),
     ("lexicon_fields/src/table.rt", ", steps)", ")"),
     ("lexicon_fields/src/table.rt", "steps.tick();", ""),
-    ("lexicon_fields/src/table.rt", "/// `steps` ticks once for each row that is compared with the string: at least once, and at most eight times.\n", ""),
+    ("lexicon_fields/src/table.rt", "/// `steps` ticks exactly as often as that compares a row with the string: at least once, and at most eight times. No\n/// clause excludes a comparison without a tick: that only [`row_order`] compares can be read in the code.\n", ""),
     ("lexicon_fields/src/table.rt", " `steps` ticks once.", ""),
     ("", ", &mut Steps::new()", ""),
     ("target_lexicon/src/settles_as.rt", "settles_as(&other.as_triple_ref())", "settles_as(other)"),

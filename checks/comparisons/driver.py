@@ -1,16 +1,26 @@
 """Compares what the Rust crate says of C libraries, floating-point arguments and types of C with what rustc and clang say, the
-rules of packages/names/examples/linkers.rs with rustc's, and variants and versions with LLVM's."""
+rules of packages/names/examples/linkers.rs with rustc's, variants and versions with LLVM's, and what the sample driver in C says of
+clang's triples with clang."""
 import concurrent.futures
 import re
 import shutil
+import subprocess
 
 import built
-from comparisons.tools import output
+from comparisons.tools import output, rustc_specs
 
 # Where clang 14 knows less: visionOS, what `wchar_t` is on UEFI, and that Arm is hard-float by its system or with uClibc.
 LAYOUTS, FLOATS = "visionos|uefi", "freebsd|3ds|uclibceabihf"
 # A compiler of GNU's without GNU's options, and a linker of its own.
 LINKERS = "msp430-none-elf|x86_64-unknown-l4re-uclibc"
+# Of clang's triples: those of rustc, and these machines with these systems.
+MACHINES = ("x86_64 i686 aarch64 armv7", "i386 aarch64_be armv6 armeb thumbv7a mips mipsel mips64 mips64el powerpc powerpc64 powerpc64le riscv32 "
+            "riscv64 s390x sparc sparc64 m68k")
+SYSTEMS = ("pc-windows-msvc pc-windows-msvc19.33.31629 w64-mingw32 apple-darwin22.6 apple-macos13.1 apple-ios16.2",
+           "linux-gnu none-linux-musl linux-android21 unknown-freebsd14.0 unknown-netbsd9.3 unknown-openbsd7.3 unknown-elf")
+# Where clang 14 knows less: that ILP32 has narrow pointers, and visionOS. It takes other processors for the two names of macOS, and needs a system
+# to say how frames are unwound.
+ILP32, SIGNS, MACROS = "gnu_ilp32", "xros", "apple-darwin|unknown-unknown|-unknown-elf"
 SOURCE = """
 int long_double_size = sizeof(long double), long_double_alignment = _Alignof(long double);
 int wchar_size = sizeof(__WCHAR_TYPE__), wchar_alignment = _Alignof(__WCHAR_TYPE__);
@@ -88,6 +98,53 @@ def check_variants(report, targets, asked):
     with concurrent.futures.ThreadPoolExecutor() as pool:
         report.fact("rustc's oldest version is the same", zip(apple, (ours[target][14] for target in apple), pool.map(deployment_target, apple)))
     report.fact("and no other system has one", ((string, it[14], "-") for string, it in ours.items() if "-apple-" not in string))
+
+
+def macros_of(target):
+    """The macros that clang defines; none if it doesn't know the target."""
+    ran = subprocess.run(["clang", "-target", target, "-dM", "-E", "-x", "c", "/dev/null"], capture_output=True, text=True, check=False)
+    return dict(re.findall(r"^#define (\S+) ?(.*)", ran.stdout, re.M)) if ran.returncode == 0 else {}
+
+
+def clang_facts(target):
+    """What the sample driver says of a target, from clang itself."""
+    macros = macros_of(target)
+    if "__BYTE_ORDER__" not in macros:
+        return None
+    linked = subprocess.run(["clang", "-target", target, "-###", "-x", "c", "/dev/null", "-o", "it"], capture_output=True, text=True, check=False).stderr
+    size = {name: macros[f"__SIZEOF_{name.upper()}__"] for name in ("int", "long", "pointer")}
+    return {"C types": "int {int}, long {long}, pointer {pointer} bytes".format(**size), "char": "unsigned" if "__CHAR_UNSIGNED__" in macros else "signed",
+            "-m": "".join(re.findall(r'"-m" "([^"]*)"', linked)[:1]), "-dynamic-linker": "".join(re.findall(r'"--?dynamic-linker(?:=|" ")([^"]*)"', linked)[:1]),
+            "macros": macros}
+
+
+def check_clang(report, asked, folder):
+    """Asks the sample driver in C, as one passes -target to it, and clang, of the same triples. `asked` returns what LLVM says of each."""
+    if not report.has("clang", shutil.which("clang")):
+        return
+    subprocess.run(["cc", "-std=c99", f"{built.ROOT}/packages/c/samples/driver.c", f"-I{report.tree}/include", f"{report.tree}/lib/libtarget_lexicon.a",
+                    "-o", f"{folder}/driver"], check=True)
+    everywhere = f"{MACHINES[0]} {MACHINES[1]}".split()
+    triples = sorted({it["llvm-target"] for it in rustc_specs().values()} | {f"{it}-{of}" for it in MACHINES[0].split() for of in SYSTEMS[0].split()} |
+                     {f"{it}-{of}" for it in everywhere for of in SYSTEMS[1].split()})
+    ours = {}
+    for triple in triples:
+        said = output(f"{folder}/driver", triple).replace("options  -m ", "-m       ").replace("options  -dynamic-linker ", "-dynamic-linker ")
+        if not said.startswith("error: "):
+            ours[triple] = {key.strip(): value.strip() for key, value in re.findall(r"^  (-dynamic-linker|.{8}) (.*)", said, re.M)}
+    versions = asked([*ours])
+    with concurrent.futures.ThreadPoolExecutor() as pool:
+        theirs = {triple: it for triple, it in zip(ours, pool.map(clang_facts, ours)) if it}
+        for_llvm = dict(zip(theirs, pool.map(lambda it: macros_of(ours[it]["for LLVM"]), theirs)))
+    report.fact("the driver in C answers of 300 of clang's triples", [(f"{len(theirs)} of {len(triples)}", len(theirs) >= 300, True)])
+    for kind, but in {"C types": ILP32, "char": SIGNS, "-m": None, "-dynamic-linker": None}.items():
+        answered = [(triple, ours[triple].get(kind, "-"), it[kind]) for triple, it in theirs.items()]
+        report.fact(f"and clang has the same {kind}", (row for row in answered if row[1] != "-"), but)
+    for kind in ("system", "version"):
+        report.fact(f"LLVM has the same stated {kind}", ((triple, it.get(kind, "-"), versions[triple][kind]) for triple, it in ours.items()))
+    report.fact("clang defines the same macros for the string for LLVM, where it drops no version", (
+        (triple, sorted(name for name in {*it["macros"], *for_llvm[triple]} if it["macros"].get(name) != for_llvm[triple].get(name))[:5], [])
+        for triple, it in theirs.items() if versions[triple]["version"] == "-" and ("apple" in triple or versions[triple]["system"] == "-")), MACROS)
 
 
 def check(report, targets, specs):

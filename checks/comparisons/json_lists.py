@@ -9,7 +9,6 @@ import collections
 import json
 import subprocess
 import sys
-import tempfile
 
 import target_lines
 import upstream
@@ -77,7 +76,7 @@ def main(options, folder):
 
     settings = hypothesis.settings(max_examples=options.inputs, deadline=None, database=None,
                                    suppress_health_check=list(hypothesis.HealthCheck))
-    hypothesis.configuration.set_hypothesis_home_dir(f"{tempfile.gettempdir()}/hypothesis")
+    hypothesis.configuration.set_hypothesis_home_dir(f"{folder}/hypothesis")
     try:
         hypothesis.seed(options.seed)(settings(hypothesis.given(WHOLE | CHANGED)(compare)))()
     except WrongAnswer as error:

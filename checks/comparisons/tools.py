@@ -19,6 +19,7 @@ class Report:
         if not os.path.exists(f"{tree}/lib/libtarget_lexicon.so"):
             tree = f"{folder}/tree"
             subprocess.run([f"{built.ROOT}/packages/c/install", tree], check=True, stdout=subprocess.DEVNULL)
+        self.tree = tree
         os.environ["TARGET_LEXICON_LIBRARY"] = f"{tree}/lib/libtarget_lexicon.so"
         sys.path.insert(0, f"{built.ROOT}/packages/python/src")
         import target_lexicon
@@ -71,7 +72,8 @@ def rustc_specs():
 def rustc_answers(specs):
     """What rustc says of each target."""
     return {name: {"order": it.get("target-endian", "little"), "width": str(it["target-pointer-width"]), "machine": it["arch"],
-                   "format": it.get("binary-format", "elf").replace("-", ""), "llvm": it["llvm-target"]} for name, it in specs.items()}
+                   "format": it.get("binary-format", "elf").replace("-", ""), "llvm": it["llvm-target"],
+                   "emulated TLS": str(it.get("tls-model") == "emulated")} for name, it in specs.items()}
 
 
 def order_and_width(triple):

@@ -1,5 +1,5 @@
-# Writes the manual page of the library from target_lexicon.h: the comment at its start, its calls with their comments, and the
-# statuses.
+# Writes the manual page of the library from target_lexicon.h: the comment at its start, its structs and calls with their comments,
+# and the statuses.
 # usage: awk -f manual.awk target_lexicon.h
 
 function escaped(line) {
@@ -24,15 +24,22 @@ function finish() {
     calls = text = ""
 }
 
+function code(line) { calls = calls "\\fB" escaped(line) "\\fR\n" }
+
+# Adds the name of a call to those of the page.
+function list(name) { names = names (names == "" ? "" : ",\n") name }
+
 /^#define LEXICON_VERSION "/ { version = $3; gsub(/"/, "", version) }
 /^enum lexicon_status \{/ { in_statuses = 1; next }
-/^};/ { in_statuses = 0 }
+/^struct lexicon_[a-z_]* \{/ { in_struct = 1 }
+in_struct && !/ written by tools| end of what is written/ { code($0) }
+/^};/ { in_statuses = in_struct = 0 }
+in_struct { next }
 in_statuses {
     split($0, parts, /\/\* | \*\//)
     statuses = statuses ".TP\n" escaped($1 " (" ($3 + 0) ")") "\n" (parts[2] == "" ? "\\&" : escaped(parts[2])) "\n"
     next
 }
-/^\/\* The calls above/ { exit }
 /^\/\* / { finish(); in_comment = 1; $0 = substr($0, 4) }
 in_comment {
     in_comment = !/ \*\/$/
@@ -44,10 +51,19 @@ in_comment {
     if (!in_comment && introduction == "") { introduction = text; text = "" }
     next
 }
-/^#define LEXICON_MAX_GROWTH/ || /^(enum lexicon_status|const char \*) ?lexicon_[a-z0-9_]*\(/ || in_call {
-    calls = calls "\\fB" escaped($0) "\\fR\n"
-    in_call = /[^;]$/ && !/^#/
-    if (match($0, /lexicon_[a-z0-9_]*\(/) && $0 ~ /^[a-z]/) names = names (names == "" ? "" : ",\n") substr($0, RSTART, RLENGTH - 1)
+/^LEXICON_NAMES\(/ {
+    sub(/^LEXICON_NAMES\(/, "")
+    sub(/,.*/, "")
+    list($0)
+    code("const char *" $0 "(uint32_t number);")
+    next
+}
+/^#define LEXICON_MAX_GROWTH/ || /^(static inline )?(enum lexicon_[a-z]*|const char \*) ?lexicon_[a-z0-9_]*\(/ || in_call {
+    if (match($0, /lexicon_[a-z0-9_]*\(/) && !in_call) list(substr($0, RSTART, RLENGTH - 1))
+    sub(/^static inline /, "")
+    in_call = /[^;{]$/ && !/^#/
+    sub(/ \{$/, ";")
+    code($0)
 }
 
 BEGIN { in_example = 0 }

@@ -7,9 +7,9 @@ from names_table import Mistake, columns
 
 PATH = "tools/names/answers.tsv"
 ENUMS = {"endianness": "Endianness", "calling_convention": "CallingConvention", "data_model": "DataModel", "c_library": "CLibrary",
-         "float_abi": "FloatAbi", "arm_profile": "ArmProfile", "linux_libc": "LinuxLibc"}
+         "float_abi": "FloatAbi", "arm_profile": "ArmProfile", "signedness": "Signedness", "linux_libc": "LinuxLibc"}
 JAVASCRIPT = {"endianness": "ENDIANNESS", "calling_convention": "CONVENTIONS", "data_model": "MODELS", "c_library": "C_LIBRARIES",
-              "float_abi": "FLOAT_ABIS", "arm_profile": "ARM_PROFILES", "linux_libc": "LINUX_LIBCS"}
+              "float_abi": "FLOAT_ABIS", "arm_profile": "ARM_PROFILES", "signedness": "SIGNEDNESS", "linux_libc": "LINUX_LIBCS"}
 
 
 @dataclass

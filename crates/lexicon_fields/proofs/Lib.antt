@@ -1,4 +1,4 @@
--- RowTexts, PrefixKeyLemmas, Halving, RowLemmas, RowReads: the table of names is in order, the search finds
+-- RowTexts, PrefixKeyLemmas, SearchSteps, RowLemmas, RowReads: the table of names is in order, the search finds
 -- each row, and a row has the values that the lists of names give. LookUpLemmas: what a look-up in a list gives, and
 -- how to show that names parse back. NamesReadBack, VersionsReadBack, OperatingSystemsReadBack, ParsedSystems,
 -- VendorsReadBack: the names of each type parse back and have no dash, and a parsed version is in range. Variants:
@@ -7,7 +7,6 @@
 pub mod EqualByValue
 pub mod HashInputs
 pub mod PrefixKeyLemmas
-pub mod Halving
 pub mod LawOfNames
 pub mod LookUpLemmas
 pub mod NamesReadBack
@@ -20,3 +19,4 @@ pub mod ParsedSystems
 pub mod VendorsReadBack
 pub mod VersionsReadBack
 pub mod Puts
+pub mod SearchSteps

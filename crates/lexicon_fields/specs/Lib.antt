@@ -9,6 +9,7 @@ pub mod Names
 pub mod OperatingSystem
 pub mod PointerWidth
 pub mod Private
+pub mod Search
 pub mod SubArchitecture
 pub mod Vendor
 pub mod VendorRef

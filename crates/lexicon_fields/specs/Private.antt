@@ -1,5 +1,5 @@
 -- Definitions for the contracts of private functions; no public contract cites them.
-use Rattle.std.specs.Prelude.{ℕ, zero, suc, ◌+◌, ◌*◌, ◌^◌, List, [], ◌∷◌, Option, Some, None, option_map, option_and_then}
+use Rattle.std.specs.Prelude.{◌≡◌, true, ℕ, zero, suc, ◌+◌, ◌*◌, ◌^◌, List, [], ◌∷◌, Option, Some, None, option_map, option_and_then}
 use Rattle.std.specs.Borrow.{Bor}
 use Rattle.std.specs.Option.{option_or}
 use Rattle.lexicon_fields.specs.{declared.deployment_target.DeploymentTarget.DeploymentTarget, declared.operating_system.OperatingSystem.OperatingSystem, Names.Pair}
@@ -12,6 +12,7 @@ use Rattle.lexicon_fields.specs.declared.environment.Environment.TheVariants as 
 use Rattle.lexicon_fields.specs.declared.binary_format.BinaryFormat.TheVariants as binary_format
 use Rattle.lexicon_fields.specs.declared.table.Meaning.TheVariants as meaning
 use Rattle.lexicon_fields.specs.{Architecture.architecture_of, Vendor.known_vendor_of, OperatingSystem.fixed_operating_system_of, Environment.environment_of, BinaryFormat.binary_format_of}
+use Rattle.lexicon_fields.specs.FixedRow.{has_row}
 use Rattle.lexicon_fields.specs.OperatingSystem.{optional_version_of, text_after_prefix}
 use Rattle.lexicon_fields.specs.Version.{pieces_of}
 
@@ -54,3 +55,9 @@ values_meant (meaning.Environment it) = (None, None, None, Some it, None)
 values_meant (meaning.BinaryFormat it) = (None, None, None, None, Some it)
 values_meant meaning.None = (None, None, Some operating_system.None_, Some environment.None, None)
 values_meant meaning.Unknown = (Some architecture.Unknown, Some known_vendor.Unknown, Some operating_system.Unknown, Some environment.Unknown, Some binary_format.Unknown)
+
+-- the table has this string and meaning, and the string is this one
+pub record IsTheRow (name : List ℕ) (row : Bor (List ℕ) × Meaning) : Type 0 where
+  pub exists : has_row name ≡ true
+  pub text : row.0.now ≡ name
+  pub values : values_meant row.1 ≡ name_values name

@@ -56,7 +56,8 @@ pub fn names_read_back()
 {}
 
 /// A string that parses as a vendor, an environment or a binary format is its name. The name of an architecture or a
-/// system can be longer than the string, by at most 2 and 4 bytes: `arm64` is `aarch64`, and `ios1` is `ios1.0.0`.
+/// system can be longer than the string, by at most 2 and 4 bytes: `arm64` is `aarch64`, and `ios1` is `ios1.0.0`. So
+/// printed triples are at most so much longer than what was parsed.
 pub fn names_grow_at_most()
     ensures vendor { TextsAreNames vendor_name vendor_of }
     ensures environment { TextsAreNames environment_name environment_of }
@@ -65,7 +66,8 @@ pub fn names_grow_at_most()
     ensures operating_system { NamesGrowAtMost 4 operating_system_name operating_system_of }
 {}
 
-/// No name has more than 21 bytes, except the string of a custom vendor.
+/// No name has more than 21 bytes, except the string of a custom vendor. So the length of a printed triple doesn't
+/// overflow.
 pub fn names_are_short()
     ensures architecture { NamesAreShort architecture_name }
     ensures vendor { NamesAreShort known_vendor_name }
@@ -76,7 +78,8 @@ pub fn names_are_short()
     ensures binary_format { NamesAreShort binary_format_name }
 {}
 
-/// A string that is put after another follows it, and one that is put at the start of a buffer is all that is there.
+/// A string that is put after another follows it, and one that is put at the start of a buffer is all that is there. So
+/// a triple or a refusal can be written into a buffer piece by piece.
 pub fn texts_are_put_in_order()
     ensures first { (x old now : List ℕ) (end : ℕ) →
         Puts x old 0 now end →
@@ -87,7 +90,8 @@ pub fn texts_are_put_in_order()
         Puts (x ++ y) old at now last }
 {}
 
-/// The version of each system that a string parses as is in range.
+/// The version of each system that a string parses as is in range. So the laws that ask for such a version apply to
+/// every parsed triple.
 pub fn read_versions_are_in_range()
     ensures { (text : List ℕ) (s : OperatingSystem) →
         operating_system_of text ≡ Some s →
@@ -123,7 +127,8 @@ pub fn vendor_refs_hash_by_value()
         ⟦<VendorRef<'static> as Hash>⟧.hash_input }
 {}
 
-/// The strings of the rows are the fixed names of all fields and the alias, each once, in the order of their bytes.
+/// The strings of the rows are the fixed names of all fields and the alias, each once, in the order of their bytes. So
+/// [`crate::row_order`] counts rows in this order, and each name has one.
 pub fn rows_are_sorted_and_complete()
     ensures sorted { IsStrictlySortedBy (slice_cmp nat_cmp) row_texts }
     ensures count { length row_texts ≡ row_count }

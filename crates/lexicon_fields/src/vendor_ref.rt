@@ -44,6 +44,7 @@ impl<'a> VendorRef<'a> {
     ///
     /// assert_eq!(VendorRef::from_str("ACME"), Err(()));
     /// ```
+    #[inline(always)]
     pub fn from_str(text: &'a str) -> Result<VendorRef<'a>, ()>
         ensures ok { IfOk result
             (λ vendor. spec.vendor_of text.entry.now ≡ Some (ref_value vendor)) }

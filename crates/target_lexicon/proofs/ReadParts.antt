@@ -175,10 +175,10 @@ module _ (p : PlacedPart) (ps parts : List PlacedPart) (f : Field) where
     end = on.end ∙ sym (append_assoc on.before (p ∷ []) ps);
   })
 
-pub goes_on-next : (p : PlacedPart) (ps parts : List PlacedPart) (old new : Reading) → AllGoesOn old (p ∷ ps) parts → IsTaken p.text p old new → AllGoesOn new ps parts
+pub goes_on-next : (p : PlacedPart) (ps parts : List PlacedPart) (old new : Reading) → AllGoesOn old (p ∷ ps) parts → IsTaken p old new → AllGoesOn new ps parts
 goes_on-next p ps parts old new on taken = by_field (field_for old.expected p.text) refl taken
   where
-    by_field : (o : Option Field) → field_for old.expected p.text ≡ o → MatchOption o ⊥ (λ f. HasFilled f p.text p old new) → AllGoesOn new ps parts
+    by_field : (o : Option Field) → field_for old.expected p.text ≡ o → MatchOption o ⊥ (λ f. HasFilled f p old new) → AllGoesOn new ps parts
     by_field None found is = absurd is
     by_field (Some f) found is = filled-next p ps parts f old.expected _ _ _ _ new.expected found on is.expected is.values is.sources
 

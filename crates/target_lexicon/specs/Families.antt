@@ -34,6 +34,7 @@ family_by_fields (architecture.Riscv32 riscv32.Riscv32imc) (Custom text) operati
 family_by_fields (architecture.Clever sub) v operating_system.Unknown environment.None f = Some ShowsOnlyNone
 family_by_fields _ v _ _ _ = family_of_vendor v
 
--- the first family that the triple is in, if any
+-- the first family that the triple is in, if any. Only a triple on Clever can be in two: without a system, with the environment
+-- `None` and a vendor that isn't plain it is in `ShowsOnlyNone`, which comes before `VendorIsNotPlain`
 abbrev pub family : Values → Option Family
 family t = family_by_fields t.architecture t.vendor t.operating_system t.environment t.binary_format

@@ -75,19 +75,19 @@ abbrev pub ResultsAreComputed : Type 0
 ResultsAreComputed = (text : List ℕ) (result : Result Triple ParseError)
     → IfOk result (λ triple. ReadsAs text (values_of triple)) → IfErr result (λ error. IsErrorOf text error) → IsResultOf (reading text) result
 
--- a reading after a name, which this part spells, has filled this field
-pub record HasFilled (f : Field) (name : List ℕ) (part : PlacedPart) (old new : Reading) : Type 0 where
+-- a reading after this part has filled this field
+pub record HasFilled (f : Field) (part : PlacedPart) (old new : Reading) : Type 0 where
   pub expected : new.expected ≡ expected_after f
-  pub values : values_of_ref new.triple ≡ with_value f name (values_of_ref old.triple)
+  pub values : values_of_ref new.triple ≡ with_value f part.text (values_of_ref old.triple)
   pub sources : sources_of new.sources ≡ with_source f (FromPart part) (sources_of old.sources)
 
--- a reading has taken the name, which this part spells, into the first open field that it parses as
-abbrev pub IsTaken : List ℕ → PlacedPart → Reading → Reading → Type 0
-IsTaken name part old new = MatchOption (field_for old.expected name) ⊥ (λ f. HasFilled f name part old new)
+-- a reading has taken the part into the first open field that it parses as
+abbrev pub IsTaken : PlacedPart → Reading → Reading → Type 0
+IsTaken part old new = MatchOption (field_for old.expected part.text) ⊥ (λ f. HasFilled f part old new)
 
--- the name, which this part spells, parses as no open field, and this is its refusal
-pub record IsNotTaken (name : List ℕ) (part : PlacedPart) (reading : Reading) (refusal : BorrowedRefusal) : Type 0 where
-  pub unparsed : field_for reading.expected name ≡ None
+-- the part parses as no open field, and this is its refusal
+pub record IsNotTaken (part : PlacedPart) (reading : Reading) (refusal : BorrowedRefusal) : Type 0 where
+  pub unparsed : field_for reading.expected part.text ≡ None
   pub expected : refusal.expected ≡ reading.expected
   pub refused : part_value refusal.part ≡ part
 

@@ -14,7 +14,7 @@ ghost use Rattle.target_lexicon.specs.Values.{values_of};
 ghost use Rattle.target_lexicon.specs.ValuesRef.{values_of_ref};
 ghost use Rattle.target_lexicon.specs.Written.{IsWritten};
 
-use crate::settle::versions_are_in_range;
+use crate::laws::versions_are_in_range;
 use crate::triple::Triple;
 use crate::triple_ref::TripleRef;
 use lexicon_fields::laws::{names_are_short, texts_are_put_in_order};

@@ -16,6 +16,8 @@ ghost use Rattle.target_lexicon.specs.ValuesRef.{values_of_ref, placed_outcome, 
 ghost use Rattle.target_lexicon.specs.declared.data_model.CDataModel.{CDataModel};
 ghost use Rattle.target_lexicon.specs.Explanation.{part_value, source_value, sources_of};
 ghost use Rattle.target_lexicon.specs.declared.explanation.Explanation.{Explanation};
+ghost use Rattle.target_lexicon.specs.declared.family.Family.{Family};
+ghost use Rattle.target_lexicon.specs.declared.reading.Reading.{Reading};
 ghost use Rattle.target_lexicon.specs.declared.explanation.Source.{Source};
 ghost use Rattle.target_lexicon.specs.declared.explanation.Sources.{Sources};
 ghost use Rattle.target_lexicon.specs.declared.explanation.TextPart.{TextPart};
@@ -32,12 +34,15 @@ use crate::calling_convention::CallingConvention;
 use crate::data_model::{CDataModel, Size};
 use crate::defaults::{DefaultToHost, DefaultToUnknown};
 use crate::explanation::{Explanation, Source, Sources, TextPart};
+use crate::family::Family;
 use crate::json_error::JsonError;
 use crate::list_error::ListError;
 use crate::parse_error::ParseError;
+use crate::reading::Reading;
 use crate::refusal::Refusal;
 use crate::triple::Triple;
 use crate::triple_ref::TripleRef;
+use lexicon_fields::OperatingSystem;
 pub use lexicon_fields::laws::{
     copies_of_fields_equal_their_sources, custom_vendors_are_equal_by_text,
     custom_vendors_hash_by_text, names_are_short, names_grow_at_most, names_read_back,
@@ -55,13 +60,13 @@ pub fn one_least_placement()
         HasOneLeastPlacement parts × ((n : ℕ) → HasOneLeastPlacement (take (suc n) parts)) }
 {}
 
-/// Every string parses or is refused, in exactly one way.
+/// Every string parses or is refused, in exactly one way. So a program that answers each line has one output.
 pub fn every_text_has_one_outcome()
     ensures { EveryTextHasOneOutcome }
 {}
 
 /// The function `reading` of the definitions gives the triple that a string parses as, or how it is refused. So a
-/// caller's proof can compute the result for a string.
+/// proof can compute the result for a string.
 pub fn reading_is_computed()
     ensures { ReadingIsComputed }
 {}
@@ -77,6 +82,12 @@ pub fn read_vendors_are_plain()
     ensures { ReadVendorsArePlain }
 {}
 
+/// The version of a system in code, if it has one, is in range by its types. So the laws that ask for such a version
+/// apply to every triple in code.
+pub fn versions_are_in_range(operating_system: OperatingSystem)
+    ensures { HasVersionInRange operating_system }
+{}
+
 /// Every triple that a string parses as has a plain vendor, and a version in range if its system has one. So the laws
 /// of round trips apply to it.
 pub fn read_triples_are_plain()
@@ -86,7 +97,7 @@ pub fn read_triples_are_plain()
 }
 
 /// The printed string of a triple is at most 22 bytes longer than each string that parses as it, and so is the string
-/// of the canonical triple. A refused part is not longer than the string.
+/// of the canonical triple. A refused part is not longer than the string. So a caller knows how large a buffer must be.
 pub fn printed_texts_grow_at_most()
     ensures printed { PrintedTextsGrowAtMost }
     ensures settled { CanonicalTextsGrowAtMost }
@@ -153,11 +164,12 @@ pub fn queries_kept()
     ensures { QueriesKept }
 {}
 
-/// Two sizes, two data models or two calling conventions are equal exactly if they are the same variant.
+/// Two sizes, two data models, two calling conventions or two families are equal exactly if they are the same variant.
 pub fn answers_are_equal_by_variant()
     ensures size { ComparesByValue ⟦<Size as PartialEq>⟧.eq }
     ensures data_model { ComparesByValue ⟦<CDataModel as PartialEq>⟧.eq }
     ensures calling_convention { ComparesByValue ⟦<CallingConvention as PartialEq>⟧.eq }
+    ensures family { ComparesByValue ⟦<Family as PartialEq>⟧.eq }
 {}
 
 /// Two `DefaultToHost`, or two `DefaultToUnknown`, are equal exactly if the triples in them have the same five fields.
@@ -170,7 +182,8 @@ pub fn defaults_are_equal_by_value()
     triples_are_equal_by_value();
 }
 
-/// Each family is the facts of the five fields that its record states.
+/// Each family is the facts of the five fields that its record states. So a reader of [`Triple::family`] need not follow
+/// the order of a list of cases.
 pub fn families_are_facts_of_fields()
     ensures { FamiliesAreFactsOfFields }
 {}
@@ -196,7 +209,8 @@ pub fn second_step_changes_one()
     ensures { OneStepSettles }
 {}
 
-/// The canonical form of a triple with a plain vendor comes back, and no other canonical triple has its string.
+/// The canonical form of a triple with a plain vendor comes back, and no other canonical triple has its string. So the
+/// string serves as a key.
 pub fn settled_texts_are_keys()
     ensures { SettledTextsAreKeys }
 {
@@ -225,7 +239,8 @@ pub fn only_unknowns_differ_from_upstream()
     ensures { OnlyUnknownsDifferFromUpstream }
 {}
 
-/// A list of triples that come back, written as JSON, parses as itself and as no other list.
+/// A list of triples that come back, written as JSON, parses as itself and as no other list. So such a list can be
+/// stored as JSON.
 pub fn lists_read_back()
     ensures { (ts us : List Values) →
         All ComesBack ts →
@@ -273,6 +288,10 @@ pub fn copies_equal_their_sources()
         ⟦<CDataModel as Clone>⟧.is_infallible }
     ensures calling_convention { CopiesEqualTheirSources ⟦<CallingConvention as Clone>⟧.is_clone
         ⟦<CallingConvention as Clone>⟧.is_infallible }
+    ensures family { CopiesEqualTheirSources ⟦<Family as Clone>⟧.is_clone
+        ⟦<Family as Clone>⟧.is_infallible }
+    ensures reading { CopiesEqualTheirSources ⟦<Reading<'static> as Clone>⟧.is_clone
+        ⟦<Reading<'static> as Clone>⟧.is_infallible }
     ensures triple_ref { CopiesEqualTheirSources ⟦<TripleRef<'static> as Clone>⟧.is_clone
         ⟦<TripleRef<'static> as Clone>⟧.is_infallible }
     ensures refusal { CopiesEqualTheirSources ⟦<Refusal<'static> as Clone>⟧.is_clone

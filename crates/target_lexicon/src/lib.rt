@@ -57,6 +57,5 @@ pub use read::{explain, first_part};
 pub use reading::Reading;
 pub use refusal::{Refusal, refusal_prefix};
 pub use round_trip::round;
-pub use settle::versions_are_in_range;
 pub use triple::Triple;
 pub use triple_ref::TripleRef;

@@ -1,8 +1,9 @@
-//! Reading: a state that takes one name after the other, each spelled by a part of the string.
+//! Reading: a state that takes one part after the other.
 ghost use Rattle.std.specs.Prelude.{◌≡◌, Some, IfOk, IfErr};
 ghost use Rattle.target_lexicon.specs.Explanation.{FromPart, part_value, same_sources, sources_of, NotGiven, with_source};
 ghost use Rattle.target_lexicon.specs.Reading.{expected_after};
 ghost use Rattle.target_lexicon.specs.GreedyReading.{IsNotTaken, IsTaken, finished, finished_sources};
+ghost use Rattle.target_lexicon.specs.Private.{is_open_at};
 ghost use Rattle.target_lexicon.specs.Field as field;
 ghost use Rattle.target_lexicon.specs.Values.{unknown_values};
 ghost use Rattle.target_lexicon.specs.ValuesRef.{values_of_ref};
@@ -12,7 +13,7 @@ use crate::refusal::Refusal;
 use crate::triple_ref::TripleRef;
 use lexicon_fields::{Field, OperatingSystem, Steps, VendorRef, fixed_row};
 
-/// The fields that the names so far fill, the others `Unknown`; and the first field that is still open.
+/// The fields that the parts so far fill, the others `Unknown`; and the first field that is still open.
 #[derive(Clone, Copy, Debug)]
 pub struct Reading<'a> {
     pub expected: Option<Field>,
@@ -72,64 +73,73 @@ impl<'a> Reading<'a> {
         };
     }
 
-    /// Takes a name into the first field that is open and that it parses as. `Err` if there is none; nothing changes
-    /// then. A name that has a row in the table of names is looked up once, and the comparisons aren't counted.
+    /// Takes a part into the first field that is open and that it parses as. `Err` if there is none; nothing changes
+    /// then. A part that has a row in the table of names is looked up once, and the comparisons aren't counted.
     #[inline(always)]
     #[tactic(auto, unfolding(crate::specs::Field::parses_as))]
-    pub fn take(&mut self, name: &'a str, part: TextPart<'a>) -> Result<(), Refusal<'a>>
+    pub fn take(&mut self, part: TextPart<'a>) -> Result<(), Refusal<'a>>
         ensures taken { IfOk result
-            (λ _. IsTaken name.entry.now (part_value part.entry) self.old self.new) }
+            (λ _. IsTaken (part_value part.entry) self.old self.new) }
         ensures refused { IfErr result
-            (λ it. IsNotTaken name.entry.now (part_value part.entry) self.old it) }
+            (λ it. IsNotTaken (part_value part.entry) self.old it) }
         ensures same { IfErr result (λ _. self.new ≡ self.old) }
     {
-        match (self.expected, fixed_row(name, &mut Steps::new())) {
-            (Some(Field::Architecture), Some(row)) => {
+        let Some(expected) = self.expected else {
+            return Err(Refusal {
+                expected: None,
+                part,
+            });
+        };
+        match fixed_row(part.text, &mut Steps::new()) {
+            Some(row) => {
+                // whether the row has a value, and then whether its field is open: the compilers know the first from
+                // the row's meaning, so a line takes fewer instructions and fewer branches are mispredicted
                 if let Some(architecture) = row.architecture {
-                    self.triple.architecture = architecture;
-                    self.fill(Field::Architecture, part);
-                    return Ok(());
+                    if is_open(Field::Architecture, expected) {
+                        self.triple.architecture = architecture;
+                        self.fill(Field::Architecture, part);
+                        return Ok(());
+                    }
                 }
-            }
-            (Some(Field::Architecture), None) | (None, _) => {}
-            (Some(expected), Some(row)) => {
-                if expected == Field::Vendor {
-                    if let Some(vendor) = row.vendor {
+                if let Some(vendor) = row.vendor {
+                    if is_open(Field::Vendor, expected) {
                         self.triple.vendor = VendorRef::Known(vendor);
                         self.fill(Field::Vendor, part);
                         return Ok(());
                     }
                 }
-                if matches!(expected, Field::Vendor | Field::OperatingSystem) {
-                    if let Some(operating_system) = row.operating_system {
+                if let Some(operating_system) = row.operating_system {
+                    if is_open(Field::OperatingSystem, expected) {
                         self.triple.operating_system = operating_system;
                         self.fill(Field::OperatingSystem, part);
                         return Ok(());
                     }
                 }
-                if !matches!(expected, Field::BinaryFormat) {
-                    if let Some(environment) = row.environment {
+                if let Some(environment) = row.environment {
+                    if is_open(Field::Environment, expected) {
                         self.triple.environment = environment;
                         self.fill(Field::Environment, part);
                         return Ok(());
                     }
                 }
                 if let Some(binary_format) = row.binary_format {
-                    self.triple.binary_format = binary_format;
-                    self.fill(Field::BinaryFormat, part);
-                    return Ok(());
+                    if is_open(Field::BinaryFormat, expected) {
+                        self.triple.binary_format = binary_format;
+                        self.fill(Field::BinaryFormat, part);
+                        return Ok(());
+                    }
                 }
             }
-            (Some(expected), None) => {
-                if expected == Field::Vendor {
-                    if let Ok(vendor) = VendorRef::from_str(name) {
+            None => {
+                if is_open(Field::Vendor, expected) {
+                    if let Ok(vendor) = VendorRef::from_str(part.text) {
                         self.triple.vendor = vendor;
                         self.fill(Field::Vendor, part);
                         return Ok(());
                     }
                 }
-                if matches!(expected, Field::Vendor | Field::OperatingSystem) {
-                    if let Ok(operating_system) = OperatingSystem::from_str(name) {
+                if is_open(Field::OperatingSystem, expected) {
+                    if let Ok(operating_system) = OperatingSystem::from_str(part.text) {
                         self.triple.operating_system = operating_system;
                         self.fill(Field::OperatingSystem, part);
                         return Ok(());
@@ -143,7 +153,7 @@ impl<'a> Reading<'a> {
         })
     }
 
-    /// The triple of the names so far, and its sources. Without a binary format it has the implied one.
+    /// The triple of the parts so far, and its sources. Without a binary format it has the implied one.
     #[inline(always)]
     pub fn finish(self) -> (TripleRef<'a>, Sources<'a>)
         ensures triple { values_of_ref result.0
@@ -158,5 +168,19 @@ impl<'a> Reading<'a> {
             sources.binary_format = Source::Implied;
         }
         (triple, sources)
+    }
+}
+
+/// Whether a part can fill the field where this one is expected.
+#[inline(always)]
+fn is_open(field: Field, expected: Field) -> bool
+    ensures { result ≡ is_open_at expected field }
+{
+    match field {
+        Field::Architecture => expected == Field::Architecture,
+        Field::Vendor => expected == Field::Vendor,
+        Field::OperatingSystem => matches!(expected, Field::Vendor | Field::OperatingSystem),
+        Field::Environment => !matches!(expected, Field::Architecture | Field::BinaryFormat),
+        Field::BinaryFormat => expected != Field::Architecture,
     }
 }

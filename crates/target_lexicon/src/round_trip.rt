@@ -10,9 +10,8 @@ ghost use Rattle.target_lexicon.specs.Reading.{ReadsAs, IsRefusalOrOutOfMemory};
 ghost use Rattle.target_lexicon.specs.Refusal.{refusal_of};
 ghost use Rattle.target_lexicon.specs.Values.{values_of};
 
-use crate::laws::round_trips_are_known;
+use crate::laws::{round_trips_are_known, versions_are_in_range};
 use crate::parse_error::ParseError;
-use crate::settle::versions_are_in_range;
 use crate::triple::Triple;
 use std::alloc::Global;
 

@@ -6,7 +6,6 @@ ghost use Rattle.lexicon_fields.specs.declared.known_vendor.KnownVendor.TheVaria
 ghost use Rattle.lexicon_fields.specs.declared.vendor.Vendor.TheVariants.{Espressif};
 ghost use Rattle.lexicon_fields.specs.declared.vendor_ref.VendorRef.TheVariants.{Known};
 ghost use Rattle.target_lexicon.specs.FixedPoints.{settled_values};
-ghost use Rattle.lexicon_fields.specs.Laws.{HasVersionInRange};
 ghost use Rattle.target_lexicon.specs.Laws.{ComesBack};
 ghost use Rattle.target_lexicon.specs.NormalStep as spec;
 ghost use Rattle.target_lexicon.specs.Printing.{text_of};
@@ -15,7 +14,10 @@ ghost use Rattle.target_lexicon.specs.Values.{values_of};
 ghost use Rattle.target_lexicon.specs.ValuesRef.{values_of_ref};
 
 use crate::family::Family;
-use crate::laws::{fixed_exactly_outside_families, round_is_normal_step, settled_texts_are_keys};
+use crate::laws::{
+    fixed_exactly_outside_families, round_is_normal_step, settled_texts_are_keys,
+    versions_are_in_range,
+};
 use crate::triple::Triple;
 use crate::triple_ref::TripleRef;
 use lexicon_fields::{BinaryFormat, Environment, KnownVendor, OperatingSystem, Vendor, VendorRef};
@@ -180,9 +182,3 @@ fn elf_if_unknown(binary_format: BinaryFormat) -> BinaryFormat
         _ => binary_format,
     }
 }
-
-/// The version of a system, if it has one, is in range by its types, as the laws of round trips ask. A call does
-/// nothing: it says this to the prover.
-pub fn versions_are_in_range(operating_system: OperatingSystem)
-    ensures { HasVersionInRange operating_system }
-{}

@@ -52,7 +52,7 @@ staying-push before (first ∷ lines) line =
     (staying-push (before ++ first ∷ []) lines line ∙ ap (λ (t : List Answer). kept_answers (before ++ first ∷ []) lines ++ if_stays (is_kept_after t line) line) (append_assoc before (first ∷ []) lines))
     ∙ sym (append_assoc (if_stays (is_kept_after before first) first) _ _)
 
-written_lines-append : (xs ys : List Answer) → written_lines (xs ++ ys) ≡ written_lines xs ++ written_lines ys
+pub written_lines-append : (xs ys : List Answer) → written_lines (xs ++ ys) ≡ written_lines xs ++ written_lines ys
 written_lines-append [] ys = refl
 written_lines-append (x ∷ xs) ys = ap (λ (t : List ℕ). answer_bytes x ++ (line_feed ∷ t)) (written_lines-append xs ys) ∙ sym (append_assoc (answer_bytes x) (line_feed ∷ written_lines xs) (written_lines ys))
 

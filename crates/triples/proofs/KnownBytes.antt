@@ -2,6 +2,7 @@
 use Rattle.std.proofs.Common.{◌≡◌, ℕ, ◌==◌, Bool, true, false, ◌&&◌, not, if◌then◌else◌, List, [], ◌++◌, length, take, drop, Option, Some, None, Result, Ok, Err, refl, sym, ap, ◌∙◌, append_assoc, arith}
 use Rattle.std.proofs.{lemmas.Bool.eqb-true, lemmas.List.append-nil, lemmas.List.take-append-drop, KnownBytes.Appends-trans, Math.Seq.take-append_seam}
 use Rattle.std.specs.Io.KnownBytes.{Appends, Keeps, WriteAppends}
+use Rattle.triples.specs.Run.{Use, Takes}
 use Rattle.triples.specs.Streams.{AppendsBeginning, write_failures_of}
 
 pub AppendsBeginning-of : (u v : Option (List ℕ)) (a b c : List ℕ) → Appends u v a → c ≡ a ++ b → AppendsBeginning u v c
@@ -39,3 +40,8 @@ pub AppendsBeginning-then : (u v w : Option (List ℕ)) (a b : List ℕ) → App
 AppendsBeginning-then u v w a b whole begun =
     AppendsBeginning-of u w (a ++ take begun.0 b) (drop begun.0 b) (a ++ b) (Appends-trans u v w a (take begun.0 b) whole begun.1)
     (ap (λ (t : List ℕ). a ++ t) (sym (take-append-drop begun.0 b)) ∙ sym (append_assoc a (take begun.0 b) (drop begun.0 b)))
+
+-- what was taken is a beginning of these
+pub Takes-beginning : (written : Use) (a b c : List ℕ) → Appends written.bytes_before written.bytes_after a → written.moved_after ≡ written.moved_before ++ a → c ≡ a ++ b
+    → (n : ℕ) × Takes written (take n c)
+Takes-beginning written a b c known moved e = (length a, rw (e, take-append_seam a b) (record { moved = moved; known = known }))

@@ -18,7 +18,7 @@ is_line_feed b = b == line_feed
 abbrev pub lines_left : SplitTerminator ℕ → List (List ℕ)
 lines_left it = if split_has_more (split_terminator_parts it) then lines_of (split_text (split_terminator_parts it)) else []
 
-stays-first : (part : List ℕ) (parts : List (List ℕ)) → 0 < length part + length parts → parts_without_empty_last (part ∷ parts) ≡ part ∷ parts_without_empty_last parts
+pub stays-first : (part : List ℕ) (parts : List (List ℕ)) → 0 < length part + length parts → parts_without_empty_last (part ∷ parts) ≡ part ∷ parts_without_empty_last parts
 stays-first [] [] some = absurd (omega arith)
 stays-first [] (next ∷ parts) some = refl
 stays-first (b ∷ bs) [] some = refl

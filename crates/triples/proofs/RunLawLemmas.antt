@@ -31,7 +31,7 @@ output-no-list-error mode text output is json error =
     text-is-list (read text) output (subst (λ (m : Mode). IsOutput m text output) json is) error
 
 -- what a run without failures does, by its result
-abbrev Outcome : Mode → List ℕ → Result (Unit {0}) RunError → List ℕ → Type 0
+abbrev pub Outcome : Mode → List ℕ → Result (Unit {0}) RunError → List ℕ → Type 0
 Outcome mode text (Ok _) bytes = IsUtf8 text × IsOutput mode text bytes
 Outcome mode text (Err run_error.NotUtf8) bytes = (IsUtf8 text → ⊥) × (bytes ≡ [])
 Outcome mode text (Err run_error.NotJson) bytes = (mode ≡ Json) × IsUtf8 text × IsJsonInputErrorOf text run_error.NotJson × (bytes ≡ [])

@@ -26,7 +26,7 @@ text-is-list None output is none = is
 text-is-list (Some value) output is none = answer-is-list value is.0 is.1 none
 
 module _ (one : EveryTextHasOneOutcome) where
-  answer-unique : (shown : Values → List ℕ) (line : List ℕ) (a b : Answer) → IsAnswer shown line a → IsAnswer shown line b → a ≡ b
+  pub answer-unique : (shown : Values → List ℕ) (line : List ℕ) (a b : Answer) → IsAnswer shown line a → IsAnswer shown line b → a ≡ b
   answer-unique shown line (Shown x) (Shown y) a b = ap Shown (a.2 ∙ ap shown ((one line).values a.0 b.0 a.1 b.1) ∙ sym b.2)
   answer-unique shown line (Refused x) (Refused y) a b = ap Refused (a.2 ∙ ap (λ (r : Refusal). codes "error: " ++ refusal_line r) ((one line).refusal a.0 b.0 a.1 b.1) ∙ sym b.2)
   answer-unique shown line (Shown x) (Refused y) a b = absurd ((one line).apart a.0 a.1 (b.0, b.1))

@@ -1,5 +1,8 @@
 pub mod Facts
 pub mod Faults
+pub mod Filter
+pub mod FilterLaws
+pub mod FilterSteps
 pub mod JsonOutput
 pub mod Lines
 pub mod MatrixLaws

@@ -1,18 +1,20 @@
 -- How a run ends: what it did to its reader and its writer, and its result.
-use Rattle.std.specs.Prelude.{ℕ, ◌≡◌, ◌+◌, List, Option, IfSome, Result, Ok, Err}
-use Rattle.std.specs.Io.KnownBytes.{Appends, IsAtEnd, Keeps}
+use Rattle.std.specs.Prelude.{ℕ, ◌≡◌, ◌+◌, ◌++◌, List, Option, IfSome, Result, Ok, Err}
+use Rattle.std.specs.Io.KnownBytes.{Appends, Consumes, IsAtEnd, Keeps}
 use Rattle.std.specs.Str.{IsUtf8}
-use Rattle.triples.specs.{declared.mode.Mode.Mode, declared.mode.Mode.TheVariants.Json, declared.run_error.RunError.RunError, declared.streams.Counted.Counted}
-use Rattle.triples.specs.{JsonOutput.IsJsonInputErrorOf, Output.IsOutput, Streams.AppendsBeginning, Streams.ConsumesSome, Streams.failures, Streams.inner}
+use Rattle.triples.specs.{declared.mode.Mode.Mode, declared.mode.Mode.TheVariants.Json, declared.run_error.RunError.RunError, declared.counted.Counted.Counted}
+use Rattle.triples.specs.{JsonOutput.IsJsonInputErrorOf, Output.IsOutput, Streams.AppendsBeginning, Streams.ConsumesSome, Streams.failures, Streams.inner, Streams.moved}
 use Rattle.triples.specs.declared.run_error.RunError.TheVariants as run_error
 
 -- a reader or a writer before and after a call: the bytes that the reader has left or the writer holds, if they are
--- known, and the number of failed calls
+-- known, the number of failed calls, and the bytes that the others moved
 pub record Use : Type 0 where
   pub bytes_before : Option (List ℕ)
   pub bytes_after : Option (List ℕ)
   pub failures_before : ℕ
   pub failures_after : ℕ
+  pub moved_before : List ℕ
+  pub moved_after : List ℕ
 
 -- what a call did to a reader or a writer with these bytes
 abbrev pub use_of : {D : Type 0} → (D → Option (List ℕ)) → Counted D → Counted D → Use
@@ -21,7 +23,19 @@ use_of bytes before after = record {
   bytes_after = bytes (inner after);
   failures_before = failures before;
   failures_after = failures after;
+  moved_before = moved before;
+  moved_after = moved after;
 }
+
+-- the reads gave these bytes; if the bytes of the reader are known, these were the first of them
+pub record Gives (input : Use) (bytes : List ℕ) : Type 0 where
+  pub moved : input.moved_after ≡ input.moved_before ++ bytes
+  pub known : Consumes input.bytes_before input.bytes_after bytes
+
+-- the writes took these bytes; if the bytes of the writer are known, they grew by these
+pub record Takes (written : Use) (bytes : List ℕ) : Type 0 where
+  pub moved : written.moved_after ≡ written.moved_before ++ bytes
+  pub known : Appends written.bytes_before written.bytes_after bytes
 
 -- no read, write or flush failed
 abbrev pub IsUnfailed : Use → Type 0

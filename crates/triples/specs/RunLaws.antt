@@ -23,6 +23,10 @@ pub record RunGives (mode : Mode) (text : List ℕ) (result : Result (Unit {0}) 
 abbrev pub RunsEndOneWay : Type 0
 RunsEndOneWay = (mode : Mode) (text x y : List ℕ) (a b : Result (Unit {0}) RunError) → RunGives mode text a x → RunGives mode text b y → (a ≡ b) × (x ≡ y)
 
+-- each input has an outcome in each mode, which such a run may have: the laws of one outcome are not empty
+abbrev pub EveryInputHasAnOutcome : Type 0
+EveryInputHasAnOutcome = (mode : Mode) (text : List ℕ) → (result : Result (Unit {0}) RunError) × (bytes : List ℕ) × RunGives mode text result bytes
+
 -- the input was known and read to its end, and memory did not run out
 pub record IsJudged (input : Use) (result : Result (Unit {0}) RunError) (text : List ℕ) : Type 0 where
   pub text_is : input.bytes_before ≡ Some text

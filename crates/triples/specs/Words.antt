@@ -2,6 +2,8 @@
 use Rattle.std.specs.Prelude.{ℕ, List, [], ◌∷◌, Option, Some, None, codes, Result, Ok, Err}
 use Rattle.target_lexicon.specs.Values.{value_named}
 use Rattle.triples.specs.{declared.run_error.RunError.RunError, Faults.fault_line}
+use Rattle.triples.specs.declared.line_mode.LineMode.{LineMode}
+use Rattle.triples.specs.declared.line_mode.LineMode.TheVariants as line_mode
 use Rattle.triples.specs.declared.mode.Mode.{Mode}
 use Rattle.triples.specs.declared.mode.Mode.TheVariants.{Print, Show, Settle, Json, Matrix}
 
@@ -9,6 +11,10 @@ use Rattle.triples.specs.declared.mode.Mode.TheVariants.{Print, Show, Settle, Js
 abbrev pub mode_from_word : List ℕ → Option Mode
 mode_from_word word =
     value_named ((codes "print", Print) ∷ (codes "show", Show) ∷ (codes "settle", Settle) ∷ (codes "json", Json) ∷ (codes "matrix", Matrix) ∷ []) word
+
+-- the mode of a filter that a word names
+abbrev pub line_mode_from_word : List ℕ → Option LineMode
+line_mode_from_word word = value_named ((codes "stream", line_mode.Print) ∷ (codes "stream-settle", line_mode.Settle) ∷ []) word
 
 -- the end of a run, if there was one
 abbrev pub End : Type 0

@@ -1,31 +1,42 @@
 //! Laws of the definitions. Each function's contract is a law; a call does nothing.
 ghost use Rattle.std.specs.Prelude.{List};
 ghost use Rattle.target_lexicon.specs.Laws.{ComparesByValue, CopiesEqualTheirSources};
+ghost use Rattle.triples.specs.FilterLaws.{ErrorsOfFiltersAreExact, EveryInputIsFiltered, FiltersAgreeWithRuns, FiltersEndOneWay, KnownInputsAreFiltered};
 ghost use Rattle.triples.specs.MatrixLaws.{EntriesAreSettledTriples, KeepsEntriesOnce, FirstEntriesStayInOrder, EachSettledTripleHasAnEntry, MatricesAreTheirOwn};
 ghost use Rattle.triples.specs.Output.{Answer};
-ghost use Rattle.triples.specs.RunLaws.{ErrorsOfRunsAreExact, RunsEndOneWay};
+ghost use Rattle.triples.specs.RunLaws.{ErrorsOfRunsAreExact, EveryInputHasAnOutcome, RunsEndOneWay};
+ghost use Rattle.triples.specs.declared.filter_error.FilterError.{FilterError};
+ghost use Rattle.triples.specs.declared.line_mode.LineMode.{LineMode};
 ghost use Rattle.triples.specs.declared.mode.Mode.{Mode};
 ghost use Rattle.triples.specs.declared.run_error.RunError.{RunError};
 
+use crate::filter_error::FilterError;
+use crate::line_mode::LineMode;
 use crate::mode::Mode;
 use crate::run_error::RunError;
 
 /// Modes are equal exactly if their variants are.
 pub fn modes_are_equal_by_variant()
-    ensures { ComparesByValue ⟦<Mode as PartialEq>⟧.eq }
+    ensures modes { ComparesByValue ⟦<Mode as PartialEq>⟧.eq }
+    ensures line_modes { ComparesByValue ⟦<LineMode as PartialEq>⟧.eq }
 {}
 
-/// Two errors of a run are equal exactly if they are the same variant.
+/// Two errors of a run, or of a filter, are equal exactly if they are the same variant.
 pub fn errors_are_equal_by_variant()
-    ensures { ComparesByValue ⟦<RunError as PartialEq>⟧.eq }
+    ensures run { ComparesByValue ⟦<RunError as PartialEq>⟧.eq }
+    ensures filter { ComparesByValue ⟦<FilterError as PartialEq>⟧.eq }
 {}
 
-/// A copy of a mode, or of an error of a run, is that value, and copying allocates nothing.
+/// A copy of a mode, or of an error, is that value, and copying allocates nothing.
 pub fn copies_equal_their_sources()
     ensures modes { CopiesEqualTheirSources ⟦<Mode as Clone>⟧.is_clone
         ⟦<Mode as Clone>⟧.is_infallible }
     ensures errors { CopiesEqualTheirSources ⟦<RunError as Clone>⟧.is_clone
         ⟦<RunError as Clone>⟧.is_infallible }
+    ensures line_modes { CopiesEqualTheirSources ⟦<LineMode as Clone>⟧.is_clone
+        ⟦<LineMode as Clone>⟧.is_infallible }
+    ensures filter_errors { CopiesEqualTheirSources ⟦<FilterError as Clone>⟧.is_clone
+        ⟦<FilterError as Clone>⟧.is_infallible }
 {}
 
 /// Mode `settle` writes the same string for two lines that parse exactly if their canonical triples are equal.
@@ -74,9 +85,41 @@ pub fn runs_end_one_way()
     target_lexicon::laws::every_text_has_one_outcome();
 }
 
+/// Each input has an outcome in each mode: a result, and what is written, that such a run may have. By
+/// [`runs_end_one_way`] it has no other.
+pub fn every_input_has_an_outcome()
+    ensures { EveryInputHasAnOutcome }
+{
+    target_lexicon::laws::every_text_has_one_outcome();
+}
+
 /// A run returns `Read` exactly if a read failed, and `Write` exactly if a write or the flush did. Of an input that is
 /// known and was read whole, unless memory runs out, it returns `NotUtf8` exactly if it isn't UTF-8, and in mode `json`
 /// only `NotJson` exactly if it is UTF-8 but not JSON, and `NotList` exactly if it is JSON but not a list.
 pub fn errors_of_runs_are_exact()
     ensures { ErrorsOfRunsAreExact }
+{}
+
+/// For each buffer and all lines, a filter has exactly one output.
+pub fn every_input_is_filtered()
+    ensures { EveryInputIsFiltered }
+{
+    target_lexicon::laws::every_text_has_one_outcome();
+}
+
+/// For lines that are UTF-8 and shorter than the buffer, the output of a filter is that of a run.
+pub fn filters_agree_with_runs()
+    ensures { FiltersAgreeWithRuns }
+{}
+
+/// A filter of which no read, write or flush failed, and that read fewer than `u64::MAX` bytes, succeeds. Its writes took
+/// the one output for the lines that its reads gave, whether or not the bytes of its reader and writer are known.
+pub fn filters_end_one_way()
+    ensures traced { FiltersEndOneWay }
+    ensures known { KnownInputsAreFiltered }
+{}
+
+/// A filter returns `Read` exactly if a read failed, and `Write` exactly if a write or the flush did.
+pub fn errors_of_filters_are_exact()
+    ensures { ErrorsOfFiltersAreExact }
 {}

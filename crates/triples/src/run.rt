@@ -6,12 +6,13 @@ ghost use Rattle.triples.specs.Streams.{inner, failures, AppendsBeginning};
 ghost use Rattle.triples.specs.Lines.{line_feed};
 ghost use Rattle.triples.specs.Words.{status_of, closing_words};
 
+use crate::counted::Counted;
 use crate::json::json_output;
 use crate::lines::answers;
 use crate::matrix::matrix;
 use crate::mode::Mode;
 use crate::run_error::RunError;
-use crate::streams::{Counted, read_all, write_all};
+use crate::streams::{read_all, write_all};
 use std::alloc::Global;
 use std::io::{Read, Write};
 

@@ -1,92 +1,13 @@
-//! A reader or writer with a count of its failures, from which a whole input is read, or to which a whole output is
-//! written.
-ghost use Rattle.std.specs.Prelude.{◌≡◌, ◌+◌, IfOk, OnOk, IfErr, IfSome};
-ghost use Rattle.std.specs.Io.{ReadsAtMost, WritesAtMost};
-ghost use Rattle.std.specs.Io.KnownBytes.{Appends, Consumes, Keeps, ReadConsumes, WriteAppends};
-ghost use Rattle.triples.specs.Run.{IsReadErrorOf, IsReadWhole, use_of};
-ghost use Rattle.triples.specs.Streams.{inner, failures, failures_of, write_failures_of, AppendsBeginning};
+//! A whole input is read, or a whole output written, through a [`Counted`].
+ghost use Rattle.std.specs.Prelude.{◌≡◌, ◌+◌, ℕ, take, IfOk, OnOk, IfErr, IfSome};
+ghost use Rattle.std.specs.Io.KnownBytes.{Appends, Consumes};
+ghost use Rattle.triples.specs.Run.{IsReadErrorOf, IsReadWhole, Takes, use_of};
+ghost use Rattle.triples.specs.Streams.{inner, failures, AppendsBeginning};
 
+use crate::counted::Counted;
 use crate::run_error::RunError;
 use std::alloc::Global;
-use std::io;
 use std::io::{Read, Write};
-use target_lexicon::Steps;
-
-/// A reader or writer, and the number of its failed calls. Each call makes the same call of the reader or writer and
-/// returns its result.
-#[derive(Drop)]
-pub struct Counted<D> {
-    inner: D,
-    /// One step for each failed call: only contracts see their number, which takes no memory and has no upper limit.
-    failures: Steps,
-}
-
-impl<D> Counted<D> {
-    /// The reader or writer, with no failure counted.
-    pub fn new(of: D) -> Self
-        ensures inner { inner result ≡ of }
-        ensures count { failures result ≡ 0 }
-    {
-        Counted {
-            inner: of,
-            failures: Steps::new(),
-        }
-    }
-
-    /// The reader or writer.
-    pub fn into_inner(self) -> D
-        ensures { result ≡ inner self }
-    {
-        let Counted { inner, failures: _ } = self;
-        inner
-    }
-}
-
-impl<R: Read> Counted<R> {
-    /// One read. The count rises by one exactly if it fails.
-    pub fn read(&mut self, buf: &mut [u8]) -> io::Result<usize>
-        ensures bound { ReadsAtMost result buf.new }
-        ensures bytes { ReadConsumes (R.remaining (inner self.old)) (R.remaining (inner self.new))
-            result buf.new }
-        ensures count { failures self.new ≡ failures self.old + failures_of result }
-    {
-        let answer = self.inner.read(buf);
-        if answer.is_err() {
-            self.failures.tick();
-        }
-        answer
-    }
-}
-
-impl<W: Write> Counted<W> {
-    /// One write. The count rises by one exactly if it fails, or takes no byte of a piece that is not empty.
-    pub fn write(&mut self, buf: &[u8]) -> io::Result<usize>
-        ensures bound { WritesAtMost result buf.now }
-        ensures bytes { WriteAppends (W.contents (inner self.old)) (W.contents (inner self.new))
-            result buf.now }
-        ensures count { failures self.new ≡ failures self.old + write_failures_of result buf.now }
-    {
-        let answer = self.inner.write(buf);
-        match answer {
-            Ok(0) if !buf.is_empty() => self.failures.tick(),
-            Ok(_) => {}
-            Err(_) => self.failures.tick(),
-        }
-        answer
-    }
-
-    /// One flush. The count rises by one exactly if it fails.
-    pub fn flush(&mut self) -> io::Result<()>
-        ensures bytes { Keeps (W.contents (inner self.old)) (W.contents (inner self.new)) }
-        ensures count { failures self.new ≡ failures self.old + failures_of result }
-    {
-        let answer = self.inner.flush();
-        if answer.is_err() {
-            self.failures.tick();
-        }
-        answer
-    }
-}
 
 /// Reads to the end of the reader.
 pub fn read_all<R: Read>(alloc: Global, reader: &mut Counted<R>) -> Result<Vec<u8>, RunError>
@@ -121,6 +42,8 @@ pub fn write_all<W: Write>(writer: &mut Counted<W>, bytes: &[u8]) -> Result<(), 
     ensures unfailed { OnOk result (failures writer.new ≡ failures writer.old) }
     ensures begun { AppendsBeginning (W.contents (inner writer.old)) (W.contents (inner writer.new))
         bytes.now }
+    ensures whole { OnOk result (Takes (use_of W.contents writer.old writer.new) bytes.now) }
+    ensures part { (n : ℕ) × Takes (use_of W.contents writer.old writer.new) (take n bytes.now) }
     ensures failed { IfErr result
         (λ e. (e ≡ RunError.Write) × (failures writer.new ≡ failures writer.old + 1)) }
 {

@@ -3,12 +3,13 @@
 mod conclusions;
 mod counted;
 mod faulty;
+mod filters;
 mod rows;
 
+use crate::counted::Counted;
 use crate::mode::Mode;
 use crate::run::run;
 use crate::run_error::RunError;
-use crate::streams::Counted;
 use faulty::Faulty;
 use rows::{REFUSED_ROWS, ROWS};
 use std::alloc::Global;

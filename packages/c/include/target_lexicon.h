@@ -60,7 +60,10 @@
 #endif
 
 #ifdef __cplusplus
+#define LEXICON_AS(of, it) static_cast<of>(it)
 extern "C" {
+#else
+#define LEXICON_AS(of, it) ((of)(it))
 #endif
 
 enum lexicon_status {
@@ -93,7 +96,7 @@ enum lexicon_status {
 
 /* A tool, or a group of tools, that names targets in its own way. */
 enum lexicon_dialect {
-  LEXICON_DIALECT_NONE = 0, /* none: strings that are spelled like triples, as tools of GNU and LLVM print them */
+  LEXICON_DIALECT_NONE = 0, /* none: strings that are spelled like triples, as clang takes them after -target */
   /* written by tools/names/write: the dialects for C */
   LEXICON_DIALECT_DEBIAN = 1, /* Debian's architectures, as dpkg names them: amd64, armhf, musl-linux-arm64 */
   LEXICON_DIALECT_GO = 2, /* Go's ports, as go tool dist list prints them: linux/amd64 */
@@ -467,6 +470,20 @@ enum lexicon_arm_profile {
   /* end of what is written */
 };
 
+/* Whether C's char has a sign. */
+enum lexicon_signedness {
+  LEXICON_SIGNEDNESS_NONE = 0,
+  /* written by tools/names/write: the answers of signedness for C */
+  LEXICON_SIGNEDNESS_SIGNED = 1, /* As `signed char` */
+  LEXICON_SIGNEDNESS_UNSIGNED = 2, /* As `unsigned char` */
+  /* end of what is written */
+};
+
+/* Zeros are the unknown triple. What the library writes has 0 in every field that is not read, and its custom_vendor
+   points into the string that was parsed. Compare two structs with lexicon_equal: memcmp would compare their padding too.
+
+   LEXICON_BINARY_FORMAT_UNKNOWN is a format of its own, which parsing gives only if no other is implied. If you fill in a
+   struct yourself, call lexicon_facts and set binary_format to facts.implied_format. */
 struct lexicon_triple {
   uint16_t architecture;     /* enum lexicon_architecture */
   uint8_t vendor;            /* enum lexicon_vendor */
@@ -479,11 +496,6 @@ struct lexicon_triple {
   const char *custom_vendor; /* read only if the vendor is LEXICON_VENDOR_CUSTOM; no zero byte follows it */
   size_t custom_vendor_size;
 };
-/* Zeros are the unknown triple. What the library writes has 0 in every field that is not read, and its custom_vendor
-   points into the string that was parsed. Compare two structs with lexicon_equal: memcmp would compare their padding too.
-
-   LEXICON_BINARY_FORMAT_UNKNOWN is a format of its own, which parsing gives only if no other is implied. If you fill in a
-   struct yourself, call lexicon_facts and set binary_format to facts.implied_format. */
 
 /* Why a string is refused: the status, from 1 to 7 or one that lexicon_read names, and where the refused part is. Here and
    below, start and end are byte indices: of the part's first byte, and of the byte after its last. They are equal for an empty
@@ -539,6 +551,9 @@ struct lexicon_triple_facts {
   uint8_t wchar_alignment; /* the alignment of C's wchar_t in bytes */
   uint8_t arm_version; /* the version of a 32-bit Arm architecture */
   uint8_t arm_profile; /* enum lexicon_arm_profile: the profile of a 32-bit Arm architecture, where its name states one */
+  uint8_t char_signedness; /* enum lexicon_signedness: whether C's char has a sign, as clang has it */
+  bool has_emulated_tls; /* whether LLVM emulates thread-local storage: on OpenBSD, Cygwin, OpenHarmony, and Android before API level 29 */
+  bool has_comdat; /* whether the object format has COMDAT sections */
   /* end of what is written */
 };
 
@@ -546,6 +561,14 @@ struct lexicon_triple_facts {
 struct lexicon_os_version {
   uint16_t major;
   uint8_t minor, patch;
+};
+
+/* The versions that the operating system and the environment of a string state; three zeros are none. */
+struct lexicon_stated_version {
+  uint32_t major, minor, patch;
+};
+struct lexicon_versions {
+  struct lexicon_stated_version operating_system, environment;
 };
 
 /* A part of a string that lexicon_read, without a dialect, reads as other names. */
@@ -593,9 +616,10 @@ enum lexicon_status lexicon_equal(const struct lexicon_triple *first, const stru
 LEXICON_CHECKED LEXICON_NONNULL(1, 2, 3)
 enum lexicon_status lexicon_same_target(const struct lexicon_triple *first, const struct lexicon_triple *second, bool *answer);
 
-/* What a compiler asks about a triple. facts_size is sizeof *facts: so the library may be newer than the header that a program
-   was compiled with, and have more members, or older, and then the members that it doesn't have become 0. What comes after the
-   size isn't computed: up to implied_format takes the least time, then up to c_library. */
+/* What a compiler asks about a triple. Call lexicon_all_facts(triple, facts), which passes facts_size: sizeof *facts, so that the library
+   may be older than the header that a program was compiled with, and then the members that it doesn't have become 0. What comes
+   after the size isn't computed: offsetof implied_format takes the least time, then offsetof c_library; 0 only says whether the struct
+   is a triple. Any other size that is less than a struct's gives LEXICON_NO_SUCH_VALUE, and nothing is written. */
 LEXICON_CHECKED LEXICON_NONNULL(1, 2)
 enum lexicon_status lexicon_facts(const struct lexicon_triple *triple, struct lexicon_triple_facts *facts, size_t facts_size);
 
@@ -605,9 +629,21 @@ LEXICON_CHECKED LEXICON_NONNULL(1)
 enum lexicon_status lexicon_rustc_cfg(const struct lexicon_triple *triple, char *out, size_t out_size, size_t *length);
 
 /* The string that LLVM and clang take for the target, which is rustc's llvm-target for each of its targets that parses: arm64-apple-macosx for
-   aarch64-apple-darwin. A buffer that is too small is unchanged. */
+   aarch64-apple-darwin, x86_64-apple-macosx13.0.0 for x86_64-apple-darwin22. It has the versions that a triple has, those of Apple's
+   systems: lexicon_stated_versions gives the others of a string. A buffer that is too small is unchanged. */
 LEXICON_CHECKED LEXICON_NONNULL(1)
 enum lexicon_status lexicon_llvm_target(const struct lexicon_triple *triple, char *out, size_t out_size, size_t *length);
+
+/* What clang passes to the linker for the target: the dynamic linker that programs name, and the emulation after -m; and what ends the name
+   of a program, as rustc has it, which may be nothing. /lib64/ld-linux-x86-64.so.2, elf_x86_64 and an empty string for
+   x86_64-unknown-linux-gnu. LEXICON_NO_ANSWER where clang passes none, or the triple states no C library. A buffer that is too small is
+   unchanged. */
+LEXICON_CHECKED LEXICON_NONNULL(1)
+enum lexicon_status lexicon_dynamic_linker(const struct lexicon_triple *triple, char *out, size_t out_size, size_t *length);
+LEXICON_CHECKED LEXICON_NONNULL(1)
+enum lexicon_status lexicon_linker_emulation(const struct lexicon_triple *triple, char *out, size_t out_size, size_t *length);
+LEXICON_CHECKED LEXICON_NONNULL(1)
+enum lexicon_status lexicon_program_suffix(const struct lexicon_triple *triple, char *out, size_t out_size, size_t *length);
 
 /* Debian's multiarch tuple, as dpkg-architecture -qDEB_HOST_MULTIARCH prints it: i386-linux-gnu for i686-unknown-linux-gnu.
    LEXICON_TRIPLE_WITHOUT_NAME if Debian has no architecture for the triple, or it depends on a C library that the triple doesn't state;
@@ -618,9 +654,10 @@ enum lexicon_status lexicon_multiarch_tuple(const struct lexicon_triple *triple,
 /* Reads what another tool calls a target. At LEXICON_OK the triple is written. At any other status the error is, unless it is
    null.
 
-   With LEXICON_DIALECT_NONE, the string is spelled like a triple, such as what cc -dumpmachine prints. Some parts are other
-   spellings of known names: amd64 is x86_64, w64 is pc, mingw32 is windows-gnu, macos13 is macosx13; after armv7hl, which is
-   armv7, gnueabi is gnueabihf. Versions of systems other than Apple's are dropped: freebsd13.2 is freebsd. What parses without a
+   With LEXICON_DIALECT_NONE, the string is spelled like a triple, as clang takes it after -target. What cc -dumpmachine prints, of GCC
+   and of clang, is a name of LEXICON_DIALECT_GNU: i686-gnu is the Hurd's there. Without a dialect, some parts are other spellings of known names: amd64 is x86_64, w64 is pc, mingw32 is windows-gnu, macos13 is macosx13; after armv7hl, which is
+   armv7, gnueabi is gnueabihf. Versions of systems other than Apple's are dropped: freebsd13.2 is freebsd, and
+   lexicon_stated_versions has them. What parses without a
    custom vendor is read as it parses, and the status and the error are as those of lexicon_parse; the part is as it is in the
    string.
 
@@ -632,6 +669,13 @@ enum lexicon_status lexicon_multiarch_tuple(const struct lexicon_triple *triple,
 LEXICON_CHECKED LEXICON_NONNULL(4)
 enum lexicon_status lexicon_read(uint32_t dialect, const char *text, size_t text_size, struct lexicon_triple *triple,
                                  struct lexicon_error *error);
+
+/* The versions that a string states which lexicon_read reads without a dialect: 14.0 of the system of x86_64-unknown-freebsd14.0, 21 of the
+   environment, the API level, of aarch64-linux-android21, 19.33.31629 of x86_64-pc-windows-msvc19.33.31629. The version of one of
+   Apple's systems is the triple's too. If the string is refused, the status and the error are those of lexicon_read. */
+LEXICON_CHECKED LEXICON_NONNULL(3)
+enum lexicon_status lexicon_stated_versions(const char *text, size_t text_size, struct lexicon_versions *versions,
+                                            struct lexicon_error *error);
 
 /* The name of a triple in a dialect, which has at most 36 bytes. The vendor doesn't matter, nor what the dialect doesn't name;
    byte order, pointer width and object format do. Without a name, the status is LEXICON_NEEDS_C_LIBRARY if lexicon_complete gives
@@ -775,6 +819,11 @@ static inline enum lexicon_status lexicon_read_z(uint32_t dialect, const char *t
                                                  struct lexicon_error *error) {
   return lexicon_read(dialect, text, strlen(text), triple, error);
 }
+LEXICON_CHECKED LEXICON_NONNULL(1, 2)
+static inline enum lexicon_status lexicon_stated_versions_z(const char *text, struct lexicon_versions *versions,
+                                                            struct lexicon_error *error) {
+  return lexicon_stated_versions(text, strlen(text), versions, error);
+}
 LEXICON_CHECKED LEXICON_NONNULL(2)
 static inline enum lexicon_status lexicon_translate_z(uint32_t from, const char *name, uint32_t linux_libc, uint32_t to, char *out,
                                                       size_t out_size, size_t *length, struct lexicon_error *error) {
@@ -854,18 +903,25 @@ LEXICON_NAMES(lexicon_data_model_name, NULL, "LP32", "ILP32", "LLP64", "LP64", "
 LEXICON_NAMES(lexicon_c_library_name, NULL, "bionic", "glibc", "mingw", "msvc", "musl", "newlib", "relibc", "system", "uclibc")
 LEXICON_NAMES(lexicon_float_abi_name, NULL, "soft", "hard")
 LEXICON_NAMES(lexicon_arm_profile_name, NULL, "A", "R", "M")
+LEXICON_NAMES(lexicon_signedness_name, NULL, "signed", "unsigned")
 #undef LEXICON_NAMES
 
 /* The dialect of a name, such as "go" or "docker"; LEXICON_DIALECT_NONE if none has it. */
 LEXICON_NONNULL(1)
 static inline enum lexicon_dialect lexicon_dialect_named(const char *name) {
   for (uint32_t number = 1; lexicon_dialect_name(number); number++)
-    if (strcmp(name, lexicon_dialect_name(number)) == 0) return (enum lexicon_dialect)number;
+    if (strcmp(name, lexicon_dialect_name(number)) == 0) return LEXICON_AS(enum lexicon_dialect, number);
   /* written by tools/names/write: the other names of dialects for C */
   if (strcmp(name, "docker") == 0) return LEXICON_DIALECT_OCI;
   if (strcmp(name, "npm") == 0) return LEXICON_DIALECT_NODE;
   /* end of what is written */
   return LEXICON_DIALECT_NONE;
+}
+
+/* lexicon_facts with the size of this header's struct. */
+LEXICON_CHECKED LEXICON_NONNULL(1, 2)
+static inline enum lexicon_status lexicon_all_facts(const struct lexicon_triple *triple, struct lexicon_triple_facts *facts) {
+  return lexicon_facts(triple, facts, sizeof *facts);
 }
 
 /* lexicon_parse for strings that people type: a custom vendor is refused too, as in x86_64-linx and x86_64-unknwon-linux. */
@@ -881,7 +937,7 @@ static inline enum lexicon_status lexicon_parse_strict(const char *text, size_t 
   }
   if (error) {
     error->status = LEXICON_UNRECOGNIZED_VENDOR;
-    error->start = (size_t)(parsed.custom_vendor - text);
+    error->start = LEXICON_AS(size_t, parsed.custom_vendor - text);
     error->end = error->start + parsed.custom_vendor_size;
   }
   return LEXICON_UNRECOGNIZED_VENDOR;
@@ -891,6 +947,7 @@ static inline enum lexicon_status lexicon_parse_strict_z(const char *text, struc
   return lexicon_parse_strict(text, strlen(text), triple, error);
 }
 
+#undef LEXICON_AS
 #ifdef __cplusplus
 }
 #endif

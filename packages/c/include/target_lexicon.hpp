@@ -76,7 +76,7 @@ enum class Environment : std::uint8_t {
   Unknown = 0, AmdGiz = 1, Android = 2, Androideabi = 3, Eabi = 4, Eabihf = 5, Gnu = 6, Gnuabi64 = 7, Gnueabi = 8,
   Gnueabihf = 9, Gnuspe = 10, Gnux32 = 11, GnuIlp32 = 12, GnuLlvm = 13, HermitKernel = 14, HurdKernel = 15,
   LinuxKernel = 16, Macabi = 17, Musl = 18, Musleabi = 19, Musleabihf = 20, Muslabi64 = 21, Msvc = 22, Newlib = 23,
-  None = 24, Kernel = 25, Uclibc = 26, Uclibceabi = 27, Uclibceabihf = 28, Sgx = 29, Sim = 30, Softfloat = 31,
+  None_ = 24, Kernel = 25, Uclibc = 26, Uclibceabi = 27, Uclibceabihf = 28, Sgx = 29, Sim = 30, Softfloat = 31,
   Spe = 32, Threads = 33, Ohos = 34,
   // end of what is written
 };
@@ -174,6 +174,14 @@ enum class ArmProfile : std::uint8_t {
   // end of what is written
 };
 
+// Whether C's char has a sign.
+enum class Signedness : std::uint8_t {
+  // written by tools/names/write: the answers of signedness for C++
+  Signed = LEXICON_SIGNEDNESS_SIGNED,
+  Unsigned = LEXICON_SIGNEDNESS_UNSIGNED,
+  // end of what is written
+};
+
 // A C library of Linux, which the caller says where a name doesn't state it.
 enum class LinuxLibc : std::uint8_t {
   // written by tools/names/write: the answers of linux_libc for C++
@@ -248,6 +256,7 @@ inline std::string_view name(Origin value) { return detail::name_of(lexicon_orig
 inline std::string_view name(DataModel value) { return detail::name_of(lexicon_data_model_name, value); }
 inline std::string_view name(CLibrary value) { return detail::name_of(lexicon_c_library_name, value); }
 inline std::string_view name(FloatAbi value) { return detail::name_of(lexicon_float_abi_name, value); }
+inline std::string_view name(Signedness value) { return detail::name_of(lexicon_signedness_name, value); }
 inline std::string_view name(ArmProfile value) { return detail::name_of(lexicon_arm_profile_name, value); }
 
 // The dialect of a name, such as "go".
@@ -388,13 +397,19 @@ class Triple {
   // What `parse` gives, and from where each field comes.
   static std::optional<Explanation> explain(std::string_view text, ParseError* error = nullptr);
 
-  // The triple of a string that is spelled like one, such as what `cc -dumpmachine` prints; and that of a name of another tool.
-  // If there is none, `error` says why.
+  // The triple of a string that is spelled like one, as clang takes it after -target; and that of a name of another tool, such as what
+  // `cc -dumpmachine` prints, of Dialect::Gnu. If there is none, `error` says why.
   static std::optional<Triple> read(std::string_view text, ParseError* error = nullptr) {
     return read_in(LEXICON_DIALECT_NONE, text, error);
   }
   static std::optional<Triple> read(std::string_view name, Dialect dialect, ParseError* error = nullptr) {
     return read_in(static_cast<std::uint32_t>(dialect), name, error);
+  }
+
+  // The versions that such a string states: those of systems other than Apple's aren't the triple's.
+  static std::optional<lexicon_versions> stated_versions(std::string_view text) {
+    lexicon_versions versions;
+    return lexicon_stated_versions(text.data(), text.size(), &versions, nullptr) == LEXICON_OK ? std::make_optional(versions) : std::nullopt;
   }
 
   // What a string means to each dialect that has it as a name, and as one that is spelled like a triple, as `lexicon_meaning` says.
@@ -528,6 +543,12 @@ class Triple {
   std::optional<unsigned> arm_version() const { return detail::answer<unsigned>(facts().arm_version); }
   // The profile of a 32-bit Arm architecture, where its name states one.
   std::optional<ArmProfile> arm_profile() const { return detail::answer<ArmProfile>(facts().arm_profile); }
+  // Whether C's char has a sign, as clang has it.
+  std::optional<Signedness> char_signedness() const { return detail::answer<Signedness>(facts().char_signedness); }
+  // Whether LLVM emulates thread-local storage: on OpenBSD, Cygwin, OpenHarmony, and Android before API level 29.
+  bool has_emulated_tls() const { return facts().has_emulated_tls; }
+  // Whether the object format has COMDAT sections.
+  bool has_comdat() const { return facts().has_comdat; }
   // end of what is written
   bool has_custom_vendor() const { return !custom_vendor_.empty(); }
   std::optional<TypeLayout> long_double() const {
@@ -540,32 +561,25 @@ class Triple {
   }
 
   // The string that LLVM and clang take for the target: arm64-apple-macosx for aarch64-apple-darwin.
-  std::string llvm_target() const {
-    lexicon_triple triple = c_triple();
-    return detail::written([&](char* out, std::size_t size, std::size_t* length) { return lexicon_llvm_target(&triple, out, size, length); });
-  }
+  std::string llvm_target() const { return text(lexicon_llvm_target); }
+
+  // What clang passes to the linker: the dynamic linker that programs name, and the emulation after -m. And what ends the name of a
+  // program, as rustc has it.
+  std::optional<std::string> dynamic_linker() const { return text_if_any(lexicon_dynamic_linker); }
+  std::optional<std::string> linker_emulation() const { return text_if_any(lexicon_linker_emulation); }
+  std::string program_suffix() const { return text(lexicon_program_suffix); }
 
   // Debian's multiarch tuple, if it has one.
-  std::optional<std::string> multiarch_tuple() const {
-    lexicon_triple triple = c_triple();
-    std::string tuple = detail::written([&](char* out, std::size_t size, std::size_t* length) { return lexicon_multiarch_tuple(&triple, out, size, length); });
-    return tuple.empty() ? std::nullopt : std::make_optional(std::move(tuple));
-  }
+  std::optional<std::string> multiarch_tuple() const { return text_if_any(lexicon_multiarch_tuple); }
 
   // What `rustc --print cfg` writes of the target's cfg options, a line for each.
-  std::string rustc_cfg() const {
-    lexicon_triple triple = c_triple();
-    return detail::written([&](char* out, std::size_t size, std::size_t* length) { return lexicon_rustc_cfg(&triple, out, size, length); });
-  }
+  std::string rustc_cfg() const { return text(lexicon_rustc_cfg); }
 
   // All of the facts at once.
   lexicon_triple_facts facts() const { return facts_up_to(sizeof(lexicon_triple_facts)); }
 
   // The printed triple, and that of the canonical form, which is a key.
-  std::string printed() const {
-    lexicon_triple triple = c_triple();
-    return detail::written([&](char* out, std::size_t size, std::size_t* length) { return lexicon_print(&triple, out, size, length); });
-  }
+  std::string printed() const { return text(lexicon_print); }
   std::string canonical() const { return settle().printed(); }
 
   // The canonical form: what the printed triple parses as.
@@ -610,6 +624,16 @@ class Triple {
   }
 
  private:
+  // What a call writes of this triple.
+  template <class Call> std::string text(Call call) const {
+    lexicon_triple triple = c_triple();
+    return detail::written([&](char* out, std::size_t size, std::size_t* length) { return call(&triple, out, size, length); });
+  }
+  template <class Call> std::optional<std::string> text_if_any(Call call) const {
+    std::string found = text(call);
+    return found.empty() ? std::nullopt : std::make_optional(std::move(found));
+  }
+
   // The facts that lie in the first bytes of the struct: the others aren't computed.
   lexicon_triple_facts facts_up_to(std::size_t size) const {
     lexicon_triple_facts facts = {};

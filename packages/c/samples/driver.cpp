@@ -1,4 +1,4 @@
-// The cross driver of driver.c in C++17: for each target that its arguments name, the linker of LLVM's lld that links for it,
+// A part of the driver of driver.c in C++17: for each target that its arguments name, the linker of LLVM's lld that links for it,
 // and the sizes of C's types. A refused target is shown with a caret under the refused part.
 //
 // With P the folder where the library is installed, and PKG_CONFIG_PATH=$P/lib/pkgconfig:
@@ -37,7 +37,7 @@ std::string_view linker(const Triple& triple) {
 
 bool show(std::string_view text) {
   lexicon::ParseError error;
-  auto triple = Triple::parse(text, &error);
+  auto triple = Triple::read(text, &error);
   if (!triple) {
     std::cout << "error: " << error << '\n';
     return false;

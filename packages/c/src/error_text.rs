@@ -48,8 +48,8 @@ pub(crate) fn line_and_caret(bytes: &[u8], error: &TextError, out: &mut Text) ->
     push_visible(bytes, out);
     out.push("\n  ");
     let (before, part) = (&bytes[..error.start], part(bytes, error)?);
-    (0..characters(before).count()).for_each(|_| out.push(" "));
-    (0..characters(part).count().max(1)).for_each(|_| out.push("^"));
+    (0..columns(before)).for_each(|_| out.push(" "));
+    (0..columns(part).max(1)).for_each(|_| out.push("^"));
     if let Some(meant) = suggestion(bytes, error) {
         [" did you mean `", meant.names, meant.version, "`?"].iter().for_each(|it| out.push(it));
     }
@@ -77,6 +77,25 @@ fn characters(mut bytes: &[u8]) -> impl Iterator<Item = char> + '_ {
         bytes = &bytes[size..];
         (size > 0).then_some(first.unwrap_or(REPLACEMENT))
     })
+}
+
+/// The columns of a terminal that the characters take, as they are shown.
+fn columns(bytes: &[u8]) -> usize {
+    characters(bytes).map(|it| if is_visible(it) { width(it) } else { 1 }).sum()
+}
+
+/// The columns of a character: 2 of the scripts of East Asia and of most pictures, 0 of what is written over the character before.
+/// `test` asks the system's C library.
+fn width(it: char) -> usize {
+    match it {
+        '\u{300}'..='\u{36f}' | '\u{1160}'..='\u{11ff}' | '\u{1ab0}'..='\u{1aff}' | '\u{1dc0}'..='\u{1dff}' | '\u{20d0}'..='\u{20f0}' => 0,
+        '\u{d7b0}'..='\u{d7ff}' | '\u{fe00}'..='\u{fe0f}' | '\u{fe20}'..='\u{fe2f}' => 0,
+        '\u{1100}'..='\u{115f}' | '\u{2329}' | '\u{232a}' | '\u{2e80}'..='\u{303e}' | '\u{3041}'..='\u{4dbf}' | '\u{4e00}'..='\u{a4c6}' => 2,
+        '\u{a960}'..='\u{a97c}' | '\u{ac00}'..='\u{d7a3}' | '\u{f900}'..='\u{fad9}' | '\u{fe10}'..='\u{fe6b}' | '\u{ff01}'..='\u{ff60}' => 2,
+        '\u{ffe0}'..='\u{ffe6}' | '\u{16fe0}'..='\u{16fe3}' | '\u{16ff0}'..='\u{1b2fb}' | '\u{20000}'..='\u{3134a}' => 2,
+        '\u{1f300}'..='\u{1f64f}' | '\u{1f680}'..='\u{1f6ff}' | '\u{1f900}'..='\u{1faff}' => 2,
+        _ => 1,
+    }
 }
 
 fn push_visible(bytes: &[u8], out: &mut Text) {

@@ -81,6 +81,12 @@ pub struct DriverFacts {
     pub arm_version: u8,
     /// The profile of a 32-bit Arm architecture, where its name states one.
     pub arm_profile: u8,
+    /// Whether C's `char` has a sign, as clang has it.
+    pub char_signedness: u8,
+    /// Whether LLVM emulates thread-local storage: on OpenBSD, Cygwin, OpenHarmony, and Android before API level 29.
+    pub has_emulated_tls: bool,
+    /// Whether the object format has COMDAT sections.
+    pub has_comdat: bool,
     // end of what is written
 }
 
@@ -145,6 +151,9 @@ impl From<&TripleRef<'_>> for DriverFacts {
             is_unix: triple.is_unix(),
             arm_version: triple.arm_version().unwrap_or(0),
             arm_profile: triple.arm_profile().map_or(0, |it| 1 + it as u8),
+            char_signedness: triple.char_signedness().map_or(0, |it| 1 + it as u8),
+            has_emulated_tls: triple.has_emulated_tls(),
+            has_comdat: triple.has_comdat(),
             long_double: long_double(),
             wchar: wchar(),
             // end of what is written

@@ -259,6 +259,7 @@ fn the_structs_are_those_of_the_library() {
     };
     assert_eq!(members("lexicon_triple_facts"), groups.flat_map(layout).collect::<Vec<_>>());
     assert_eq!(members("lexicon_change"), fields(library, "Change"));
+    assert_eq!(members("lexicon_stated_version"), fields(library, "StatedVersion"));
     assert_eq!(members("lexicon_error"), fields(error, "TextError"));
     assert_eq!(members("lexicon_source"), fields(sources, "FieldSource"));
     assert_eq!(members("lexicon_sources"), fields(sources, "FieldSources"));

@@ -25,8 +25,8 @@ mod text;
 mod triple;
 mod values;
 
-use core::mem::{size_of, MaybeUninit};
-use core::ptr::{self, addr_of, null};
+use core::mem::size_of;
+use core::ptr::{addr_of, null};
 use core::{slice, str};
 use error::{unwritten_status, Fault, TextError};
 use error_text::{line, line_and_caret, suggestion};
@@ -87,6 +87,21 @@ pub struct Version {
     patch: u8,
 }
 
+/// `struct lexicon_stated_version`.
+#[repr(C)]
+pub struct StatedVersion {
+    major: u32,
+    minor: u32,
+    patch: u32,
+}
+
+/// `struct lexicon_versions`.
+#[repr(C)]
+pub struct StatedVersions {
+    operating_system: StatedVersion,
+    environment: StatedVersion,
+}
+
 /// `struct lexicon_change`.
 #[repr(C)]
 pub struct Change {
@@ -95,7 +110,7 @@ pub struct Change {
 }
 
 // written by tools/names/write: the size of the facts
-const FACT_COUNT: usize = 25;
+const FACT_COUNT: usize = 28;
 // end of what is written
 
 /// The sizes that the structs of target_lexicon.h have, with words of 64 bits or of 32.
@@ -120,6 +135,15 @@ impl From<TripleRef<'_>> for Triple {
 impl From<DeploymentTarget> for Version {
     fn from(it: DeploymentTarget) -> Version {
         Version { major: it.major, minor: it.minor, patch: it.patch }
+    }
+}
+
+impl From<target_names::StatedVersions> for StatedVersions {
+    fn from(it: target_names::StatedVersions) -> StatedVersions {
+        let numbers = |it: Option<target_names::StatedVersion>| {
+            it.map_or(StatedVersion { major: 0, minor: 0, patch: 0 }, |it| StatedVersion { major: it.major, minor: it.minor, patch: it.patch })
+        };
+        StatedVersions { operating_system: numbers(it.operating_system), environment: numbers(it.environment) }
     }
 }
 
@@ -287,6 +311,24 @@ pub unsafe extern "C" fn lexicon_multiarch_tuple(triple: *const Triple, out: *mu
 }
 
 #[no_mangle]
+pub unsafe extern "C" fn lexicon_dynamic_linker(triple: *const Triple, out: *mut u8, out_size: usize, length: *mut usize) -> Status {
+    let found = unsafe { answer_of(triple, |it| it.dynamic_linker()) };
+    unsafe { write_text(out, out_size, length, |out| Ok(written(found?, out))) }
+}
+
+#[no_mangle]
+pub unsafe extern "C" fn lexicon_linker_emulation(triple: *const Triple, out: *mut u8, out_size: usize, length: *mut usize) -> Status {
+    let found = unsafe { answer_of(triple, |it| it.linker_emulation()) };
+    unsafe { write_text(out, out_size, length, |out| Ok(written(found?, out))) }
+}
+
+#[no_mangle]
+pub unsafe extern "C" fn lexicon_program_suffix(triple: *const Triple, out: *mut u8, out_size: usize, length: *mut usize) -> Status {
+    let triple = unsafe { Triple::read(triple) };
+    unsafe { write_text(out, out_size, length, |out| Ok(written(triple?.program_suffix(), out))) }
+}
+
+#[no_mangle]
 pub unsafe extern "C" fn lexicon_settle(triple: *mut Triple) -> Status {
     unsafe { answer(triple, Triple::read(triple).map(|it| it.step())) }
 }
@@ -328,10 +370,18 @@ unsafe fn both<'a>(first: *const Triple, second: *const Triple) -> Result<(Tripl
 #[no_mangle]
 pub unsafe extern "C" fn lexicon_facts(triple: *const Triple, facts: *mut u8, facts_size: usize) -> Status {
     match facts_size {
+        0 => unsafe { Triple::read(triple) }.map_or_else(Status::from, |_| OK),
         QUERIES => unsafe { write_facts::<QueryFacts>(triple, facts) },
         FIRST => unsafe { write_facts::<FirstFacts>(triple, facts) },
-        ALL => unsafe { write_facts::<Facts>(triple, facts) },
-        0..=MAX_SIZE => unsafe { write_facts_of_size(triple, facts, facts_size) },
+        ALL..=MAX_SIZE => unsafe {
+            let status = write_facts::<Facts>(triple, facts);
+            if status == OK {
+                // A later version's struct: what this one doesn't answer has no answer.
+                facts.add(ALL).write_bytes(0, facts_size - ALL);
+            }
+            status
+        },
+        0..=MAX_SIZE => NO_SUCH_VALUE,
         _ => TOO_LARGE,
     }
 }
@@ -371,20 +421,6 @@ unsafe fn write_sizes(triple: *const Triple, facts: *mut QueryFacts) -> Status {
         }
     }
     OK
-}
-
-/// Writes as many of the facts as a struct of another size has room for. What this version doesn't answer has no answer.
-unsafe fn write_facts_of_size(triple: *const Triple, facts: *mut u8, facts_size: usize) -> Status {
-    let mut all = MaybeUninit::<Facts>::uninit();
-    unsafe {
-        let status = write_facts::<Facts>(triple, all.as_mut_ptr().cast());
-        if status == OK {
-            let known = facts_size.min(ALL);
-            ptr::copy_nonoverlapping(all.as_ptr().cast(), facts, known);
-            facts.add(known).write_bytes(0, facts_size - known);
-        }
-        status
-    }
 }
 
 #[no_mangle]
@@ -452,6 +488,22 @@ fn meant(dialect: Option<Dialect>, text: &str) -> Result<TripleRef<'_>, TextErro
     match dialect {
         Some(dialect) => dialect.read_loosely(text).map_err(|error| TextError::of_name(TranslateError::Read(error), text)),
         None => Ok(target_names::read(text)?),
+    }
+}
+
+#[no_mangle]
+pub unsafe extern "C" fn lexicon_stated_versions(
+    text: *const u8,
+    text_size: usize,
+    versions: *mut StatedVersions,
+    error: *mut TextError,
+) -> Status {
+    match unsafe { text_at(text, text_size) }.and_then(|text| Ok(target_names::stated_versions(text)?)) {
+        Ok(found) => unsafe {
+            versions.write(found.into());
+            OK
+        },
+        Err(it) => unsafe { refused(it, error) },
     }
 }
 

@@ -203,8 +203,9 @@ static void try_bad(struct lexicon_triple bad, enum lexicon_status status, const
   fill(&facts, sizeof facts);
   fill(&version, sizeof version);
   expect(lexicon_print(&bad, out, sizeof out, &length) == status && length == 77 && is_filled(out, sizeof out), "bad print", what);
-  for (size_t size = 0; size <= sizeof facts; size++)
-    expect(lexicon_facts(&bad, &facts, size) == status && is_filled(&facts, sizeof facts), "bad facts", what);
+  expect(lexicon_facts(&bad, &facts, 0) == status && lexicon_facts(&bad, &facts, offsetof(struct lexicon_triple_facts, implied_format)) == status &&
+         lexicon_facts(&bad, &facts, offsetof(struct lexicon_triple_facts, c_library)) == status && lexicon_all_facts(&bad, &facts) == status &&
+         is_filled(&facts, sizeof facts), "bad facts", what);
   expect(lexicon_settle(&copy) == status && are_same(&copy, &bad), "bad settle", what);
   expect(lexicon_complete(&copy, LEXICON_LINUX_LIBC_GLIBC) == status && are_same(&copy, &bad), "bad complete", what);
   expect(lexicon_set_pointer_width(&copy, 32) == status && lexicon_set_endianness(&copy, LEXICON_ENDIANNESS_BIG) == status && are_same(&copy, &bad), "bad variant", what);
@@ -271,13 +272,17 @@ static void try_pairs(void) {
 static void try_facts(const char *text, const uint8_t *first, size_t first_size) {
   struct lexicon_triple triple = triple_of(text);
   struct lexicon_triple_facts facts;
-  expect(lexicon_facts(&triple, &facts, sizeof facts) == LEXICON_OK && memcmp(&facts, first, first_size) == 0, "facts", text);
-  /* with the struct of an older header, and of a newer one */
+  expect(lexicon_all_facts(&triple, &facts) == LEXICON_OK && memcmp(&facts, first, first_size) == 0, "facts", text);
+  /* with each group, and with the struct of a newer header; no other size is one of the struct, such as that of a pointer */
   struct { struct lexicon_triple_facts facts; unsigned char more[4]; } newer;
   for (size_t size = 0; size <= sizeof newer; size++) {
     unsigned char *bytes = (unsigned char *)&newer;
     size_t i, known = size < sizeof facts ? size : sizeof facts;
     fill(&newer, sizeof newer);
+    if (size != 0 && size != offsetof(struct lexicon_triple_facts, implied_format) && size != offsetof(struct lexicon_triple_facts, c_library) && size < sizeof facts) {
+      expect(lexicon_facts(&triple, &newer.facts, size) == LEXICON_NO_SUCH_VALUE && is_filled(&newer, sizeof newer), "facts of no size", text);
+      continue;
+    }
     expect(lexicon_facts(&triple, &newer.facts, size) == LEXICON_OK && memcmp(bytes, &facts, known) == 0, "facts of a size", text);
     for (i = known; i < size && bytes[i] == 0; i++) {}
     expect(i >= size && is_filled(bytes + i, sizeof newer - i), "facts of a size", text);
@@ -298,6 +303,46 @@ static enum lexicon_status multiarch_tuple(const void *triple, char *out, size_t
   return lexicon_multiarch_tuple((const struct lexicon_triple *)triple, out, size, length);
 }
 
+static enum lexicon_status dynamic_linker(const void *triple, char *out, size_t size, size_t *length) {
+  return lexicon_dynamic_linker((const struct lexicon_triple *)triple, out, size, length);
+}
+
+static enum lexicon_status linker_emulation(const void *triple, char *out, size_t size, size_t *length) {
+  return lexicon_linker_emulation((const struct lexicon_triple *)triple, out, size, length);
+}
+
+static enum lexicon_status program_suffix(const void *triple, char *out, size_t size, size_t *length) {
+  return lexicon_program_suffix((const struct lexicon_triple *)triple, out, size, length);
+}
+
+/* A string, and the versions that its system and its environment state. */
+static const struct { const char *text; struct lexicon_versions versions; } stated[] = {
+    {"x86_64-unknown-freebsd14.0", {{14, 0, 0}, {0, 0, 0}}},
+    {"armv7-unknown-freebsd14.1-gnueabihf", {{14, 1, 0}, {0, 0, 0}}},
+    {"aarch64-linux-android21", {{0, 0, 0}, {21, 0, 0}}},
+    {"armv7a-linux-androideabi24", {{0, 0, 0}, {24, 0, 0}}},
+    {"x86_64-pc-windows-msvc19.33.31629", {{0, 0, 0}, {19, 33, 31629}}},
+    {"powerpc-ibm-aix7.2.0.0", {{7, 2, 0}, {0, 0, 0}}},
+    {"arm64-apple-macos13.1", {{13, 1, 0}, {0, 0, 0}}},
+    {"x86_64-apple-darwin22.6", {{22, 6, 0}, {0, 0, 0}}},
+    {"i686-pc-gnu0.9", {{0, 9, 0}, {0, 0, 0}}},
+    {"aarch64-linux-gnu.2.17", {{0, 0, 0}, {2, 17, 0}}},
+    {"x86_64-unknown-freebsd99999999999", {{0, 0, 0}, {0, 0, 0}}},
+    {"x86_64-w64-mingw32", {{0, 0, 0}, {0, 0, 0}}},
+};
+
+static void try_stated(void) {
+  struct lexicon_versions versions;
+  struct lexicon_error error;
+  for (size_t i = 0; i < sizeof stated / sizeof *stated; i++) {
+    expect(lexicon_stated_versions_z(stated[i].text, &versions, NULL) == LEXICON_OK, "stated", stated[i].text);
+    expect(memcmp(&versions, &stated[i].versions, sizeof versions) == 0, "stated versions", stated[i].text);
+  }
+  fill(&versions, sizeof versions);
+  expect(lexicon_stated_versions("x86_64-pc-linx", 14, &versions, &error) == LEXICON_UNRECOGNIZED_OPERATING_SYSTEM && error.start == 10, "stated", "linx");
+  expect(lexicon_stated_versions("avr-\xff", 5, &versions, &error) == LEXICON_NOT_UTF8 && is_filled(&versions, sizeof versions), "stated", "not UTF-8");
+}
+
 static void try_all_facts(void) {
   struct lexicon_triple i686 = triple_of("i686-pc-linux-gnu"), bare = triple_of("x86_64-linux");
   char none[8];
@@ -309,10 +354,16 @@ static void try_all_facts(void) {
   try_text(rustc_cfg, &far, "target_abi=\"\"\ntarget_arch=\"avr\"\ntarget_endian=\"little\"\ntarget_env=\"\"\ntarget_os=\"unknown\"\ntarget_pointer_width=\"16\"\n"
            "target_vendor=\"averyveryveryverylongvendorwithmorethanonehundredandtwentyeightbytes\"\n", false);
   try_text(llvm_target, &mac, "arm64-apple-macosx", false);
+  try_text(dynamic_linker, &i686, "/lib/ld-linux.so.2", false);
+  try_text(linker_emulation, &i686, "elf_i386", false);
+  try_text(program_suffix, &i686, "", false);
+  expect(lexicon_dynamic_linker(&bare, none, sizeof none, NULL) == LEXICON_NO_ANSWER && lexicon_linker_emulation(&mac, none, sizeof none, NULL) == LEXICON_NO_ANSWER, "none", "");
+  struct lexicon_triple darwin = triple_of("x86_64-apple-darwin22");
+  try_text(llvm_target, &darwin, "x86_64-apple-macosx13.0.0", false);
   try_text(llvm_target, &far, "avr-averyveryveryverylongvendorwithmorethanonehundredandtwentyeightbytes-unknown", false);
   static const uint8_t ios[] = {LEXICON_ENDIANNESS_LITTLE, 64, LEXICON_CALLING_CONVENTION_APPLE_AARCH64, LEXICON_DATA_MODEL_LP64,
       2, 4, 8, 8, 4, 8, false, true, false, LEXICON_BINARY_FORMAT_MACHO, LEXICON_BINARY_FORMAT_ELF, LEXICON_FAMILY_AARCH64,
-      LEXICON_C_LIBRARY_SYSTEM, LEXICON_FLOAT_ABI_NONE, true, 8, 8, 4, 4};
+      LEXICON_C_LIBRARY_SYSTEM, LEXICON_FLOAT_ABI_NONE, true, 8, 8, 4, 4, 0, 0, LEXICON_SIGNEDNESS_SIGNED, false, true};
   static const uint8_t thumb[] = {LEXICON_ENDIANNESS_LITTLE, 32, LEXICON_CALLING_CONVENTION_WINDOWS_FASTCALL, LEXICON_DATA_MODEL_ILP32,
       2, 4, 4, 8, 4, 8, true, false, true, LEXICON_BINARY_FORMAT_COFF, LEXICON_BINARY_FORMAT_ELF, LEXICON_FAMILY_ARM,
       LEXICON_C_LIBRARY_NONE, LEXICON_FLOAT_ABI_SOFT, false, 0, 0, 2, 2};
@@ -327,7 +378,7 @@ static void try_all_facts(void) {
       LEXICON_C_LIBRARY_NONE, LEXICON_FLOAT_ABI_NONE, true, 16, 8, 4, 4};
   static const uint8_t arm[] = {LEXICON_ENDIANNESS_LITTLE, 32, LEXICON_CALLING_CONVENTION_SYSTEM_V, LEXICON_DATA_MODEL_ILP32,
       2, 4, 4, 8, 4, 8, false, false, false, LEXICON_BINARY_FORMAT_ELF, LEXICON_BINARY_FORMAT_ELF, LEXICON_FAMILY_ARM,
-      LEXICON_C_LIBRARY_GLIBC, LEXICON_FLOAT_ABI_HARD, true, 8, 8, 4, 4};
+      LEXICON_C_LIBRARY_GLIBC, LEXICON_FLOAT_ABI_HARD, true, 8, 8, 4, 4, 7, 0, LEXICON_SIGNEDNESS_UNSIGNED, false, true};
   static const uint8_t unknown[sizeof(struct lexicon_triple_facts)] = {0};
   try_facts("arm64-apple-ios17.2.1-elf", ios, sizeof ios);
   try_facts("thumbv7m-acme-windows-eabi-elf", thumb, sizeof thumb);
@@ -509,12 +560,12 @@ static void try_names(void) {
   struct lexicon_triple accepted;
   const char *(*const names[])(uint32_t) = {lexicon_status_name, lexicon_field_name, lexicon_family_name, lexicon_dialect_name, lexicon_linux_libc_name,
       lexicon_origin_name, lexicon_endianness_name, lexicon_calling_convention_name, lexicon_data_model_name, lexicon_c_library_name, lexicon_float_abi_name,
-      lexicon_arm_profile_name};
+      lexicon_arm_profile_name, lexicon_signedness_name};
   uint32_t dialects = 0;
   while (lexicon_read(dialects + 1, "", 0, &accepted, NULL) != LEXICON_NO_SUCH_DIALECT) dialects++;
   const uint32_t last[] = {LEXICON_NO_SUCH_MEANING, LEXICON_FIELD_BINARY_FORMAT, LEXICON_FAMILY_Z80, dialects, LEXICON_LINUX_LIBC_GNULLVM,
       LEXICON_ORIGIN_ALIAS, LEXICON_ENDIANNESS_BIG, LEXICON_CALLING_CONVENTION_APPLE_AARCH64, LEXICON_DATA_MODEL_ILP64, LEXICON_C_LIBRARY_UCLIBC, LEXICON_FLOAT_ABI_HARD,
-      LEXICON_ARM_PROFILE_MICROCONTROLLER};
+      LEXICON_ARM_PROFILE_MICROCONTROLLER, LEXICON_SIGNEDNESS_UNSIGNED};
   for (size_t i = 0; i < sizeof names / sizeof *names; i++) {
     for (uint32_t number = 1; number <= last[i]; number++) expect(names[i](number) && *names[i](number), "the enumerator has a name", "");
     expect(names[i](last[i] + 1) == NULL && names[i](~0u) == NULL, "no other number has one", "");
@@ -954,6 +1005,7 @@ int main(void) {
   try_all_bad();
   try_pairs();
   try_all_facts();
+  try_stated();
   try_struct();
   try_lines();
   try_too_large();

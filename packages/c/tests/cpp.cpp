@@ -169,6 +169,10 @@ static void try_driver() {
   EXPECT(embedded.arm_version() == 7u && embedded.arm_profile() == ArmProfile::Microcontroller && shown(ArmProfile::RealTime) == "R" && !none.arm_profile());
   EXPECT(parsed("riscv64gc-linux-gnu").llvm_target() == "riscv64-unknown-linux-gnu" && parsed("arm64-apple-ios17.1").llvm_target() == "arm64-apple-ios17.1.0");
   EXPECT(parsed("i686-linux-gnu").multiarch_tuple() == "i386-linux-gnu" && !embedded.multiarch_tuple());
+  EXPECT(arm.dynamic_linker() == "/lib/ld-linux-armhf.so.3" && musl.linker_emulation() == "elf_x86_64" && !none.dynamic_linker() && !none.linker_emulation());
+  EXPECT(arm.char_signedness() == Signedness::Unsigned && shown(Signedness::Signed) == "signed" && parsed("x86_64-pc-cygwin").has_emulated_tls());
+  EXPECT(arm.has_comdat() && !parsed("arm64-apple-ios").has_comdat() && none.program_suffix() == ".elf" && arm.program_suffix().empty());
+  EXPECT(Triple::stated_versions("aarch64-linux-android21")->environment.major == 21 && !Triple::stated_versions("linx"));
   EXPECT(embedded.rustc_cfg().find("target_os=\"none\"\n") != std::string::npos && parsed("x86_64-linux-gnu").rustc_cfg().find("\nunix\n") != std::string::npos);
   EXPECT(!none.c_library() && !none.float_abi() && !none.is_unix() && !none.long_double() && !none.wchar());
   auto mips = parsed("mips64el-acme-linux-gnuabi64"), mac = parsed("arm64-apple-darwin20.3");

@@ -115,6 +115,84 @@ static void try_names(const struct lexicon_triple *triple) {
   }
 }
 
+typedef enum lexicon_status text_call(const struct lexicon_triple *triple, char *out, size_t out_size, size_t *length);
+
+static enum lexicon_status versioned_name(const struct lexicon_triple *triple, char *out, size_t out_size, size_t *length) {
+  return lexicon_write_versioned(LEXICON_DIALECT_PYTHON, triple, 2, 17, out, out_size, length);
+}
+
+/* Calls that write a text, with each size of buffer that matters: what is written is ASCII without controls, except line feeds. */
+static void try_texts(const struct lexicon_triple *triple) {
+  static text_call *const calls[] = {lexicon_rustc_cfg, lexicon_llvm_target, lexicon_multiarch_tuple, versioned_name, lexicon_vendor_suggestion};
+  for (size_t call = 0; call < sizeof calls / sizeof *calls; call++) {
+    size_t length = 77, again = 0;
+    enum lexicon_status status = calls[call](triple, NULL, 0, &length);
+    if (status != LEXICON_TOO_SMALL) {
+      CHECK(length == 77 && call >= 2);
+      CHECK(status == (call == 4 ? LEXICON_NO_SUGGESTION : LEXICON_TRIPLE_WITHOUT_NAME) || (call == 3 && status == LEXICON_NEEDS_C_LIBRARY));
+      continue;
+    }
+    char *small = (char *)before_guard(2, length);
+    memset(small, 0xa5, length);
+    CHECK(calls[call](triple, small, length, &again) == LEXICON_TOO_SMALL && again == length && is_unchanged(small, length));
+    char *out = (char *)before_guard(2, length + 1);
+    CHECK(calls[call](triple, out, length + 1, &again) == LEXICON_OK && again == length && strlen(out) == length);
+    for (size_t i = 0; i < length; i++) CHECK((out[i] >= ' ' && out[i] <= '~') || (call == 0 && out[i] == '\n'));
+  }
+}
+
+/* The versions of a triple, and its names that state one. */
+static void try_versions(const struct lexicon_triple *triple) {
+  struct lexicon_os_version version;
+  memset(&version, 0xa5, sizeof version);
+  enum lexicon_status status = lexicon_macos_version(triple, &version);
+  CHECK(status == LEXICON_OK ? triple->has_version == 1 : status == LEXICON_NO_ANSWER && is_unchanged(&version, sizeof version));
+  memset(&version, 0xa5, sizeof version);
+  status = lexicon_minimum_os_version(triple, &version);
+  CHECK(status == LEXICON_OK || (status == LEXICON_NO_ANSWER && is_unchanged(&version, sizeof version)));
+  static const uint32_t numbers[][2] = {{2, 17}, {11, 0}, {21, 0}, {65535, 255}, {65536, 0}, {2, 256}};
+  for (uint32_t dialect = LEXICON_DIALECT_NONE; dialect <= LAST_DIALECT + 1; dialect++) {
+    for (size_t i = 0; i < sizeof numbers / sizeof *numbers; i++) {
+      char name[64];
+      size_t length = 77;
+      uint32_t major = numbers[i][0], minor = numbers[i][1];
+      memset(name, 0xa5, sizeof name);
+      status = lexicon_write_versioned(dialect, triple, major, minor, name, sizeof name, &length);
+      bool has_none = status == LEXICON_TRIPLE_WITHOUT_NAME || status == LEXICON_NEEDS_C_LIBRARY;
+      CHECK((status == LEXICON_NO_SUCH_DIALECT) == (dialect == LEXICON_DIALECT_NONE || dialect > LAST_DIALECT));
+      CHECK((lexicon_write_versioned_reason(dialect, triple, major, minor) != NULL) == has_none);
+      if (status == LEXICON_OK) CHECK(length == strlen(name));
+      else CHECK((has_none || status == LEXICON_NO_SUCH_DIALECT) && length == 77 && is_unchanged(name, sizeof name));
+    }
+  }
+}
+
+/* The name of each dialect for a name of each, and the reason where there is none. */
+static void try_translations(const char *text, size_t size) {
+  for (uint32_t from = LEXICON_DIALECT_NONE; from <= LAST_DIALECT + 1; from++) {
+    struct lexicon_triple triple;
+    uint32_t read = lexicon_read(from, text, size, &triple, NULL);
+    for (uint32_t to = LEXICON_DIALECT_NONE; to <= LAST_DIALECT + 1; to++) {
+      uint32_t libc = (from + to) % 3;
+      char name[37];
+      size_t length = 77;
+      struct lexicon_error error;
+      memset(name, 0xa5, sizeof name);
+      memset(&error, 0xa5, sizeof error);
+      uint32_t status = lexicon_translate(from, text, size, libc, to, name, sizeof name, &length, &error);
+      const char *reason = lexicon_translate_reason(from, text, size, libc, to);
+      bool has_reason = status == LEXICON_TRIPLE_WITHOUT_NAME || status == LEXICON_NEEDS_C_LIBRARY || status == LEXICON_NAME_WITHOUT_TRIPLE;
+      CHECK((reason != NULL) == has_reason);
+      if (status == LEXICON_OK) {
+        CHECK(read == LEXICON_OK && length == strlen(name) && is_unchanged(&error, sizeof error));
+      } else {
+        CHECK(length == 77 && is_unchanged(name, sizeof name) && error.status == status && error.start <= error.end && error.end <= size);
+        CHECK(status == read || (read == LEXICON_OK && (has_reason || status == LEXICON_NO_SUCH_DIALECT)) || status == LEXICON_NO_SUCH_DIALECT);
+      }
+    }
+  }
+}
+
 /* What holds of each triple that is well. */
 static void try_triple(const struct lexicon_triple *triple) {
   struct lexicon_triple settled = *triple, again;
@@ -164,6 +242,8 @@ static void try_triple(const struct lexicon_triple *triple) {
     CHECK(status != LEXICON_OK || (lexicon_set_endianness(&variant, facts.endianness) == LEXICON_OK && are_equal(&variant, triple)));
   }
   try_names(triple);
+  try_texts(triple);
+  try_versions(triple);
 }
 
 static bool has_name(uint32_t field, uint32_t number) {
@@ -215,6 +295,16 @@ static void try_bad(const struct lexicon_triple *bad, const struct lexicon_tripl
   CHECK(lexicon_write(LEXICON_DIALECT_GO, bad, out, sizeof out, &length) == status && length == 77 && is_unchanged(out, sizeof out));
   CHECK(lexicon_facts(bad, &facts, sizeof facts) == status && is_unchanged(&facts, sizeof facts));
   CHECK(lexicon_settle(&copy) == status && memcmp(&copy, bad, sizeof copy) == 0);
+  CHECK(lexicon_complete(&copy, LEXICON_LINUX_LIBC_MUSL) == status && memcmp(&copy, bad, sizeof copy) == 0);
+  CHECK(lexicon_set_pointer_width(&copy, 32) == status && memcmp(&copy, bad, sizeof copy) == 0);
+  CHECK(lexicon_set_endianness(&copy, LEXICON_ENDIANNESS_BIG) == status && memcmp(&copy, bad, sizeof copy) == 0);
+  CHECK(lexicon_rustc_cfg(bad, out, sizeof out, &length) == status && lexicon_llvm_target(bad, out, sizeof out, &length) == status);
+  CHECK(lexicon_multiarch_tuple(bad, out, sizeof out, &length) == status && versioned_name(bad, out, sizeof out, &length) == status);
+  CHECK(lexicon_vendor_suggestion(bad, out, sizeof out, &length) == LEXICON_NO_SUGGESTION && length == 77 && is_unchanged(out, sizeof out));
+  CHECK(lexicon_write_reason(LEXICON_DIALECT_GO, bad) == NULL && lexicon_write_versioned_reason(LEXICON_DIALECT_PYTHON, bad, 2, 17) == NULL);
+  struct lexicon_os_version version;
+  memset(&version, 0xa5, sizeof version);
+  CHECK(lexicon_macos_version(bad, &version) == status && lexicon_minimum_os_version(bad, &version) == status && is_unchanged(&version, sizeof version));
   CHECK(lexicon_comes_back(bad, &answer) == status && lexicon_equal(bad, other, &answer) == status && answer);
   CHECK(lexicon_equal(other, bad, &answer) == (other_status ? other_status : status) && answer);
   CHECK(lexicon_same_target(other, bad, &answer) == (other_status ? other_status : status) && answer);
@@ -442,6 +532,8 @@ int LLVMFuzzerTestOneInput(const uint8_t *data, size_t data_size) {
   const char *text = take_text(&input, 0, ROOM - 64, &size);
   try_text(text, size);
   try_lines(text, size);
+  if (how & 2) try_translations(text, size);
+  CHECK(strncmp(lexicon_version(), LEXICON_VERSION, sizeof LEXICON_VERSION - 1) == 0);
   uint32_t number = 12345, status = lexicon_number(word % 7, text, size, &number);
   CHECK(status == LEXICON_OK || number == 12345);
   CHECK((status == LEXICON_NO_SUCH_FIELD) == (word % 7 > 4));
@@ -458,6 +550,7 @@ int main(void) {
   unsigned count = 0;
   line[0] = line[1] = 0;
   while (fgets(line + 2, sizeof line - 2, stdin) != NULL) {
+    line[0] = count % 16 ? 0 : 2; /* each 16th is translated, which takes long */
     line[1] = (char)count++;
     LLVMFuzzerTestOneInput((const uint8_t *)line, 2 + strcspn(line + 2, "\n"));
   }

@@ -241,6 +241,9 @@ pub fn facts(triple: &TripleRef<'_>) -> Object {
         ("wchar_alignment", wchar.map(|it| it.alignment).into()),
         ("arm_version", triple.arm_version().into()),
         ("arm_profile", triple.arm_profile().map(|it| it.name()).into()),
+        ("char_signedness", triple.char_signedness().map(|it| it.name()).into()),
+        ("has_emulated_tls", triple.has_emulated_tls().into()),
+        ("has_comdat", triple.has_comdat().into()),
         // end of what is written
         ("llvm_target", triple.llvm_target().to_string().into()),
         ("multiarch_tuple", triple.multiarch_tuple().map(|it| it.to_string()).into()),
@@ -263,6 +266,7 @@ fn why_none(key: &str) -> &'static str {
         "float_abi" => "neither an environment of 32-bit Arm nor softfloat says it",
         "long_double_size" | "long_double_alignment" | "wchar_size" | "wchar_alignment" => "no source says it of the system and the C library",
         "arm_version" | "arm_profile" => "the architecture is no 32-bit Arm that states it",
+        "char_signedness" => "clang doesn't know the architecture, or it isn't sure on the system",
         "multiarch_tuple" => "Debian has no architecture for it, or it depends on the C library",
         // end of what is written
         _ => unreachable!("{key} has an answer"),

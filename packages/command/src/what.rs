@@ -144,7 +144,7 @@ impl<'a> What<'a> {
                 (*tool, name.into())
             };
             let why = |(tool, found): &(&'static str, Result<Name, WriteError>)| {
-                Some((*tool, reason(*found.as_ref().err()?).into()))
+                Some((*tool, found.as_ref().err()?.reason().into()))
             };
             Json::Object(vec![
                 ("canonical", triple.to_string().into()),

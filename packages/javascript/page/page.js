@@ -48,10 +48,42 @@ const cell = (label, ...inside) => {
   return element("td", { role: "cell", "data-label": label }, value);
 };
 
-/** The targets in a text: one a line, or as lists have them, with commas, quotes, brackets, or a dash before each. */
-const linesOf = (text) => text.split(/[\n,]/).map(bare).filter((line) => line !== "");
-const AROUND = /^[\s"'[\]]+|[\s"'[\]]+$/g;
-const bare = (item) => item.replace(AROUND, "").replace(/^- /, "").replace(AROUND, "");
+/** The range of a text between two places without the white space, quotes, brackets and dashes around what a list has. */
+function within(text, start, end) {
+  while (start < end && (/[\s"'[\]{}]/.test(text[start]) || (text[start] === "-" && (end - start === 1 || /\s/.test(text[start + 1]))))) start++;
+  while (end > start && /[\s"'[\]{}]/.test(text[end - 1])) end--;
+  return [start, end];
+}
+
+/**
+ * The targets in a text, each with its place, and the key of YAML or JSON that it is a value of: one a line, or as lists have them, with
+ * commas, quotes, brackets, a dash or a key before each, and comments.
+ */
+function* itemsOf(text) {
+  let key = null, depth = 0, at = 0;
+  for (const line of text.split("\n")) {
+    const comment = line.search(/(?:^|\s)#/), used = comment < 0 ? line : line.slice(0, comment);
+    if (depth === 0 && !/^\s*-\s/.test(line)) key = null;
+    let from = at;
+    for (const part of used.split(",")) {
+      let [start, end] = within(text, from, from + part.length);
+      const before = /^([\w.-]+)["']?\s*:(?=[\s"'[{]|$)/.exec(text.slice(start, end));
+      if (before) {
+        key = before[1];
+        [start, end] = within(text, start + before[0].length, end);
+      }
+      if (start < end) yield { text: text.slice(start, end), start, end, key };
+      depth = Math.max(0, [...part].reduce((sum, it) => sum + "[{".includes(it) - "]}".includes(it), depth));
+      from += part.length + 1;
+    }
+    at += line.length + 1;
+  }
+}
+
+/** Whether the values of a key are targets: `target`, `targets`, `rust-target`, `platforms`. */
+const isRead = ({ key }) => key === null || /target|triple|platform|arch/i.test(key);
+const linesOf = (text) => [...itemsOf(text)].filter(isRead).map((item) => item.text);
+const keysLeftOut = (text) => [...new Set([...itemsOf(text)].filter((item) => !isRead(item)).map(({ key }) => key))];
 
 // ---- rows
 
@@ -70,8 +102,6 @@ function fieldCell(triple, name, source, text) {
   return cell(LABELS[name], value, ...markOf(source, text, name === "vendor" && triple.hasCustomVendor));
 }
 
-const answerCell = (label, answer) => cell(label, answer === null ? dim("none") : `${answer}`);
-
 function offer(name, text, fixed) {
   const button = element("button", { type: "button", class: "offer", "aria-label": `${shown(name)}: replace ${shown(text)} by ${shown(fixed)}` }, shown(name));
   button.addEventListener("click", () => replaceTarget(text, fixed));
@@ -85,11 +115,11 @@ const question = (name, text, { start, end }) =>
 const header = (text, ...inside) => element("th", { role: "rowheader", scope: "row" },
   element("div", { class: "target" }, ...inside.map((it) => typeof it === "string" ? shown(it) : it)));
 
-/** The printed form, where that is neither the target nor its key, and the key. */
+/** The printed form, where that is neither the target nor its canonical form, and the latter. */
 function* forms(triple, text) {
   const printed = `${triple}`, { canonical } = triple;
   if (printed !== text && printed !== canonical) yield small("prints ", code(printed));
-  yield canonical === text ? small("is its key") : small("key ", code(canonical));
+  yield canonical === text ? small("is canonical") : small("canonical: ", code(canonical));
 }
 
 function foldButton(row, text) {
@@ -132,7 +162,7 @@ function factsOf(triple) {
     .map((it) => `${it === "longLong" ? "long long" : it} ${facts[`${it}Size`]}`);
   const layout = (size, alignment) => size && `${size}, aligned to ${alignment}`;
   for (const [term, answer] of Object.entries({
-    "object format": facts.objectFormat, linker: isMingw ? "ld of mingw-w64, ld.lld" : LINKERS[facts.objectFormat], "C library": facts.cLibrary,
+    "calling convention": facts.defaultCallingConvention, "data model": facts.dataModel, "object format": facts.objectFormat, linker: isMingw ? "ld of mingw-w64, ld.lld" : LINKERS[facts.objectFormat], "C library": facts.cLibrary,
     "floating point": facts.floatAbi, "C types in bytes": sizes.join(", "), "long double": layout(facts.longDoubleSize, facts.longDoubleAlignment),
     wchar_t: layout(facts.wcharSize, facts.wcharAlignment), "family": facts.family,
     "Arm version": facts.armVersion, "Arm profile": facts.armProfile, "like Unix": facts.isUnix ? "yes" : "no", "LLVM target": triple.llvmTarget(),
@@ -143,7 +173,7 @@ function factsOf(triple) {
 
 /** The cell with the button for names and facts, and the cell of these, which are looked up when they are shown. */
 function detailCells(triple, text) {
-  const inside = element("div"), details = element("td", { role: "cell", class: "names", colspan: 11, "aria-colspan": 11, hidden: "" }, inside);
+  const inside = element("div"), details = element("td", { role: "cell", class: "names", colspan: 8, "aria-colspan": 8, hidden: "" }, inside);
   const button = element("button", { type: "button", "aria-label": `Names and facts: ${shown(text)}` }, element("span", {}, "names"));
   const show = (isOpen) => {
     details.hidden = !isOpen;
@@ -179,14 +209,26 @@ function meaningsOfCustom(text, { found, withoutTriple }) {
   return { found: spelled ? [{ triple: spelled, tools: ["spelling"] }, ...others] : others, withoutTriple };
 }
 
-/** What tools mean by a string, except by the meaning that its row shows: a line for each, or the reason why no triple has the name. */
-function* otherMeanings({ found, withoutTriple }, text, own) {
-  for (const { triple, tools } of found) {
-    const named = tools.filter((it) => it !== "triple");
-    if (named.length && triple.canonical !== own) yield element("p", {}, `In ${toolsOf(named)} it is `, offer(triple.canonical, text, triple.canonical), ".");
+/** Whether two triples are of the same target, up to a known vendor and how much is written of it. */
+const isSame = (one, own) => one.canonical === own.canonical || !own.hasCustomVendor && one.architecture === own.architecture
+  && one.operatingSystem === own.operatingSystem && one.environment === own.environment && one.facts().objectFormat === own.facts().objectFormat;
+
+/** Whether a string is a name of rustc's. Then it means itself, if it is a triple, and has one reason, if it is none. */
+const isOfRustc = ({ found, withoutTriple }) => "rust" in withoutTriple || found.some(({ tools }) => tools.includes("rust"));
+
+/** What tools mean by a string, except by the meaning `own` that its row shows: a line for each, or the reason why no triple has the name. */
+function* otherMeanings(meant, text, own) {
+  const isRustc = isOfRustc(meant), { rust, ...without } = meant.withoutTriple;
+  for (const { triple, tools } of meant.found) {
+    const named = tools.filter((it) => it !== "triple" && !(isRustc && ["gnu", "rust"].includes(it)));
+    if (named.length && !(own && isSame(triple, own))) yield element("p", {}, `In ${toolsOf(named)} it is `, offer(triple.canonical, text, triple.canonical), ".");
+  }
+  if (isRustc) {
+    if (rust && (!own || own.operatingSystem === "unknown")) yield element("p", {}, `${rust[0].toUpperCase()}${rust.slice(1)}.`);
+    return;
   }
   const reasons = new Map();
-  for (const [tool, reason] of Object.entries(withoutTriple)) reasons.set(reason, [...reasons.get(reason) ?? [], tool]);
+  for (const [tool, reason] of Object.entries(without)) reasons.set(reason, [...reasons.get(reason) ?? [], tool]);
   for (const [reason, tools] of reasons) yield element("p", {}, `In ${toolsOf(tools)} no triple means it: ${reason}.`);
 }
 
@@ -200,11 +242,10 @@ function tripleRow(head, given, fields, text, isSuspicious, others) {
   row.append(...FIELDS.map((name) => fieldCell(triple, name, sources[name], text)));
   if (isSuspicious) row.children[2].querySelector("code").className = "odd";
   if (facts.objectFormat !== triple.binaryFormat) row.lastChild.append(small("objects ", code(facts.objectFormat)));
-  const [showNames, ...details] = detailCells(triple, text);
-  row.append(answerCell("Byte order", facts.endianness),
-    answerCell("Pointers", facts.pointerWidth && `${facts.pointerWidth} bits`), answerCell("Convention", facts.defaultCallingConvention),
-    answerCell("Data model", facts.dataModel), details[0]);
-  if (others.length) row.append(element("td", { role: "cell", class: "others", colspan: 11, "aria-colspan": 11 }, ...others));
+  const [showNames, ...details] = detailCells(triple, text), pointers = cell("Pointers", facts.pointerWidth ? `${facts.pointerWidth} bits` : dim("unknown"));
+  pointers.firstChild.append(small(facts.endianness ? `${facts.endianness}-endian` : "byte order unknown"));
+  row.append(pointers, details[0]);
+  if (others.length) row.append(element("td", { role: "cell", class: "others", colspan: 8, "aria-colspan": 8 }, ...others));
   row.append(details[1]);
   row.canonical = triple.canonical;
   row.kind = isSuspicious ? "suspicious" : "other";
@@ -215,13 +256,13 @@ function tripleRow(head, given, fields, text, isSuspicious, others) {
 }
 
 function parsedRow({ text, triple, fields, suggestion }, all) {
-  const meant = triple.hasCustomVendor ? meaningsOfCustom(text, all) : all;
+  const isRustc = isOfRustc(all), meant = triple.hasCustomVendor && !isRustc ? meaningsOfCustom(text, all) : all;
   const { part, start, end } = fields.vendor, known = triple.hasCustomVendor && meant.found.length > 0;
-  const isSuspicious = Boolean(known || suggestion);
+  const isSuspicious = !isRustc && Boolean(known || suggestion);
   const head = isSuspicious && part !== null
     ? header(text, text.slice(0, start), element("span", { class: "odd" }, shown(part)), text.slice(end)) : header(text, text);
-  const others = [...otherMeanings(meant, text, triple.canonical)];
-  if (suggestion && !known) head.append(small(...question(suggestion, text, fields.vendor)));
+  const others = [...otherMeanings(meant, text, triple)];
+  if (isSuspicious && suggestion && !known) head.append(small(...question(suggestion, text, fields.vendor)));
   return tripleRow(head, triple, fields, text, isSuspicious, others);
 }
 
@@ -231,7 +272,7 @@ function namedRow(text, meant) {
   const fields = Object.fromEntries(FIELDS.map((name) =>
     [name, name === "binaryFormat" ? { origin: "implied", part: null } : { origin: "given", part: triple[name] === "unknown" ? null : triple[name] }]));
   head.append(small("a name of ", toolsOf(tools)));
-  const row = tripleRow(head, triple, fields, text, false, [...otherMeanings(meant, text, triple.canonical)]);
+  const row = tripleRow(head, triple, fields, text, false, [...otherMeanings({ ...meant, found: meant.found.slice(1) }, text, triple)]);
   row.isName = true;
   return row;
 }
@@ -263,7 +304,7 @@ function refusedRow({ text, error, fields, suggestion }, meant) {
   const others = [...otherMeanings(meant, text, null)];
   const inside = others.length ? others : [element("p", { class: "message" }, error.message.replace(error.part, () => shown(error.part)))];
   if (!others.length) inside.push(...(suggestion ? [element("p", {}, ...question(suggestion, text, error))] : nearestNames(text)), ...soFar(fields));
-  const answer = element("td", { role: "cell", class: "refused", colspan: 10, "aria-colspan": 10 }, ...inside);
+  const answer = element("td", { role: "cell", class: "refused", colspan: 7, "aria-colspan": 7 }, ...inside);
   const row = element("tr", { role: "row", class: "refused" }, head, answer);
   row.kind = "refused";
   return row;
@@ -289,12 +330,11 @@ const rowsInSight = () => [...table.querySelectorAll("tbody > tr")].filter((row)
 
 /** Replaces the target in the text field, and shows it. The focus goes to the next mistake, or if there is none to the row of the target. */
 async function replaceTarget(text, fixed) {
-  const items = field.value.split(/([\n,])/), at = items.findIndex((item) => bare(item) === text);
-  if (at < 0) return;
+  const item = [...itemsOf(field.value)].find((it) => it.text === text);
+  if (!item) return;
   const place = rowsInSight().findIndex((row) => row.target === text);
-  items[at] = items[at].replace(text, () => fixed);
-  field.value = items.join("");
-  await show();
+  field.setRangeText(fixed, item.start, item.end);
+  await edited();
   const rows = rowsInSight(), next = rows[Math.min(place, rows.length - 1)];
   const head = (next && next.kind !== "other" ? next : rows.find((row) => row.target === fixed))?.firstChild;
   head?.setAttribute("tabindex", "-1");
@@ -332,7 +372,7 @@ function say(text, isAside = false) {
 // The rows are in groups, so that the browser lays out only the groups that are near the screen.
 const GROUP = 100;
 
-let runs = 0;
+let runs = 0, wereFew = false;
 
 const pause = () => new Promise((resolve) => setTimeout(resolve));
 
@@ -361,7 +401,8 @@ function group(kind, index) {
 async function show() {
   const run = ++runs, lines = linesOf(field.value), progress = byId("progress"), begin = performance.now();
   const found = rowsFor(lines), first = new Map(), counts = { all: lines.length, refused: 0, suspicious: 0, other: 0, duplicate: 0, named: 0 };
-  const places = Object.fromEntries(ORDER.map((kind) => [kind, {}]));
+  const places = Object.fromEntries(ORDER.map((kind) => [kind, {}])), areFew = lines.length <= UNFOLDED, unfolds = areFew && !wereFew;
+  wereFew = areFew;
   let until = performance.now() + SLICE;
   table.hidden = lines.length === 0;
   table.setAttribute("aria-busy", "true");
@@ -372,9 +413,9 @@ async function show() {
       place.next = place.body.firstElementChild;
     }
     counts[kind]++;
-    if (!found[index]) {
-      row.fold?.(lines.length > UNFOLDED);
-      row.showNames?.(lines.length <= UNFOLDED);
+    if (!found[index] || unfolds) {
+      row.fold?.(!areFew);
+      row.showNames?.(areFew);
     }
     if (row === place.next) place.next = place.next.nextElementSibling;
     else place.body.insertBefore(row, place.next);
@@ -399,9 +440,10 @@ async function show() {
     const named = counts.named ? `, ${countOf(counts.named)} named by tools` : "";
     say(`${chipOf("all").textContent}: ${countOf(lines.length - counts.refused - counts.named)} parsed${named}, ${chipOf("refused").textContent}${more}.`, true);
   } else {
-    say("No targets. Paste some above, or names of any tool: one a line or as a list, such as what `rustc --print target-list` writes.");
+    const whyNone = isLongLink() ? `The link isn't followed: its targets are longer than ${countOf(LONGEST_LINK)} characters. ` : "";
+    say(`${whyNone}No targets. Paste some above, or names of any tool: one a line or as a list, such as what \`rustc --print target-list\` writes.`);
   }
-  showLink(lines);
+  notice(leftOut(field.value));
 }
 
 const chipOf = (kind) => byId("chips").querySelector(`[data-show=${kind}]`);
@@ -409,36 +451,64 @@ const countOf = (count) => count.toLocaleString("en");
 
 // ---- the link and the copy
 
+/** Where this page is, with the host: a path alone that begins with two slashes would be another host. */
+const pageUrl = () => location.href.split(/[?#]/, 1)[0];
+
 /** What is chosen, as the query of a link. */
 const chosen = () => {
   const query = new URLSearchParams(CHOICES.filter((id) => byId(id).value).map((id) => [id, byId(id).value])).toString();
   return query && `?${query}`;
 };
 
-const hashOf = (lines) => "#" + lines.map((line) => encodeURIComponent(line.toWellFormed?.() ?? line)).join(",");
+const isLongLink = () => location.hash.length > LONGEST_LINK;
 
-function linesOfHash() {
+/** The link to what is in the text field, or null if that is too long for one. */
+function linkOf(lines) {
+  const page = `${pageUrl()}${chosen()}`;
+  if (field.value.length > LONGEST_LINK) return null;
   try {
-    return location.hash.slice(1).split(",").map(decodeURIComponent).filter((line) => line !== "");
+    const hash = lines.map((line) => encodeURIComponent(line.toWellFormed?.() ?? line)).join(",");
+    return hash.length > LONGEST_LINK ? null : hash ? `${page}#${hash}` : page;
   } catch {
-    return [];
+    return null; // an engine that has no toWellFormed, and a lone surrogate
   }
 }
 
-function showLink(lines) {
-  let hash = "#";
-  try {
-    if (field.value.length <= LONGEST_LINK) hash = hashOf(lines);
-  } catch {} // an engine that has no toWellFormed, and a lone surrogate: no link
-  const fits = hash.length <= LONGEST_LINK && (hash !== "#" || !lines.length);
-  byId("link").hidden = !fits;
-  byId("link_status").hidden = fits;
-  byId("link").href = fits ? `${location.pathname}${chosen()}${hash}` : "#";
+/** Says what needs to be said of the list, or nothing. */
+function notice(text) {
+  byId("notice").textContent = text;
+  byId("notice").hidden = text === "";
 }
 
+/** What isn't read of a list, and of the link that was followed. */
+let unread = [];
+function leftOut(text) {
+  const keys = keysLeftOut(text), values = keys.length ? `The values of ${listOf(keys.map(shown))} aren't targets, and are left out.` : "";
+  return [values, ...unread.map((it) => `A target of the link can't be read: ${shown(it)}.`)].filter(Boolean).join(" ");
+}
+
+/** Opens the targets of a link; those that it can't decode are said. */
 function followLink() {
-  const lines = linesOfHash();
-  if (lines.length) field.value = lines.join("\n");
+  const lines = [];
+  unread = [];
+  if (isLongLink()) return;
+  for (const item of location.hash.slice(1).split(",").filter(Boolean)) {
+    try {
+      lines.push(decodeURIComponent(item));
+    } catch {
+      unread.push(item);
+    }
+  }
+  if (lines.length || unread.length) field.value = lines.join("\n");
+}
+
+let linking;
+/** Shows what was edited, and after a pause makes the address the link to it: browsers don't let a page do that often. */
+function edited() {
+  unread = [];
+  clearTimeout(linking);
+  linking = setTimeout(() => history.replaceState(null, "", linkOf(linesOf(field.value)) ?? pageUrl() + chosen()), 400);
+  return show();
 }
 
 const snakeCase = (name) => name.replace(/[A-Z]/g, (letter) => `_${letter.toLowerCase()}`);
@@ -472,8 +542,7 @@ function nameEntry(text) {
   return { ...place, meanings: [...merged.values()], without_triple: withoutTriple };
 }
 
-async function copy(button, entryOf) {
-  const text = JSON.stringify(linesOf(field.value).map(entryOf), null, 2);
+async function copy(button, text, said) {
   try {
     await navigator.clipboard.writeText(text);
   } catch {
@@ -485,15 +554,23 @@ async function copy(button, entryOf) {
     hidden.remove();
     button.focus();
   }
-  say(`Copied ${chipOf("all").textContent} as JSON.`);
+  say(said);
+}
+
+function copyJson(button, entryOf) {
+  return copy(button, JSON.stringify(linesOf(field.value).map(entryOf), null, 2), `Copied ${chipOf("all").textContent} as JSON.`);
+}
+
+function copyLink(button) {
+  const link = linkOf(linesOf(field.value));
+  return link === null ? say("These targets are too long for a link.") : copy(button, link, "Copied the link to these targets.");
 }
 
 /** Empties the text field, where the focus then is. */
 function clear() {
   field.value = "";
-  history.replaceState(null, "", location.pathname + location.search);
   field.focus();
-  return show();
+  return edited();
 }
 
 // ---- the beginning
@@ -503,20 +580,21 @@ async function begin() {
   let waiting;
   field.addEventListener("input", () => {
     clearTimeout(waiting);
-    waiting = setTimeout(show, 50);
+    waiting = setTimeout(edited, 50);
   });
   addEventListener("hashchange", () => {
     followLink();
     show();
   });
-  for (const [id, entryOf] of [["copy_names", nameEntry], ["copy_facts", matrixEntry]]) byId(id).addEventListener("click", ({ currentTarget }) => copy(currentTarget, entryOf));
+  for (const [id, entryOf] of [["copy_names", nameEntry], ["copy_facts", matrixEntry]]) byId(id).addEventListener("click", ({ currentTarget }) => copyJson(currentTarget, entryOf));
+  byId("copy_link").addEventListener("click", ({ currentTarget }) => copyLink(currentTarget));
   const query = new URLSearchParams(location.search);
   for (const id of CHOICES) {
     byId(id).value = query.get(id) ?? "";
     if (byId(id).selectedIndex < 0) byId(id).value = "";
     byId(id).addEventListener("change", () => {
       for (const body of [...table.tBodies]) body.remove();
-      show();
+      edited();
     });
   }
   byId("clear").addEventListener("click", clear);

@@ -105,15 +105,15 @@ export interface Version {
 }
 
 /** A version as an argument. */
-export type GivenVersion = { readonly major: number; readonly minor?: number; readonly patch?: number };
+export type GivenVersion = { readonly major: number; readonly minor?: number | undefined; readonly patch?: number | undefined };
 
-/** What a triple is made of. The architecture may be an alias, and a field may be left out. */
-export type Given = Partial<Omit<Values, "architecture">> & {
-  architecture?: Architecture | ArchitectureAlias;
-  version?: GivenVersion | null;
+/** What a triple is made of. The architecture may be an alias, and a field may be left out, or undefined. */
+export type Given = { [Name in Exclude<Field, "architecture">]?: Values[Name] | undefined } & {
+  architecture?: Architecture | ArchitectureAlias | undefined;
+  version?: GivenVersion | null | undefined;
   /** What a triple has besides, such as one that is spread: it follows from the names, and isn't looked at. */
-  hasCustomVendor?: boolean;
-  numbers?: Readonly<Record<Field, number>>;
+  hasCustomVendor?: boolean | undefined;
+  numbers?: Readonly<Record<Field, number>> | undefined;
 };
 
 /**
@@ -154,6 +154,9 @@ export type CLibrary = "bionic" | "glibc" | "mingw" | "msvc" | "musl" | "newlib"
 // end of what is written
 // written by tools/names/write: the answers of arm_profile for TypeScript
 export type ArmProfile = "A" | "R" | "M";
+// end of what is written
+// written by tools/names/write: the answers of signedness for TypeScript
+export type Signedness = "signed" | "unsigned";
 // end of what is written
 // written by tools/names/write: the answers of float_abi for TypeScript
 export type FloatAbi = "soft" | "hard";
@@ -212,6 +215,12 @@ export interface Facts {
   armVersion: number | null;
   /** The profile of a 32-bit Arm architecture, where its name states one. */
   armProfile: ArmProfile | null;
+  /** Whether C's `char` has a sign, as clang has it. */
+  charSignedness: Signedness | null;
+  /** Whether LLVM emulates thread-local storage: on OpenBSD, Cygwin, OpenHarmony, and Android before API level 29. */
+  hasEmulatedTls: boolean;
+  /** Whether the object format has COMDAT sections. */
+  hasComdat: boolean;
   // end of what is written
 }
 
@@ -232,7 +241,7 @@ export class ParseError extends Error {
   readonly part: string;
   readonly start: number;
   readonly end: number;
-  /** The known name that the part may mean; of an unknown name in a dialect, the nearest of its names. */
+  /** The known name that the part may mean; of an unknown name in a dialect, the nearest of its names. It is looked for when it is read. */
   readonly suggestion: string | null;
   /** Why a name of a dialect means no triple, or isn't translated, and what would help; null for any other string. */
   readonly reason: string | null;
@@ -263,6 +272,8 @@ export class Triple {
 
   /** The triple of a string. Throws a ParseError if the string is refused. */
   static parse(text: string): Triple;
+  /** The triple of a string, or null if it is refused, which takes a small part of the time of an error. */
+  static tryParse(text: string): Triple | null;
   /**
    * The triple of what another tool calls a target. Without a dialect, the string is spelled like a triple, such as what `cc -dumpmachine`
    * prints: `x86_64-w64-mingw32` is read as `x86_64-pc-windows-gnu`. With one, it is a name of that tool, and no other is tried; what

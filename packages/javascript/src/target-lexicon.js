@@ -36,6 +36,7 @@ const MODELS = [null, "LP32", "ILP32", "LLP64", "LP64", "ILP64"];
 const C_LIBRARIES = [null, "bionic", "glibc", "mingw", "msvc", "musl", "newlib", "relibc", "system", "uclibc"];
 const FLOAT_ABIS = [null, "soft", "hard"];
 const ARM_PROFILES = [null, "A", "R", "M"];
+const SIGNEDNESS = [null, "signed", "unsigned"];
 const LINUX_LIBCS = [null, "glibc", "musl", "msvc", "mingw", "gnullvm"];
 // end of what is written
 
@@ -44,7 +45,7 @@ const LINUX_LIBCS = [null, "glibc", "musl", "msvc", "mingw", "gnullvm"];
 // custom vendor and its size are at 12 and 16.
 const FIRST = 0, SECOND = 20, LENGTH = 40, ANSWER = 44, ERROR = 48, FACTS = 60, VENDOR = 12, SOURCE_SIZE = 12;
 // written by tools/names/write: the size of the facts for JavaScript
-const FACTS_SIZE = 25;
+const FACTS_SIZE = 28;
 // end of what is written
 const SOURCE_TABLE = FACTS + ((FACTS_SIZE + 3) & ~3), TEXTS = SOURCE_TABLE + FIELDS.length * SOURCE_SIZE;
 const RANGE = ERROR + 4; // that of an error, or of a change
@@ -243,7 +244,7 @@ export function version() {
 }
 
 function stringOf(value) {
-  if (typeof value !== "string") throw new TypeError("a target is a string");
+  if (typeof value !== "string") throw new TypeError(`a target is a string, not ${kindOf(value)}`);
   return value;
 }
 
@@ -251,17 +252,24 @@ function stringOf(value) {
 const OTHER_NAMES = { docker: "oci", npm: "node" };
 // end of what is written
 
+/** The question whether one of these names was meant by a word: it is in capitals, goes on, or has its letters in another order. */
+function meant(word, names) {
+  const lower = String(word).toLowerCase(), sorted = (it) => [...it].sort().join("");
+  const name = names.find((it) => lower.startsWith(it)) ?? names.find((it) => sorted(it) === sorted(lower));
+  return name ? `; did you mean ${name}?` : "";
+}
+
 /** The number of a dialect in target_lexicon.h. */
 function dialectOf(name) {
   const index = DIALECTS.indexOf(Object.hasOwn(OTHER_NAMES, name) ? OTHER_NAMES[name] : name);
-  if (index < 0) throw new TypeError(`there is no dialect ${String(name)}`);
+  if (index < 0) throw new TypeError(`there is no dialect ${String(name)}${meant(name, [...DIALECTS, ...Object.keys(OTHER_NAMES)])}`);
   return index + 1;
 }
 
 /** The number of a C library of Linux in target_lexicon.h. */
 function libcOf(name) {
   const number = LINUX_LIBCS.indexOf(name);
-  if (number < 1) throw new TypeError(`there is no C library ${String(name)}`);
+  if (number < 1) throw new TypeError(`there is no C library ${String(name)}${meant(name, LINUX_LIBCS.slice(1))}`);
   return number;
 }
 
@@ -302,7 +310,7 @@ function givenValues(values) {
 const INSPECT = Symbol.for("nodejs.util.inspect.custom");
 
 function tripleOf(value) {
-  if (!(value instanceof Triple)) throw new TypeError("only a Triple can be compared with a Triple");
+  if (!(value instanceof Triple)) throw new TypeError(`only a Triple can be compared with a Triple, not ${kindOf(value)}`);
   return value;
 }
 
@@ -310,26 +318,50 @@ function tripleOf(value) {
 export class ParseError extends Error {
   #status;
   #range; // in bytes
+  #dialect;
+  #suggestion;
+  #thrown; // has the stack, where the engine gives one
 
-  constructor(message, status, range, text, start, end, suggestion, reason) {
+  constructor(message, status, range, text, start, end, dialect, reason) {
+    const { stackTraceLimit } = Error;
+    Error.stackTraceLimit = 0; // the one that is taken below is enough
     super(message);
+    Error.stackTraceLimit = stackTraceLimit;
     this.name = "ParseError";
     this.field = FIELDS[status - 1] ?? null;
     this.text = text;
     this.part = text.slice(start, end);
     this.start = start;
     this.end = end;
-    this.suggestion = suggestion;
     this.reason = reason;
     this.needsLibc = status === NEEDS_C_LIBRARY;
     this.#status = status;
     this.#range = range;
+    this.#dialect = dialect;
     if (!Error.captureStackTrace) return;
-    // What Node shows of an error that nobody catches: the report, and where it was thrown. It is made when somebody asks.
-    const thrown = {};
-    Error.captureStackTrace(thrown, ParseError);
-    const stack = () => `${this.name}: ${this.report}${thrown.stack.slice(thrown.stack.indexOf("\n"))}`;
-    Object.defineProperty(this, "stack", { get: stack, configurable: true });
+    delete this.stack; // so that the one below is asked
+    Error.captureStackTrace((this.#thrown = {}), ParseError);
+  }
+
+  /** What Node shows of an error that nobody catches: the report, and where it was thrown. It is made when somebody asks. */
+  get stack() {
+    if (!this.#thrown) return super.stack;
+    const { stack } = this.#thrown;
+    return `${this.name}: ${this.report}${stack.slice(stack.indexOf("\n"))}`;
+  }
+
+  set stack(value) {
+    Object.defineProperty(this, "stack", { value, writable: true, configurable: true });
+  }
+
+  /** The known name that the part may mean, or the nearest name of the dialect. It is looked for when somebody asks: that takes much longer than to refuse. */
+  get suggestion() {
+    if (this.#suggestion === undefined) {
+      const it = instance(), given = it.text(this.text);
+      this.#suggestion = this.#status === UNKNOWN_NAME ? it.string(it.call("name_suggestion", this.#dialect, ...given))
+        : it.written("suggestion", given[1], ...given, it.error(this.#status, ...this.#range));
+    }
+    return this.#suggestion;
   }
 
   /** The message, the string below it, and carets below the refused part, with the suggestion or the reason. */
@@ -350,11 +382,10 @@ function rangesAt(it, place, text, size) {
 }
 
 /** The error of the string that was written last; `dialect` is the number of that in which it is a name, and else 0. */
-function errorAt(it, status, text, given, dialect = 0, reason = it.string(it.call("reason", dialect, ...given))) {
+function errorAt(it, status, text, given, dialect = 0, reason = dialect ? it.string(it.call("reason", dialect, ...given)) : null) {
   const [range, [start, end]] = rangesAt(it, RANGE, text, given[1]);
   const line = it.written("error_line", given[1], ...given, it.base + ERROR);
-  const suggestion = status === UNKNOWN_NAME ? it.string(it.call("name_suggestion", dialect, ...given)) : it.written("suggestion", given[1], ...given, it.base + ERROR);
-  return new ParseError(reason === null ? line : `${line}: ${reason}`, status, range, text, start, end, suggestion, reason);
+  return new ParseError(reason === null ? line : `${line}: ${reason}`, status, range, text, start, end, dialect, reason);
 }
 
 /** Where the value of a field comes from. */
@@ -390,6 +421,13 @@ export class Triple {
     const status = it.call("parse", ...given, it.base + FIRST, it.base + ERROR);
     if (status === OK) return it.tripleAt();
     throw status <= REFUSED ? errorAt(it, status, text, given) : failure(status);
+  }
+
+  /** The triple of a string, or null if it is refused, which takes a small part of the time of an error. */
+  static tryParse(text) {
+    const it = instance(), status = it.call("parse", ...it.text(stringOf(text)), it.base + FIRST, it.base + ERROR);
+    if (status > REFUSED) throw failure(status);
+    return status === OK ? it.tripleAt() : null;
   }
 
   /**
@@ -428,15 +466,14 @@ export class Triple {
       const name = values[field] ?? "unknown";
       if (typeof name !== "string") throw new TypeError(`${field} is a name, not ${kindOf(name)}`);
       const known = field === "operatingSystem" ? it.numbers[index].get(name) ?? null : numberOf(field, name);
-      if (known === null) throw new RangeError(`no ${field} has the name ${name}`);
+      if (known === null) throw new RangeError(`no ${field} has the name ${name}${nearest(it, index, name)}`);
       numbers[field] = known;
       names[field] = known === CUSTOM && field === "vendor" ? name : it.names[index][known];
     }
-    const triple = make(names, version === null ? null : fullVersion(version), numbers);
-    const { impliedFormat } = triple.facts(); // the module refuses a version of a system that has none
-    if (values.binaryFormat != null) return triple;
-    names.binaryFormat = impliedFormat;
-    return make(names, triple.version, { ...numbers, binaryFormat: it.numbers[4].get(impliedFormat) });
+    const full = version === null ? null : fullVersion(version), { impliedFormat, isLikeDarwin } = make(names, null, numbers).facts();
+    if (full !== null && !isLikeDarwin) throw new RangeError(`the operating system ${names.operatingSystem} has no version`);
+    if (values.binaryFormat != null) return make(names, full, numbers);
+    return make({ ...names, binaryFormat: impliedFormat }, full, { ...numbers, binaryFormat: it.numbers[4].get(impliedFormat) });
   }
 
   /**
@@ -566,6 +603,9 @@ export class Triple {
       wcharAlignment: n[22] || null,
       armVersion: n[23] || null,
       armProfile: ARM_PROFILES[n[24]],
+      charSignedness: SIGNEDNESS[n[25]],
+      hasEmulatedTls: n[26] === 1,
+      hasComdat: n[27] === 1,
       // end of what is written
     };
   }
@@ -630,6 +670,12 @@ export function changes(text) {
     found.push({ part: text.slice(start, end), start, end, names });
   }
   return found;
+}
+
+/** The question whether another name of a field was meant. */
+function nearest(it, field, name) {
+  const given = it.text(name), suggestion = it.written("suggestion", given[1], ...given, it.error(field + 1, 0, given[1]));
+  return suggestion === null ? "" : `; did you mean ${suggestion}?`;
 }
 
 /** The value of a field that a part of a refused string gives, or null without a part. */

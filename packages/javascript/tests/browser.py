@@ -3,6 +3,10 @@ import contextlib
 import functools
 import http.server
 import json
+import os
+import shutil
+import subprocess
+import tempfile
 import threading
 
 from selenium import webdriver
@@ -11,7 +15,23 @@ from selenium.webdriver.common.action_chains import ActionChains
 from selenium.webdriver.common.keys import Keys
 from selenium.webdriver.support.ui import WebDriverWait
 
-FLAGS = ["--headless=new", "--no-sandbox", "--disable-gpu", "--hide-scrollbars"]
+FLAGS = ["--headless=new", "--disable-gpu", "--hide-scrollbars"]
+# As root the browser runs as `nobody`: whoever reaches the port of chromedriver runs programs as the browser's user.
+AS_NOBODY = ["setpriv", "--reuid=65534", "--regid=65534", "--clear-groups", "--no-new-privs"] if os.geteuid() == 0 else []
+# Chromium's sandbox needs such namespaces, which a container may refuse.
+HAS_NAMESPACES = subprocess.run([*AS_NOBODY, "unshare", "--user", "--pid", "--net", "true"], capture_output=True).returncode == 0
+if not HAS_NAMESPACES:
+    print("left out: the sandbox of Chromium: this machine has no namespaces for users", flush=True)
+
+
+class Driver(Service):
+    """chromedriver, with a home of its own."""
+
+    def __init__(self, home):
+        super().__init__("/usr/bin/env", env={**os.environ, "HOME": home, "TMPDIR": home})
+
+    def command_line_args(self):
+        return [*AS_NOBODY, "/usr/bin/chromedriver", *super().command_line_args()]
 
 
 class Page:
@@ -20,10 +40,13 @@ class Page:
     def __init__(self, url, before=""):
         options = webdriver.ChromeOptions()
         options.binary_location = "/usr/bin/chromium"
-        for flag in FLAGS:
+        for flag in [*FLAGS, *["--no-sandbox"] * (not HAS_NAMESPACES)]:
             options.add_argument(flag)
         options.set_capability("goog:loggingPrefs", {"performance": "ALL", "browser": "SEVERE"})
-        self.driver = webdriver.Chrome(service=Service("/usr/bin/chromedriver"), options=options)
+        self.home = tempfile.mkdtemp(prefix="browser-")
+        if AS_NOBODY:
+            os.chown(self.home, 65534, 65534)
+        self.driver = webdriver.Chrome(service=Driver(self.home), options=options)
         self.call("Browser.grantPermissions", permissions=["clipboardReadWrite", "clipboardSanitizedWrite"])
         self.driver.set_script_timeout(600)
         if before:
@@ -79,6 +102,7 @@ class Page:
 
     def __exit__(self, *_):
         self.driver.quit()
+        shutil.rmtree(self.home, ignore_errors=True)
 
 
 class Handler(http.server.SimpleHTTPRequestHandler):

@@ -43,11 +43,11 @@ const tests = {
     for (const [name, list] of Object.entries({ FIELDS, DIALECTS })) {
       assert.equal(types.match(new RegExp(`const ${name}: readonly \\[(.*)\\];`))[1], list.map((it) => `"${it}"`).join(", "));
     }
-    const members = [...Object.getOwnPropertyNames(Triple.prototype), ...Object.keys(Triple.parse("x86_64")), "parse", "read", "explain", "of"];
+    const members = [...Object.getOwnPropertyNames(Triple.prototype), ...Object.keys(Triple.parse("x86_64")), "parse", "tryParse", "read", "explain", "of"];
     const declared = types.match(/export class Triple \{(.*?)^\}/ms)[1];
     for (const it of members) assert.match(declared, new RegExp(`^  (?:private |static |readonly |get )*${it}[(:]`, "m"));
     for (const it of Object.keys(Triple.parse("x86_64-linux").facts())) assert.match(types, new RegExp(`^  ${it}: `, "m"));
-    for (const it of [...Object.keys(refusal("")), "report"].filter((it) => it !== "name")) {
+    for (const it of [...Object.keys(refusal("")), "suggestion", "report"].filter((it) => it !== "name")) {
       assert.match(types, new RegExp(`^  readonly ${it}: `, "m"));
     }
   },
@@ -73,6 +73,57 @@ const tests = {
     }
     assert.equal(`${refusal("x86_64-foo-bar")}`, "ParseError: Unrecognized operating system: bar");
     assert.equal(numberOf("vendor", "\ud800"), null);
+  },
+  "a refusal may be no error": () => {
+    for (const text of ["x86_64-pc-linx", "", "linux/amd64", "\ud800", "x".repeat(100000)]) assert.equal(Triple.tryParse(text), null);
+    for (const text of ["arm64-apple-ios17.1", "x86_64-acme-linux"]) assert(Triple.tryParse(text).equals(Triple.parse(text)));
+    for (const wrong of [7, null, ["avr"]]) assert.throws(() => Triple.tryParse(wrong), TypeError);
+  },
+  "a refusal asks the module no more than it must": () => {
+    const { Instance } = WebAssembly, asked = [];
+    const counted = ([name, it]) => [name, typeof it === "function" ? (...values) => (asked.push(name.replace("lexicon_", "")), it(...values)) : it];
+    WebAssembly.Instance = function (module) {
+      return { exports: Object.fromEntries(Object.entries(new Instance(module).exports).map(counted)) };
+    };
+    load(new WebAssembly.Module(readFileSync(file)));
+    WebAssembly.Instance = Instance;
+    const askedBy = (call) => (asked.length = 0, call(), asked.join(" "));
+    assert.equal(askedBy(() => Triple.tryParse("x86_64-pc-linx")), "parse");
+    assert.equal(askedBy(() => refusal("x86_64-pc-linx")), "parse error_line");
+    assert.equal(askedBy(() => refusal("linux/amd46", (it) => Triple.read(it, "go"))), "read reason error_line");
+    assert.equal(askedBy(() => { const error = refusal("amd63"); for (let i = 0; i < 3; i++) error.suggestion; }).split(" ").filter((it) => it === "suggestion").length, 1);
+    load(new WebAssembly.Module(readFileSync(file)));
+  },
+  "an error has its stack, and a suggestion when somebody asks": () => {
+    const error = refusal("x86_64-pc-linx"), other = refusal("x86_64-linux-gnuu");
+    for (let i = 0; i < 100; i++) Triple.parse("avr").facts();
+    assert.deepEqual([error.suggestion, other.suggestion, error.suggestion, refusal("x86_64-\u{1f600}").suggestion], ["linux", "gnu", "linux", null]);
+    assert.match(error.stack, /^ParseError: Unrecognized operating system: linx\n.*\n.*`linux`\?\n +at .*calls\.mjs/s);
+    error.stack = "mine";
+    assert.equal(error.stack, "mine");
+    assert(other.stack.startsWith("ParseError: Unrecognized environment: gnuu\n"));
+    const { stackTraceLimit } = Error;
+    Error.stackTraceLimit = 2;
+    assert.equal(refusal("x").stack.match(/^ +at /gm).length, 2);
+    assert.equal(Error.stackTraceLimit, 2);
+    Error.stackTraceLimit = stackTraceLimit;
+  },
+  "what doesn't exist has a suggestion": () => {
+    const linux = Triple.parse("x86_64-unknown-linux-gnu");
+    for (const [call, kind, message] of [
+      [() => linux.with({ environment: "mulsl" }), RangeError, "no environment has the name mulsl; did you mean musl?"],
+      [() => Triple.of({ operatingSystem: "widnows" }), RangeError, "no operatingSystem has the name widnows; did you mean windows?"],
+      [() => Triple.of({ architecture: "amd64" }), RangeError, "no architecture has the name amd64; did you mean x86_64?"],
+      [() => linux.with({ version: { major: 1 } }), RangeError, "the operating system linux has no version"],
+      [() => Triple.of({ vendor: "ACME" }), RangeError, "no vendor has the name ACME"], [() => linux.equals("x"), TypeError, "only a Triple can be compared with a Triple, not a string"],
+      [() => Triple.of({ environment: "\u{1f600}" }), RangeError, "no environment has the name \u{1f600}"],
+      [() => linux.nameIn("Debian"), TypeError, "there is no dialect Debian; did you mean debian?"],
+      [() => Triple.read("x", "golang"), TypeError, "there is no dialect golang; did you mean go?"],
+      [() => linux.nameIn("dotent"), TypeError, "there is no dialect dotent; did you mean dotnet?"],
+      [() => linux.nameIn("Docker"), TypeError, "there is no dialect Docker; did you mean docker?"],
+      [() => linux.nameIn("podman"), TypeError, "there is no dialect podman"], [() => linux.complete("MUSL"), TypeError, "there is no C library MUSL; did you mean musl?"],
+      [() => Triple.parse(7), TypeError, "a target is a string, not a number"], [() => settleAll(["avr", null]), TypeError, "a target is a string, not null"],
+    ]) assert.throws(call, (it) => it.constructor === kind && it.message === message, message);
   },
   "a report has carets below the part": () => {
     const report = "Unrecognized operating system: linx\n  x86_64-pc-linx\n            ^^^^ did you mean `linux`?";

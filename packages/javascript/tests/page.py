@@ -110,17 +110,19 @@ def shows_fields(page):
     typed(page, "arm64-linux-gnu\n\n  armv7a-nuttx-eabi \nclever-unknown-unknown-none\naarch64-apple-ios17.1\naarch64-unknown-linux-gnu-elf")
     same(page.run(STATUS), "5 targets: 5 parsed, 0 refused, 1 duplicate.")
     rows = page.run(CELLS)
-    same(rows[0], ["arm64-linux-gnu key aarch64-unknown-linux-gnu", "aarch64 alias arm64", "unknown", "linux", "gnu", "elf implied",
-                   "little", "64 bits", "SystemV", "LP64", "names", ""])
+    same(rows[0], ["arm64-linux-gnu canonical: aarch64-unknown-linux-gnu", "aarch64 alias arm64", "unknown", "linux", "gnu", "elf implied",
+                   "64 bits little-endian", "names", ""])
     same(rows[1][2:4], ["nuttx custom", "unknown"])
-    same(rows[1][8:10], ["none", "none"])
-    same(rows[2][0], "clever-unknown-unknown-none key clever-unknown-none-elf")
-    same([rows[3][0], rows[3][3]], ["aarch64-apple-ios17.1 key aarch64-apple-ios17.1.0", "ios17.1.0 alias ios17.1"])
-    same([rows[4][0], rows[4][5]], ["aarch64-unknown-linux-gnu-elf key aarch64-unknown-linux-gnu the same target as arm64-linux-gnu", "elf"])
+    same(rows[2][0], "clever-unknown-unknown-none canonical: clever-unknown-none-elf")
+    same([rows[3][0], rows[3][3]], ["aarch64-apple-ios17.1 canonical: aarch64-apple-ios17.1.0", "ios17.1.0 alias ios17.1"])
+    same([rows[4][0], rows[4][5]], ["aarch64-unknown-linux-gnu-elf canonical: aarch64-unknown-linux-gnu the same target as arm64-linux-gnu", "elf"])
     page.run("document.getElementById('targets').setSelectionRange(0, 16)")
     page.keys(Keys.DELETE)
     page.until(f"{STATUS} === '4 targets: 4 parsed, 0 refused.'")
-    same(page.run(CELLS)[3][0], "aarch64-unknown-linux-gnu-elf key aarch64-unknown-linux-gnu")
+    same(page.run(CELLS)[3][0], "aarch64-unknown-linux-gnu-elf canonical: aarch64-unknown-linux-gnu")
+    typed(page, "unknown\narmeb\nx86_64-unknown-linux-gnux32\nwasm32-wasip1")
+    same([row[0].split(" ", 1)[1] for row in page.run(CELLS)[2:]], ["is canonical"] * 2)
+    same([row[6] for row in page.run(CELLS)], ["unknown byte order unknown", "32 bits big-endian", "32 bits little-endian", "32 bits little-endian"])
 
 
 def shows_special_strings_and_formats(page):
@@ -149,10 +151,36 @@ def escapes_and_shortens(page):
     holds(tallest < 300, f"a row is {tallest} pixels high")
 
 
+LISTS = [
+    "- arm64-linux-gnu\n- \"x86_64-pc-linx\"\n- avr", "[\"arm64-linux-gnu\", 'x86_64-pc-linx', avr]", "arm64-linux-gnu,x86_64-pc-linx,avr",
+    "# what is built\narm64-linux-gnu # m1\n  # x86_64-linux\nx86_64-pc-linx\t# no\navr", "targets: [\"arm64-linux-gnu\", \"x86_64-pc-linx\", \"avr\"]",
+    "include:\n  - target: arm64-linux-gnu\n  - target: 'x86_64-pc-linx' # soon\n  -\n    rust-target: avr", "- { target: arm64-linux-gnu }\n- {target: x86_64-pc-linx}\n- {\"target\": \"avr\"}",
+    "{\n  \"targets\": [\n    \"arm64-linux-gnu\",\n    \"x86_64-pc-linx\",\n    \"avr\"\n  ]\n}\n", "platforms:\n- arm64-linux-gnu\n- x86_64-pc-linx\n\navr",
+    "[{\"triple\":\"arm64-linux-gnu\"},{\"triple\":\"x86_64-pc-linx\"},{\"triple\":\"avr\"}]",
+]
+NOTICE = "document.getElementById('notice').textContent"
+
+
+def says_what_is_left_out(page):
+    """The values of other keys of a list are no targets, and the page says so; a name that has a colon is one."""
+    for text, targets, keys in (("matrix:\n  os: [ubuntu-latest, macos-14]\n  target:\n    - avr\n    - arm64\nrunner: x", ["avr", "arm64"], "os and runner"),
+                                ("include:\n  - target: avr\n    os: ubuntu-latest\n  - os: windows\n    target: arm64", ["avr", "arm64"], "os"),
+                                ("{\"name\": \"one\", \"target\": \"avr\", \"features\": [\"a\", \"b\"]}", ["avr"], "name and features"),
+                                ("{\n  \"os\": [\n    \"linux\",\n    \"windows\"\n  ],\n  \"targets\": [\"avr\"]\n}", ["avr"], "os"),
+                                ("libc6:i386\navr", ["libc6:i386", "avr"], None), ("key:\navr", ["avr"], None)):
+        page.run("document.getElementById('targets').select()")
+        page.run("document.getElementById('targets').focus()")
+        page.paste(text)
+        page.until(f"!document.querySelector('table[aria-busy]') && document.getElementById('targets').value === {json.dumps(text)}"
+                   f" && {ROWS}.map((row) => row.target).sort().join() === {json.dumps(','.join(sorted(targets)))}")
+        said = f"The values of {keys} aren't targets, and are left out." if keys else ""
+        page.until(f"{NOTICE} === {json.dumps(said)} && document.getElementById('notice').hidden === {json.dumps(not said)}")
+
+
 def takes_lists(page):
     """A list is pasted as people have it, and a mistake in it is mended in its place."""
     page.size(1280, 900)
-    for text in ("- arm64-linux-gnu\n- \"x86_64-pc-linx\"\n- avr", "[\"arm64-linux-gnu\", 'x86_64-pc-linx', avr]", "arm64-linux-gnu,x86_64-pc-linx,avr"):
+    for text in LISTS:
         page.run("document.getElementById('targets').focus()")
         page.control("a")
         page.keys(Keys.DELETE)
@@ -163,6 +191,7 @@ def takes_lists(page):
         page.run("document.querySelector('.refused .offer').click()")
         page.until(f"{STATUS}.startsWith('3 targets: 3 parsed')")
         same(page.run("document.getElementById('targets').value"), text.replace("x86_64-pc-linx", "x86_64-pc-linux"))
+        same(page.run(NOTICE), "")
 
 
 def refuses_and_suggests(page):
@@ -176,7 +205,7 @@ def refuses_and_suggests(page):
     same(page.run("document.querySelector('tbody b')"), None)
     same(page.run("[...document.querySelectorAll('.offer')].map((it) => it.textContent)"), ["windows", "x86_64-linux-gnu", "linux/amd64", "linux"])
     same(rows[4][1], "Unrecognized architecture: linux/amd46Did you mean linux/amd64 of Go and containers?")
-    same(rows[5][0], "x86_64- linx -gnu Did you mean linux ? key x86_64-linx-unknown-gnu-elf")
+    same(rows[5][0], "x86_64- linx -gnu Did you mean linux ? canonical: x86_64-linx-unknown-gnu-elf")
     same(page.run("[...document.querySelectorAll('tbody .odd')].map((it) => it.textContent)"), ["linx", "linx"])
     page.run("document.querySelector('tbody .offer').focus()")
     page.keys(Keys.ENTER)
@@ -247,12 +276,23 @@ def is_cleared(page):
 
 
 def links_to_pages(page):
-    links = page.run("[...document.querySelectorAll('.do p a')].map((it) => it.href)")
-    same([it.rsplit("/", 1)[1] for it in links], ["TOOL_NAMES.txt", "names.csv", "names.json", "DIFFERENCES.txt", "SPEC.txt", "JAVASCRIPT.txt"])
-    for link in links:
-        begin = {"csv": b"tool,name,", "json": b"{\n  \"$sch"}.get(link.rsplit(".", 1)[1], b"# ")
+    """Those of Markdown are rendered, and their links lead somewhere."""
+    links = page.run("[...document.querySelectorAll('.pages a')].map((it) => it.href)")
+    same([it.rsplit("/", 1)[1] for it in links], ["names.csv", "names.json", "TOOL_NAMES.html", "DIFFERENCES.html"])
+    for link in links[:2]:
+        begin = {"csv": b"tool,name,", "json": b"{\n  \"$sch"}[link.rsplit(".", 1)[1]]
         with urllib.request.urlopen(link) as answer:
             same(answer.read()[:len(begin)], begin)
+    for link in links[2:]:
+        page.driver.get(link)
+        same(page.run("[document.querySelectorAll('h1').length, document.querySelectorAll('table').length > 0, /^#|\\[.*\\]\\(|^\\|-/m.test(document.body.innerText)]"), [1, True, False])
+        for width in 390, 1280:
+            page.size(width, 900)
+            holds(page.run("document.documentElement.scrollWidth") <= width, f"at {width} pixels {link} scrolls sideways")
+        targets = page.run("[...document.querySelectorAll('a')].map((it) => it.href)")
+        for target in {it.partition("#")[0] for it in targets if "://127." in it}:
+            urllib.request.urlopen(target).close()
+        same([it for it in targets if it.startswith(f"{link}#") and page.run(f"document.getElementById({json.dumps(it.partition('#')[2])}) === null")], [])
 
 
 # What is unfolded in sight: the terms and answers of the lists, and the lines below them.
@@ -302,7 +342,7 @@ def says_what_ten_names_mean(page):
             page.run(f"{row}.querySelector({'.fold' if width == 390 else '.elsewhere button'!r}).click()")
             page.run(f"{row}.scrollIntoView()")
             head, details = page.run(f"{row}.firstChild.innerText"), unfolded(page)[number]
-            holds(head.startswith(f"{name}\na name of {tools}\nkey {key}"), f"at {width} pixels {name} has {head!r}")
+            holds(head.startswith(f"{name}\na name of {tools}\ncanonical: {key}"), f"at {width} pixels {name} has {head!r}")
             holds(answer in details, f"at {width} pixels {name} has no {answer}: {details}")
             holds(any(it.startswith("object format") for it in details) and any(it.startswith("linker") for it in details), f"{details}")
             same(page.run(f"{row}.querySelector('.others')?.innerText ?? null"), other)
@@ -351,7 +391,7 @@ def names_are_folded(page):
     same(page.run("[...document.querySelectorAll('.elsewhere button')].map((it) => it.getAttribute('aria-expanded'))"), ["false", "false", "true", "false"])
     same(unfolded(page)[2][:3], ["Go windows/amd64", "containers windows/amd64", "Node win32-x64-msvc"])
     # The button is on the line of the target.
-    same(page.run(ROWS + "[3].getClientRects().length && [...new Set([" + ROWS + "[3].cells[1], " + ROWS + "[3].cells[10]].map((it) =>"
+    same(page.run(ROWS + "[3].getClientRects().length && [...new Set([" + ROWS + "[3].cells[1], " + ROWS + "[3].cells[7]].map((it) =>"
                          " Math.round(it.getBoundingClientRect().top)))].length"), 1)
 
 
@@ -361,7 +401,7 @@ def says_what_other_tools_mean(page):
     same(page.run(STATUS), "4 targets: 3 parsed, 1 named by tools, 0 refused, 2 suspicious.")
     same(page.run(ROWS + ".map((row) => row.querySelector('.others')?.innerText ?? null)"), [
         "In LLVM it is aarch64-unknown-macosx.\n\nIn Zig it is aarch64-apple-darwin.", "In LLVM it is i686-pc-windows-gnu.",
-        "In rustc it is armv6-unknown-linux-gnueabihf.",
+        None,
         "In Go no triple means it: a machine without a system.\n\nIn containers no triple means it: half of a platform: containerd adds that of the host."])
     page.run("document.querySelectorAll('tbody .offer')[1].focus()")
     page.keys(Keys.ENTER)
@@ -393,7 +433,7 @@ def opens_from_a_folder(folder):
 
 def is_a_card(page):
     typed(page, "x86_64-unknown-linux-gnu\nx86_64-" + "z" * 300 + "-linux\nx86_64-pc-windws-msvc\n" + "y" * 300)
-    for width in 320, 390, 800, 1100, 1262, 1263, 1280, 1600:
+    for width in 320, 390, 800, 959, 960, 1100, 1280, 1600:
         page.size(width, 900)
         holds(page.run("document.documentElement.scrollWidth") <= width, f"at {width} pixels the page scrolls sideways")
         wide = page.run("[...document.querySelectorAll('main *')].filter((it) => it.getBoundingClientRect().right > innerWidth + 1"
@@ -404,6 +444,15 @@ def is_a_card(page):
     same(page.run("getComputedStyle(document.querySelector('td[data-label]'), '::before').content"), '"Architecture" / ""')
 
 
+# The contrast of the text field's border with the page.
+CONTRAST = """(() => {
+  const light = (color) => {
+    const [red, green, blue] = color.match(/[\\d.]+/g).map((it) => (it / 255 <= 0.03928 ? it / 255 / 12.92 : ((it / 255 + 0.055) / 1.055) ** 2.4));
+    return 0.2126 * red + 0.7152 * green + 0.0722 * blue + 0.05;
+  };
+  const both = [getComputedStyle(document.getElementById("targets")).borderTopColor, getComputedStyle(document.body).backgroundColor].map(light);
+  return Math.max(...both) / Math.min(...both);
+})()"""
 LINES = """((element) => {
   const range = document.createRange();
   range.selectNodeContents(element);
@@ -414,10 +463,10 @@ LINES = """((element) => {
 def breaks_no_name(page):
     """Where the table has its least width, the longest targets, systems and conventions are on one line."""
     typed(page, "loongarch64-unknown-none-softfloat\nx86_64-pc-windows-msvc\nwasm32-wasi\narm64-apple-macosx14.10.1")
-    page.size(1263, 900)
+    page.size(960, 900)
     same(page.run("getComputedStyle(document.querySelector('tbody tr')).display"), "grid")
     same(page.run(f"[...document.querySelectorAll('.target, small code')].map({LINES})"), [1] * 7)
-    same(page.run(ROWS + f".flatMap((row) => [...row.cells].slice(1, 10).map((it) => {LINES}(it.querySelector('code, span') ?? it.firstChild)))"), [1] * 36)
+    same(page.run(ROWS + f".flatMap((row) => [...row.cells].slice(1, 7).map((it) => {LINES}(it.querySelector('code, span') ?? it.firstChild.firstChild)))"), [1] * 24)
     same(page.run("[...document.querySelectorAll('thead th')].filter((it) => it.scrollWidth > it.clientWidth).length"), 0)
     page.size(400, 900)
     same(page.run(f"[...document.querySelectorAll('.target')].map({LINES})"), [1] * 4)
@@ -428,15 +477,15 @@ def folds_on_a_phone(page):
     shown = ROWS + ".map((row) => [...row.cells].filter((it) => it.getClientRects().length > 0).length)"
     page.size(400, 900)
     typed(page, "wasm32-wasi\narm64\nx86_64-foo-bar")
-    same(page.run(shown), [2, 13, 13])
+    same(page.run(shown), [2, 10, 10])
     typed(page, "wasm32-wasi\narm64\nx86_64-linux\nx86_64-foo-bar")
     same(page.run(shown), [2, 1, 1, 1])
     page.run("document.querySelector('.fold').focus()")
     page.keys(Keys.ENTER)
-    same(page.run(shown), [2, 13, 1, 1])
+    same(page.run(shown), [2, 10, 1, 1])
     same(page.run("[...document.querySelectorAll('.fold')].map((it) => it.getAttribute('aria-expanded'))"), ["true", "false", "false"])
     page.size(1280, 900)
-    same(page.run(shown), [2, 13, 12, 12])
+    same(page.run(shown), [2, 10, 9, 9])
 
 
 def says_what_to_paste(page):
@@ -449,7 +498,7 @@ def complete_roles(page):
     """The accessibility tree, which Chromium completes a little after the page."""
     for _ in range(100):
         roles = page.roles()
-        if [role for role, _ in roles].count("cell") == 12 and ("StaticText", "?") in roles:
+        if [role for role, _ in roles].count("cell") == 9 and ("StaticText", "?") in roles:
             return roles
         time.sleep(0.1)
     raise WrongAnswer(f"the accessibility tree is not complete: {roles}")
@@ -460,42 +509,122 @@ def is_accessible(page):
         page.size(width, 900)
         typed(page, "x86_64-unknown-linux-gnu\nx86_64-pc-windws-msvc")
         roles = complete_roles(page)
-        for wanted in [("heading", "Names of targets"), ("textbox", "Targets, or names of any tool"), ("button", "Copy names"), ("button", "Copy facts"), ("button", "Clear"),
-                       ("combobox", "Linux C library"), ("combobox", "Windows ABI"), ("link", "Link to these targets"),
+        for wanted in [("heading", "Names of targets"), ("textbox", "Targets, or names of any tool"), ("button", "Copy names"), ("button", "Copy facts"), ("button", "Copy link"), ("button", "Clear"),
+                       ("combobox", "Linux C library"), ("combobox", "Windows ABI"),
                        ("group", "Which targets are shown"), ("button", "2 targets"), ("button", "1 refused"),
-                       ("table", "What each target is"), ("columnheader", "Byte order"),
+                       ("table", "What each target is"), ("columnheader", "Pointers"),
                        ("button", "windows: replace x86_64-pc-windws-msvc by x86_64-pc-windows-msvc")]:
             holds(wanted in roles, f"at {width} pixels there is no {wanted}")
         holds([name.split()[0] for role, name in roles if role == "rowheader"] == ["x86_64-pc-windws-msvc", "x86_64-unknown-linux-gnu"],
               f"at {width} pixels the rows have other headers: {roles}")
-        same([role for role, _ in roles].count("columnheader"), 11)
+        same([role for role, _ in roles].count("columnheader"), 8)
         holds("status" in [role for role, _ in roles], "there is no status")
     page.run("document.getElementById('targets').focus()")
     reached = []
-    for _ in range(16):
+    for _ in range(10):
         page.keys(Keys.TAB)
         reached.append(page.run("document.activeElement.id || document.activeElement.textContent"))
-    same(reached[:6] + reached[12:], ["linux", "windows", "copy_names", "copy_facts", "clear", "link", "2 targets", "1 refused", "windows", "names"])
+    same(reached, ["linux", "windows", "copy_names", "copy_facts", "copy_link", "clear", "2 targets", "1 refused", "windows", "names"])
+    holds(page.run(CONTRAST) >= 3, "the border of the text field has too little contrast")
 
 
 def has_a_link(page):
+    """What is edited or chosen is in the address, which is copied."""
+    address = page.run("location.href")
     lines = ["x86_64-unknown-linux-gnu", "arm64-apple;ios", "x86_64-\u4e2d&#%-b"]
     typed(page, "\n".join(lines))
-    link = page.run("document.getElementById('link').href")
+    choose(page, linux="musl")
+    page.run("document.getElementById('copy_link').focus()")
+    page.keys(Keys.ENTER)
+    page.until(f"{STATUS} === 'Copied the link to these targets.'")
+    link = page.run("navigator.clipboard.readText()")
+    holds(link.startswith(f"{address}?linux=musl#"), link)
+    page.until(f"location.href === {json.dumps(link)}")
     same(urllib.parse.unquote(link.split("#")[1].split(",")[1]), lines[1])
-    page.run("document.getElementById('targets').value = ''")
+    typed(page, "avr")
+    page.until("location.hash === '#avr'")
     page.run(f"location.href = {json.dumps(link)}")
     page.until(f"{STATUS}.startsWith('3 targets')")
     same(page.run("document.getElementById('targets').value"), "\n".join(lines))
+    choose(page, linux="")
     typed(page, "\n".join(f"x86_64-v{it}-linux" for it in range(3000)))
-    same(page.run("[document.getElementById('link').hidden, document.getElementById('link_status').hidden]"), [True, False])
+    page.run("document.getElementById('copy_link').click()")
+    same(page.run(STATUS), "These targets are too long for a link.")
+    page.until(f"location.href === {json.dumps(address)}")
+
+
+def takes_time_in_proportion(page):
+    """A line of a million quotes, and a link that is longer than the page makes."""
+    page.run("""document.getElementById('targets').value = 'x' + '"'.repeat(1e6) + 'x'""")
+    begun = time.monotonic()
+    page.run("document.getElementById('targets').dispatchEvent(new Event('input'))")
+    page.until(f"{STATUS}.startsWith('1 target: 0 parsed')")
+    holds(time.monotonic() - begun < 20, f"{time.monotonic() - begun:.0f} s")
+    page.run("document.getElementById('targets').value = ''")
+    page.run("location.hash = 'x'.repeat(32001)")
+    page.until(f"{STATUS}.startsWith('The link isn\\'t followed')")
+    same(page.run("document.getElementById('targets').value"), "")
 
 
 def opens_a_link(url):
+    """What can't be decoded of it is said, until something is edited."""
+    with Page(f"{url}//example.invalid/..//#avr") as page:
+        loaded(page)
+        page.run("document.getElementById('clear').click()")
+        same(page.run("location.host"), url.split("//")[1])
+        page.until(f"{STATUS}.startsWith('No targets. Paste')")
+        same(page.errors(), [])
     with Page(f"{url}/#wasm32-wasi,x86_64-pc%3Blinux") as page:
         loaded(page)
         same(page.run("document.getElementById('targets').value"), "wasm32-wasi\nx86_64-pc;linux")
-        same(page.run(STATUS), "2 targets: 1 parsed, 1 refused.")
+        same([page.run(STATUS), page.run(NOTICE)], ["2 targets: 1 parsed, 1 refused.", ""])
+    with Page(f"{url}/#wasm32-wasi,x86_64-%E4-linux,avr,%") as page:
+        loaded(page)
+        same(page.run("document.getElementById('targets').value"), "wasm32-wasi\navr")
+        same(page.run(NOTICE), "A target of the link can't be read: x86_64-%E4-linux. A target of the link can't be read: %.")
+        typed(page, "avr")
+        same(page.run(NOTICE), "")
+
+
+def says_that_it_needs_scripts(url):
+    with Page("about:blank") as page:
+        page.call("Emulation.setScriptExecutionDisabled", value=True)
+        page.driver.get(url)
+        said = " ".join(name for _, name in page.roles())
+        holds("which your browser doesn't run" in said and "Loading" not in said, said)
+
+
+def is_in_sight_on_a_phone(page):
+    page.size(390, 844)
+    top = page.run(ROWS + "[0].getBoundingClientRect().top")
+    holds(top < 400, f"the first target is at {top} pixels")
+
+
+def unfolds_what_is_left(page):
+    """A list that is cut down to one line shows it unfolded, at any width."""
+    for width in 400, 1280:
+        page.size(width, 900)
+        typed(page, "wasm32-wasi\narm64\nx86_64-linux\navr")
+        same(page.run("[document.querySelectorAll('.names:not([hidden])').length, document.querySelectorAll('tr:not(.folded) .fold').length]"), [0, 0])
+        page.run("document.getElementById('targets').setSelectionRange(11, 99)")
+        page.run("document.getElementById('targets').focus()")
+        page.keys(Keys.DELETE)
+        page.until(f"{STATUS}.startsWith('1 target:')")
+        same(page.run("[document.querySelectorAll('.names:not([hidden])').length, document.querySelectorAll('tr:not(.folded) .fold').length]"), [1, 1])
+
+
+def takes_targets_of_rustc(page):
+    """None is suspicious or has a suggestion, and each that is refused has one sentence of reason."""
+    targets = subprocess.run(["rustc", "--print", "target-list"], capture_output=True, text=True, check=True).stdout
+    typed(page, targets)
+    shown = page.run(ROWS + ".map((row) => [row.target, row.className, row.querySelectorAll('.offer').length,"
+                     " [...row.querySelectorAll('.refused p, .others p')].map((it) => it.textContent)])")
+    same(len(shown), len(targets.split()))
+    same([it for it in shown if "suspicious" in it[1] or it[2]], [])
+    refused = [it for it in shown if it[1] == "refused"]
+    same([it for it in refused if len(it[3]) != 1 or not re.fullmatch(r"A target of rustc that has no triple here: its \w+ is no known name\.", it[3][0])], [])
+    same([it for it in shown if it not in refused and (len(it[3]) > 1 or any("it is" in line for line in it[3]))], [])
+    return f"{len(shown)} targets, of which {len(refused)} are refused"
 
 
 def without_note(answer):
@@ -532,8 +661,6 @@ def copies_names(program, page):
         wanted = subprocess.run([program, "what", "--json", *(["--libc", libc] if libc else []), *names], capture_output=True, check=True).stdout
         for ours, theirs in zip(copied, json.loads(wanted), strict=True):
             theirs["meanings"] = [without_note(it) for it in theirs["meanings"]]
-            for it in [*ours["meanings"], *theirs["meanings"]]:  # a reason of the command speaks of its option `--libc`
-                it["reasons"] = {tool: re.sub("use `--libc.*", "say", reason).partition(": say")[0] for tool, reason in it["reasons"].items()}
             same(ours, theirs)
     choose(page, linux="")
     return "the same as the command's"
@@ -562,12 +689,13 @@ def stays_responsive(page):
 def page_tests(url, folder, program):
     """The name of each test of the page at a URL, which is in a folder, and the test; `program` is the command `target-lexicon`."""
     tests = [asks_for_one_script, forbids_what_it_does_not_need, shows_fields, shows_special_strings_and_formats, escapes_and_shortens, takes_lists,
-             refuses_and_suggests,
+             says_what_is_left_out, is_in_sight_on_a_phone, unfolds_what_is_left, takes_targets_of_rustc, refuses_and_suggests,
              mistakes_come_first, has_a_head_that_stays, is_typed_in_a_column_of_60, is_cleared, links_to_pages,
              says_what_ten_names_mean, says_what_a_driver_asks, says_why_there_is_no_name, names_are_folded, says_what_other_tools_mean, has_large_touch_targets, is_a_card, breaks_no_name, folds_on_a_phone,
-             says_what_to_paste, is_accessible, has_a_link, functools.partial(copies_the_matrix, program), functools.partial(copies_names, program), stays_responsive]
+             says_what_to_paste, is_accessible, has_a_link, takes_time_in_proportion, functools.partial(copies_the_matrix, program), functools.partial(copies_names, program), stays_responsive]
     for test in tests:
         name = getattr(test, "func", test).__name__
         yield name.replace("_", " "), functools.partial(opened, f"{url}/", "", test)
     yield "opens a link", functools.partial(opens_a_link, url)
+    yield "says that it needs scripts", functools.partial(says_that_it_needs_scripts, url)
     yield "opens from a folder", functools.partial(opens_from_a_folder, folder)

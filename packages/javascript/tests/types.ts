@@ -16,6 +16,10 @@ const model: Facts["dataModel"] = Triple.of(given).with({ environment: "sim", bi
 const spread: Triple = Triple.of({ ...triple, environment: "sim" });
 const cloned: Triple[] = [Triple.of(structuredClone(triple)), Triple.of(triple), triple.with({ ...triple, version: null })];
 
+// What is undefined is as if left out, also with `exactOptionalPropertyTypes`.
+const optional = (environment?: Environment, minor?: number): Triple => triple.with({ environment, architecture: undefined, version: { major: 1, minor } });
+const orNull: Triple | null = Triple.tryParse("x86_64-pc-linx");
+
 const dialects: readonly Dialect[] = DIALECTS;
 const debian: string = translate("linux/arm64", "oci", "debian", "glibc"), changed: Change[] = changes(debian);
 const names: (string | null)[] = dialects.map((dialect) => Triple.read("linux/arm64", "oci").nameIn(dialect));
@@ -80,13 +84,13 @@ type Flat<Type> = Type extends unknown ? { [Name in keyof Type]: Type[Name] } : 
 const sources: Same<Flat<Explained<Vendor>>, Flat<Sources<Vendor>>> = true;
 const explained: Same<Explanation["fields"], { [Name in Field]: Explained<Values[Name]> }> = true;
 const calls: [
-  Same<typeof Triple.parse, (text: string) => Triple>, Same<typeof Triple.explain, (text: string) => Explanation>,
+  Same<typeof Triple.parse, (text: string) => Triple>, Same<typeof Triple.tryParse, (text: string) => Triple | null>, Same<typeof Triple.explain, (text: string) => Explanation>,
   Same<typeof Triple.read, (text: string, dialect?: Dialect | null) => Triple>, Same<typeof Triple.of, (values: Given) => Triple>,
   Same<typeof host, () => Triple>, Same<typeof version, () => string>, Same<typeof numberOf, (field: Field, text: string) => number | null>,
   Same<typeof load, (module: ArrayBuffer | ArrayBufferView | WebAssembly.Module) => Promise<void>>, Same<typeof FAMILIES, readonly Family[]>,
   Same<typeof translate, (name: string, from: Dialect | null, to: Dialect, libc?: "glibc" | "musl" | "msvc" | "mingw" | "gnullvm" | null) => string>,
   Same<typeof changes, (text: string) => Change[]>, Same<typeof meanings, (text: string) => Meanings>, Same<typeof settleAll, (targets: Iterable<string>) => (string | null)[]>,
-] = [true, true, true, true, true, true, true, true, true, true, true, true, true];
+] = [true, true, true, true, true, true, true, true, true, true, true, true, true, true];
 
 function text(explanation: Explanation): string {
   if (explanation.error) return explanation.error.report;
@@ -124,4 +128,4 @@ namesOf("os");
 // @ts-expect-error an error comes from a string that is refused
 new ParseError("");
 
-export { answers, architectures, calls, changed, cloned, debian, errors, explained, family, members, models, names, orders, origins, parts, sources, spread, system, text, tools, vendors, widths };
+export { answers, architectures, calls, changed, cloned, debian, errors, explained, family, members, models, names, optional, orders, origins, orNull, parts, sources, spread, system, text, tools, vendors, widths };

@@ -24,26 +24,13 @@ pub fn linker(triple: &TripleRef<'_>) -> &'static str {
     }
 }
 
-pub fn program_suffix(triple: &TripleRef<'_>) -> &'static str {
-    match (triple.operating_system, triple.architecture) {
-        (OperatingSystem::Windows | OperatingSystem::Cygwin, _) => ".exe",
-        (OperatingSystem::Uefi, _) => ".efi",
-        (OperatingSystem::VxWorks, _) => ".vxe",
-        (OperatingSystem::Cuda, _) => ".ptx",
-        (OperatingSystem::Emscripten, _) => ".js",
-        (_, Architecture::Wasm32 | Architecture::Wasm64) => ".wasm",
-        (OperatingSystem::Horizon, _) | (_, Architecture::Avr) => ".elf",
-        _ => "",
-    }
-}
-
 fn main() {
     for target in std::env::args().skip(1) {
         match TripleRef::parse(&target) {
             Ok(triple) => println!(
                 "{target}: {}, program{}",
                 linker(&triple),
-                program_suffix(&triple)
+                triple.program_suffix()
             ),
             Err(error) => eprintln!("{error}"),
         }

@@ -1,9 +1,12 @@
 //! What a compiler's driver asks of a triple besides the queries. `checks/compare llvm` asks rustc and clang of each of rustc's targets.
 
+use crate::object_format::object_format;
 use crate::rustc_cfg::UnlistedSystem;
 use core::fmt;
 use target_lexicon::{
-    Architecture, CDataModel, Environment, OperatingSystem, PointerWidth, TripleRef,
+    Aarch64Architecture, Architecture, BinaryFormat, CDataModel, Endianness, Environment,
+    Mips32Architecture, Mips64Architecture, OperatingSystem, PointerWidth, Riscv32Architecture,
+    Riscv64Architecture, TripleRef,
 };
 
 /// The C library of a target.
@@ -58,6 +61,25 @@ pub enum FloatAbi {
     Soft,
     /// In floating-point registers.
     Hard,
+}
+
+/// Whether C's `char` has a sign.
+///
+/// # Examples
+///
+/// ```
+/// use target_lexicon::{tool_names::Signedness, triple};
+/// use target_names::TargetInfo;
+///
+/// assert_eq!(triple!("aarch64-unknown-linux-gnu").char_signedness(), Some(Signedness::Unsigned));
+/// ```
+#[non_exhaustive]
+#[derive(Clone, Copy, Debug, PartialEq, Eq, Hash)]
+pub enum Signedness {
+    /// As `signed char`.
+    Signed,
+    /// As `unsigned char`.
+    Unsigned,
 }
 
 /// The size and the alignment of a type of C, in bytes.
@@ -224,6 +246,226 @@ impl fmt::Display for FloatAbi {
     fn fmt(&self, f: &mut fmt::Formatter<'_>) -> fmt::Result {
         f.pad(self.name())
     }
+}
+
+impl Signedness {
+    /// The answer of [`TargetInfo::char_signedness`].
+    #[inline]
+    pub(crate) const fn of_char(triple: &TripleRef<'_>) -> Option<Signedness> {
+        use {Architecture::*, OperatingSystem::*};
+        match (triple.architecture, triple.operating_system) {
+            (_, Uefi | VxWorks) => None,
+            (Aarch64(_) | Arm(_), Windows) => Some(Signedness::Signed),
+            (Aarch64(_) | Arm(_) | Powerpc | Powerpc64, system) if system.is_like_darwin() => {
+                Some(Signedness::Signed)
+            }
+            (Aarch64(_) | Arm(_) | Hexagon | Powerpc | Powerpc64 | Powerpc64le, _)
+            | (Riscv32(_) | Riscv64(_) | S390x, _) => Some(Signedness::Unsigned),
+            (Avr | Bpfeb | Bpfel | M68k | Mips32(_) | Mips64(_) | Msp430 | Nvptx64, _)
+            | (Sparc | Sparc64 | Sparcv9 | Wasm32 | Wasm64 | X86_32(_) | X86_64 | X86_64h, _) => {
+                Some(Signedness::Signed)
+            }
+            _ => None,
+        }
+    }
+
+    /// The name.
+    ///
+    /// # Examples
+    ///
+    /// ```
+    /// assert_eq!(target_names::Signedness::Signed.name(), "signed");
+    /// ```
+    #[must_use]
+    #[inline]
+    pub const fn name(self) -> &'static str {
+        match self {
+            Signedness::Signed => "signed",
+            Signedness::Unsigned => "unsigned",
+        }
+    }
+}
+
+impl fmt::Display for Signedness {
+    #[inline]
+    fn fmt(&self, f: &mut fmt::Formatter<'_>) -> fmt::Result {
+        f.pad(self.name())
+    }
+}
+
+/// The answer of [`TargetInfo::has_emulated_tls`].
+#[inline]
+pub(crate) const fn has_emulated_tls(triple: &TripleRef<'_>) -> bool {
+    use {Environment::*, OperatingSystem::*};
+    matches!(
+        (triple.operating_system, triple.environment),
+        (Cygwin | Openbsd, _) | (Linux, Android | Androideabi | Ohos)
+    )
+}
+
+/// The answer of [`TargetInfo::has_comdat`].
+#[inline]
+pub(crate) const fn has_comdat(triple: &TripleRef<'_>) -> bool {
+    use BinaryFormat::*;
+    matches!(object_format(triple), Coff | Elf | Wasm)
+}
+
+/// The answer of [`TargetInfo::program_suffix`].
+#[inline]
+pub(crate) const fn program_suffix(triple: &TripleRef<'_>) -> &'static str {
+    use OperatingSystem::*;
+    match (triple.operating_system, triple.architecture) {
+        (Windows | Cygwin, _) => ".exe",
+        (Uefi, _) => ".efi",
+        (VxWorks, _) => ".vxe",
+        (Cuda, _) => ".ptx",
+        (Emscripten, _) => ".js",
+        (_, Architecture::Wasm32 | Architecture::Wasm64) => ".wasm",
+        (Horizon, _) | (_, Architecture::Avr) => ".elf",
+        _ => "",
+    }
+}
+
+/// The answer of [`TargetInfo::dynamic_linker`].
+pub(crate) fn dynamic_linker(triple: &TripleRef<'_>) -> Option<&'static str> {
+    use OperatingSystem::*;
+    match (triple.operating_system, CLibrary::of(triple)?) {
+        (Dragonfly, _) => Some("/usr/libexec/ld-elf.so.2"),
+        (Freebsd, _) => Some("/libexec/ld-elf.so.1"),
+        (Fuchsia, _) => Some("ld.so.1"),
+        (Netbsd, _) => Some("/libexec/ld.elf_so"),
+        (Openbsd, _) => Some("/usr/libexec/ld.so"),
+        (Linux, CLibrary::Bionic) => match triple.pointer_width() {
+            Ok(PointerWidth::U64) => Some("/system/bin/linker64"),
+            Ok(_) => Some("/system/bin/linker"),
+            Err(_) => None,
+        },
+        (Hurd, CLibrary::Glibc) => match triple.architecture {
+            Architecture::X86_32(_) => Some("/lib/ld.so"),
+            _ => None,
+        },
+        (Linux, CLibrary::Glibc) => linker_of_glibc(triple),
+        (Linux, CLibrary::Musl) if triple.environment != Environment::Ohos => {
+            linker_of_musl(triple)
+        }
+        _ => None,
+    }
+}
+
+fn linker_of_glibc(triple: &TripleRef<'_>) -> Option<&'static str> {
+    use {Aarch64Architecture::*, Architecture::*, Environment::*, Mips32Architecture::*};
+    use {Mips64Architecture::*, Riscv32Architecture::*, Riscv64Architecture::*};
+    Some(match (triple.architecture, triple.environment) {
+        (_, GnuIlp32) => return Option::None,
+        (Architecture::Aarch64(Aarch64Architecture::Aarch64), _) => "/lib/ld-linux-aarch64.so.1",
+        (Architecture::Aarch64(Aarch64be), _) => "/lib/ld-linux-aarch64_be.so.1",
+        (Arm(_), Gnueabi) => "/lib/ld-linux.so.3",
+        (Arm(_), Gnueabihf) => "/lib/ld-linux-armhf.so.3",
+        (M68k | Mips32(Mips | Mipsel) | Powerpc, _) => "/lib/ld.so.1",
+        (Mips32(_), _) => "/lib/ld-linux-mipsn8.so.1",
+        (Architecture::Mips64(Mips64Architecture::Mips64 | Mips64el), Gnuabi64) => "/lib64/ld.so.1",
+        (Architecture::Mips64(_), Gnuabi64) => "/lib64/ld-linux-mipsn8.so.1",
+        (Powerpc64, _) => "/lib64/ld64.so.1",
+        (Powerpc64le, _) => "/lib64/ld64.so.2",
+        (Architecture::Riscv32(Riscv32Architecture::Riscv32 | Riscv32gc), _) => {
+            "/lib/ld-linux-riscv32-ilp32d.so.1"
+        }
+        (Architecture::Riscv64(Riscv64Architecture::Riscv64 | Riscv64gc | Riscv64a23), _) => {
+            "/lib/ld-linux-riscv64-lp64d.so.1"
+        }
+        (S390x, _) => "/lib/ld64.so.1",
+        (Sparc | X86_32(_), _) => "/lib/ld-linux.so.2",
+        (Sparc64 | Sparcv9, _) => "/lib64/ld-linux.so.2",
+        (X86_64 | X86_64h, Gnux32) => "/libx32/ld-linux-x32.so.2",
+        (X86_64 | X86_64h, _) => "/lib64/ld-linux-x86-64.so.2",
+        _ => return Option::None,
+    })
+}
+
+fn linker_of_musl(triple: &TripleRef<'_>) -> Option<&'static str> {
+    use {Aarch64Architecture::*, Architecture::*, Mips32Architecture::*, Mips64Architecture::*};
+    let is_hard = triple.environment == Environment::Musleabihf;
+    Some(match (triple.architecture, triple.endianness()) {
+        (Architecture::Aarch64(Aarch64Architecture::Aarch64), _) => "/lib/ld-musl-aarch64.so.1",
+        (Architecture::Aarch64(Aarch64be), _) => "/lib/ld-musl-aarch64_be.so.1",
+        (Arm(_), Ok(Endianness::Big)) if is_hard => "/lib/ld-musl-armebhf.so.1",
+        (Arm(_), Ok(Endianness::Big)) => "/lib/ld-musl-armeb.so.1",
+        (Arm(_), _) if is_hard => "/lib/ld-musl-armhf.so.1",
+        (Arm(_), _) => "/lib/ld-musl-arm.so.1",
+        (Hexagon, _) => "/lib/ld-musl-hexagon.so.1",
+        (M68k, _) => "/lib/ld-musl-m68k.so.1",
+        (Mips32(Mips), _) => "/lib/ld-musl-mips.so.1",
+        (Mips32(Mipsel), _) => "/lib/ld-musl-mipsel.so.1",
+        (Architecture::Mips64(Mips64Architecture::Mips64), _) => "/lib/ld-musl-mips64.so.1",
+        (Architecture::Mips64(Mips64el), _) => "/lib/ld-musl-mips64el.so.1",
+        (Powerpc, _) => "/lib/ld-musl-powerpc.so.1",
+        (Powerpc64, _) => "/lib/ld-musl-powerpc64.so.1",
+        (Powerpc64le, _) => "/lib/ld-musl-powerpc64le.so.1",
+        (Riscv32(_), _) => "/lib/ld-musl-riscv32.so.1",
+        (Riscv64(_), _) => "/lib/ld-musl-riscv64.so.1",
+        (S390x, _) => "/lib/ld-musl-s390x.so.1",
+        (X86_32(_), _) => "/lib/ld-musl-i386.so.1",
+        (X86_64 | X86_64h, _) => "/lib/ld-musl-x86_64.so.1",
+        _ => return None,
+    })
+}
+
+/// The answer of [`TargetInfo::linker_emulation`].
+pub(crate) fn linker_emulation(triple: &TripleRef<'_>) -> Option<&'static str> {
+    use {Architecture::*, OperatingSystem::*};
+    match (triple.operating_system, triple.architecture) {
+        (_, Wasm32) => Some("wasm32"),
+        (_, Wasm64) => Some("wasm64"),
+        (Linux, _) => emulation_of_linux(triple),
+        (Hurd, X86_32(_)) => Some("elf_i386"),
+        (Hurd, X86_64) => Some("elf_x86_64"),
+        (Windows, X86_32(_)) if has_mingw(triple) => Some("i386pe"),
+        (Windows, X86_64) if has_mingw(triple) => Some("i386pep"),
+        (Windows, Arm(_)) if has_mingw(triple) => Some("thumb2pe"),
+        (Windows, Architecture::Aarch64(_)) if has_mingw(triple) => Some("arm64pe"),
+        (Freebsd, X86_32(_)) => Some("elf_i386_fbsd"),
+        (Freebsd, Powerpc) => Some("elf32ppc_fbsd"),
+        (Freebsd, Riscv32(_)) => Some("elf32lriscv"),
+        (Freebsd, Riscv64(_)) => Some("elf64lriscv"),
+        (Dragonfly | Netbsd, X86_32(_)) => Some("elf_i386"),
+        (Netbsd, Powerpc) => Some("elf32ppc_nbsd"),
+        (Netbsd, Sparc) => Some("elf32_sparc"),
+        (Netbsd, Sparc64 | Sparcv9) => Some("elf64_sparc"),
+        _ => None,
+    }
+}
+
+#[inline]
+fn has_mingw(triple: &TripleRef<'_>) -> bool {
+    CLibrary::of(triple) == Some(CLibrary::Mingw) && triple.endianness() == Ok(Endianness::Little)
+}
+
+fn emulation_of_linux(triple: &TripleRef<'_>) -> Option<&'static str> {
+    use {Aarch64Architecture::*, Architecture::*, Environment::*};
+    Some(match (triple.architecture, triple.endianness()) {
+        (_, _) if triple.environment == GnuIlp32 => return Option::None,
+        (Architecture::Aarch64(Aarch64Architecture::Aarch64), _) => "aarch64linux",
+        (Architecture::Aarch64(Aarch64be), _) => "aarch64linuxb",
+        (Arm(_), Ok(Endianness::Little)) => "armelf_linux_eabi",
+        (Arm(_), _) => "armelfb_linux_eabi",
+        (M68k, _) => "m68kelf",
+        (Mips32(_), Ok(Endianness::Little)) => "elf32ltsmip",
+        (Mips32(_), _) => "elf32btsmip",
+        (Mips64(_), Ok(Endianness::Little)) => "elf64ltsmip",
+        (Mips64(_), _) => "elf64btsmip",
+        (Powerpc, _) => "elf32ppclinux",
+        (Powerpc64, _) => "elf64ppc",
+        (Powerpc64le, _) => "elf64lppc",
+        (Riscv32(_), _) => "elf32lriscv",
+        (Riscv64(_), _) => "elf64lriscv",
+        (S390x, _) => "elf64_s390",
+        (Sparc, _) => "elf32_sparc",
+        (Sparc64 | Sparcv9, _) => "elf64_sparc",
+        (X86_32(_), _) => "elf_i386",
+        (X86_64 | X86_64h, _) if triple.environment == Gnux32 => "elf32_x86_64",
+        (X86_64 | X86_64h, _) => "elf_x86_64",
+        _ => return Option::None,
+    })
 }
 
 impl TypeLayout {

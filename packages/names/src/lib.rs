@@ -55,6 +55,7 @@ mod reading;
 mod rustc_cfg;
 mod shape;
 mod spelled;
+mod stated_versions;
 #[rustfmt::skip]
 mod table;
 #[cfg(all(test, feature = "alloc"))]
@@ -66,7 +67,7 @@ mod variants;
 pub use arm::ArmProfile;
 pub use c_library::LinuxLibc;
 pub use dialect::NameError;
-pub use driver::{CLibrary, FloatAbi, TypeLayout, TypeSizes};
+pub use driver::{CLibrary, FloatAbi, Signedness, TypeLayout, TypeSizes};
 pub use hints::{hint, Hint};
 pub use llvm_target::LlvmTarget;
 pub use meanings::{meanings, Meaning, NameOf};
@@ -78,6 +79,7 @@ pub use parse_name_error::{ParseNameError, UnknownWord};
 pub use reading::{changes, read, Change, ChangedParts};
 pub use rustc_cfg::RustcCfg;
 pub use spelled::Spelling;
+pub use stated_versions::{stated_versions, StatedVersion, StatedVersions};
 pub use table::Dialect;
 pub use target_info::TargetInfo;
 pub use target_lexicon::spellings::suggestion;

@@ -1,5 +1,6 @@
 //! The string that rustc gives to LLVM for a target. `checks/compare llvm` asks rustc for that of each of its targets.
 
+use crate::apple_versions::macos_version;
 use crate::rustc_cfg::{is_simulator, UnlistedSystem};
 use core::fmt;
 use target_lexicon::{
@@ -140,7 +141,7 @@ fn rest(triple: &TripleRef<'_>) -> Option<&'static str> {
     })
 }
 
-/// A triple of a system of Apple's. The version of Darwin is the kernel's, and isn't kept.
+/// A triple of a system of Apple's. The version of Darwin is the kernel's: that of macOS is written.
 #[inline]
 fn write_apple(f: &mut fmt::Formatter<'_>, triple: &TripleRef<'_>) -> fmt::Result {
     use OperatingSystem::*;
@@ -149,7 +150,7 @@ fn write_apple(f: &mut fmt::Formatter<'_>, triple: &TripleRef<'_>) -> fmt::Resul
         other => write!(f, "{other}")?,
     }
     let system = match triple.operating_system {
-        Darwin(_) => MacOSX(None),
+        Darwin(_) => MacOSX(macos_version(triple)),
         VisionOS(version) => XROS(version),
         other => other,
     };

@@ -1,5 +1,5 @@
 //! Orders: values are in the order of their names.
-use crate::{CLibrary, Dialect, FloatAbi, LinuxLibc, Name};
+use crate::{CLibrary, Dialect, FloatAbi, LinuxLibc, Name, Signedness};
 use core::cmp::Ordering;
 
 macro_rules! order {
@@ -25,5 +25,6 @@ order! {
     Dialect, name;
     FloatAbi, name;
     LinuxLibc, name;
+    Signedness, name;
     Name, as_str;
 }

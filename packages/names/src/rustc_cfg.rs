@@ -1,11 +1,11 @@
 //! The values of rustc's cfg options for a triple. `checks/compare elsewhere` asks rustc for those of each of its targets.
 
 use core::fmt;
-use target_lexicon::{Named as _, OperatingSystemExt as _};
 use target_lexicon::{
     Architecture, Endianness, Environment, KnownVendor, Mips32Architecture, Mips64Architecture,
     OperatingSystem, PointerWidth, TripleRef, VendorRef,
 };
+use target_lexicon::{Named as _, OperatingSystemExt as _};
 
 /// The values of rustc's cfg options for a triple, as `rustc --print cfg` prints them for its target.
 ///

@@ -1,6 +1,6 @@
 //! What the plain modules of `tool_names` say: what a compiler's driver asks, the values of rustc's cfg options, and suggestions.
-use target_lexicon::{Named as _, TripleExt as _};
 use target_lexicon::{DeploymentTarget, Endianness, Field, PointerWidth, Triple, TripleRef};
+use target_lexicon::{Named as _, TripleExt as _};
 use target_names::{suggestion, CLibrary, Dialect, FloatAbi, TargetInfo, TypeLayout};
 
 /// A triple, and after `=` its C library, how floating-point arguments are passed, whether it is like Unix, and the size

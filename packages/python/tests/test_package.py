@@ -303,7 +303,7 @@ class Samples(Folder):
 
     @unittest.skipUnless(sys.version_info >= (3, 10), "the page's programs are for Python 3.10 or later")
     def test_programs_of_the_page(self):
-        self.assertEqual(self.commands_run(sys.executable, None), 3)
+        self.assertEqual(self.commands_run(sys.executable, None), 4)
 
     @unittest.skipUnless(HAS_DASK, "no pandas and distributed")
     def test_columns_of_the_page(self):
@@ -334,28 +334,52 @@ class Samples(Folder):
 
     @unittest.skipUnless(HAS_DASK, "no pandas and distributed")
     def test_two_processes_count_as_one(self):
-        ran = run(DEBIAN_PYTHON, os.path.join(SOURCE, "speed_many"), "50000", PYTHONPATH=PACKAGES)
+        """No process binds a port."""
+        with open(os.path.join(self.folder, "sitecustomize.py"), "w", encoding="utf-8") as it:
+            it.write("import os, socket, sys\n"
+                     "sys.addaudithook(lambda event, words: event == 'socket.bind' and words[0].family != socket.AF_UNIX and os._exit(9))\n")
+        ran = run(DEBIAN_PYTHON, os.path.join(SOURCE, "speed_many"), "50000", PYTHONPATH=f"{self.folder}:{PACKAGES}")
         self.assertEqual((ran.stdout.count("   50000 lines: "), ran.returncode), (2, 0), ran.stdout + ran.stderr)
+        ran = run(DEBIAN_PYTHON, os.path.join(SOURCE, "count.py"), os.path.join(SOURCE, "README.md"), "tcp://127.0.0.1:1", PYTHONPATH=PACKAGES)
+        self.assertRegex(ran.stderr, "encryption required")
 
     def test_command(self):
+        installed = os.path.join(os.path.dirname(sys.executable), "target-lexicon")
+
         def answer(*arguments, given=""):
-            ran = subprocess.run([sys.executable, "-I", "-m", "target_lexicon", *arguments], input=given, capture_output=True, text=True, check=False)
-            return ran.stdout, ran.stderr, ran.returncode
+            ran, same = (subprocess.run([*command, *arguments], input=given, capture_output=True, text=True, check=False)
+                         for command in ([sys.executable, "-I", "-m", "target_lexicon"], [installed]))
+            said = ran.stdout, ran.stderr, ran.returncode
+            last = (it.stderr.replace("python -m target_lexicon", "target-lexicon").splitlines()[-(ran.returncode == 2):] for it in (same, ran))
+            self.assertEqual((same.stdout, same.returncode, next(last)), (ran.stdout, ran.returncode, next(last)))
+            return said
         self.assertEqual(answer("settle", "-", given="arm64-linux\nx86_64-pc-linx\navr\n"), (
             "aarch64-unknown-linux\navr-unknown-unknown\n", f"{self.refusal('x86_64-pc-linx')}\n", 1))
         self.assertEqual(answer("explain", "arm64-linux"), (f"{target_lexicon.explain('arm64-linux')}\n", "", 0))
         self.assertEqual(answer("read", "--from", "oci", "linux/arm64", "windows/386")[0], "aarch64-unknown-linux\ni686-pc-windows\n")
         self.assertEqual(answer("read", "x86_64-w64-mingw32")[0], "x86_64-pc-windows-gnu\n")
-        note = "  note: it is a name of another tool: use `--from go`"
-        self.assertTrue(answer("read", "linux/arm64")[1].endswith(f"^\n{note} or `--from oci`\n"))
+        note = "  note: it is a name of another tool: use `target-lexicon read --from go` or `target-lexicon read --from oci`\n"
+        for word in "read", "settle", "facts", "check":
+            self.assertTrue(answer(word, "linux/arm64")[1].endswith(f"^\n{note}"))
         self.assertTrue(answer("read", "js/wasm")[1].endswith("^\n  note: it is a name of go without a triple: a module for Go's own JavaScript; rustc's nearest target is wasm32-unknown-unknown\n"))
-        self.assertEqual([answer(*it)[1].count("note") for it in (["read", "linx"], ["settle", "linux/arm64"], ["read", "--from", "debian", "linux/arm64"])],
-                         [0, 0, 0])
-        self.assertEqual(answer("write", "--to", "go", "arm64-linux", "avr-none"), ("linux/arm64\n", "no name of go for avr-none: the tool has no name for this machine on any system\n", 1))
+        self.assertEqual([answer(*it)[1].count("note") for it in (["read", "linx"], ["read", "--from", "debian", "linux/arm64"])],
+                         [0, 0])
+        self.assertEqual(answer("translate", "--to", "go", "arm64-linux", "avr-none"), ("linux/arm64\n", "no name of go for avr-none: the tool has no name for this machine on any system\n", 1))
         needs = "no name of debian for x86_64-linux: it depends on the C library: use `--libc glibc` or `--libc musl`\n"
-        self.assertEqual(answer("write", "--to", "debian", "avr-none", "x86_64-linux")[1], f"no name of debian for avr-none: the tool has no name for this machine on any system\n{needs}")
-        self.assertEqual(answer("write", "--to", "debian", "--libc", "glibc", "x86_64-linux"), ("amd64\n", "", 0))
-        self.assertIn("\n  go      linux/arm64\n", answer("elsewhere", "arm64-linux-gnu")[0])
+        self.assertEqual(answer("translate", "--to", "debian", "avr-none", "x86_64-linux")[1], f"no name of debian for avr-none: the tool has no name for this machine on any system\n{needs}")
+        self.assertEqual(answer("translate", "--to", "debian", "--libc", "glibc", "x86_64-linux"), ("amd64\n", "", 0))
+        self.assertEqual(answer("translate", "--from", "docker", "--to", "rpm", "--libc", "glibc", "linux/arm64"), ("aarch64\n", "", 0))
+        self.assertIn("\n    go      linux/arm64\n", answer("what", "arm64-linux-gnu")[0])
+        self.assertEqual(answer("check", "avr", "x86_64-pc-linx"), ("", f"{self.refusal('x86_64-pc-linx')}\n", 1))
+        for old, new in ("write", "translate"), ("elsewhere", "what"):
+            self.assertTrue(answer(old, "avr")[1].endswith(f"error: `{old}` is `{new}` now\n"))
+        for streams, said, status in (("<&-", "error: standard input is closed\n", 3), (">&- < /dev/null", "error: standard output is closed\n", 3),
+                                      ("avr > /dev/full", "error: [Errno 28] No space left on device\n", 3)):
+            ran = run("bash", "-c", f"{installed} settle {streams}")
+            self.assertEqual((ran.stdout, ran.stderr, ran.returncode), ("", said, status))
+        many = "avr\n" * 100_000
+        ran = subprocess.run(["bash", "-c", f"{installed} settle | head -n 1; echo ${{PIPESTATUS[0]}}"], input=many, capture_output=True, text=True, check=False)
+        self.assertEqual((ran.stdout, ran.stderr), ("avr-unknown-unknown\n141\n", ""))
         self.assertEqual(answer("read", "--from", "go", "js/wasm", "--json")[0].count('"error":"no triple means the same: a module for Go'), 1)
         objects, _, status = answer("facts", "--json", "avr", "-", given="arm64-apple-ios17\r\n")
         places = {"avr": (None, None), "arm64-apple-ios17": ("<stdin>", 1)}
@@ -363,26 +387,28 @@ class Samples(Folder):
         self.assertEqual((json.loads(objects), status), (expected, 0))
         self.assertIn("  pointer_width               16\n  default_calling_convention  -  none is usual on the system\n", answer("facts", "avr")[0])
         self.assertEqual(answer("--version"), (f"target_lexicon {target_lexicon.LIBRARY_VERSION}\n", "", 0))
-        self.assertEqual(answer("check", "x")[2], 2)
-        for words in [], ["write", "x"], ["write", "--to", "podman", "x"], ["read", "--from", "podman", "x"], ["facts", "--yaml", "x"]:
+        self.assertEqual(answer("matrix", "x")[2], 2)
+        for words in [], ["write", "x"], ["translate", "x"], ["translate", "--to", "podman", "x"], ["read", "--from", "podman", "x"], ["facts", "--yaml", "x"]:
             self.assertEqual((answer(*words)[0], answer(*words)[2]), ("", 2), words)
 
     @unittest.skipUnless(COMMAND, "the command target-lexicon isn't beside PROGRAM")
     def test_command_writes_what_the_command_lexicon_writes(self):
-        """The same bytes on standard output, and the same status, except that objects of `read` have no `changes` here, and refusals no `note`."""
+        """The same bytes on standard output, and the same status, except that objects of `read` have no `changes` here, there is no `note`, and `what` has no `suggestion`."""
         targets = ["arm64-apple-ios17.1", "avr", "x86_64-aple-linux", "x86_64-unknown-uefi", "armv6k-nintendo-3ds", "thumbv7m-none-eabi",
                    "x86_64-w64-windows-gnu", "x86_64-pc-linx", "x86_64-\u00e9\U0001f600-x", "", "x86_64-linux-elf-gnu", "x86_64-w64-mingw32", "i686-linux-gnu"]
         names = ["linux/arm64", "amd64", "linux-x64-musl", "js/wasm", "linux/amd46", "x86_64-linux-gnu", "", "x86_64-w64-mingw32", "gnu-\u00e9"]
-        calls = [["facts"], ["explain"], ["settle"], *(["write", "--to", str(it)] for it in target_lexicon._dialects.WRITTEN)]
-        calls = [(words, targets) for words in calls] + [(["read"], targets + names)]
-        calls += [([*words, "--libc", "musl"], targets + names) for words in (["write", "--to", "debian"], ["read"])]
+        calls = [["facts"], ["explain"], ["settle"], ["check"], *(["translate", "--to", str(it)] for it in target_lexicon._dialects.WRITTEN)]
+        calls = [(words, targets) for words in calls] + [(["read"], targets + names), (["what"], targets + names)]
+        calls += [([*words, "--libc", "musl"], targets + names) for words in (["translate", "--to", "debian"], ["translate", "--from", "oci", "--to", "rust"], ["read"], ["what"])]
         calls += [(["read", "--from", str(it)], names) for it in target_lexicon._dialects.READ]
         for words, given in calls:
             lines = "".join(f"{it}\r\n" for it in given).encode()
             for arguments, line in (given, b""), (["--json", "-", "avr"], lines):
-                ran = [subprocess.run([*command, *words, *arguments], input=line, capture_output=True, check=False)
-                       for command in ([sys.executable, "-I", "-m", "target_lexicon"], [COMMAND])]
-                said = [re.sub(r',"(?:changes|note)":(?:null|\[.*?\]|"(?:[^"\\]|\\.)*")', "", it.stdout.decode()) for it in ran]
+                # The command translates a triple by the word `write`.
+                theirs = ["write", *words[1:]] if words[0] == "translate" and "--from" not in words else words
+                ran = [subprocess.run([*command, *arguments], input=line, capture_output=True, check=False)
+                       for command in ([sys.executable, "-I", "-m", "target_lexicon", *words], [COMMAND, *theirs])]
+                said = [re.sub(r',"(?:changes|note' + '|suggestion' * (words[0] == "what") + r')":(?:null|\[.*?\]|"(?:[^"\\]|\\.)*")|^    note .*\n', "", it.stdout.decode(), flags=re.M) for it in ran]
                 self.assertEqual(*((lines.splitlines(), it.returncode) for lines, it in zip(said, ran)), (words, arguments))
 
     def refusal(self, text):

@@ -200,7 +200,11 @@ class Fields(unittest.TestCase):
             self.assertEqual(str(triple.replace(**{name: value})), text)
             self.assertEqual(triple.replace(**{name: value}), Triple(text))
             self.assertRaises(ValueError, triple.replace, **{name: "No"})
-        self.assertRaisesRegex(ValueError, "^no environment has the name 'muslx'$", triple.replace, environment="muslx")
+        for name, value, meant in ("environment", "mulsl", "musl"), ("operating_system", "widnows", "windows"), ("architecture", "amd64", "x86_64"), ("binary_format", "pe", None):
+            hint = f"; did you mean {meant!r}?" if meant else ""
+            with self.assertRaises(ValueError) as caught:
+                triple.replace(**{name: value})
+            self.assertEqual(str(caught.exception), f"no {name} has the name {value!r}{hint}")
         with self.assertRaisesRegex(ValueError, "the operating system linux has no version"):
             triple.replace(version=(1,))
         darwin = Triple("x86_64-apple-darwin")
@@ -241,19 +245,27 @@ class Fields(unittest.TestCase):
                 Triple(text)
             error = caught.exception
             self.assertEqual((error.field, error.suggestion), (field, name))
-            self.assertEqual(str(error).endswith(f"^ did you mean `{name}`?"), name is not None)
+            self.assertEqual(error.report.endswith(f"^ did you mean `{name}`?"), name is not None)
 
     def test_columns_of_wrong_types(self):
         for value in 3, 1.5, b"x86_64", ["x86_64"]:
             for call in target_lexicon.settle_all, target_lexicon.facts_all:
                 for before in 1, 5000:  # more than are answered at once
-                    self.assertRaisesRegex(TypeError, f"^a target must be a str, not {type(value).__name__}: index {before}$", call, [*["x86_64"] * before, value])
+                    column = [*["x86_64"] * before, value]
+                    with self.assertRaises(TypeError) as caught:
+                        call(column)
+                    self.assertEqual(str(caught.exception), f"a target must be a str, not {type(value).__name__}: index {before} has {value!r}")
+                    self.assertEqual(call(column, errors="coerce"), call([*column[:-1], None]))
+                self.assertEqual(call([value, "avr", None, {}], "coerce")[1:3], call(["avr", None]))
+                for wrong in "ignore", None, "":
+                    self.assertRaisesRegex(ValueError, f"^errors must be 'raise' or 'coerce', not {wrong!r}$", call, ["avr"], wrong)
         # A missing cell is as a target that is refused, so that each row has its answer.
         missing = [None, float("nan"), type("NAType", (), {})()]
         self.assertEqual(target_lexicon.settle_all([*missing, "arm64-linux"]), [None, None, None, "aarch64-unknown-linux"])
         self.assertEqual([it.pointer_width for it in target_lexicon.facts_all(["avr", *missing])], [16, None, None, None])
         for call in target_lexicon.settle_all, target_lexicon.facts_all:
             self.assertRaisesRegex(TypeError, "not one str", call, "x86_64-linux")
+            self.assertRaisesRegex(TypeError, "not one str", call, "x86_64-linux", "coerce")
         self.assertEqual(target_lexicon.settle_all([]), [])
         vendor = "a" * 500
         targets = ["x86_64-\udcff-linux", "x86_64-\u00e9", f"arm64-{vendor}-linux", "arm64-acme-linux", "", "arm64-linux\n", "\n", "arm\r\n-linux",
@@ -331,6 +343,32 @@ class Texts(unittest.TestCase):
             with self.assertRaises(ParseError) as caught:
                 Triple(text)
             self.assertEqual(str(caught.exception), message)
+
+    def test_names_of_other_tools(self):
+        """A message says which call reads the string, and that call does; or why none does."""
+        note = "\n  note: it is a name of another tool: use "
+        for text, calls in (("linux/amd64", ["Triple.read(text, 'go')", "Triple.read(text, 'oci')"]), ("armhf", ["Triple.read(text, 'debian')", "Triple.read(text, 'apk')"]),
+                            ("amd64-pc-freebsd13.2", ["Triple.read(text)"]), ("win_amd64", ["Triple.read(text, 'python')"])):
+            for call in Triple, target_lexicon.explain, Architecture.parse:
+                with self.assertRaises(ParseError) as caught:
+                    call(text)
+                self.assertEqual(str(caught.exception), caught.exception.report + note + " or ".join(calls))
+            for call in calls:
+                self.assertIsInstance(eval(call, {"Triple": Triple, "text": text}), Triple)  # pylint: disable=eval-used
+        with self.assertRaises(ParseError) as caught:
+            Triple("js/wasm")
+        self.assertTrue(str(caught.exception).endswith("\n  note: it is a name of go without a triple: a module for Go's own JavaScript; rustc's nearest target is wasm32-unknown-unknown"))
+        for text in "x86_64-pc-linx", "linux/amd46", "", "\udcff":
+            with self.assertRaises(ParseError) as caught:
+                Triple(text)
+            self.assertEqual(str(caught.exception), caught.exception.report)
+        with self.assertRaises(ParseError) as caught:
+            Triple.read("linux/amd64", "debian")
+        self.assertNotIn("note", str(caught.exception))
+
+    def test_in_json(self):
+        triples = {"targets": [Triple("arm64-linux"), Triple("x86_64-acme-linux")]}
+        self.assertEqual(json.dumps(triples, default=str), '{"targets": ["aarch64-unknown-linux", "x86_64-acme-linux"]}')
 
     def test_lines(self):
         for text, line in {"x86_64-foo-bar": "Unrecognized operating system: bar",

@@ -38,7 +38,7 @@ class Values(unittest.TestCase):
     def test_numbers_of_facts_are_those_of_the_header(self):
         for prefix, of in ("ENDIANNESS", target_lexicon.Endianness), ("CALLING_CONVENTION", target_lexicon.CallingConvention), ("DATA_MODEL", target_lexicon.DataModel), \
                 ("DIALECT", target_lexicon.Dialect), ("C_LIBRARY", target_lexicon.CLibrary), ("FLOAT_ABI", target_lexicon.FloatAbi), ("ARM_PROFILE", target_lexicon.ArmProfile), \
-                ("LINUX_LIBC", target_lexicon.LinuxLibc):
+                ("SIGNEDNESS", target_lexicon.Signedness), ("LINUX_LIBC", target_lexicon.LinuxLibc):
             self.assertEqual({"NONE": 0, **{it.name: it.number + 1 for it in of}}, lists.header_numbers(prefix))
 
     def test_growth_is_that_of_the_header(self):

@@ -33,7 +33,7 @@ def package(platform: str) -> str:
 
 
 def keys(column: List[str]) -> Dict[Optional[str], Optional[int]]:
-    facts = target_lexicon.facts_all(column)
+    facts = target_lexicon.facts_all(column, errors="coerce")
     return {key: it.pointer_width for key, it in zip(target_lexicon.settle_all(column), facts)}
 
 

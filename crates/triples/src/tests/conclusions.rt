@@ -1,9 +1,9 @@
 //! The end of the program: each status and closing line, over a writer that fails at each write, and errors printed.
 
 use super::faulty::Faulty;
+use crate::counted::Counted;
 use crate::run::conclude;
 use crate::run_error::RunError;
-use crate::streams::Counted;
 use std::fmt::Write as _;
 use std::io::ErrorKind;
 

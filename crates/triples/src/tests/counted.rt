@@ -1,7 +1,7 @@
 //! What `Counted` passes to its reader or writer, and what it passes back.
 
 use super::faulty::Faulty;
-use crate::streams::Counted;
+use crate::counted::Counted;
 use std::io::ErrorKind;
 
 /// Each kind of error.

@@ -58,7 +58,7 @@ fn driver(triple: &TripleRef) -> String {
         layout(triple.long_double_layout()),
         layout(triple.wchar_layout()),
         linkers::linker(triple),
-        linkers::program_suffix(triple),
+        triple.program_suffix(),
         triple.llvm_target(),
         string(triple.with_pointer_width(PointerWidth::U32)),
         string(triple.with_pointer_width(PointerWidth::U64)),

@@ -13,7 +13,7 @@ from ._columns import Facts, facts_all, settle_all
 from ._dialects import Dialect, LinuxLibc
 from ._errors import ParseError
 from ._explain import Explanation, Origin, Source, explain
-from ._facts import ArmProfile, CallingConvention, CLibrary, DataModel, Endianness, FloatAbi
+from ._facts import ArmProfile, CallingConvention, CLibrary, DataModel, Endianness, FloatAbi, Signedness
 from ._fields import CustomVendor
 from ._library import LIBRARY_PATH, LIBRARY_VERSION, LibraryError
 from ._library import VERSION as __version__
@@ -46,6 +46,7 @@ __all__ = [
     "OperatingSystem",
     "Origin",
     "ParseError",
+    "Signedness",
     "Source",
     "TranslationError",
     "Triple",

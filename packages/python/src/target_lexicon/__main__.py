@@ -1,19 +1,21 @@
-"""A small command, with answers of the command `target-lexicon` of the same repository: `python -m target_lexicon COMMAND TARGET..`.
+"""The command `target-lexicon COMMAND TARGET..`, or `python -m target_lexicon`: some words of that of the same repository, with its answers.
 
-A target `-` stands for the lines of standard input, which is also read if there is no target. The command `target-lexicon` does
-more, in less time: `cargo install --path packages/command --locked`.
+A target `-` stands for the lines of standard input, which is also read if there is no target. The other command does more, in less time:
+`cargo install --path packages/command --locked`.
 """
 from __future__ import annotations
 
 import argparse
 import io
 import json
+import os
 import sys
 from contextlib import suppress
 from typing import Any, Dict, Iterator, List, Optional, Tuple, Union
 
-from . import LIBRARY_VERSION, Dialect, LinuxLibc, OperatingSystem, ParseError, Triple, explain
+from . import LIBRARY_VERSION, Dialect, LinuxLibc, OperatingSystem, ParseError, Triple, explain, meanings
 from ._dialects import OTHER_NAMES, READ, WRITTEN
+from ._errors import other_calls
 from ._facts import NO_ANSWER
 from ._named import members
 from ._triple import _version_text
@@ -25,12 +27,13 @@ _COMMANDS = {
     "explain": "each field, and where its value comes from",
     "facts": "the fields, and what a compiler asks",
     "settle": "the canonical form",
+    "check": "nothing, unless it is refused",
     "read": "the canonical form of the target that another tool's name means",
-    "write": "the name that another tool has for it",
-    "elsewhere": "the names that other tools have for it",
+    "translate": "the name that a tool has for it, or for what another tool's name means",
+    "what": "what it means as a name of any tool, and what every tool calls that",
 }
-# As the command orders them: those that are only written are the last.
-_DIALECTS = [*READ, *(it for it in WRITTEN if it not in READ)]
+# The commands that were there before, and those that do the same.
+_OLD = {"write": "translate", "elsewhere": "what"}
 # What a reason says would help, as an option.
 _OPTIONS = {"say glibc or musl": "use `--libc glibc` or `--libc musl`", "say msvc, mingw or gnullvm": "use `--libc msvc`, `mingw` or `gnullvm`"}
 
@@ -41,6 +44,8 @@ def _places(targets: List[str]) -> Iterator[Answer]:
         if target != "-":
             yield {"target": target, "file": None, "line": None}
             continue
+        if sys.stdin is None:
+            raise OSError("standard input is closed")
         lines = io.TextIOWrapper(sys.stdin.buffer, "utf-8", "surrogateescape", newline="\n")
         for number, line in enumerate(lines, 1):
             yield {"target": line.removesuffix("\n").removesuffix("\r"), "file": "<stdin>", "line": number}
@@ -56,28 +61,59 @@ def _explained(target: str) -> Answer:
     return {**answer, "has_custom_vendor": explanation.triple.has_custom_vendor, "suggestion": explanation.suggestion}
 
 
-def _answer(command: str, dialect: Optional[Dialect], libc: Optional[LinuxLibc], target: str) -> Answer:
-    if command == "explain":
+def _meant(target: str, libc: Optional[LinuxLibc]) -> Answer:
+    """Each triple that the target means as a name, with the tools that mean it, and what every tool calls it."""
+    found: Dict[Triple, List[str]] = {}
+    without: Answer = {}
+    for dialect, triple, reason in meanings(target):
+        if triple is None:
+            without[str(dialect)] = reason
+        else:
+            found.setdefault(_completed(triple, libc).settle(), []).append(str(dialect or _way_of(target)))
+    if not found and not without:
+        return _refused("no tool has the name", target)
+    entries = []
+    for triple, tools in found.items():
+        names = {str(it): triple.name_in(it) for it in WRITTEN}
+        reasons = {it: triple.reason_without_name(Dialect(it)) for it, name in names.items() if name is None}
+        entries.append({"canonical": str(triple), "tools": tools, "names": names, "reasons": reasons})
+    return {"meanings": entries, "without_triple": without}
+
+
+def _way_of(target: str) -> str:
+    """How a string without a dialect means a triple: by itself, or as one that is spelled like a triple."""
+    with suppress(ParseError):
+        Triple(target)
+        return "triple"
+    return "spelling"
+
+
+def _answer(options: argparse.Namespace, target: str) -> Answer:
+    if options.command == "explain":
         return _explained(target)
-    if command == "read":
-        return {"canonical": _completed(Triple.read(target, dialect), libc).canonical}
-    triple = _completed(Triple(target), libc)
-    if command == "facts":
+    if options.command == "what":
+        return _meant(target, options.libc)
+    is_name = options.command == "read" or options.source is not None
+    triple = _completed(Triple.read(target, options.source) if is_name else Triple(target), options.libc)
+    if options.command == "facts":
         return dict(triple.to_dict())
-    if command == "elsewhere":
-        return {str(dialect): triple.name_in(dialect) for dialect in WRITTEN}
-    if dialect is None:
+    if options.command != "translate":
         return {"canonical": triple.canonical}
-    reason = triple.reason_without_name(dialect)
-    if reason is None:
-        return {"name": triple.name_in(dialect)}
-    for said, option in _OPTIONS.items():
-        reason = reason.replace(said, option)
-    return _refused(f"no name of {dialect} for it: {reason}", target)
+    reason = triple.reason_without_name(options.to)
+    if reason is not None:
+        return _refused(f"no name of {options.to} for it: {_with_options(reason)}", target)
+    return {"name": triple.name_in(options.to)}
 
 
 def _completed(triple: Triple, libc: Optional[LinuxLibc]) -> Triple:
     return triple if libc is None else triple.complete(libc)
+
+
+def _with_options(reason: str) -> str:
+    """A reason, with what would help as an option of the command."""
+    for said, option in _OPTIONS.items():
+        reason = reason.replace(said, option)
+    return reason
 
 
 def _refused(error: str, part: str, start: int = 0, field: Optional[str] = None, suggestion: Optional[str] = None) -> Answer:
@@ -85,12 +121,12 @@ def _refused(error: str, part: str, start: int = 0, field: Optional[str] = None,
     return {"error": error, "part": part, "start": start, "end": end, "field": field, "suggestion": suggestion}
 
 
-def _refusal(error: ParseError, dialect: Optional[Dialect]) -> Answer:
+def _refusal(error: ParseError) -> Answer:
     """What is wrong with a target, or with a name in a dialect."""
     if error.reason is not None:
         word = f"no triple means the same: {error.reason}"
-    elif dialect is not None:
-        word = f"unknown name of {dialect}"
+    elif error.dialect is not None:
+        word = f"unknown name of {error.dialect}"
     else:
         word = f"unrecognized {(error.field or 'field').replace('_', ' ')}"
     start = len(error.text[: error.start].encode("utf-8", "replace"))
@@ -109,13 +145,27 @@ def _explanation(target: str) -> str:
     return "\n".join(lines)
 
 
+def _lines_of_meanings(target: str, answer: Answer) -> Iterator[str]:
+    yield target
+    for entry in answer["meanings"]:
+        yield f"  is {entry['canonical']}, as {', '.join(entry['tools'])}"
+        yield from (f"    {tool:8}{name}" for tool, name in entry["names"].items() if name is not None)
+        tools: Dict[str, List[str]] = {}
+        for tool, reason in entry["reasons"].items():
+            tools.setdefault(_with_options(reason), []).append(tool)
+        yield from (f"    -       {', '.join(of)}: {reason}" for reason, of in tools.items())
+    yield from (f"  is a name of {tool} without a triple: {reason}" for tool, reason in answer["without_triple"].items())
+
+
 def _lines(command: str, target: str, answer: Answer) -> str:
     if command == "explain":
         return _explanation(target)
     if "error" in answer:
         no_name, _, reason = answer["error"].partition(" it: ")
         return f"{no_name} {target}" + (f": {reason}" if reason else "")
-    if command not in ("facts", "elsewhere"):
+    if command == "what":
+        return "\n".join(_lines_of_meanings(target, answer))
+    if command != "facts":
         return "".join(answer.values())
     width = max(map(len, answer))
     lines = [f"  {name:{width}}  {_shown(name, it)}" for name, it in answer.items()]
@@ -129,35 +179,14 @@ def _shown(name: str, answer: Union[str, int, bool, None]) -> str:
     return {True: "yes", False: "no"}[answer] if isinstance(answer, bool) else str(answer)
 
 
-def _note(name: str) -> List[str]:
-    """How a name is read that isn't spelled like a triple, if it is one of another tool; or why that tool's name has no triple."""
-    known, reasons = [], []
-    for dialect in _DIALECTS:
-        if dialect is Dialect.GNU:  # whose names are spelled like triples
-            continue
-        try:
-            Triple.read(name, dialect)
-            known.append(f"`--from {dialect}`")
-        except ParseError as error:
-            reasons += [] if error.reason is None else [f"it is a name of {dialect} without a triple: {error.reason}"]
-    notes = [f"it is a name of another tool: use {' or '.join(known)}"] if known else reasons[:1]
-    return [f"  note: {note}" for note in notes]
-
-
 def _answered(options: argparse.Namespace, target: str) -> Tuple[Answer, str]:
     """The answer for a target, and how it is shown."""
-    dialect = None if options.dialect is None else Dialect(OTHER_NAMES.get(options.dialect, options.dialect))
-    libc = None if options.libc is None else LinuxLibc(options.libc)
     try:
-        answer = _answer(options.command, dialect, libc, target)
+        answer = _answer(options, target)
         return answer, "" if options.json else _lines(options.command, target, answer)
     except ParseError as error:
-        lines = [str(error)]
-        if options.command != "read":
-            return _refusal(error, None), lines[0]
-        if dialect is None:
-            lines += _note(target)
-        return _refusal(error, dialect), "\n".join(lines)
+        note = other_calls(error, lambda it: f"`target-lexicon read --from {it}`" if it else "`target-lexicon read`")
+        return _refusal(error), error.report + (f"\n  note: {note}" if note else "")
 
 
 def _words(dialects: List[Dialect]) -> List[str]:
@@ -166,44 +195,65 @@ def _words(dialects: List[Dialect]) -> List[str]:
 
 
 def _parser() -> argparse.ArgumentParser:
-    parser = argparse.ArgumentParser("python -m target_lexicon", description=__doc__, formatter_class=argparse.RawDescriptionHelpFormatter)
+    name = "python -m target_lexicon" if os.path.basename(sys.argv[0]) == "__main__.py" else "target-lexicon"
+    parser = argparse.ArgumentParser(name, description=__doc__, formatter_class=argparse.RawDescriptionHelpFormatter)
     parser.add_argument("--version", action="version", version=f"target_lexicon {LIBRARY_VERSION}")
     commands = parser.add_subparsers(dest="command", required=True, metavar="COMMAND")
-    for name, about in _COMMANDS.items():
-        command = commands.add_parser(name, help=about, description=f"Writes for each target {about}.")
+    for word, about in _COMMANDS.items():
+        command = commands.add_parser(word, help=about, description=f"Writes for each target {about}.")
         command.add_argument("targets", nargs="*", metavar="TARGET", help="`-` is standard input, one target a line")
         command.add_argument("--json", action="store_true", help="write one JSON array on one line")
-        command.set_defaults(dialect=None, libc=None)
-        if name == "read":
-            command.add_argument("--from", dest="dialect", choices=_words(READ))
-        elif name == "write":
-            command.add_argument("--to", dest="dialect", choices=_words(WRITTEN), required=True)
-        if name in ("read", "write"):
-            command.add_argument("--libc", choices=list(map(str, members(LinuxLibc))), help="the C library of targets on Linux that state none")
+        command.set_defaults(source=None, to=None, libc=None)
+        if word in ("read", "translate"):
+            command.add_argument("--from", dest="source", choices=_words(READ), help="the tool whose names are read")
+        if word == "translate":
+            command.add_argument("--to", choices=_words(WRITTEN), required=True, help="the tool whose names are written")
+        if word in ("read", "translate", "what"):
+            command.add_argument("--libc", choices=list(map(str, members(LinuxLibc))), help="the C library of targets on Linux or Windows that state none")
     return parser
 
 
 def main(arguments: Optional[List[str]] = None) -> int:
     """Runs the command. Returns 1 if a target is refused."""
-    options = _parser().parse_args(arguments)
+    words, parser = sys.argv[1:] if arguments is None else arguments, _parser()
+    if words and words[0] in _OLD:
+        parser.error(f"`{words[0]}` is `{_OLD[words[0]]}` now")
+    options = parser.parse_args(words)
+    options.to = options.to and Dialect(options.to)
     objects: List[Answer] = []
     status = 0
     for place in _places(options.targets):
         answer, lines = _answered(options, place["target"])
-        if "error" in answer:
-            status = 1
+        is_refused = "error" in answer
+        status |= is_refused
+        if options.command == "check" and not is_refused:
+            continue
         if options.json:
             objects.append({**place, **answer})
         else:
-            print(lines, file=sys.stderr if "error" in answer else sys.stdout)
+            print(lines, file=sys.stderr if is_refused else sys.stdout)
     if options.json:
         print(json.dumps(objects, separators=(",", ":")))
     return status
 
 
-if __name__ == "__main__":
+def run() -> None:
+    """Runs the command, and ends the program with its status: 3 if something can't be read or written."""
     try:
-        sys.exit(main())
-    except BrokenPipeError:
-        sys.stderr.close()
-        sys.exit(141)
+        if sys.stdout is None:
+            raise OSError("standard output is closed")
+        status = main()
+        sys.stdout.flush()
+    except KeyboardInterrupt:
+        status = 130
+    except OSError as error:
+        status = 141 if isinstance(error, BrokenPipeError) else 3
+        if sys.stdout is not None:
+            os.dup2(os.open(os.devnull, os.O_WRONLY), sys.stdout.fileno())  # which is flushed once more at the end
+        if status == 3:
+            print(f"error: {error}", file=sys.stderr)
+    sys.exit(status)
+
+
+if __name__ == "__main__":
+    run()

@@ -1,18 +1,21 @@
 """Answers for many targets at once, as plain values."""
 
 import ctypes
+import reprlib
 import struct
 from ctypes import byref, c_size_t, c_void_p
 from itertools import islice
-from typing import Any, Callable, Dict, Iterable, List, NamedTuple, Optional, Sequence, Tuple, TypeVar
+from typing import Any, Callable, Dict, Iterable, List, Literal, NamedTuple, Optional, Sequence, Tuple, TypeVar
 
 from . import _library
-from ._facts import ArmProfile, CallingConvention, CLibrary, DataModel, Endianness, FloatAbi
+from ._facts import ArmProfile, CallingConvention, CLibrary, DataModel, Endianness, FloatAbi, Signedness
 from ._named import members
 from ._triple import Triple
 from ._values import Architecture, BinaryFormat, Environment, Family, OperatingSystem, Vendor
 
 Answer = TypeVar("Answer")
+#: What is done with a cell that is neither a string nor missing: see `settle_all`.
+Errors = Literal["raise", "coerce"]
 
 # How many targets are answered at once, and how many different ones are remembered within a call.
 _AT_ONCE, _REMEMBERED = 1 << 12, 1 << 16
@@ -20,8 +23,8 @@ _AT_ONCE, _REMEMBERED = 1 << 12, 1 << 16
 # The names of values by number; those of facts begin with None, for no answer.
 _ARCHITECTURES, _VENDORS, _SYSTEMS, _ENVIRONMENTS, _FORMATS, _FAMILIES = (
     [it.value for it in members(of)] for of in (Architecture, Vendor, OperatingSystem, Environment, BinaryFormat, Family))
-_ENDIANNESS, _CONVENTIONS, _MODELS, _C_LIBRARIES, _FLOAT_ABIS, _ARM_PROFILES = (
-    [None, *(it.value for it in members(of))] for of in (Endianness, CallingConvention, DataModel, CLibrary, FloatAbi, ArmProfile))
+_ENDIANNESS, _CONVENTIONS, _MODELS, _C_LIBRARIES, _FLOAT_ABIS, _ARM_PROFILES, _SIGNEDNESS = (
+    [None, *(it.value for it in members(of))] for of in (Endianness, CallingConvention, DataModel, CLibrary, FloatAbi, ArmProfile, Signedness))
 
 
 class Facts(NamedTuple):
@@ -62,6 +65,9 @@ class Facts(NamedTuple):
     wchar_alignment: Optional[int] = None
     arm_version: Optional[int] = None
     arm_profile: Optional[str] = None
+    char_signedness: Optional[str] = None
+    has_emulated_tls: Optional[bool] = None
+    has_comdat: Optional[bool] = None
     # end of what is written
     llvm_target: Optional[str] = None
     multiarch_tuple: Optional[str] = None
@@ -69,19 +75,20 @@ class Facts(NamedTuple):
     canonical: Optional[str] = None
 
 
-def settle_all(targets: Iterable[str]) -> List[Optional[str]]:
+def settle_all(targets: Iterable[str], errors: Errors = "raise") -> List[Optional[str]]:
     """The canonical string of each target, or None for one that is refused. Much faster than a loop over `Triple`.
 
     >>> settle_all(["arm64-linux-gnu", "aarch64-unknown-linux-gnu", "x86_64-pc-linx"])
     ['aarch64-unknown-linux-gnu', 'aarch64-unknown-linux-gnu', None]
 
     A missing cell of a column, which is None, NaN or `pandas.NA`, is as a target that is refused. Anything else but a `str` raises a
-    TypeError that has its index, and so does a single `str` instead of an iterable.
+    TypeError that has it and its index; with `errors="coerce"`, as in pandas, it is as a missing cell. A single `str` instead of an
+    iterable is a TypeError.
     """
-    return _each(targets, _canonical_texts)
+    return _each(targets, errors, _canonical_texts)
 
 
-def facts_all(targets: Iterable[str]) -> List[Facts]:
+def facts_all(targets: Iterable[str], errors: Errors = "raise") -> List[Facts]:
     """All answers about each target. Of one that is refused every answer is None.
 
     >>> [it.pointer_width for it in facts_all(["arm64-linux-gnu", "avr", "x86_64-pc-linx"])]
@@ -89,19 +96,21 @@ def facts_all(targets: Iterable[str]) -> List[Facts]:
 
     Missing cells and wrong types are as in `settle_all`.
     """
-    return _each(targets, _facts_of_texts)
+    return _each(targets, errors, _facts_of_texts)
 
 
-def _each(targets: Iterable[str], answers_of: Callable[[Sequence[str]], List[Answer]]) -> List[Answer]:
+def _each(targets: Iterable[str], errors: Errors, answers_of: Callable[[Sequence[str]], List[Answer]]) -> List[Answer]:
     """The answer for each target, by a function that answers for many. It isn't asked again for what is remembered."""
     if isinstance(targets, str):
         raise TypeError("the targets must be an iterable of str, not one str")
+    if errors not in ("raise", "coerce"):
+        raise ValueError(f"errors must be 'raise' or 'coerce', not {errors!r}")
     answers: List[Answer] = []
     remembered: Dict[str, Answer] = {}
     rest = iter(targets)
     while some := list(islice(rest, _AT_ONCE)):
         if not {str}.issuperset(map(type, some)):
-            some = [_plain(it, index) for index, it in enumerate(some, len(answers))]
+            some = [_plain(it, index, errors) for index, it in enumerate(some, len(answers))]
         if len(remembered) > _REMEMBERED:
             remembered.clear()
         new = tuple(set(some).difference(remembered))
@@ -110,15 +119,15 @@ def _each(targets: Iterable[str], answers_of: Callable[[Sequence[str]], List[Ans
     return answers
 
 
-def _plain(target: Any, index: int) -> str:
+def _plain(target: Any, index: int, errors: Errors) -> str:
     """The target as a `str`, so that no subclass says how it is compared, hashed or searched. A missing cell is the empty string,
-    which is refused. Anything else is a TypeError.
+    which is refused. Anything else is a TypeError, or the same.
     """
     if isinstance(target, str):
         return str.__str__(target)
-    if target is None or isinstance(target, float) and target != target or type(target).__name__ == "NAType":
+    if errors == "coerce" or target is None or isinstance(target, float) and target != target or type(target).__name__ == "NAType":
         return ""
-    raise TypeError(f"a target must be a str, not {type(target).__name__}: index {index}")
+    raise TypeError(f"a target must be a str, not {type(target).__name__}: index {index} has {reprlib.repr(target)}")
 
 
 def _canonical_texts(targets: Sequence[str]) -> List[Optional[str]]:
@@ -143,7 +152,7 @@ class _Answered(ctypes.Structure):
 
 
 # written by tools/names/write: the facts of columns
-_FACTS = "BBBBBBBBBB???BBBBB?BBBBBB"
+_FACTS = "BBBBBBBBBB???BBBBB?BBBBBBB??"
 
 
 def _answers(numbers: Sequence[Any]) -> Tuple[Any, ...]:
@@ -174,6 +183,9 @@ def _answers(numbers: Sequence[Any]) -> Tuple[Any, ...]:
         wchar_alignment,
         arm_version,
         arm_profile,
+        char_signedness,
+        has_emulated_tls,
+        has_comdat,
     ) = numbers
     return (
         _ENDIANNESS[endianness],
@@ -201,6 +213,9 @@ def _answers(numbers: Sequence[Any]) -> Tuple[Any, ...]:
         wchar_alignment or None,
         arm_version or None,
         _ARM_PROFILES[arm_profile],
+        _SIGNEDNESS[char_signedness],
+        has_emulated_tls,
+        has_comdat,
     )
 # end of what is written
 

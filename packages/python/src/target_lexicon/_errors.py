@@ -1,10 +1,12 @@
 """Why a string is refused."""
 from __future__ import annotations
 
-from typing import Optional, Tuple, Union
+import ctypes
+from typing import Callable, Optional, Tuple, Union
 
 from . import _library
 from ._dialects import Dialect, DialectName, dialect_number
+from ._named import members
 
 #: The names of the fields, in their order.
 FIELDS = ("architecture", "vendor", "operating_system", "environment", "binary_format")
@@ -28,6 +30,12 @@ class ParseError(ValueError):
     target_lexicon.ParseError: Unrecognized operating system: linx
       x86_64-pc-linx
                 ^^^^ did you mean `linux`?
+    >>> Triple("linux/amd64")
+    Traceback (most recent call last):
+    target_lexicon.ParseError: Unrecognized architecture: linux/amd64
+      linux/amd64
+      ^^^^^^^^^^^
+      note: it is a name of another tool: use Triple.read(text, 'go') or Triple.read(text, 'oci')
 
     `part` is the refused part, from `start` to `end` of the whole `text`. `field` is what was expected there, such as
     `operating_system`. It is None for a part after the binary format, where no field is left, for a lone surrogate, and
@@ -112,6 +120,12 @@ class ParseError(ValueError):
         return f"Lone surrogate: {part}" if status == _LONE_SURROGATE else _library.error_line(status, part.encode())
 
     def __str__(self) -> str:
+        note = other_calls(self, lambda it: f"Triple.read(text, {it.value!r})" if it else "Triple.read(text)")
+        return self.report + (f"\n  note: {note}" if note else "")
+
+    @property
+    def report(self) -> str:
+        """The message without the note that names the calls that read the string, where it is a name of another tool."""
         part = _shown(_cut(self.part))
         before, after = self.text[: self.start], self.text[self.end:]
         begin = _shown(before if len(before) <= _SHOWN_BEFORE else "..." + before[-_SHOWN_BEFORE:])
@@ -121,12 +135,29 @@ class ParseError(ValueError):
         return f"{self._line(part)}\n  {begin}{part}{end}\n  {' ' * len(begin)}{'^' * max(1, len(part))}{hint}"
 
 
+def other_calls(error: ParseError, call: Callable[[Optional[Dialect]], str]) -> Optional[str]:
+    """That other tools have a refused string as a name, and by which calls it is read, or why no triple means it. None if nobody has it."""
+    if error.dialect is not None or error.start > 0:  # what begins with an architecture has a suggestion
+        return None
+    utf8 = error.text.encode(errors="replace")
+    dialects, calls, reasons = (None, *members(Dialect)), [], []
+    for number, triple in _library.meanings(ctypes.create_string_buffer(utf8, len(utf8))):
+        dialect = dialects[number]
+        if triple is None:
+            reasons.append(f"it is a name of {dialect} without a triple: {_library.reason(number, utf8)}")
+        elif dialect is not Dialect.GNU:  # whose names are spelled like triples
+            calls.append(call(dialect))
+    return f"it is a name of another tool: use {' or '.join(calls)}" if calls else reasons[0] if reasons else None
+
+
 def _cut(part: str) -> str:
     return part if len(part) <= _SHOWN_PART else part[:_SHOWN_PART] + "..."
 
 
 def _shown(text: str) -> str:
     """The string with every character that isn't printable ASCII escaped, so that columns are characters."""
+    if text.isascii() and text.isprintable():
+        return text
     return "".join(it if " " <= it <= "~" else it.encode("unicode_escape").decode() for it in text)
 
 

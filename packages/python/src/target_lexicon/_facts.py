@@ -85,6 +85,17 @@ class ArmProfile(NamedValue):
     # end of what is written
 
 
+class Signedness(NamedValue):
+    """Whether C's `char` has a sign."""
+
+    # written by tools/names/write: the answers of signedness for Python
+    #: As `signed char`.
+    SIGNED = "signed"
+    #: As `unsigned char`.
+    UNSIGNED = "unsigned"
+    # end of what is written
+
+
 #: Why a fact has no answer.
 NO_ANSWER = {
     # written by tools/names/write: the reasons for Python
@@ -107,6 +118,7 @@ NO_ANSWER = {
     "wchar_alignment": "no source says it of the system and the C library",
     "arm_version": "the architecture is no 32-bit Arm that states it",
     "arm_profile": "the architecture is no 32-bit Arm that states it",
+    "char_signedness": "clang doesn't know the architecture, or it isn't sure on the system",
     "multiarch_tuple": "Debian has no architecture for it, or it depends on the C library",
     # end of what is written
 }

@@ -7,7 +7,6 @@ be said: each of them takes less time than that would.
 from __future__ import annotations
 
 import ctypes
-import ctypes.util
 import itertools
 import os
 from ctypes import POINTER, Structure, c_bool, c_char, c_char_p, c_size_t, c_uint8, c_uint16, c_uint32, c_void_p
@@ -120,6 +119,9 @@ class FactsStruct(Structure):
     wchar_alignment: int
     arm_version: int
     arm_profile: int
+    char_signedness: int
+    has_emulated_tls: bool
+    has_comdat: bool
     _fields_ = [
         ("endianness", c_uint8),
         ("pointer_width", c_uint8),
@@ -146,6 +148,9 @@ class FactsStruct(Structure):
         ("wchar_alignment", c_uint8),
         ("arm_version", c_uint8),
         ("arm_profile", c_uint8),
+        ("char_signedness", c_uint8),
+        ("has_emulated_tls", c_bool),
+        ("has_comdat", c_bool),
     ]
     # end of what is written
 
@@ -170,6 +175,8 @@ def _candidates() -> Iterator[str]:
         yield os.environ["TARGET_LEXICON_LIBRARY"]
     else:
         yield _NAME
+        import ctypes.util  # which takes a sixth of the time of the package
+
         found = ctypes.util.find_library("target_lexicon")
         if found is not None:
             yield found

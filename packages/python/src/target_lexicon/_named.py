@@ -2,7 +2,8 @@
 from __future__ import annotations
 
 import enum
-from typing import TYPE_CHECKING, Tuple, Type, TypeVar
+import functools
+from typing import TYPE_CHECKING, Any, Tuple, Type, TypeVar
 
 Member = TypeVar("Member", bound="NamedValue")
 
@@ -35,4 +36,9 @@ class NamedValue(str, enum.Enum):
 
 def members(of: Type[Member]) -> Tuple[Member, ...]:
     """The members of an enumeration, by number."""
+    return _members(of)
+
+
+@functools.lru_cache(maxsize=None)
+def _members(of: Type[NamedValue]) -> Tuple[Any, ...]:
     return tuple(of.__members__.values())

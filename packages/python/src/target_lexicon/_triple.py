@@ -11,7 +11,7 @@ from typing import TYPE_CHECKING, Any, Callable, Dict, Mapping, Optional, Sequen
 from . import _library
 from ._dialects import NO_DIALECT, Dialect, DialectName, LinuxLibc, LinuxLibcName, dialect_number, libc_number
 from ._errors import FIELDS, ParseError, encoded, refusal
-from ._facts import ArmProfile, CallingConvention, CLibrary, DataModel, Endianness, FloatAbi
+from ._facts import ArmProfile, CallingConvention, CLibrary, DataModel, Endianness, FloatAbi, Signedness
 from ._fields import CustomVendor
 from ._named import NamedValue, members
 from ._values import Architecture, BinaryFormat, Environment, Family, OperatingSystem, Vendor
@@ -35,6 +35,7 @@ _MODELS: Tuple[Optional[DataModel], ...] = (None, *members(DataModel))
 _C_LIBRARIES: Tuple[Optional[CLibrary], ...] = (None, *members(CLibrary))
 _FLOAT_ABIS: Tuple[Optional[FloatAbi], ...] = (None, *members(FloatAbi))
 _ARM_PROFILES: Tuple[Optional[ArmProfile], ...] = (None, *members(ArmProfile))
+_SIGNEDNESS: Tuple[Optional[Signedness], ...] = (None, *members(Signedness))
 
 for _field, _values in enumerate((_ARCHITECTURES, _VENDORS, _SYSTEMS, _ENVIRONMENTS, _FORMATS)):
     _library.check_names(_field, [str(it) for it in _values])
@@ -356,6 +357,21 @@ class Triple:
     def arm_profile(self) -> Optional[ArmProfile]:
         """The profile of a 32-bit Arm architecture, where its name states one. None if it isn't known."""
         return _ARM_PROFILES[(self._facts or self._ask()).arm_profile]
+
+    @property
+    def char_signedness(self) -> Optional[Signedness]:
+        """Whether C's `char` has a sign, as clang has it. None if it isn't known."""
+        return _SIGNEDNESS[(self._facts or self._ask()).char_signedness]
+
+    @property
+    def has_emulated_tls(self) -> bool:
+        """Whether LLVM emulates thread-local storage: on OpenBSD, Cygwin, OpenHarmony, and Android before API level 29."""
+        return (self._facts or self._ask()).has_emulated_tls
+
+    @property
+    def has_comdat(self) -> bool:
+        """Whether the object format has COMDAT sections."""
+        return (self._facts or self._ask()).has_comdat
     # end of what is written
 
     @property
@@ -651,7 +667,8 @@ def _number(value: Any, of: Type[NamedValue], name: str) -> int:
         if of is Architecture:
             with suppress(ParseError):
                 return Architecture.parse(value).number  # an alias, such as arm64
-        raise ValueError(f"no {name} has the name {value!r}") from None
+        meant = ParseError(value, name).suggestion
+        raise ValueError(f"no {name} has the name {value!r}{f'; did you mean {meant!r}?' if meant else ''}") from None
 
 
 def _stated_version(version: Optional[Sequence[int]]) -> Optional[Tuple[int, int]]:

@@ -31,12 +31,14 @@ pub enum Family {
     PrintsTheEspIdfText,
     /// On Clever with an unknown system, the environment is `None`, which parses as the system.
     ShowsOnlyNone,
-    /// The vendor isn't plain: no string parses as it.
+    /// The vendor isn't plain: no string parses as it. A triple that is in `ShowsOnlyNone` too has that family.
     VendorIsNotPlain,
 }
 
 impl Triple {
     /// The first family that the triple is in. `None` if it comes back. Nothing is allocated.
+    ///
+    /// Only on Clever can a triple be in two: `ShowsOnlyNone` comes before `VendorIsNotPlain`.
     pub(crate) fn family(&self) -> Option<Family> {
         self.as_triple_ref().family()
     }

@@ -109,6 +109,7 @@ impl OperatingSystem {
     ///
     /// A string is a fixed name, or the prefix of a system like Darwin with nothing or a version after it: one to three
     /// pieces between dots, each an optional plus and digits, the first at most 65535, the others at most 255.
+    #[inline(always)]
     pub(crate) fn from_str(s: &str) -> Result<Self, ()> {
         match fixed_row(s) {
             Some(row) => row.operating_system.ok_or(()),

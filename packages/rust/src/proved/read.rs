@@ -47,7 +47,7 @@ pub fn explain(text: &str) -> Explanation<'_> {
             text: name,
             start: text.len() - left.len(),
         };
-        if let Err(refusal) = reading.take(name, part) {
+        if let Err(refusal) = reading.take(part) {
             return Explanation {
                 triple: Err(refusal),
                 sources: reading.sources,

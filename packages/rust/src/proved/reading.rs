@@ -1,12 +1,12 @@
 // @generated: erased from crates/target_lexicon/src/reading.rt by tools/erase. Don't edit it here.
-//! Reading: a state that takes one name after the other, each spelled by a part of the string.
+//! Reading: a state that takes one part after the other.
 
 use crate::proved::explanation::{Source, Sources, TextPart};
 use crate::proved::refusal::Refusal;
 use crate::proved::triple_ref::TripleRef;
 use crate::proved::{fixed_row, Field, OperatingSystem, VendorRef};
 
-/// The fields that the names so far fill, the others `Unknown`; and the first field that is still open.
+/// The fields that the parts so far fill, the others `Unknown`; and the first field that is still open.
 #[doc(hidden)]
 #[derive(Clone, Copy, Debug)]
 pub struct Reading<'a> {
@@ -60,58 +60,67 @@ impl<'a> Reading<'a> {
         };
     }
 
-    /// Takes a name into the first field that is open and that it parses as. `Err` if there is none; nothing changes
-    /// then. A name that has a row in the table of names is looked up once, and the comparisons aren't counted.
+    /// Takes a part into the first field that is open and that it parses as. `Err` if there is none; nothing changes
+    /// then. A part that has a row in the table of names is looked up once, and the comparisons aren't counted.
     #[doc(hidden)]
     #[inline(always)]
-    pub fn take(&mut self, name: &'a str, part: TextPart<'a>) -> Result<(), Refusal<'a>> {
-        match (self.expected, fixed_row(name)) {
-            (Some(Field::Architecture), Some(row)) => {
+    pub fn take(&mut self, part: TextPart<'a>) -> Result<(), Refusal<'a>> {
+        let Some(expected) = self.expected else {
+            return Err(Refusal {
+                expected: None,
+                part,
+            });
+        };
+        match fixed_row(part.text) {
+            Some(row) => {
+                // whether the row has a value, and then whether its field is open: the compilers know the first from
+                // the row's meaning, so a line takes fewer instructions and fewer branches are mispredicted
                 if let Some(architecture) = row.architecture {
-                    self.triple.architecture = architecture;
-                    self.fill(Field::Architecture, part);
-                    return Ok(());
+                    if is_open(Field::Architecture, expected) {
+                        self.triple.architecture = architecture;
+                        self.fill(Field::Architecture, part);
+                        return Ok(());
+                    }
                 }
-            }
-            (Some(Field::Architecture), None) | (None, _) => {}
-            (Some(expected), Some(row)) => {
-                if expected == Field::Vendor {
-                    if let Some(vendor) = row.vendor {
+                if let Some(vendor) = row.vendor {
+                    if is_open(Field::Vendor, expected) {
                         self.triple.vendor = VendorRef::Known(vendor);
                         self.fill(Field::Vendor, part);
                         return Ok(());
                     }
                 }
-                if matches!(expected, Field::Vendor | Field::OperatingSystem) {
-                    if let Some(operating_system) = row.operating_system {
+                if let Some(operating_system) = row.operating_system {
+                    if is_open(Field::OperatingSystem, expected) {
                         self.triple.operating_system = operating_system;
                         self.fill(Field::OperatingSystem, part);
                         return Ok(());
                     }
                 }
-                if !matches!(expected, Field::BinaryFormat) {
-                    if let Some(environment) = row.environment {
+                if let Some(environment) = row.environment {
+                    if is_open(Field::Environment, expected) {
                         self.triple.environment = environment;
                         self.fill(Field::Environment, part);
                         return Ok(());
                     }
                 }
                 if let Some(binary_format) = row.binary_format {
-                    self.triple.binary_format = binary_format;
-                    self.fill(Field::BinaryFormat, part);
-                    return Ok(());
+                    if is_open(Field::BinaryFormat, expected) {
+                        self.triple.binary_format = binary_format;
+                        self.fill(Field::BinaryFormat, part);
+                        return Ok(());
+                    }
                 }
             }
-            (Some(expected), None) => {
-                if expected == Field::Vendor {
-                    if let Ok(vendor) = VendorRef::from_text(name) {
+            None => {
+                if is_open(Field::Vendor, expected) {
+                    if let Ok(vendor) = VendorRef::from_text(part.text) {
                         self.triple.vendor = vendor;
                         self.fill(Field::Vendor, part);
                         return Ok(());
                     }
                 }
-                if matches!(expected, Field::Vendor | Field::OperatingSystem) {
-                    if let Ok(operating_system) = OperatingSystem::from_str(name) {
+                if is_open(Field::OperatingSystem, expected) {
+                    if let Ok(operating_system) = OperatingSystem::from_str(part.text) {
                         self.triple.operating_system = operating_system;
                         self.fill(Field::OperatingSystem, part);
                         return Ok(());
@@ -125,7 +134,7 @@ impl<'a> Reading<'a> {
         })
     }
 
-    /// The triple of the names so far, and its sources. Without a binary format it has the implied one.
+    /// The triple of the parts so far, and its sources. Without a binary format it has the implied one.
     #[doc(hidden)]
     #[must_use]
     #[inline(always)]
@@ -137,5 +146,17 @@ impl<'a> Reading<'a> {
             sources.binary_format = Source::Implied;
         }
         (triple, sources)
+    }
+}
+
+/// Whether a part can fill the field where this one is expected.
+#[inline(always)]
+fn is_open(field: Field, expected: Field) -> bool {
+    match field {
+        Field::Architecture => expected == Field::Architecture,
+        Field::Vendor => expected == Field::Vendor,
+        Field::OperatingSystem => matches!(expected, Field::Vendor | Field::OperatingSystem),
+        Field::Environment => !matches!(expected, Field::Architecture | Field::BinaryFormat),
+        Field::BinaryFormat => expected != Field::Architecture,
     }
 }

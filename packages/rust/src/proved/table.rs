@@ -28,8 +28,10 @@ pub struct FixedRow {
     pub binary_format: Option<BinaryFormat>,
 }
 
-/// In which fields a string of the table parses, and as what.
+/// In which fields a string of the table parses, and as what. It has a tag of its own, which takes fewer instructions to
+/// read than one that is folded into the values.
 #[derive(Clone, Copy)]
+#[repr(u8)]
 enum Meaning {
     Architecture(Architecture),
     Vendor(KnownVendor),
@@ -45,11 +47,11 @@ enum Meaning {
 /// A string and its meaning.
 type Row = (&'static str, Meaning);
 
-/// The row of the string, or `None` if the string is neither a fixed name nor the alias `arm64`: a search by halves.
+/// The row of the string, or `None` if the string is neither a fixed name nor the alias `arm64`: a binary search.
 #[must_use]
 #[inline(always)]
 pub fn fixed_row(text: &str) -> Option<FixedRow> {
-    let (text, meaning) = ROWS[row_number(text)?];
+    let (text, meaning) = *row_of(text)?;
     let none = FixedRow {
         text,
         architecture: None,
@@ -95,8 +97,8 @@ pub fn fixed_row(text: &str) -> Option<FixedRow> {
     })
 }
 
-/// The number of the string's row, counted from 0.
-fn row_number(text: &str) -> Option<usize> {
+/// The string's row.
+fn row_of(text: &str) -> Option<&'static Row> {
     let mut low = 0;
     let mut size = ROW_COUNT;
     while size > 0 {
@@ -104,7 +106,7 @@ fn row_number(text: &str) -> Option<usize> {
         match row_order(low + half, text) {
             Ordering::Less => low += size - half,
             Ordering::Greater => {}
-            Ordering::Equal => return Some(low + half),
+            Ordering::Equal => return Some(&ROWS[low + half]),
         }
         size = half;
     }

@@ -1,20 +1,17 @@
-use Rattle.std.proofs.Common.{refl, sym, ap, subst, List, ℕ, ◌≡◌, ◌<◌, ◌∙◌, true, option_map}
-use Rattle.lexicon_fields.proofs.{RowReads.text-is, RowReads.values-are, RowLemmas.row-exists, RowLemmas.row-parses_by_name, VendorsReadBack.row_read}
-use Rattle.lexicon_fields.specs.{declared.table.FixedRow.FixedRow, FixedRow.IsRowOf, FixedRow.has_row, FixedRow.row_count, FixedRow.row_text, FixedRow.row_texts, Private.FieldValues, Private.name_values, Private.row_values, Private.values_meant, Vendor.Known, Vendor.known_vendor_of, OperatingSystem.fixed_operating_system_of}
-use Rattle.lexicon_fields.specs.{Architecture.architecture_of, Environment.environment_of, BinaryFormat.binary_format_of}
+use Rattle.std.proofs.Common.{arith, sym, ap, List, ℕ, ◌≡◌, ◌∙◌, true, option_map}
+use Rattle.lexicon_fields.proofs.{RowLemmas.row-parses_by_name, VendorsReadBack.row_read, SearchSteps.search-few, SearchSteps.search-some}
+use Rattle.lexicon_fields.specs.{declared.table.FixedRow.FixedRow, FixedRow.IsRowOf, FixedRow.has_row, Private.FieldValues, Private.name_values, Private.row_values, Private.values_meant, Vendor.Known, Vendor.known_vendor_of, OperatingSystem.fixed_operating_system_of}
 use Rattle.lexicon_fields.proofs.table.fixed_row.Goals.{in-Architecture, in-Vendor, in-OperatingSystem, in-Environment, in-BinaryFormat, in-None, in-Unknown}
 use Rattle.lexicon_fields.proofs.table.fixed_row.Goals as goal
 
--- a row with a string of the table and the values of that string
-is_row : (i : ℕ) (text : List ℕ) (row : FixedRow) → i < row_count → row_text i ≡ text → row.text.now ≡ row_text i → row_values row ≡ name_values (row_text i) → IsRowOf text row
-is_row i text row below same text_is values =
-    let exists = subst (λ (text : List ℕ). has_row text ≡ true) same (row-exists i below) in
-    let is : row_values row ≡ name_values text = values ∙ ap name_values same in
+-- a row with this string and the values of the string
+is_row : (text : List ℕ) (row : FixedRow) → has_row text ≡ true → row.text.now ≡ text → row_values row ≡ name_values text → IsRowOf text row
+is_row text row exists text_is is =
     let vendor : row.vendor ≡ known_vendor_of text = ap (λ (v : FieldValues). v.1) is in
     let operating_system : row.operating_system ≡ fixed_operating_system_of text = ap (λ (v : FieldValues). v.2) is in
     record {
       exists = exists;
-      text = text_is ∙ same;
+      text = text_is;
       architecture = ap (λ (v : FieldValues). v.0) is;
       vendor = vendor;
       operating_system = operating_system;
@@ -25,29 +22,33 @@ is_row i text row below same text_is values =
     }
 
 pub returns-clause-row : goal.returns-clause-row
-unfolding row_texts architecture_of known_vendor_of fixed_operating_system_of environment_of binary_format_of
 returns-clause-row c =
     let row = c.in_ok-text.ensures.row in
     elim c.match-meaning.branch [
-      | in-Architecture w ↦ is_row _ _ _ row.0 row.1
-          (rw (text-is _ _ _ row.0 refl) at (ap (λ (r : FixedRow). r.text.now) w.result-is))
-          (ap row_values w.result-is ∙ rw (values-are _ _ _ row.0 refl) at (sym (ap values_meant w.in-Architecture.is)))
-      | in-Vendor w ↦ is_row _ _ _ row.0 row.1
-          (rw (text-is _ _ _ row.0 refl) at (ap (λ (r : FixedRow). r.text.now) w.result-is))
-          (ap row_values w.result-is ∙ rw (values-are _ _ _ row.0 refl) at (sym (ap values_meant w.in-Vendor.is)))
-      | in-OperatingSystem w ↦ is_row _ _ _ row.0 row.1
-          (rw (text-is _ _ _ row.0 refl) at (ap (λ (r : FixedRow). r.text.now) w.result-is))
-          (ap row_values w.result-is ∙ rw (values-are _ _ _ row.0 refl) at (sym (ap values_meant w.in-OperatingSystem.is)))
-      | in-Environment w ↦ is_row _ _ _ row.0 row.1
-          (rw (text-is _ _ _ row.0 refl) at (ap (λ (r : FixedRow). r.text.now) w.result-is))
-          (ap row_values w.result-is ∙ rw (values-are _ _ _ row.0 refl) at (sym (ap values_meant w.in-Environment.is)))
-      | in-BinaryFormat w ↦ is_row _ _ _ row.0 row.1
-          (rw (text-is _ _ _ row.0 refl) at (ap (λ (r : FixedRow). r.text.now) w.result-is))
-          (ap row_values w.result-is ∙ rw (values-are _ _ _ row.0 refl) at (sym (ap values_meant w.in-BinaryFormat.is)))
-      | in-None w ↦ is_row _ _ _ row.0 row.1
-          (rw (text-is _ _ _ row.0 refl) at (ap (λ (r : FixedRow). r.text.now) w.result-is))
-          (ap row_values w.result-is ∙ rw (values-are _ _ _ row.0 refl) at (sym (ap values_meant w.in-None.is)))
-      | in-Unknown w ↦ is_row _ _ _ row.0 row.1
-          (rw (text-is _ _ _ row.0 refl) at (ap (λ (r : FixedRow). r.text.now) w.result-is))
-          (ap row_values w.result-is ∙ rw (values-are _ _ _ row.0 refl) at (sym (ap values_meant w.in-Unknown.is)))
+      | in-Architecture w ↦ is_row _ _ row.exists (ap (λ (r : FixedRow). r.text.now) w.result-is ∙ row.text)
+          (ap row_values w.result-is ∙ sym (ap values_meant w.in-Architecture.is) ∙ row.values)
+      | in-Vendor w ↦ is_row _ _ row.exists (ap (λ (r : FixedRow). r.text.now) w.result-is ∙ row.text)
+          (ap row_values w.result-is ∙ sym (ap values_meant w.in-Vendor.is) ∙ row.values)
+      | in-OperatingSystem w ↦ is_row _ _ row.exists (ap (λ (r : FixedRow). r.text.now) w.result-is ∙ row.text)
+          (ap row_values w.result-is ∙ sym (ap values_meant w.in-OperatingSystem.is) ∙ row.values)
+      | in-Environment w ↦ is_row _ _ row.exists (ap (λ (r : FixedRow). r.text.now) w.result-is ∙ row.text)
+          (ap row_values w.result-is ∙ sym (ap values_meant w.in-Environment.is) ∙ row.values)
+      | in-BinaryFormat w ↦ is_row _ _ row.exists (ap (λ (r : FixedRow). r.text.now) w.result-is ∙ row.text)
+          (ap row_values w.result-is ∙ sym (ap values_meant w.in-BinaryFormat.is) ∙ row.values)
+      | in-None w ↦ is_row _ _ row.exists (ap (λ (r : FixedRow). r.text.now) w.result-is ∙ row.text)
+          (ap row_values w.result-is ∙ sym (ap values_meant w.in-None.is) ∙ row.values)
+      | in-Unknown w ↦ is_row _ _ row.exists (ap (λ (r : FixedRow). r.text.now) w.result-is ∙ row.text)
+          (ap row_values w.result-is ∙ sym (ap values_meant w.in-Unknown.is) ∙ row.values)
     ]
+
+pub returns-in_err-text-clause-counted : goal.returns-in_err-text-clause-counted
+returns-in_err-text-clause-counted c = omega (arith, c.row_of.ensures.exact, search-some c.args.text.now)
+
+pub returns-in_err-text-clause-few : goal.returns-in_err-text-clause-few
+returns-in_err-text-clause-few c = omega (arith, c.row_of.ensures.exact, search-few c.args.text.now)
+
+pub returns-clause-counted : goal.returns-clause-counted
+returns-clause-counted c = omega (arith, c.row_of.ensures.exact, search-some c.args.text.now)
+
+pub returns-clause-few : goal.returns-clause-few
+returns-clause-few c = omega (arith, c.row_of.ensures.exact, search-few c.args.text.now)

@@ -78,7 +78,7 @@ all_of text = placed_from 0 (parts_of text)
 
 -- what is refused after the parts before
 refused-explained-by : (text : List ℕ) (it : Reading) (refusal : BorrowedRefusal) → special_values text ≡ None → (p : PlacedPart) (ps : List PlacedPart) → AllGoesOn it (p ∷ ps) (all_of text)
-    → IsNotTaken p.text p it refusal → IsExplained text (record { triple = Err refusal; sources = it.sources })
+    → IsNotTaken p it refusal → IsExplained text (record { triple = Err refusal; sources = it.sources })
 refused-explained-by text it refusal ordinary p ps on refused = refusal-explained text it.sources ordinary refusal (record {
   outcome = ap (λ (q : PlacedPart). Err (refusal_with refusal.expected q.text)) refused.refused ∙ ap (λ (e : Option Field). Err (refusal_with e p.text)) refused.expected
       ∙ (rw refused.unparsed at on.outcome) ∙ ap reading_of_parts (texts-placed 0 (parts_of text));

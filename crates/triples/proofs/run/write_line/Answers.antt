@@ -27,3 +27,10 @@ returns-clause-begun g c =
     let second = rw c.as_bytes-2.ensures.value at c.in_ok-write_all-2.ensures.ok in
     let third = Appends-kept _ _ _ _ c.in_ok-write_all-3.ensures.ok c.flush.ensures.bytes in
     AppendsBeginning-all _ _ _ (Appends-trans _ _ _ _ _ first (Appends-trans _ _ _ _ _ second third))
+
+pub returns-clause-ok : goal.returns-clause-ok
+returns-clause-ok g c =
+    let first = rw c.as_bytes.ensures.value at c.in_ok-write_all.ensures.ok in
+    let second = rw c.as_bytes-2.ensures.value at c.in_ok-write_all-2.ensures.ok in
+    let third = Appends-kept _ _ _ _ c.in_ok-write_all-3.ensures.ok c.flush.ensures.bytes in
+    Appends-trans _ _ _ _ _ first (Appends-trans _ _ _ _ _ second third)

@@ -1,0 +1,59 @@
+use Rattle.std.proofs.Common.{arith, sym, ap, refl, subst, ◌≡◌, ◌<◌, ◌+◌, ◌/◌, ℕ, List, true}
+use Rattle.lexicon_fields.proofs.{RowReads.text-is, RowReads.values-are, RowLemmas.row-exists, RowLemmas.no_row-outside, RowLemmas.no_row-below, RowLemmas.no_row-above, RowTexts.row_text-is, SearchSteps.on-the-way-first, SearchSteps.on-the-way-less, SearchSteps.on-the-way-greater, SearchSteps.found-there, SearchSteps.none-left}
+use Rattle.lexicon_fields.specs.{FixedRow.has_row, FixedRow.row_count, FixedRow.row_texts, Private.name_values, Vendor.known_vendor_of, OperatingSystem.fixed_operating_system_of}
+use Rattle.lexicon_fields.specs.{Architecture.architecture_of, Environment.environment_of, BinaryFormat.binary_format_of}
+use Rattle.lexicon_fields.proofs.table.row_of.Goals as goal
+
+pub loop-size-init : goal.loop-size-init
+loop-size-init c = record {
+  within = omega arith;
+  below = λ k less. absurd (omega (arith, less));
+  above = λ k most less. absurd (omega (arith, most, less));
+  way = on-the-way-first c.args.steps.now.count c.args.text.now;
+}
+
+pub loop-size-preserved-in-Less : goal.loop-size-preserved-in-Less
+loop-size-preserved-in-Less c =
+    let loop = c.loop-size in
+    let middle = loop.low + loop.size / 2 in
+    let earlier = no_row-below middle c.args.text.now (omega (arith, loop.invariant.within, c.loop-size-test.true)) (sym c.in-Less.ensures.order) in
+    record {
+      within = omega (arith, loop.invariant.within);
+      below = λ k lt. earlier k (omega (arith, lt));
+      above = λ k ge. loop.invariant.above k (omega (arith, ge));
+      way = on-the-way-less _ _ _ loop.low loop.size c.args.text.now loop.invariant.way (omega (arith, c.loop-size-test.true)) c.row_order.ensures.count (sym c.in-Less.ensures.order);
+    }
+
+pub loop-size-preserved : goal.loop-size-preserved
+loop-size-preserved c =
+    let loop = c.loop-size in
+    record {
+      within = omega (arith, loop.invariant.within);
+      below = loop.invariant.below;
+      above = no_row-above (loop.low + loop.size / 2) c.args.text.now (sym c.in-Greater.ensures.order);
+      way = on-the-way-greater _ _ _ loop.low loop.size c.args.text.now loop.invariant.way (omega (arith, c.loop-size-test.true)) c.row_order.ensures.count (sym c.in-Greater.ensures.order);
+    }
+
+pub returns-in-Equal-clause-row : goal.returns-in-Equal-clause-row
+unfolding row_texts architecture_of known_vendor_of fixed_operating_system_of environment_of binary_format_of
+returns-in-Equal-clause-row c =
+    let middle = c.loop-size.low + c.loop-size.size / 2 in
+    let below : middle < row_count = omega (arith, c.loop-size.invariant.within, c.loop-size-test.true) in
+    let same = row_text-is middle c.args.text.now (sym c.in-Equal.ensures.order) in
+    record {
+      exists = subst (λ (text : List ℕ). has_row text ≡ true) same (row-exists middle below);
+      text = rw (text-is _ middle _ below refl) same;
+      values = rw (values-are _ middle _ below refl) (ap name_values same);
+    }
+
+pub returns-in-Equal-clause-exact : goal.returns-in-Equal-clause-exact
+returns-in-Equal-clause-exact c =
+    found-there _ _ _ c.loop-size.low c.loop-size.size c.args.text.now c.loop-size.invariant.way (omega (arith, c.loop-size-test.true)) c.row_order.ensures.count (sym c.in-Equal.ensures.order)
+
+pub returns-clause-row : goal.returns-clause-row
+returns-clause-row c =
+    no_row-outside c.args.text.now c.loop-size.low c.loop-size.invariant.below (λ k ge lt. c.loop-size.invariant.above k (omega (arith, ge, c.loop-size-test.false)) lt)
+
+pub returns-clause-exact : goal.returns-clause-exact
+returns-clause-exact c =
+    none-left _ _ 0 c.loop-size.low c.loop-size.size c.args.text.now c.loop-size.invariant.way (omega (arith, c.loop-size-test.false))

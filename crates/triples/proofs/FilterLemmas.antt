@@ -1,0 +1,267 @@
+-- Answers in a buffer, and the lines that were answered so far.
+use Rattle.std.proofs.Common.{◌≡◌, ◌∙◌, ℕ, suc, ◌+◌, ◌-◌, ◌<◌, ◌≤◌, ◌==◌, Bool, true, false, List, [], ◌∷◌, ◌++◌, codes, length, take, drop, get_or, Option, Some, None, inl, inr, ◌⊎◌, refl, sym, ap, subst, append_assoc, add-one, arith}
+use Rattle.std.proofs.lemmas.Bool.{ne_eqb}
+use Rattle.std.proofs.lemmas.List.{append-nil, get_or-take, get_or_default, length-append, length-drop, length-take, take_all, take-append-drop, drop-drop}
+use Rattle.std.proofs.lemmas.List.Elements.{All-append}
+use Rattle.std.proofs.lemmas.List.Splits.{slice_split_at, slice_split_none, length-slice_split}
+use Rattle.std.proofs.Math.Seq.{drop-cons, take-append-add}
+use Rattle.std.proofs.KnownBytes.{Appends-nil, Appends-trans, Appends-kept, Consumes-nil, Consumes-trans, Consumes-kept}
+use Rattle.std.specs.Io.KnownBytes.{Appends, Consumes, Keeps}
+use Rattle.std.specs.List.{All, AllZip, AllByRecursion, slice_split}
+use Rattle.std.specs.Str.{IsUtf8}
+use Rattle.target_lexicon.specs.{Reading.ReadsAs, Reading.IsRefusedAs, Refusal.Refusal, Refusal.refusal_line, Values.Values}
+use Rattle.triples.specs.{Filter.HasNoFeed, Filter.IsFiltered, Filter.IsFilteredTo, Filter.IsFilterAnswer, Filter.IsShortAnswer, Filter.ended_lines, Filter.shown_by, Filter.too_long, Filter.not_text}
+use Rattle.triples.specs.FilterSteps.{AnswersLines, AnswersRest, IsLate, IsLineAnswer, IsLineEnd, Pushes, PushesAnswer}
+use Rattle.triples.specs.Lines.{line_feed, lines_of, parts_without_empty_last}
+use Rattle.triples.specs.Output.{Answer, Shown, Refused, written_lines}
+use Rattle.triples.specs.Run.{Gives, Takes, use_of}
+use Rattle.triples.specs.declared.counted.Counted.{Counted}
+use Rattle.triples.specs.declared.line_mode.LineMode.{LineMode}
+use Rattle.triples.proofs.AnswerLemmas.{written_lines-append}
+use Rattle.triples.proofs.LineLemmas.{stays-first}
+
+-- a text after another in a buffer
+pub pushes-then : (a b old mid new : List ℕ) (at m end : ℕ) → Pushes a old at mid m → Pushes b mid m new end → Pushes (a ++ b) old at new end
+pushes-then a b old mid new at m end first next = record {
+  grown = next.grown ∙ ap (λ (t : List ℕ). t ++ b) first.grown ∙ append_assoc (take at old) a b;
+  end_is = omega (arith, first.end_is, next.end_is, length-append a b);
+  same_length = next.same_length ∙ first.same_length;
+}
+
+-- what is shown of a triple, or the words of a refusal, and then a line feed
+pub shown-pushes : (mode : LineMode) (line : List ℕ) (t : Values) (text old mid new : List ℕ) (at m end : ℕ) → IsUtf8 line → ReadsAs line t → text ≡ shown_by mode t
+    → Pushes text old at mid m → Pushes (line_feed ∷ []) mid m new end → PushesAnswer (IsShortAnswer mode line) old at new end
+shown-pushes mode line t text old mid new at m end utf8 reads is first next = record {
+  answer = Shown text;
+  is = record { text = λ _. (t, reads, is); other = λ other. absurd (other utf8) };
+  pushed = pushes-then text (line_feed ∷ []) old mid new at m end first next;
+}
+
+pub refused-pushes : (mode : LineMode) (line : List ℕ) (refusal : Refusal) (old one mid new : List ℕ) (at a m end : ℕ) → IsUtf8 line → IsRefusedAs line refusal
+    → Pushes (codes "error: ") old at one a → Pushes (refusal_line refusal) one a mid m → Pushes (line_feed ∷ []) mid m new end
+    → PushesAnswer (IsShortAnswer mode line) old at new end
+refused-pushes mode line refusal old one mid new at a m end utf8 refused words first next = record {
+  answer = Refused (codes "error: " ++ refusal_line refusal);
+  is = record { text = λ _. (refusal, refused, refl); other = λ other. absurd (other utf8) };
+  pushed = pushes-then (codes "error: " ++ refusal_line refusal) (line_feed ∷ []) old mid new at m end (pushes-then (codes "error: ") (refusal_line refusal) old one mid at a m words first) next;
+}
+
+-- no line feed, by index
+pub no-feed : (bytes : List ℕ) → ((k : ℕ) → k < length bytes → get_or bytes k 0 ≡ 10 → ⊥) → HasNoFeed bytes
+no-feed bytes none k d below = ne_eqb _ line_feed (λ is. none k below (get_or_default bytes k 0 d below ∙ is))
+
+pub no-feed-take : (bytes : List ℕ) (n : ℕ) → n ≤ length bytes → ((k : ℕ) → k < n → get_or bytes k 0 ≡ 10 → ⊥) → HasNoFeed (take n bytes)
+no-feed-take bytes n within none =
+    no-feed (take n bytes) (λ k below is. let less : k < n = omega (arith, length-take n bytes, below) in none k less (sym (get_or-take n bytes k 0 less) ∙ is))
+
+pub cut-at : (bytes : List ℕ) (n : ℕ) → n < length bytes → get_or bytes n 0 ≡ 10 → bytes ≡ take n bytes ++ (line_feed ∷ drop (n + 1) bytes)
+cut-at bytes n below is =
+    sym (take-append-drop n bytes)
+    ∙ ap (λ (t : List ℕ). take n bytes ++ t) (drop-cons bytes n 0 below ∙ ap (λ (b : ℕ). b ∷ drop (suc n) bytes) is ∙ ap (λ (m : ℕ). line_feed ∷ drop m bytes) (sym (add-one n)))
+
+-- lists of lines
+zip-push : {A B : Type 0} (R : A → B → Type 0) (xs : List A) (ys : List B) (x : A) (y : B) → AllZip R xs ys → R x y → AllZip R (xs ++ x ∷ []) (ys ++ y ∷ [])
+zip-push R [] [] x y all is = (is, tt)
+zip-push R [] (b ∷ ys) x y all is = absurd all
+zip-push R (a ∷ xs) [] x y all is = absurd all
+zip-push R (a ∷ xs) (b ∷ ys) x y all is = (all.0, zip-push R xs ys x y all.1 is)
+
+zip-append : {A B : Type 0} (R : A → B → Type 0) (xs us : List A) (ys vs : List B) → AllZip R xs ys → AllZip R us vs → AllZip R (xs ++ us) (ys ++ vs)
+zip-append R [] us [] vs all is = is
+zip-append R [] us (b ∷ ys) vs all is = absurd all
+zip-append R (a ∷ xs) us [] vs all is = absurd all
+zip-append R (a ∷ xs) us (b ∷ ys) vs all is = (all.0, zip-append R xs us ys vs all.1 is)
+
+each-append : {A : Type 0} (P : A → Type 0) (xs ys : List A) → AllByRecursion P xs → AllByRecursion P ys → AllByRecursion P (xs ++ ys)
+each-append P [] ys all is = is
+each-append P (x ∷ xs) ys all is = (all.0, each-append P xs ys all.1 is)
+
+ended-append : (xs ys : List (List ℕ)) → ended_lines (xs ++ ys) ≡ ended_lines xs ++ ended_lines ys
+ended-append [] ys = refl
+ended-append (x ∷ xs) ys = ap (λ (t : List ℕ). x ++ (line_feed ∷ t)) (ended-append xs ys) ∙ sym (append_assoc x (line_feed ∷ ended_lines xs) (ended_lines ys))
+
+module _ (mode : LineMode) (size : ℕ) where
+  pub filtered-none : (bytes : List ℕ) → IsFilteredTo mode size bytes bytes []
+  filtered-none bytes = record { lines = []; whole = refl; each = tt; answered = ([], tt, refl) }
+
+  -- one after the other
+  pub filtered-then : (bytes mid rest first next : List ℕ) → IsFilteredTo mode size bytes mid first → IsFilteredTo mode size mid rest next
+      → IsFilteredTo mode size bytes rest (first ++ next)
+  filtered-then bytes mid rest first next a b = record {
+    lines = a.lines ++ b.lines;
+    whole =
+        a.whole ∙ ap (λ (t : List ℕ). ended_lines a.lines ++ t) b.whole ∙ sym (append_assoc (ended_lines a.lines) (ended_lines b.lines) rest)
+        ∙ ap (λ (t : List ℕ). t ++ rest) (sym (ended-append a.lines b.lines));
+    each = each-append HasNoFeed a.lines b.lines a.each b.each;
+    answered = (
+      a.answered.0 ++ b.answered.0,
+      zip-append (IsFilterAnswer mode size) a.lines b.lines a.answered.0 b.answered.0 a.answered.1 b.answered.1,
+      ap (λ (t : List ℕ). t ++ next) a.answered.2 ∙ ap (λ (t : List ℕ). written_lines a.answered.0 ++ t) b.answered.2 ∙ sym (written_lines-append a.answered.0 b.answered.0),
+    );
+  }
+
+  -- one line
+  pub filtered-line : (line rest : List ℕ) (answer : Answer) → HasNoFeed line → IsFilterAnswer mode size line answer
+      → IsFilteredTo mode size (line ++ (line_feed ∷ rest)) rest (written_lines (answer ∷ []))
+  filtered-line line rest answer none is = record {
+    lines = line ∷ [];
+    whole = sym (append_assoc line (line_feed ∷ []) rest);
+    each = (none, tt);
+    answered = (answer ∷ [], (is, tt), refl);
+  }
+
+  -- more bytes came
+  pub filtered-more : (bytes rest output more : List ℕ) → IsFilteredTo mode size bytes rest output → IsFilteredTo mode size (bytes ++ more) (rest ++ more) output
+  filtered-more bytes rest output more far = record {
+    lines = far.lines;
+    whole = ap (λ (t : List ℕ). t ++ more) far.whole ∙ append_assoc (ended_lines far.lines) rest more;
+    each = far.each;
+    answered = far.answered;
+  }
+
+-- the lines of bytes, one taken off after the other
+split-first : (line rest : List ℕ) → HasNoFeed line → slice_split (λ b. b == line_feed) (line ++ (line_feed ∷ rest)) ≡ line ∷ slice_split (λ b. b == line_feed) rest
+split-first line rest none = slice_split_at (λ b. b == line_feed) line line_feed rest none refl
+
+lines-first : (line rest : List ℕ) → HasNoFeed line → lines_of (line ++ (line_feed ∷ rest)) ≡ line ∷ lines_of rest
+lines-first line rest none =
+    ap parts_without_empty_last (split-first line rest none)
+    ∙ stays-first line (slice_split (λ b. b == line_feed) rest) (omega (arith, length-slice_split (λ b. b == line_feed) rest))
+
+lines-ended : (lines : List (List ℕ)) (rest : List ℕ) → AllByRecursion HasNoFeed lines → lines_of (ended_lines lines ++ rest) ≡ lines ++ lines_of rest
+lines-ended [] rest each = refl
+lines-ended (line ∷ lines) rest each =
+    ap lines_of (append_assoc line (line_feed ∷ ended_lines lines) rest)
+    ∙ lines-first line (ended_lines lines ++ rest) each.0
+    ∙ ap (λ (t : List (List ℕ)). line ∷ t) (lines-ended lines rest each.1)
+
+lines-last : (rest : List ℕ) → HasNoFeed rest → 0 < length rest → lines_of rest ≡ rest ∷ []
+lines-last [] none some = absurd (omega arith)
+lines-last (b ∷ bs) none some = ap parts_without_empty_last (slice_split_none (λ b. b == line_feed) (b ∷ bs) none)
+
+module _ (mode : LineMode) (size : ℕ) where
+  -- all lines were answered: there is no rest, or its answer is written too
+  pub filtered-end : (bytes rest output last : List ℕ) → IsFilteredTo mode size bytes rest output → HasNoFeed rest
+      → ((rest ≡ []) × (last ≡ [])) ⊎ ((0 < length rest) × (answer : Answer) × IsFilterAnswer mode size rest answer × (last ≡ written_lines (answer ∷ [])))
+      → IsFiltered mode size (lines_of bytes) (output ++ last)
+  filtered-end bytes rest output last far none (inl end) =
+      let lines : lines_of bytes ≡ far.lines = ap lines_of far.whole ∙ lines-ended far.lines rest far.each ∙ ap (λ (t : List ℕ). far.lines ++ lines_of t) end.0 ∙ append-nil far.lines in
+      subst (λ (t : List (List ℕ)). IsFiltered mode size t (output ++ last)) (sym lines)
+      (subst (λ (t : List ℕ). IsFiltered mode size far.lines t) (sym (ap (λ (t : List ℕ). output ++ t) end.1 ∙ append-nil output)) far.answered)
+  filtered-end bytes rest output last far none (inr end) =
+      let lines : lines_of bytes ≡ far.lines ++ rest ∷ [] =
+      ap lines_of far.whole ∙ lines-ended far.lines rest far.each ∙ ap (λ (t : List (List ℕ)). far.lines ++ t) (lines-last rest none end.0) in
+      subst (λ (t : List (List ℕ)). IsFiltered mode size t (output ++ last)) (sym lines) (
+        far.answered.0 ++ end.1 ∷ [],
+        zip-push (IsFilterAnswer mode size) far.lines far.answered.0 rest end.1 far.answered.1 end.2,
+        ap (λ (t : List ℕ). t ++ last) far.answered.2 ∙ ap (λ (t : List ℕ). written_lines far.answered.0 ++ t) end.3 ∙ sym (written_lines-append far.answered.0 (end.1 ∷ [])),
+      )
+
+-- the answer to a line of which a part came before
+line-answer : (mode : LineMode) (late : Bool) (size : ℕ) (before line : List ℕ) (answer : Answer) → IsLate late size before → length line < size
+    → IsLineAnswer mode late line answer → IsFilterAnswer mode size (before ++ line) answer
+line-answer mode true size before line answer fits less is = record {
+  short = λ bad. absurd (omega (arith, bad, fits.0, length-append before line));
+  long = λ _. is;
+}
+line-answer mode false size before line answer fits less is =
+    subst (λ (t : List ℕ). IsFilterAnswer mode size (t ++ line) answer) (sym fits) (record { short = λ _. is; long = λ bad. absurd (omega (arith, bad, less)) })
+
+pub late-no-feed : (late : Bool) (size : ℕ) (before line : List ℕ) → IsLate late size before → HasNoFeed line → HasNoFeed (before ++ line)
+late-no-feed true size before line fits none = All-append (λ b. (b == line_feed) ≡ false) before line fits.1 none
+late-no-feed false size before line fits none = subst (λ (t : List ℕ). HasNoFeed (t ++ line)) (sym fits) none
+
+module _ (mode : LineMode) (late : Bool) (bytes : List ℕ) where
+  pub answers-none : AnswersLines mode late bytes late bytes []
+  answers-none size before within fits = (before, filtered-none mode size (before ++ bytes), fits)
+
+  -- one more line
+  pub answers-line : (late_then : Bool) (rest output : List ℕ) (at : ℕ) (answer : Answer) → AnswersLines mode late bytes late_then rest output
+      → length rest ≤ length bytes → IsLineEnd rest (Some at) → IsLineAnswer mode late_then (take at rest) answer
+      → AnswersLines mode late bytes false (drop (at + 1) rest) (output ++ written_lines (answer ∷ []))
+  answers-line late_then rest output at answer far shorter ends is size before within fits =
+      let now = far size before within fits in
+      let line = take at rest in
+      let others = drop (at + 1) rest in
+      let less : length line < size = omega (arith, length-take at rest, ends.0, shorter, within) in
+      let one = filtered-line mode size (now.0 ++ line) others answer (late-no-feed late_then size now.0 line now.2 ends.1) (line-answer mode late_then size now.0 line answer now.2 less is) in
+      let cut : now.0 ++ rest ≡ (now.0 ++ line) ++ (line_feed ∷ others) = ap (λ (t : List ℕ). now.0 ++ t) ends.2 ∙ sym (append_assoc now.0 line (line_feed ∷ others)) in
+      let mid = subst (λ (t : List ℕ). IsFilteredTo mode size (before ++ bytes) t output) cut now.1 in
+      ([], filtered-then mode size (before ++ bytes) _ others output (written_lines (answer ∷ [])) mid one, refl)
+
+-- the last line
+pub rest-answered : (mode : LineMode) (late : Bool) (bytes : List ℕ) (answer : Answer) → (late ≡ false → 0 < length bytes) → IsLineAnswer mode late bytes answer
+    → AnswersRest mode late bytes (written_lines (answer ∷ []))
+rest-answered mode true bytes answer some is = record {
+  rest = λ size before less fits. inr (omega (arith, less, fits.0, length-append before bytes), answer, line-answer mode true size before bytes answer fits less is, refl);
+}
+rest-answered mode false bytes answer some is = record {
+  rest = λ size before less fits. inr (omega (arith, some refl, length-append before bytes), answer, line-answer mode false size before bytes answer fits less is, refl);
+}
+
+pub rest-none : (mode : LineMode) (bytes : List ℕ) → bytes ≡ [] → AnswersRest mode false bytes []
+rest-none mode bytes none = record { rest = λ size before less fits. inl (ap (λ (t : List ℕ). t ++ bytes) fits ∙ none, refl) }
+
+-- what a writer took and a reader gave, call after call
+module _ {D : Type 0} (bytes : D → Option (List ℕ)) (a b c : Counted D) where
+  pub takes-then : (x y : List ℕ) → Takes (use_of bytes a b) x → Takes (use_of bytes b c) y → Takes (use_of bytes a c) (x ++ y)
+  takes-then x y first next = record {
+    moved = next.moved ∙ ap (λ (t : List ℕ). t ++ y) first.moved ∙ append_assoc _ x y;
+    known = Appends-trans _ _ _ x y first.known next.known;
+  }
+
+  pub gives-then : (x y : List ℕ) → Gives (use_of bytes a b) x → Gives (use_of bytes b c) y → Gives (use_of bytes a c) (x ++ y)
+  gives-then x y first next = record {
+    moved = next.moved ∙ ap (λ (t : List ℕ). t ++ y) first.moved ∙ append_assoc _ x y;
+    known = Consumes-trans _ _ _ x y first.known next.known;
+  }
+
+module _ {D : Type 0} (bytes : D → Option (List ℕ)) (a : Counted D) where
+  pub takes-none : Takes (use_of bytes a a) []
+  takes-none = record { moved = sym (append-nil _); known = Appends-nil _ }
+
+  pub gives-none : Gives (use_of bytes a a) []
+  gives-none = record { moved = sym (append-nil _); known = Consumes-nil _ }
+
+-- what was taken before, and a beginning of more
+pub takes-part : {D : Type 0} (bytes : D → Option (List ℕ)) (a b c : Counted D) (x y : List ℕ) (n : ℕ) → Takes (use_of bytes a b) x → Takes (use_of bytes b c) (take n y)
+    → (k : ℕ) × Takes (use_of bytes a c) (take k (x ++ y))
+takes-part bytes a b c x y n first next = (length x + n, rw (take-append-add x y n) (takes-then bytes a b c x (take n y) first next))
+
+-- an answer was put after what is used of the buffer, of which a part may have gone to the writer first
+pub used-more : (gone more written old new : List ℕ) (used now end : ℕ) → more ++ take now old ≡ take used old → take end new ≡ take now old ++ written
+    → (gone ++ more) ++ take end new ≡ (gone ++ take used old) ++ written
+used-more gone more written old new used now end room pushed =
+    ap (λ (t : List ℕ). (gone ++ more) ++ t) pushed
+    ∙ append_assoc gone more (take now old ++ written)
+    ∙ ap (λ (t : List ℕ). gone ++ t) (sym (append_assoc more (take now old) written) ∙ ap (λ (t : List ℕ). t ++ written) room)
+    ∙ sym (append_assoc gone (take used old) written)
+
+-- a slice from an index to the end
+pub rest-of : (bytes : List ℕ) (start : ℕ) → take (length bytes - start) (drop start bytes) ≡ drop start bytes
+rest-of bytes start = take_all (length bytes - start) (drop start bytes) (omega (arith, length-drop start bytes))
+
+-- one more line was answered
+pub line-step : (mode : LineMode) (late late_then : Bool) (bytes : List ℕ) (start at : ℕ) (gone more old new : List ℕ) (used free end : ℕ)
+    → AnswersLines mode late bytes late_then (drop start bytes) (gone ++ take used old) → start ≤ length bytes
+    → IsLineEnd (take (length bytes - start) (drop start bytes)) (Some at)
+    → PushesAnswer (IsLineAnswer mode late_then (take (start + at - start) (drop start bytes))) old free new end
+    → more ++ take free old ≡ take used old
+    → AnswersLines mode late bytes false (drop (start + at + 1) bytes) ((gone ++ more) ++ take end new)
+line-step mode late late_then bytes start at gone more old new used free end far within ends pushed room =
+    let rest = drop start bytes in
+    let found = subst (λ (t : List ℕ). IsLineEnd t (Some at)) (rest-of bytes start) ends in
+    let is = subst (λ (n : ℕ). IsLineAnswer mode late_then (take n rest) pushed.answer) (let same : start + at - start ≡ at = omega arith in same) pushed.is in
+    let shorter : length rest ≤ length bytes = omega (arith, length-drop start bytes) in
+    let next = answers-line mode late bytes late_then rest (gone ++ take used old) at pushed.answer far shorter found is in
+    let where_next : drop (at + 1) rest ≡ drop (start + at + 1) bytes =
+    drop-drop (at + 1) start bytes ∙ ap (λ (n : ℕ). drop n bytes) (let same : start + (at + 1) ≡ start + at + 1 = omega arith in same) in
+    let written = used-more gone more (written_lines (pushed.answer ∷ [])) old new used free end room pushed.pushed.grown in
+    subst (λ (t : List ℕ). AnswersLines mode late bytes false t ((gone ++ more) ++ take end new)) where_next
+    (subst (λ (t : List ℕ). AnswersLines mode late bytes false (drop (at + 1) rest) t) (sym written) next)
+
+-- what was put is within the buffer
+pub pushed-within : (text old new : List ℕ) (at end : ℕ) → at ≤ length old → Pushes text old at new end → end ≤ length new
+pushed-within text old new at end within pushed =
+    let size : length (take end new) ≡ length (take at old) + length text = ap (λ (t : List ℕ). length t) pushed.grown ∙ length-append (take at old) text in
+    omega (arith, within, pushed.end_is, size, length-take end new, length-take at old)

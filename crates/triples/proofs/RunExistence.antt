@@ -1,0 +1,151 @@
+-- Each input has an outcome in each mode.
+use Rattle.std.proofs.Common.{◌≡◌, ◌≢◌, ◌⊎◌, ℕ, zero, suc, ◌<◌, Bool, true, false, List, [], ◌∷◌, ◌++◌, codes, Option, Some, None, MatchOption, inl, inr, Result, Ok, Err, refl, sym, ap, subst, ◌∙◌, arith}
+use Rattle.std.proofs.lemmas.Str.{IsUtf8-from_is_utf8, is_utf8-from_IsUtf8}
+use Rattle.std.specs.List.{AllZip}
+use Rattle.std.specs.Str.{IsUtf8, is_utf8}
+use Rattle.serde_json.specs.{Data.Data, Data.Items, Data.no_items, Data.item, Find.as_array, Find.as_str, Find.get_item, Read.read, Written.compact_text}
+use Rattle.target_lexicon.specs.Json.{JsonReadsAs, JsonErrorValue, NotText, Parse, Element, IsElementRead, IsJsonErrorOf, ElementsReadAs, IsFirstError, list_json_of, list_error_line}
+use Rattle.target_lexicon.specs.{FixedPoints.canonical_text, Laws.EveryTextHasOneOutcome, Printing.text_of, Reading.ReadsAs, Reading.IsRefusedAs, Refusal.Refusal, Refusal.refusal_line, Values.Values}
+use Rattle.triples.specs.{Facts.text_with_facts, JsonOutput.IsJsonAnswer, JsonOutput.IsJsonInputErrorOf, Lines.line_feed, Lines.lines_of}
+use Rattle.triples.specs.Output.{Answer, Shown, Refused, IsAnswer, AreAnswers, IsOutput, matrix_of, written_lines}
+use Rattle.triples.specs.Run.{Use, EndsAs}
+use Rattle.triples.specs.RunLaws.{RunGives, EveryInputHasAnOutcome}
+use Rattle.triples.specs.declared.mode.Mode.{Mode}
+use Rattle.triples.specs.declared.mode.Mode.TheVariants.{Print, Show, Settle, Json, Matrix}
+use Rattle.triples.specs.declared.run_error.RunError.{RunError}
+use Rattle.triples.specs.declared.run_error.RunError.TheVariants as run_error
+use Rattle.triples.proofs.UniqueOutputs.{IsJsonText}
+use Rattle.triples.proofs.RunLawLemmas.{Outcome}
+
+-- an outcome that some result has
+abbrev HasOutcome : Mode → List ℕ → Type 0
+HasOutcome mode text = (result : Result (Unit {0}) RunError) × (bytes : List ℕ) × Outcome mode text result bytes
+
+module _ (one : EveryTextHasOneOutcome) where
+  some-answers : (shown : Values → List ℕ) (lines : List (List ℕ)) → (answers : List Answer) × AreAnswers shown lines answers
+  some-answers shown [] = ([], tt)
+  some-answers shown (line ∷ lines) =
+      let rest = some-answers shown lines in
+      elim ((one line).some) as (λ _. (answers : List Answer) × AreAnswers shown (line ∷ lines) answers) [
+        | inl read ↦ (Shown (shown read.0) ∷ rest.0, ((read.0, read.1, refl), rest.1))
+        | inr refused ↦ (Refused (codes "error: " ++ refusal_line refused.0) ∷ rest.0, ((refused.0, refused.1, refl), rest.1))
+      ]
+
+  -- what a string, or a value that is none, is
+  text-outcome : (text : Option (List ℕ)) → ((t : Values) × MatchOption text ⊥ (λ s. ReadsAs s t)) ⊎ ((text ≡ None) ⊎ ((refusal : Refusal) × MatchOption text ⊥ (λ s. IsRefusedAs s refusal)))
+  text-outcome None = inr (inl refl)
+  text-outcome (Some s) =
+      elim ((one s).some) as (λ _. ((t : Values) × ReadsAs s t) ⊎ ((Some s ≡ None) ⊎ ((refusal : Refusal) × IsRefusedAs s refusal))) [ inl read ↦ inl read | inr refused ↦ inr (inr refused) ]
+
+  value-outcome : (value : Data) → ((t : Values) × JsonReadsAs value t) ⊎ ((error : JsonErrorValue) × IsJsonErrorOf value error × (error ≢ Parse None))
+  value-outcome value =
+      elim (text-outcome (as_str value)) as (λ _. ((t : Values) × JsonReadsAs value t) ⊎ ((error : JsonErrorValue) × IsJsonErrorOf value error × (error ≢ Parse None))) [
+        | inl read ↦ inl read
+        | inr other ↦ elim other as (λ _. ((t : Values) × JsonReadsAs value t) ⊎ ((error : JsonErrorValue) × IsJsonErrorOf value error × (error ≢ Parse None))) [
+          | inl none ↦ inr (NotText, none, λ bad. absurd cc)
+          | inr refused ↦ inr (Parse (Some refused.0), refused.1, λ bad. absurd cc)
+        ]
+      ]
+
+  before-next : (value : Data) (values : Items) (i : ℕ) → ((t : Values) × JsonReadsAs value t) → ((k : ℕ) → k < i → IsElementRead values k) → (k : ℕ) → k < suc i → IsElementRead (item value values) k
+  before-next value values i read before zero less = read
+  before-next value values i read before (suc k) less = before k (omega (arith, less))
+
+  elements-outcome : (elements : Items) → ((ts : List Values) × ElementsReadAs elements ts) ⊎ ((i : ℕ) × (error : JsonErrorValue) × IsFirstError elements i error × (error ≢ Parse None))
+  elements-outcome no_items = inl ([], tt)
+  elements-outcome (item value values) =
+      let rest = elements-outcome values in
+      elim (value-outcome value) as
+      (λ _. ((ts : List Values) × ElementsReadAs (item value values) ts) ⊎ ((i : ℕ) × (error : JsonErrorValue) × IsFirstError (item value values) i error × (error ≢ Parse None))) [
+        | inl read ↦ elim rest as
+            (λ _. ((ts : List Values) × ElementsReadAs (item value values) ts) ⊎ ((i : ℕ) × (error : JsonErrorValue) × IsFirstError (item value values) i error × (error ≢ Parse None))) [
+              | inl all ↦ inl (read.0 ∷ all.0, (read.1, all.1))
+              | inr first ↦ inr (suc first.0, first.1, record { here = first.2.here; before = before-next value values first.0 read first.2.before }, first.3)
+            ]
+        | inr bad ↦ inr (zero, bad.0, record { here = bad.1; before = λ k less. absurd (omega (arith, less)) }, bad.2)
+      ]
+
+  array-outcome : (found : Option Items) → (found ≡ None) ⊎ (((ts : List Values) × MatchOption found ⊥ (λ elements. ElementsReadAs elements ts))
+      ⊎ ((i : ℕ) × (error : JsonErrorValue) × MatchOption found ⊥ (λ elements. IsFirstError elements i error) × (error ≢ Parse None)))
+  array-outcome None = inl refl
+  array-outcome (Some elements) =
+      elim (elements-outcome elements) as
+      (λ _. (Some elements ≡ None) ⊎ (((ts : List Values) × ElementsReadAs elements ts) ⊎ ((i : ℕ) × (error : JsonErrorValue) × IsFirstError elements i error × (error ≢ Parse None)))) [
+        | inl all ↦ inr (inl all)
+        | inr first ↦ inr (inr first)
+      ]
+
+  json-outcome : (found : Option Data) → (found ≡ None) ⊎ (MatchOption found ⊥ (λ value. as_array value ≡ None) ⊎ ((output : List ℕ) × IsJsonText found output))
+  json-outcome None = inl refl
+  json-outcome (Some value) =
+      elim (array-outcome (as_array value)) as (λ _. (Some value ≡ None) ⊎ ((as_array value ≡ None) ⊎ ((output : List ℕ) × IsJsonText (Some value) output))) [
+        | inl none ↦ inr (inl none)
+        | inr list ↦ elim list as (λ _. (Some value ≡ None) ⊎ ((as_array value ≡ None) ⊎ ((output : List ℕ) × IsJsonText (Some value) output))) [
+          | inl all ↦ (let text = compact_text (list_json_of all.0) in inr (inr (text ++ line_feed ∷ [], (text, inl (all.0, all.1, refl), refl))))
+          | inr first ↦ (let text = codes "error: " ++ list_error_line (Element first.0 first.1) in
+              inr (inr (text ++ line_feed ∷ [], (text, inr (first.0, (first.1, (first.2, first.3, refl))), refl))))
+        ]
+      ]
+
+  text-has-outcome : (mode : Mode) (text : List ℕ) → IsUtf8 text → HasOutcome mode text
+  text-has-outcome Print text utf8 = let found = some-answers text_of (lines_of text) in (Ok tt, written_lines found.0, (utf8, (found.0, found.1, refl)))
+  text-has-outcome Show text utf8 = let found = some-answers text_with_facts (lines_of text) in (Ok tt, written_lines found.0, (utf8, (found.0, found.1, refl)))
+  text-has-outcome Settle text utf8 = let found = some-answers canonical_text (lines_of text) in (Ok tt, written_lines found.0, (utf8, (found.0, found.1, refl)))
+  text-has-outcome Matrix text utf8 = let found = some-answers canonical_text (lines_of text) in (Ok tt, written_lines (matrix_of found.0), (utf8, (found.0, found.1, refl)))
+  text-has-outcome Json text utf8 =
+      elim (json-outcome (read text)) as (λ _. HasOutcome Json text) [
+        | inl none ↦ (Err run_error.NotJson, [], (refl, utf8, none, refl))
+        | inr some ↦ elim some as (λ _. HasOutcome Json text) [
+          | inl other ↦ (Err run_error.NotList, [], (refl, utf8, other, refl))
+          | inr output ↦ (Ok tt, output.0, (utf8, output.1))
+        ]
+      ]
+
+  has-outcome : (mode : Mode) (text : List ℕ) (b : Bool) → is_utf8 text ≡ b → HasOutcome mode text
+  has-outcome mode text true is = text-has-outcome mode text (IsUtf8-from_is_utf8 text is)
+  has-outcome mode text false is =
+      (Err run_error.NotUtf8, [], ((λ utf8. let bad : false ≡ true = sym is ∙ is_utf8-from_IsUtf8 text utf8 in absurd cc), refl))
+
+-- what such a run did to its reader and its writer
+abbrev read_from : List ℕ → Use
+read_from text = record { bytes_before = Some text; bytes_after = Some []; failures_before = 0; failures_after = 0; moved_before = []; moved_after = text }
+
+abbrev written_to : List ℕ → Use
+written_to bytes = record { bytes_before = Some []; bytes_after = Some bytes; failures_before = 0; failures_after = 0; moved_before = []; moved_after = bytes }
+
+ends : (mode : Mode) (text bytes : List ℕ) (result : Result (Unit {0}) RunError) → Outcome mode text result bytes → EndsAs mode (read_from text) (written_to bytes) result
+ends mode text bytes (Ok _) is = ((refl, refl), refl, (is.0, (bytes, is.1, refl)))
+ends mode text bytes (Err run_error.Read) is = absurd is
+ends mode text bytes (Err run_error.Write) is = absurd is
+ends mode text bytes (Err run_error.NotUtf8) is = ((refl, refl), (is.1, refl), is.0)
+ends mode text bytes (Err run_error.NotJson) is = (is.0, (refl, refl), (is.3, refl), (is.1, is.2))
+ends mode text bytes (Err run_error.NotList) is = (is.0, (refl, refl), (is.3, refl), (is.1, is.2))
+ends mode text bytes (Err run_error.OutOfMemory) is = absurd is
+
+memory : (mode : Mode) (text bytes : List ℕ) (result : Result (Unit {0}) RunError) → Outcome mode text result bytes → result ≢ Err run_error.OutOfMemory
+memory mode text bytes (Ok _) is bad = absurd cc
+memory mode text bytes (Err run_error.Read) is bad = absurd cc
+memory mode text bytes (Err run_error.Write) is bad = absurd cc
+memory mode text bytes (Err run_error.NotUtf8) is bad = absurd cc
+memory mode text bytes (Err run_error.NotJson) is bad = absurd cc
+memory mode text bytes (Err run_error.NotList) is bad = absurd cc
+memory mode text bytes (Err run_error.OutOfMemory) is bad = absurd is
+
+-- a run with this outcome
+run-of : (mode : Mode) (text : List ℕ) (result : Result (Unit {0}) RunError) (bytes : List ℕ) → Outcome mode text result bytes → RunGives mode text result bytes
+run-of mode text result bytes is = record {
+  input = read_from text;
+  written = written_to bytes;
+  ends = ends mode text bytes result is;
+  read_unfailed = refl;
+  write_unfailed = refl;
+  memory = memory mode text bytes result is;
+  text_is = refl;
+  start = [];
+  start_is = refl;
+  end_is = refl;
+}
+
+pub every_input_has_an_outcome : EveryTextHasOneOutcome → EveryInputHasAnOutcome
+every_input_has_an_outcome one mode text =
+    let found = has-outcome one mode text (is_utf8 text) refl in (found.0, found.1, run-of mode text found.0 found.1 found.2)

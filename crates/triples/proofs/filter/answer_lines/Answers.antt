@@ -1,0 +1,59 @@
+use Rattle.std.proofs.Common.{◌≡◌, ◌∙◌, ◌+◌, ◌-◌, ◌<◌, ◌≤◌, ◌++◌, ℕ, List, [], ◌∷◌, length, take, drop, refl, sym, ap, subst, arith, rules}
+use Rattle.std.proofs.lemmas.List.{length-drop, drop-drop}
+use Rattle.triples.specs.{Filter.HasNoFeed, FilterSteps.AnswersLines, Output.written_lines, Run.Takes, Run.use_of}
+use Rattle.triples.proofs.FilterLemmas.{answers-none, answers-line, takes-none, takes-then, takes-part, rest-of, line-step, pushed-within}
+use Rattle.triples.proofs.filter.answer_lines.Goals as goal
+
+pub loop-at-init : goal.loop-at-init
+loop-at-init g c = record {
+  start = search rules;
+  used = search rules;
+  unfailed = refl;
+  written = ([], takes-none g.W.Write.contents c.args.w.now, answers-none c.args.mode c.args.is_late c.args.bytes.now);
+}
+
+pub loop-at-preserved : goal.loop-at-preserved
+loop-at-preserved g c =
+    let inv = c.loop-at.invariant in
+    let found = c.in-Some.ensures in
+    let room = c.in-Ok.ensures in
+    let pushed = c.push_line-used.ensures in
+    let rest = drop c.loop-at.start c.args.bytes.now in
+    record {
+      start = omega (arith, found.0, inv.start, length-drop c.loop-at.start c.args.bytes.now, rest-of c.args.bytes.now c.loop-at.start, ap (λ (t : List ℕ). length t) (rest-of c.args.bytes.now c.loop-at.start));
+      used = pushed-within _ c.loop-at.output c.push_line-used.new.out c.in-Ok.free c.push_line-used.result (omega (arith, room.1)) pushed.pushed;
+      unfailed = room.0 ∙ inv.unfailed;
+      written = (
+        inv.written.0 ++ room.2,
+        takes-then g.W.Write.contents c.args.w.now c.loop-at.w c.make_room.new.w inv.written.0 room.2 inv.written.1 room.3,
+        line-step c.args.mode c.args.is_late c.loop-at.late c.args.bytes.now c.loop-at.start c.in-Some.at inv.written.0 room.2 c.loop-at.output c.push_line-used.new.out
+            c.loop-at.used c.in-Ok.free c.push_line-used.result inv.written.2 inv.start found pushed room.4,
+      );
+    }
+
+pub returns-in_default-make_room-clause-lines : goal.returns-in_default-make_room-clause-lines
+returns-in_default-make_room-clause-lines g c =
+    let inv = c.loop-at.invariant in
+    let failed = c.in_default-make_room.ensures in
+    let part = takes-part g.W.Write.contents c.args.w.now c.loop-at.w c.make_room.new.w inv.written.0 (take c.loop-at.used c.loop-at.output) failed.2 inv.written.1 failed.3 in
+    (refl, omega (arith, failed.1, inv.unfailed), inv.written.0 ++ take c.loop-at.used c.loop-at.output, c.loop-at.late, drop c.loop-at.start c.args.bytes.now, inv.written.2, part.0, part.1)
+
+pub returns-in-Ok-write_all-clause-lines : goal.returns-in-Ok-write_all-clause-lines
+returns-in-Ok-write_all-clause-lines g c =
+    let inv = c.loop-at.invariant in
+    let none = subst (λ (t : List ℕ). HasNoFeed t) (rest-of c.args.bytes.now c.loop-at.start) c.in_default.ensures in
+    let wrote = c.in-Ok-write_all.ensures in (
+      wrote.unfailed ∙ inv.unfailed,
+      inv.start,
+      none,
+      inv.written.0 ++ take c.loop-at.used c.loop-at.output,
+      takes-then g.W.Write.contents c.args.w.now c.loop-at.w c.write_all.new.writer inv.written.0 (take c.loop-at.used c.loop-at.output) inv.written.1 wrote.whole,
+      inv.written.2,
+    )
+
+pub returns-in-Err-clause-lines : goal.returns-in-Err-clause-lines
+returns-in-Err-clause-lines g c =
+    let inv = c.loop-at.invariant in
+    let failed = c.in-Err.ensures in
+    let part = takes-part g.W.Write.contents c.args.w.now c.loop-at.w c.write_all.new.writer inv.written.0 (take c.loop-at.used c.loop-at.output) failed.part.0 inv.written.1 failed.part.1 in
+    (refl, omega (arith, failed.failed.1, inv.unfailed), inv.written.0 ++ take c.loop-at.used c.loop-at.output, c.loop-at.late, drop c.loop-at.start c.args.bytes.now, inv.written.2, part.0, part.1)

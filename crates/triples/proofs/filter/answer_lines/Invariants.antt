@@ -1,0 +1,16 @@
+-- The lines before `start` were answered: what has gone to the writer and what is used of the buffer are their answers.
+use Rattle.std.proofs.Common.{◌≡◌, ◌-◌, ◌≤◌, ◌++◌, ℕ, List, length, take, drop}
+use Rattle.triples.specs.{FilterSteps.AnswersLines, Run.Takes, Run.use_of}
+use Rattle.triples.proofs.filter.answer_lines.Given as goal
+
+abbrev pub invariant-loop-at : goal.invariant-loop-at
+invariant-loop-at g l = record {
+  start : l.start ≤ length l.bytes;
+  used : l.used ≤ length l.output;
+  unfailed : l.w.failures.count ≡ l.initial.w.failures.count;
+  written : (gone : List ℕ) × Takes (use_of g.W.Write.contents l.initial.w l.w) gone
+      × AnswersLines l.mode l.is_late l.bytes l.late (drop l.start l.bytes) (gone ++ take l.used l.output);
+}
+
+abbrev pub decreases-loop-at : goal.decreases-loop-at
+decreases-loop-at g l = length l.bytes - l.start

@@ -1,0 +1,94 @@
+use Rattle.std.proofs.Common.{◌≡◌, ◌∙◌, ◌+◌, ◌-◌, ◌<◌, ◌≤◌, ◌++◌, ℕ, List, [], length, take, drop, Ok, Err, refl, sym, ap, subst, arith, rules}
+use Rattle.std.proofs.lemmas.List.{length-append, length-drop, length-take}
+use Rattle.std.proofs.lemmas.Slice.{take-put_mid_below}
+use borrow.Rule.Slice.PartMut.{put_mid}
+use Rattle.triples.specs.Run.{Gives, use_of}
+use Rattle.triples.specs.FilterSteps.{IsKept, LinesAnswered, RestAnswered}
+use Rattle.triples.proofs.FilterLoop.{IsBetweenReads, between-none, between-more, between-kept, ends-read, ends-rest, ends-write, ends-endless, read-piece, gave, length-read, unfailed-read, part-length}
+use Rattle.triples.proofs.filter.filter.Goals as goal
+
+pub loop-init : goal.loop-init
+loop-init g c = record {
+  held = c.requires.some;
+  same_length = refl;
+  state = between-none g.R.Read.remaining g.W.Write.contents c.args.mode (length c.args.input.now) c.args.r.now c.args.w.now;
+}
+
+pub loop-preserved : goal.loop-preserved
+loop-preserved g c =
+    let size = length c.args.input.now in
+    let read = c.in-Ok.ensures in
+    let inv = c.loop.invariant in
+    let kept = c.keep_rest.ensures in
+    let buffer = put_mid c.loop.held (length c.loop.input - c.loop.held) c.loop.input c.read.new.buf in
+    let held = take c.loop.held c.loop.input in
+    let more = take c.in-Ok.taken c.read.new.buf in
+    let piece = take (c.loop.held + c.in-Ok.taken) buffer in
+    let given : length c.read.new.buf ≡ length c.loop.input - c.loop.held = c.read.auto.buf ∙ part-length c.loop.held c.loop.input in
+    let is : piece ≡ held ++ more = read-piece c.loop.held c.in-Ok.taken (length c.loop.input - c.loop.held) c.loop.input c.read.new.buf (omega (arith, inv.held)) read.bound.0 in
+    let fits : length piece ≤ size =
+    omega (arith, ap (λ (t : List ℕ). length t) is, length-append held more, length-take c.loop.held c.loop.input, length-take c.in-Ok.taken c.read.new.buf, read.bound.0, given, inv.held, inv.same_length) in
+    let some : 0 < length more = omega (arith, read.bound.1, c.if-taken-eq0.false) in
+    let whole = length-read c.loop.held c.loop.input c.read.new.buf (omega (arith, inv.held)) given in
+    let next =
+    between-more g.R.Read.remaining g.W.Write.contents c.args.mode size c.args.r.now c.loop.r c.read.new.self c.args.w.now c.loop.w c.answer_lines.new.w c.loop.is_late held c.loop.counter inv.state
+    more (gave g.R.Read.remaining c.loop.r c.read.new.self more read.moved read.bytes.0) (unfailed-read (use_of g.R.Read.remaining c.loop.r c.read.new.self) read.count) piece is fits
+    c.in-Ok-answer_lines.start c.in-Ok-answer_lines.late some c.in-Ok-answer_lines.ensures.lines in
+    let keeps =
+    subst (λ (n : ℕ). IsKept n c.in-Ok-answer_lines.late (drop c.in-Ok-answer_lines.start piece) c.keep_rest.new.buffer c.keep_rest.result.0 c.keep_rest.result.1) (whole ∙ inv.same_length) kept.kept in
+    record {
+      held = kept.held;
+      same_length = kept.same_length ∙ whole ∙ inv.same_length;
+      state =
+          between-kept g.R.Read.remaining g.W.Write.contents c.args.mode size c.in-Ok-answer_lines.late c.keep_rest.result.1 (drop c.in-Ok-answer_lines.start piece) c.keep_rest.new.buffer
+          c.keep_rest.result.0 (use_of g.R.Read.remaining c.args.r.now c.read.new.self) (use_of g.W.Write.contents c.args.w.now c.answer_lines.new.w) (c.loop.counter + 1) keeps next;
+    }
+
+pub returns-in_default : goal.returns-in_default
+returns-in_default g c =
+    let failed = c.in_default.ensures in
+    record {
+      ends =
+          ends-read g.R.Read.remaining g.W.Write.contents c.args.mode (length c.args.input.now) c.args.r.now c.loop.r c.read.new.self c.args.w.now c.loop.w c.loop.w c.loop.is_late
+          (take c.loop.held c.loop.input) c.loop.counter c.loop.invariant.state failed.bytes failed.moved failed.count;
+    }
+
+pub returns-then-taken-eq0 : goal.returns-then-taken-eq0
+returns-then-taken-eq0 g c =
+    let read = c.in-Ok.ensures in
+    let inv = c.loop.invariant in
+    let held = take c.loop.held c.loop.input in
+    let more = take c.in-Ok.taken c.read.new.buf in
+    let none : more ≡ [] = ap (λ (n : ℕ). take n c.read.new.buf) c.if-taken-eq0.true in
+    let given : length c.read.new.buf ≡ length c.loop.input - c.loop.held = c.read.auto.buf ∙ part-length c.loop.held c.loop.input in
+    let room : 0 < length c.read.new.buf = omega (arith, given, inv.held) in
+    let same : take c.loop.held (put_mid c.loop.held (length c.loop.input - c.loop.held) c.loop.input c.read.new.buf) ≡ held =
+    take-put_mid_below c.loop.held (length c.loop.input - c.loop.held) c.loop.input c.read.new.buf c.loop.held (omega arith) (omega (arith, inv.held)) in
+    let done = subst (λ (t : List ℕ). RestAnswered c.args.mode c.loop.is_late t (use_of g.W.Write.contents c.loop.w c.finish.new.w) c.finish.result) same c.finish.ensures in
+    record {
+      ends =
+          ends-rest g.R.Read.remaining g.W.Write.contents c.args.mode (length c.args.input.now) c.args.r.now c.loop.r c.read.new.self c.args.w.now c.loop.w c.finish.new.w c.loop.is_late
+          held c.loop.counter inv.state more c.finish.result none (gave g.R.Read.remaining c.loop.r c.read.new.self more read.moved read.bytes.0)
+          (unfailed-read (use_of g.R.Read.remaining c.loop.r c.read.new.self) read.count)
+          (read.bytes.1 c.if-taken-eq0.true room) (omega (arith, length-take c.loop.held c.loop.input, inv.held, inv.same_length)) done;
+    }
+
+pub returns-in_default-answer_lines : goal.returns-in_default-answer_lines
+returns-in_default-answer_lines g c =
+    let size = length c.args.input.now in
+    let read = c.in-Ok.ensures in
+    let inv = c.loop.invariant in
+    let buffer = put_mid c.loop.held (length c.loop.input - c.loop.held) c.loop.input c.read.new.buf in
+    let held = take c.loop.held c.loop.input in
+    let more = take c.in-Ok.taken c.read.new.buf in
+    let piece = take (c.loop.held + c.in-Ok.taken) buffer in
+    let given : length c.read.new.buf ≡ length c.loop.input - c.loop.held = c.read.auto.buf ∙ part-length c.loop.held c.loop.input in
+    let is : piece ≡ held ++ more = read-piece c.loop.held c.in-Ok.taken (length c.loop.input - c.loop.held) c.loop.input c.read.new.buf (omega (arith, inv.held)) read.bound.0 in
+    let fits : length piece ≤ size =
+    omega (arith, ap (λ (t : List ℕ). length t) is, length-append held more, length-take c.loop.held c.loop.input, length-take c.in-Ok.taken c.read.new.buf, read.bound.0, given, inv.held, inv.same_length) in
+    record {
+      ends =
+          ends-write g.R.Read.remaining g.W.Write.contents c.args.mode size c.args.r.now c.loop.r c.read.new.self c.args.w.now c.loop.w c.answer_lines.new.w c.loop.is_late held c.loop.counter inv.state
+          more (gave g.R.Read.remaining c.loop.r c.read.new.self more read.moved read.bytes.0) (unfailed-read (use_of g.R.Read.remaining c.loop.r c.read.new.self) read.count) piece is fits
+          c.in_default-answer_lines.field-0 c.in_default-answer_lines.ensures.lines;
+    }

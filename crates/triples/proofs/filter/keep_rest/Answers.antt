@@ -1,0 +1,23 @@
+use Rattle.std.proofs.Common.{◌≡◌, ◌∙◌, ℕ, List, ◌+◌, ◌-◌, ◌≤◌, length, take, drop, inl, inr, refl, sym, ap, arith}
+use Rattle.std.proofs.lemmas.List.{drop-take, length-drop}
+use lib.Seq.{take-paste, paste}
+use Rattle.triples.proofs.filter.keep_rest.Goals as goal
+
+-- the bytes that are copied to the front are those from `start` on
+kept : (old : List ℕ) (start end : ℕ) → start ≤ end → end ≤ length old → take (end - start) (paste old 0 (drop start old) (end - start)) ≡ drop start (take end old)
+kept old start end order within =
+    let n = end - start in
+    let same : n ≡ 0 + n = omega arith in
+    let whole : start + n ≡ end = omega (arith, order) in
+    ap (λ (m : ℕ). take m (paste old 0 (drop start old) n)) same
+    ∙ take-paste old 0 (drop start old) n (omega arith) (omega (arith, length-drop start old, order, within))
+    ∙ sym (drop-take start n old) ∙ ap (λ (m : ℕ). drop start (take m old)) whole
+
+pub returns-clause-kept : goal.returns-clause-kept
+returns-clause-kept c =
+    inr (
+      refl,
+      c.if-is_late.false,
+      ap (λ (t : List ℕ). take (c.args.end - c.args.start) t) c.copy_within.ensures.after
+          ∙ kept c.args.buffer.now c.args.start c.args.end c.requires.order c.requires.within,
+    )
