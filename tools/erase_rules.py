@@ -21,7 +21,7 @@ ITEMS = {
 NON_EXHAUSTIVE = set(
     """Architecture ArmArchitecture Aarch64Architecture CleverArchitecture Riscv32Architecture Riscv64Architecture
     X86_32Architecture Mips32Architecture Mips64Architecture Z80Architecture Vendor KnownVendor OperatingSystem Environment BinaryFormat
-    CallingConvention CDataModel Explanation Refusal Sources""".split())
+    CallingConvention CDataModel Explanation Family Refusal Sources""".split())
 # The public types that get the derive `Hash` too.
 HASHED = set("Explanation Family Field Refusal Source Sources TextPart".split())
 

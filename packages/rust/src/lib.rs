@@ -17,8 +17,13 @@
 //! # Ok::<(), target_lexicon::ParseError>(())
 //! ```
 //!
-//! [`TripleExt::parse`] has an error that shows the place and owns the string, [`TripleRef`] is a triple that borrows from the
-//! string, [`TripleRef::explain`] says which part gave each field, and [`TripleExt::settle`] gives a key.
+//! What upstream doesn't have:
+//!
+//! - **A key**: [`TripleExt::settle`] gives the canonical form.
+//! - **Errors**: [`TripleExt::parse`] has one that owns the string and shows the place, with the name that was perhaps meant.
+//! - **Without an allocator**: [`TripleRef`] borrows from the string. [`TripleRef::write_to`] prints into a buffer.
+//! - **Where each field comes from**: [`TripleRef::explain`] gives an [`Explanation`], whose [`Sources`] have a [`Source`] for each field, which
+//!   may be a [`TextPart`] of the string.
 //!
 //! Upstream's types have upstream's methods. What they have besides is in traits, which a program imports: [`TripleExt`], [`Named`],
 //! [`OperatingSystemExt`] and [`ParseErrorExt`].

@@ -18,6 +18,7 @@ use crate::proved::{
 /// let triple = TripleRef::from_str("riscv32imc-esp-espidf-elf").unwrap();
 /// assert_eq!((triple.comes_back(), triple.family()), (false, Some(Family::PrintsTheEspIdfText)));
 /// ```
+#[non_exhaustive]
 #[derive(Clone, Copy, Debug, PartialEq, Eq, Hash)]
 pub enum Family {
     /// The first three fields are those of `armv6k-nintendo-3ds` or `riscv32imc-esp-espidf`, which is printed, and

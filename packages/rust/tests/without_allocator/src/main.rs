@@ -1,7 +1,7 @@
 //! Ends with status 0 if a triple is parsed, asked and printed as it should. rustc builds it only if no crate needs an allocator.
 #![no_std]
 #![no_main]
-use target_lexicon::{CDataModel, Field, Source, TripleRef, VendorRef, HOST};
+use target_lexicon::{CDataModel, Field, Source, TripleExt, TripleRef, VendorRef, HOST};
 use target_names::{read, Dialect, LinuxLibc, TargetInfo};
 
 #[link(name = "c")]
@@ -36,7 +36,8 @@ pub extern "C" fn main() -> i32 {
     assert_eq!(refusal.expected, Some(Field::OperatingSystem));
     assert_eq!(refusal.suggestion().unwrap(), "linux");
     // A `Triple` is there too; only its custom vendor can't own a string.
-    assert_eq!(HOST.pointer_width(), HOST.as_triple_ref().pointer_width());
+    assert_eq!(HOST.pointer_width().ok(), TripleRef::from(&HOST).pointer_width().ok());
+    assert!(HOST.comes_back() && custom != HOST);
     let platform = Dialect::Oci.read("linux/arm64").unwrap();
     let triple = platform.with_c_library(LinuxLibc::Musl);
     assert_eq!(Dialect::Rust.write(triple).unwrap(), "aarch64-unknown-linux-musl");
