@@ -83,6 +83,7 @@ mod serde;
 #[doc(hidden)]
 pub mod spellings;
 mod suggestions;
+mod visible;
 #[rustfmt::skip]
 mod words;
 
