@@ -761,8 +761,8 @@ const char *lexicon_name_suggestion(uint32_t dialect, const char *name, size_t n
 
        Unrecognized operating system: linx
 
-   lexicon_error_text writes three lines, without a line feed at the end. Characters that control a terminal are replaced, and
-   so are bytes that are no character:
+   lexicon_error_text writes three lines, without a line feed at the end. What isn't printable ASCII is escaped, as \u{1b}, and
+   bytes that are no character are \u{fffd}:
 
        Unrecognized operating system: linx
          x86_64-pc-linx

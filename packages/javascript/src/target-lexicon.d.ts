@@ -248,8 +248,8 @@ export class ParseError extends Error {
   /** Whether `translate` has a name with a C library that is said. */
   readonly needsLibc: boolean;
   /**
-   * The message, the string below it, and carets below the refused part, with the suggestion or the reason. A control character is
-   * shown as U+FFFD; `message` keeps it.
+   * The message, the string below it, and carets below the refused part, with the suggestion or the reason. What isn't printable
+   * ASCII is escaped; `message` keeps it.
    */
   readonly report: string;
 }

@@ -1,7 +1,9 @@
 //! What the plain modules of `tool_names` say: what a compiler's driver asks, the values of rustc's cfg options, and suggestions.
 use target_lexicon::{DeploymentTarget, Endianness, Field, PointerWidth, Triple, TripleRef};
 use target_lexicon::{Named as _, TripleExt as _};
-use target_names::{suggestion, CLibrary, Dialect, FloatAbi, TargetInfo, TypeLayout};
+use target_names::{
+    suggestion, suggestions, CLibrary, Dialect, FloatAbi, LinuxLibc, TargetInfo, TypeLayout,
+};
 
 /// A triple, and after `=` its C library, how floating-point arguments are passed, whether it is like Unix, and the size
 /// and alignment of `long double` and `wchar_t`.
@@ -708,4 +710,33 @@ fn calls_take_either_type_of_triple() {
     assert_eq!(triple.rustc_cfg(), borrowed.rustc_cfg());
     assert_eq!(triple.c_library(), borrowed.c_library());
     assert_eq!(triple.object_format(), borrowed.object_format());
+}
+
+#[test]
+fn an_error_shows_printable_ascii() {
+    let shows = |shown: String| {
+        assert!(shown.bytes().all(|it| (b' '..=b'~').contains(&it)), "{shown}");
+    };
+    for c in ('\0'..='\u{3400}').chain('\u{a000}'..='\u{11fff}').chain('\u{e0000}'..='\u{e01ff}') {
+        for dialect in [Dialect::Gnu, Dialect::Node] {
+            for name in [format!("{c}-linux-gnu"), format!("@{c}/linux-x46")] {
+                if let Err(error) = dialect.parse(&name) {
+                    shows(error.to_string());
+                    shows(error.mistake().map_or(String::new(), |it| it.to_string()));
+                }
+            }
+        }
+        shows(format!("{c}").parse::<Dialect>().unwrap_err().to_string());
+        shows(format!("{c}").parse::<LinuxLibc>().unwrap_err().to_string());
+    }
+}
+
+#[test]
+fn suggestions_are_those_of_each_dialect() {
+    for name in ["linux/amd46", "linux-x46", "/opt/linux/amd64/", "AMD64", "turbo-linux-arm64", "x86_64-pc-linx", ""] {
+        let of_each = Dialect::ALL.iter().filter_map(|it| Some((*it, it.suggestion(name)?)));
+        assert!(suggestions(name).eq(of_each), "{name}");
+        let long = format!("{}/{name}", "a".repeat(256));
+        assert_eq!(suggestions(&long).next(), None);
+    }
 }
