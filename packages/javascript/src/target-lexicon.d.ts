@@ -273,8 +273,8 @@ export class Triple {
   /** The triple of a string. Throws a ParseError if the string is refused. */
   static parse(text: string): Triple;
   /**
-   * The triple of what another tool calls a target. Without a dialect, the string is spelled like a triple, such as what `cc -dumpmachine`
-   * prints: `x86_64-w64-mingw32` is read as `x86_64-pc-windows-gnu`. With one, it is a name of that tool, and no other is tried; what
+   * The triple of what another tool calls a target. Without a dialect, the string is spelled like a triple, as clang takes it after
+   * `-target`: `x86_64-w64-mingw32` is read as `x86_64-pc-windows-gnu`. With one, it is a name of that tool, and no other is tried; what
    * the name doesn't state is unknown. Throws a ParseError for any other string, and where a name means no triple.
    */
   static read(text: string, dialect?: Dialect | null): Triple;
