@@ -67,7 +67,7 @@ pub(crate) fn rows_2() -> &'static [Row] {
 }
 
 #[rustfmt::skip]
-static ROWS_2: [(&str, &str, Way); 39] = [
+static ROWS_2: [(&str, &str, Way); 46] = [
     ("mipsisa64r6el-linux-musl", "mipsisa64r6el-unknown-linux-musl", Both),
     ("powerpc--netbsd", "powerpc-unknown-netbsd", Both),
     ("powerpc-linux-gnu", "powerpc-unknown-linux-gnu", Both),
@@ -83,6 +83,13 @@ static ROWS_2: [(&str, &str, Way); 39] = [
     ("riscv64-linux-gnu", "riscv64-unknown-linux-gnu", Both),
     ("riscv64-linux-musl", "riscv64-unknown-linux-musl", Both),
     ("riscv64-unknown-elf", "riscv64-unknown-none-elf", Both),
+    ("alpha-linux-gnu", "its architecture is no known name", NoTriple),
+    ("arc-linux-gnu", "its architecture is no known name", NoTriple),
+    ("h8300-hms", "its architecture is no known name", NoTriple),
+    ("hppa-linux-gnu", "its architecture is no known name", NoTriple),
+    ("hppa64-linux-gnu", "its architecture is no known name", NoTriple),
+    ("or1k-elf", "its architecture is no known name", NoTriple),
+    ("sh4-linux-gnu", "its architecture is no known name", NoTriple),
     ("rs6000", "powerpc-ibm-aix", Read),
     ("s390x-linux-gnu", "s390x-unknown-linux-gnu", Both),
     ("s390x-linux-musl", "s390x-unknown-linux-musl", Both),
