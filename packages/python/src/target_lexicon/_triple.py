@@ -111,7 +111,7 @@ class Triple:
         >>> Triple.read("linux/arm64", Dialect.OCI), Triple.read("armhf", "debian")
         (Triple('aarch64-unknown-linux'), Triple('armv7-unknown-linux-gnueabihf'))
 
-        Without a dialect the string is spelled like a triple, as `cc -dumpmachine` and `config.guess` print it:
+        Without a dialect the string is spelled like a triple, as clang takes it after `-target`:
 
         >>> Triple.read("x86_64-w64-mingw32"), Triple.read("amd64-unknown-freebsd13.2")
         (Triple('x86_64-pc-windows-gnu'), Triple('x86_64-unknown-freebsd'))
