@@ -128,7 +128,7 @@ const tests = {
   "a report has carets below the part": () => {
     const report = "Unrecognized operating system: linx\n  x86_64-pc-linx\n            ^^^^ did you mean `linux`?";
     assert.equal(refusal("x86_64-pc-linx").report, report);
-    assert.equal(refusal("x86_64-\u{1f600}\n-x").report, "Unrecognized vendor: \u{1f600}\ufffd\n  x86_64-\u{1f600}\ufffd-x\n         ^^");
+    assert.equal(refusal("x86_64-\u{1f600}\n-x").report, "Unrecognized vendor: \u{1f600}\ufffd\n  x86_64-\u{1f600}\ufffd-x\n         ^^^"); // two columns and one
   },
   "a report of a long string": () => {
     const lines = refusal(`x86_64-${"Z".repeat(999)}`).report.split("\n");
