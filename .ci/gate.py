@@ -5,7 +5,7 @@ usage: .ci/run [--without NAME]..   NAME is a tool or Debian's package of it, as
 
 While `rt ci` proves, what needs no proof is built with cargo and tested; what the two built is tested after both. Each step
 runs by itself too, as it is printed, with WORK as any folder, and BUILT as WORK/built. As root, Debian's packages of missing tools
-are installed; then every step runs as the user `nobody`, in a copy of the tree. If a tool is still missing that no --without
+are installed; then every step runs as the user `nobody`, in a copy of the tree. If a tool is still missing, or too old, that no --without
 names, no step runs, and the gate fails. A step that needs a named tool isn't run; a step without a part that needs one fails,
 unless that is named in WITHOUT, where the steps get all names. A step fails that listens where other machines reach it. With
 UPSTREAM, the folder of upstream's crate, upstream's tests, public surface and dependents are tried too. The last lines say how
@@ -36,6 +36,8 @@ PACKAGES = {it: it for it in "git clang valgrind cmake meson cbindgen jq pkg-con
     **{f"/usr/share/cargo/registry/{crate}": f"librust-{package}-dev" for crate, package in (
         ("clap-4.0.32", "clap-4"), ("clap_complete-4.0.7", "clap-complete"), ("serde_json-1.0.87", "serde-json"), ("cfg-expr-0.10.3", "cfg-expr"), ("cc-1*", "cc"))},
 }
+# The oldest versions that will do, also of what is in /usr/bin, where Debian's packages are built. An older tool is a missing one.
+OLDEST = {"rustc": "1.68", "cargo": "1.68", "cmake": "3.19", "node": "18.0", "clang": "14.0"}
 GROUPS = {"kit": ["rt"], "browser": ["chromium", "chromedriver", "selenium"]}
 
 
@@ -97,7 +99,16 @@ lock = threading.Lock()
 def missing():
     """The tools that aren't there, and that aren't named."""
     tools = dict.fromkeys([*PACKAGES, *(tool for step in [*FIRST, PROOFS, *WITHOUT_PROOF, *LAST] for tool in step[2].split())])
-    return [tool for tool in tools if tool not in WITHOUT and not has(tool)]
+    return [tool for tool in tools if tool not in WITHOUT and (not has(tool) or too_old(tool))]
+
+
+def too_old(tool):
+    """What is too old of a tool: the path and the version of each of its commands that is; empty if none is."""
+    paths = {*filter(os.path.exists, (shutil.which(tool) or "", f"/usr/bin/{tool}"))} if tool in OLDEST else ()
+    said = {path: subprocess.run([path, "--version"], capture_output=True, text=True).stdout for path in sorted(paths)}
+    versions = {path: re.search(r"\d+\.\d+", text) for path, text in said.items()}
+    return [f"{path} is {it[0]}, and {OLDEST[tool]} is needed" for path, it in versions.items()
+            if it and [*map(int, it[0].split("."))] < [*map(int, OLDEST[tool].split("."))]]
 
 
 def has(tool):
@@ -190,7 +201,8 @@ def install(environment):
         running.discard(process)
     tools = missing()
     if tools:
-        failed.append((f"missing: {' '.join(tools)}. Install these, or name what may be left out, as with --without {tools[0]}", 2))
+        old = "".join(f" ({it})" for tool in tools for it in too_old(tool))
+        failed.append((f"missing: {' '.join(tools)}{old}. Install these, or name what may be left out, as with --without {tools[0]}", 2))
 
 
 def beside(environment):

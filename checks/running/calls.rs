@@ -202,7 +202,8 @@ pub fn relations(r: &mut Report, string: &str) {
             Source::NotGiven => V::C(s::SourceValue__NotGiven, &[]),
             Source::Implied => V::C(s::SourceValue__Implied, &[]),
         });
-        r.holds("AreSourcesOf", s::AreSourcesOf(x, s::source_values(found[0], found[1], found[2], found[3], found[4])).yes(), &string);
+        let all = s::source_values(found[0], found[1], found[2], found[3], found[4]);
+        r.holds("AreSourcesOf", s::AreSourcesOf(x, all).yes() && s::AreInText(x, all).yes(), &string);
         r.holds("AreSourcesOf of others", !s::AreSourcesOf(x, s::source_values(found[0], found[1], found[2], found[4], found[3])).yes() || eq(found[3], found[4]), &string);
     } else {
         r.holds("IsRefusedAs", s::IsRefusedAs(x, it[0]).yes(), &string);

@@ -48,7 +48,7 @@ fn values() -> Vec<V> {
 fn domain(kind: &str) -> Vec<V> {
     let some = |x: V| con(s::Option__Some, &[x]);
     match kind {
-        "ℕ" | "A" | "B" | "C" | "E" => BYTES.map(N).to_vec(),
+        "ℕ" | "A" | "B" | "C" => BYTES.map(N).to_vec(),
         "Bool" | "Type 0" => [true, false].map(truth).to_vec(),
         "Ordering" => [s::Ordering__Less, s::Ordering__Equal, s::Ordering__Greater].map(|it| V::C(it, &[])).to_vec(),
         "List ℕ" | "List A" | "List B" => lists(),
@@ -65,15 +65,13 @@ fn domain(kind: &str) -> Vec<V> {
         "Data" => values(),
         "List Data" => [0, 1, 3].map(|count| keep(|| library::seq(&values()[..count]))).to_vec(),
         "Items" => domain("List Data").into_iter().map(|it| keep(|| s::items_of(it))).collect(),
-        "Result A E" => BYTES.iter().flat_map(|it| [s::Result__Ok, s::Result__Err].map(|tag| keep(|| con(tag, &[N(*it)])))).collect(),
         "Option A" => options(BYTES.map(N).to_vec()),
-        "( A → Bool )" | "( A → Type 0 )" | "( E → Type 0 )" => vec![
+        "( A → Bool )" | "( A → Type 0 )" => vec![
             keep(|| function(|x| truth(x.number() == 45))), keep(|| function(|x| truth(x.number() > 45))),
             keep(|| function(|_| truth(true))), keep(|| function(|_| truth(false))),
         ],
         "( A → B )" => vec![keep(|| function(|x| library::add(x, N(7)))), keep(|| function(|_| N(3)))],
         "( A → Option B )" => vec![keep(|| function(move |x| if x.number() > 45 { some(x) } else { V::C(s::Option__None, &[]) }))],
-        "( A → List B )" => vec![keep(|| function(|x| library::seq(&[x, N(1), x]))), keep(|| function(|_| library::seq(&[])))],
         "( A → A → Bool )" | "( A → B → Type 0 )" => vec![pairs(library::nat_eq), pairs(library::nat_lt)],
         "( A → A → Ordering )" => vec![pairs(s::nat_cmp), pairs(|a, b| s::nat_cmp(b, a)), pairs(|_, _| V::C(s::Ordering__Equal, &[]))],
         "( B → B → C )" => vec![pairs(library::add), pairs(library::nat_lt)],

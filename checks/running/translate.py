@@ -2,8 +2,7 @@
 
 The definitions are a small functional language. Types aren't used: each value is a `V` of values.rs. A definition becomes a function
 of its arguments, and a proposition a test, whose variables range over the domain of their type (DOMAINS). Definitions of the kit's
-library are those of library.txt; what has no clauses there is a function of values.rs. The tables that definitions cite from the
-code are read from the proved source. What isn't understood is an error that names it.
+library are those of library.txt; what has no clauses there is a function of values.rs. What isn't understood is an error that names it.
 
 A proposition is translated if a Rust file of this folder, or another translated one, names it. One without arguments is a law: a
 function of its variables, except for those that an equation or a relation before the arrow gives (`solution`). Each condition that a
@@ -70,7 +69,7 @@ def chunks(text):
 # ---- reading
 
 class Parser:
-    """Expressions are tuples: var, num, str, nil, get, app, op, tuple, lam, if, let, record, all, any. Patterns are expressions too."""
+    """Expressions are tuples: var, num, str, nil, get, app, op, tuple, lam, if, record, all, any. Patterns are expressions too."""
 
     def __init__(self, text):
         self.tokens, self.at = [(it[0], it.start(), it.end()) for it in TOKEN.finditer(text)] + [("", -1, -1)], 0
@@ -106,9 +105,6 @@ class Parser:
             return self.function()
         if token == "if":
             return ("if", self.after("if"), self.after("then"), self.after("else"))
-        if token == "let":
-            self.next()
-            return ("let", self.next(), self.after("="), self.after("in"))
         if token == "(" and re.match(r"\( ([\w ]+) : ", " ".join(it[0] for it in self.tokens[self.at:self.at + 12])):
             return self.quantified()
         if token == "¬":
@@ -299,7 +295,7 @@ class Kit(Module):
 
 
 class Names:
-    """What a name is: a definition, a constructor, a constant of the code, a function of values.rs, or a module or namespace."""
+    """What a name is: a definition, a constructor, a function of values.rs, or a module or namespace."""
 
     def __init__(self, root, kit):
         self.root, self.kit = root, kit and Kit(kit)
@@ -313,12 +309,9 @@ class Names:
 
     def lookup(self, path):
         path = tuple(path)
-        for word, kind in (("TheVariants", "constructor"), ("TheConstants", "constant")):
-            if word in path:
-                at = path.index(word)
-                if not path[at + 1:]:
-                    return "namespace", path
-                return kind, f"{path[at - 1]}__{path[-1]}" if kind == "constructor" else path
+        if "TheVariants" in path:
+            at = path.index("TheVariants")
+            return ("constructor", f"{path[at - 1]}__{path[-1]}") if path[at + 1:] else ("namespace", path)
         if path[0] != "Rattle" or path[1] not in CRATES:
             return self.exported(self.module(LIBRARY), path[-1])
         if self.module(path):
@@ -381,7 +374,7 @@ class Rust:
         self.root, self.names, self.compared = root, Names(root, kit), []
         self.constructors, self.arity, self.shapes, self.wholes = {}, {}, {}, {}
         self.fields = {"now": None, "value": None}  # those of references and boxes; of others the definition that has one first
-        self.functions, self.of, self.constants, self.fresh, self.cited, self.failed = [], {}, 5, 0, {}, []  # values.rs has the first 5 constants
+        self.functions, self.of, self.constants, self.fresh, self.failed = [], {}, 5, 0, []  # values.rs has the first 5 constants
         self.todo, self.definition, self.look_ups = [], None, 0
         self.laws, self.law_definitions, self.claims, self.claims_of, self.others = [], set(), [], {}, ""
         self.forms, self.wrong_forms = self.read_forms(), []
@@ -593,10 +586,6 @@ class Rust:
             return self.str_code(it[2][0], scope)
         return self.applied(it[1], it[2], scope)
 
-    def let_code(self, it, scope):
-        name = self.local(it[1])
-        return f"{{ let {name} = {self.expression(it[2], scope)[0]}; {self.expression(it[3], scope | {it[1]: name})[0]} }}", NO
-
     def lam_code(self, it, scope):
         body = self.once(*self.expression(it[2], scope | {it[1]: self.local(it[1])}))
         return f"function(move |{self.local(it[1])}| {body})", NO if (variables(it[2]) - {it[1]}) & set(scope) else YES
@@ -796,11 +785,6 @@ class Rust:
             call = f"con({self.constructor(what)}, &[{{}}])" if count else f"C({self.constructor(what)}, &[])"
         elif kind == "built in":
             count, call = len(arguments_in(what.type)), f"library::{what.name}({{}})"
-        elif kind == "constant":
-            self.cited[what] = f"constant_{len(self.cited)}" if what not in self.cited else self.cited[what]
-            return f"{self.cited[what]}()", YES
-        elif head == ("var", "cond"):
-            return self.expression(("if", *arguments), scope)
         elif not kind:
             return self.given(*self.expression(head, scope), arguments, scope)
         else:
@@ -830,11 +814,10 @@ class Rust:
     # ---- the whole source
 
     def source(self):
-        constants = [f"fn {name}() -> V {{ {self.constant(path)} }}\n" for path, name in self.cited.items()]
         shapes = list(self.shapes.values())
         tags = [(it, *it.split("__", 1), []) for it in self.constructors]
         tags += [("R_" + "_".join(it), "", "", it) for it in shapes] + [("TUPLE", "", "", [])]
-        out = ["// Written by checks/specification from the definitions of crates/*/specs.\nuse crate::values::*;\n", *self.functions, *constants]
+        out = ["// Written by checks/specification from the definitions of crates/*/specs.\nuse crate::values::*;\n", *self.functions]
         out += [f"pub const {it[0]}: u32 = {i};\n" for i, it in enumerate(tags)]
         rows = ", ".join(f"({type!r}, {name!r}, &{fields})".replace("'", '"') for _, type, name, fields in tags)
         out.append(f"/// A tag: its type, its name, and the fields of a record.\npub static TAGS: &[(&str, &str, &[&str])] = &[{rows}];\n")
@@ -884,45 +867,3 @@ class Rust:
             if it not in self.law_definitions and it.module.path != LIBRARY and len(types) == len(it.clauses[0][0]):
                 given = ", ".join(f"a[{i}]" for i in range(len(types)))
                 yield f"""("{it.title}", &[{', '.join(f'"{type}"' for type in types)}], |a| {self.of[it.module.path, it.name]}({given}))"""
-
-    def constant(self, path):
-        """A constant of the code, by its type, from the proved source."""
-        crate, folders, name = path[1], path[path.index("declared") + 1:-2], path[-1]
-        file = self.root.joinpath("crates", crate, "src", *folders).with_suffix(".rt")
-        found = re.search(rf"(?:static|const) {name}: (.*?) =\s*(.*?);$", file.read_text(encoding="utf-8"), re.S | re.M)
-        if not found:
-            raise Untranslated(f"{file.relative_to(self.root)} has no constant {name}")
-        tokens = re.findall(r'"(?:\\.|[^"\\])*"|\w+|[^\s\w]', found[2])
-        return self.literal(re.sub(r"\s", "", found[1]), tokens)
-
-    def literal(self, type, tokens):
-        if it := re.fullmatch(r"\[(.*);\d+\]|&\[(.*)\]", type):
-            if tokens[0] == "&":
-                tokens.pop(0)
-            items, item_type = [], it[1] or it[2]
-            tokens.pop(0)
-            while tokens[0] != "]":
-                items.append(self.literal(item_type, tokens))
-                if tokens[0] == ",":
-                    tokens.pop(0)
-            tokens.pop(0)
-            return f"library::seq(&[{', '.join(items)}])"
-        if type[0] == "(":
-            items = []
-            for item_type in type[1:-1].split(","):
-                tokens.pop(0)  # the bracket, or a comma
-                items.append(self.literal(item_type, tokens))
-            while tokens.pop(0) != ")":
-                pass
-            return f"con(TUPLE, &[{', '.join(items)}])"
-        token = tokens.pop(0)
-        if type in ("&str", "&'staticstr"):
-            return f"con(R_now, &[text({token})])"
-        if type == "u16" and token.isdigit():
-            return f"V::N({token})"
-        if not token[0].isalpha():
-            raise Untranslated(f"{token} isn't a {type}")
-        while tokens and tokens[0] == ":":
-            tokens[:2] = []
-            token = tokens.pop(0)
-        return f"C({self.constructor(f'{type}__{token}')}, &[])"

@@ -374,10 +374,6 @@ pub mod library {
         let (xs, beginning) = (xs.list(), beginning.list());
         truth(xs.len() >= beginning.len() && beginning.iter().zip(xs).all(|(a, b)| apply(apply(is_equal, *a), *b).yes()))
     }
-    pub fn ends_with(is_equal: V, xs: V, end: V) -> V {
-        let (xs, end) = (xs.list(), end.list());
-        truth(xs.len() >= end.len() && end.iter().rev().zip(xs.iter().rev()).all(|(a, b)| apply(apply(is_equal, *a), *b).yes()))
-    }
     pub fn slice_split(test: V, xs: V) -> V {
         seq(&xs.list().split(|x| apply(test, *x).yes()).map(|part| L(part)).collect::<Vec<_>>())
     }

@@ -31,9 +31,12 @@ def rows(tables, wrong):
             ranges = [about for text, _, _, about in tables.versions if name.startswith(text) or name.endswith(text)]
             of = sources_of(dialect, name, note, in_notes)
             used |= {*of}
-            yield {"tool": dialect.name, "name": name, "triple": None if ways == "-" else triple, "read": "r" in ways, "written": "w" in ways,
+            has_triple = ways not in ("-", "several")
+            if ways == "several":
+                note = f"several machines: {triple.replace('+', ' and ')}"
+            yield {"tool": dialect.name, "name": name, "triple": triple if has_triple else None, "read": ways in ("r", "rw"), "written": "w" in ways,
                    "other_names": others if "w" in ways else [], "states_version_of": ranges[0] if ranges else None,
-                   "reason": note if ways == "-" else None, "note": note if note and ways != "-" else None, "sources": of}
+                   "reason": None if has_triple else note, "note": note if note and has_triple else None, "sources": of}
     wrong += [f"elsewhere.tsv: no row is from the source {it}" for it in tables.sources if it not in used]
 
 

@@ -6,7 +6,7 @@ from names_table import Mistake, columns, filled
 
 PATH = "packages/names/elsewhere.tsv"
 DAY = re.compile(r"\d{4}-\d\d-\d\d")
-WAYS = {"rw": "Both", "r": "Read", "w": "Written", "-": "NoTriple"}
+WAYS = {"rw": "Both", "r": "Read", "w": "Written", "-": "NoTriple", "several": "Several"}
 DIALECT, ONLY_WRITTEN = "# dialect ", "# only written: "
 # The rules of a dialect: for each word of its line the field of `Rules`, and its value for each choice. The first choice goes
 # without saying. A dialect may have other names too.
@@ -15,7 +15,8 @@ RULES = {"machine": ("machine", {"order": "MachineRule::Order", "version": "Mach
          "abi": ("abi", {"kept": "AbiRule::Kept", "dropped": "AbiRule::Dropped", "linux": "AbiRule::KeptOnLinux",
                   "windows": "AbiRule::KeptOnLinuxAndWindows", "systems": "AbiRule::KeptOnSystems"}),
          "versions": ("versions", {"no": "false", "yes": "true"}), "tags": ("tags", {"no": "false", "yes": "true"}),
-         "spelled": ("spelled", {"no": "false", "yes": "true"}), "platforms": ("platforms", {"no": "false", "yes": "true"})}
+         "spelled": ("spelled", {"no": "false", "yes": "true"}), "platforms": ("platforms", {"no": "false", "yes": "true"}),
+         "itself": ("itself", {"no": "false", "yes": "true"})}
 
 
 @dataclass
@@ -36,7 +37,7 @@ class Source:
 @dataclass
 class Dialect:
     """A dialect: its rules, its other names, what is said of it, the patterns of names of each source, and its rows. A row is a name, what it means
-    or why it has no triple, and its way. `lines` are the rows as the file has them: name, triple, ways and note, or the reason."""
+    or why it has no triple, and its way. `notes` are those for who reads a name. `lines` are the rows as the file has them: name, triple, ways and note, or the reason."""
     name: str
     rules: dict
     other_names: list
@@ -44,6 +45,7 @@ class Dialect:
     sources: dict = field(default_factory=dict)
     rows: list = field(default_factory=list)
     lines: list = field(default_factory=list)
+    notes: list = field(default_factory=list)
 
     @property
     def variant(self):
@@ -67,11 +69,13 @@ class Elsewhere:
     """The dialects in the order of their numbers, the rows of `first` and `later`, the words of config.sub, and why a name isn't read
     that is only written. `whys` has the reasons that rows without a triple cite, by their names."""
     dialects: dict = field(default_factory=dict)
-    words: dict = field(default_factory=lambda: {"maker": [], "kernel": [], "system": []})
+    words: dict = field(default_factory=lambda: {"maker": [], "kernel": [], "system": [], "notmachine": [], "notsystem": [], "othermaker": [], "novendor": []})
     parts: dict = field(default_factory=lambda: {"first": [], "second": [], "hard": [], "later": []})
     only_written: str = ""
     versions: list = field(default_factory=list)
     reasons: list = field(default_factory=list)
+    refusals: list = field(default_factory=list)
+    notes: dict = field(default_factory=dict)
     sources: dict = field(default_factory=dict)
     whys: dict = field(default_factory=dict)
 
@@ -98,9 +102,9 @@ def read_line(found, line, known, cited):
         add_dialect(found, *line.removeprefix(DIALECT).split())
     elif line.startswith(ONLY_WRITTEN):
         found.only_written = line.removeprefix(ONLY_WRITTEN)
-    elif word := re.match(r"# (why|reason|versions|source|from)(?=\t| *$)", line):
+    elif word := re.match(r"# (why|note|reason|refusal|versions|source|from)(?=\t| *$)", line):
         add_line(found, last, word[1], line.split("\t")[1:])
-    elif re.match(r"# (why|reason|versions|source|from) ", line) and (last or found.sources):
+    elif re.match(r"# (why|note|reason|refusal|versions|source|from) ", line) and (last or found.sources):
         raise Mistake("after the first word of such a line comes a tab, and tabs are between its columns")
     elif not line.startswith("#"):
         add_row(found, columns(line, ["a dialect", "a name", "a triple", "the ways", "a note"], 4), known, cited)
@@ -133,6 +137,11 @@ def add_line(found, last, word, cells):
         if why in found.whys or text in found.whys.values():
             raise Mistake("this reason, or its name, is there already")
         found.whys[why] = text
+    elif word == "note":
+        name, text = columns(cells, ["the name of a note", "the note"])
+        found.notes[name] = text
+    elif word == "refusal":
+        found.refusals.append(columns(cells, ["a constant", "the reason"]))
     elif word == "reason":
         found.reasons.append(columns(cells, ["a variant of `WriteError`", "the reason"]))
     elif word == "versions":
@@ -172,12 +181,17 @@ def add_row(found, cells, known, cited):
         raise Mistake("a row has a triple and ways, or `-` for both, and the name of a reason as its note")
     if ways == "-" and "".join(note) not in found.whys:
         raise Mistake(f"the note is the name of a line `# why`, not `{''.join(note)}`: {', '.join(found.whys)}")
-    if ways != "-":
-        check_triple(triple, known, of)
+    for it in triple.split("+") if ways != "-" else []:
+        check_triple(it, known, of, name)
     if of:
         check_row(of.lines, name, triple, ways)
         cited.update(note if ways == "-" else [])
         note = [found.whys[it] for it in note] if ways == "-" else note
+        if note and note[0].startswith("+"):
+            if note[0][1:] not in found.notes:
+                raise Mistake(f"the note after `+` is the name of a line `# note`, not `{note[0][1:]}`")
+            note = [found.notes[note[0][1:]]]
+            of.notes.append((name, *note))
         of.lines.append((name, triple, ways, *note))
         of.rows.append((name, note[0] if ways == "-" else triple.replace("*", ""), WAYS[ways]))
         return
@@ -188,9 +202,11 @@ def add_row(found, cells, known, cited):
     found.parts[dialect].append((name, triple, WAYS[ways]))
 
 
-def check_triple(triple, known, of):
-    """Each part is a known name. That the triple is canonical is tried by the tests of packages/names."""
+def check_triple(triple, known, of, name):
+    """Each part is a known name, or a part of the name if its triple may be itself. That the triple is canonical is tried by the tests of packages/names."""
     first, *later = triple.split("-")
+    if of and of.rules["itself"] == "yes":
+        later = [part for part in later if part not in name.split("-")]
     if first not in (known[""] if of else known[""] | known["-"]):
         raise Mistake(f"`{first}` of {triple} is no known name of tools/names/names.tsv")
     for part in later:
@@ -203,8 +219,8 @@ def check_row(lines, name, triple, ways):
     if ("*" in triple) != ("*" in name and bool(re.search("macosx|ios", triple))):
         raise Mistake("a triple of macOS or iOS has a star exactly if its name has one, and no other triple has one")
     same = [it for it in lines if it[0] == name]
-    if same and (ways != "w" or same[0][2] != "-"):
-        raise Mistake(f"`{name}` means {same[0][1]} already: only rows `w` share a name, after a row `-` that says why it isn't read")
+    if same and (ways != "w" or same[0][2] not in ("-", "r")):
+        raise Mistake(f"`{name}` means {same[0][1]} already: only rows `w` share a name, after a row `r` or `-` that says what it means or why it isn't read")
     written = [it[0] for it in lines if it[1] == triple and "w" in it[2]]
     if written and "w" in ways:
         raise Mistake(f"{triple} has the name `{written[0]}` already: one of the two is only read, `r`")
@@ -237,7 +253,7 @@ NO_SYSTEM = "triples have no system "
 def rust_lists(tables):
     dialects = tables.dialects.values()
     reasons = {tables.only_written, *(f"{NO_SYSTEM}{word}" for word in tables.words["system"])}
-    reasons |= {text for _, text in tables.reasons} | {meaning for it in dialects for _, meaning, way in it.rows if way == "NoTriple"}
+    reasons |= {text for _, text in tables.reasons + tables.refusals} | {meaning for it in dialects for _, meaning, way in it.rows if way == "NoTriple"}
     return {
         "the reasons for C": [rf'"{reason}\0",' for reason in sorted(reasons)],
         "the reasons": [line for name, text in tables.reasons for line in (f"/// {text[0].upper()}{text[1:]}.", f"{name},")],
@@ -321,6 +337,10 @@ def files(tables):
         "/// Why a string isn't read that has such a system, by its name.",
         "macro_rules! systems {", "    ($($word:literal)*) => {",
         f'        &[$(($word, concat!("{NO_SYSTEM}", $word))),*]', "    };", "}", "",
+        "/// Why a name isn't read that no row refuses.", "pub(crate) mod refusals {",
+        *(f'    pub(crate) const {name}: &str = "{text}";' for name, text in tables.refusals), "}", "",
+        "/// Why config.sub refuses a string, which is no name.", f"pub(crate) const OF_CONFIG_SUB: [&str; {len(tables.refusals) - 1}] = [",
+        *(f"    refusals::{name}," for name, _ in tables.refusals if name != "SEVERAL"), "];", "",
         "/// A text that patterns begin or end with, the least first number of a version, and the most.",
         "pub(crate) static VERSION_RANGES: &[(&str, u16, u16)] = &[",
         *(f'    ("{text}", {least}, {most}),' for text, least, most, _ in tables.versions), "];", "",
@@ -328,9 +348,10 @@ def files(tables):
     ]
     for it in dialects:
         lines += [f"    Table {{ rules: {table_rules(it)}, rows: &[", *(f'        ("{name}", "{meaning}", {way}),' for name, meaning, way in it.rows), "    ],"]
+        lines += [f"    notes: &[", *(f'        ("{name}", "{note}"),' for name, note in it.notes), "    ],"]
         for word, numbers in zip(("by_name", "patterns"), row_orders(it)):
             lines += [f"    {word}: &[", *(filled(numbers, " ", "        ") if numbers else []), "    ],"]
         lines += ["    },"]
-    lines += ["];", *texts("MAKERS", "maker"), *texts("KERNELS", "kernel"), "",
+    lines += ["];", *texts("MAKERS", "maker"), *texts("KERNELS", "kernel"), *texts("NOT_MACHINES", "notmachine"), *texts("NOT_SYSTEMS", "notsystem"), *texts("OTHER_MAKERS", "othermaker"), *texts("NO_VENDORS", "novendor"), "",
               "pub(crate) static SYSTEMS: &[(&str, &str)] = systems![", *filled([f'"{it}"' for it in words["system"]], " ", "    "), "];", ""]
     return {"packages/names/src/table.rs": "\n".join(lines)}

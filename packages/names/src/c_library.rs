@@ -65,8 +65,9 @@ impl LinuxLibc {
         };
         let environment = match architecture {
             Architecture::Arm(arm) => match arm_of_version(arm) {
-                ArmArchitecture::Arm | ArmArchitecture::Armv6 => hard,
-                ArmArchitecture::Armv7 | ArmArchitecture::Armv8 => hard,
+                // Which of the two isn't said.
+                ArmArchitecture::Arm => Unknown,
+                ArmArchitecture::Armv6 | ArmArchitecture::Armv7 | ArmArchitecture::Armv8 => hard,
                 ArmArchitecture::Armv5te => soft,
                 _ => usual,
             },

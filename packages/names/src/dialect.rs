@@ -1,8 +1,10 @@
 //! The dialects, whose names are read and written by the rows of [`TABLES`].
 use crate::gnu::read_as_gnu;
+use crate::loose::last_tag;
 use crate::name::Name;
 use crate::platform::row_of_platform;
 use crate::shape::{is_another_target, unversioned, AbiRule, Rules};
+use crate::table::refusals::SEVERAL;
 use crate::table::{Dialect, DIALECT_NAMES, ONLY_WRITTEN, OTHER_NAMES, TABLES, VERSION_RANGES};
 use core::cmp::Ordering;
 use core::fmt;
@@ -17,6 +19,8 @@ pub(crate) enum Way {
     Written,
     /// It is known, and no triple means the same.
     NoTriple,
+    /// It means several triples, with `+` between them.
+    Several,
 }
 
 /// A name, the canonical triple that it means or why it has none, and how it is used. A star in the name is a number.
@@ -29,6 +33,8 @@ pub(super) struct Table {
     /// The numbers of the rows without a star, in the order of the bytes of their names, and those of the others.
     pub by_name: &'static [u16],
     pub patterns: &'static [u16],
+    /// What some names say that their triples don't.
+    pub notes: &'static [(&'static str, &'static str)],
 }
 
 /// The numbers of a name where its pattern has stars: two, or one and 0.
@@ -86,7 +92,8 @@ impl Dialect {
         self.table().rows
     }
 
-    /// The triple that a name of this dialect means. It is canonical, and has a known vendor. What the name doesn't
+    /// The triple that a name of this dialect means. It is canonical, and has a known vendor, except that a target of rustc that parses
+    /// is itself: [`note`](Dialect::note) returns what the name says and the triple doesn't. What the name doesn't
     /// state is unknown: `linux/arm64` of Go is `aarch64-unknown-linux`, without a C library. Nothing is allocated.
     ///
     /// A name of Python is read by its tag: `macosx-11.0-arm64` and `macosx_11_0_arm64` mean the same. A name of GNU that is
@@ -108,24 +115,73 @@ impl Dialect {
     /// assert_eq!(Dialect::Go.read("linux/foo"), Err(NameError::Unknown));
     /// ```
     pub fn read(self, name: &str) -> Result<TripleRef<'static>, NameError> {
-        let Table { rules, rows, .. } = self.table();
-        if let Some((row, numbers)) = self.table().row_named(name) {
-            return meaning(row, numbers);
+        match self.row_of(name) {
+            Some((row, numbers)) => meaning(row, numbers),
+            None if self.table().rules.spelled => read_as_gnu(name),
+            None => Err(NameError::Unknown),
         }
-        if rules.spelled {
-            return read_as_gnu(name);
+    }
+
+    /// The row that has a name, or its tag or platform, and the numbers of the name.
+    #[inline]
+    fn row_of(self, name: &str) -> Option<(&'static Row, Numbers)> {
+        let table = self.table();
+        let found = table.row_named(name);
+        if found.is_none() && table.rules.platforms {
+            return Some((row_of_platform(table.rows, name)?, None));
         }
-        let platform = if rules.platforms {
-            row_of_platform(rows, name)
+        found
+    }
+
+    /// What a name of this dialect says that its triple doesn't: that `linux/amd64/v3` of OCI is for a level of x86-64, or what the
+    /// vendor of a target of rustc says. `None` if there is no more, or no such name.
+    ///
+    /// # Examples
+    ///
+    /// ```
+    /// use target_names::Dialect;
+    ///
+    /// assert_eq!(Dialect::Oci.read("linux/amd64/v3"), Dialect::Oci.read("linux/amd64"));
+    /// assert_eq!(Dialect::Oci.note("linux/amd64/v3"), Some("for a level of x86-64, which a triple can't state"));
+    /// assert_eq!(Dialect::Oci.note("linux/amd64"), None);
+    /// ```
+    #[must_use]
+    pub fn note(self, name: &str) -> Option<&'static str> {
+        let (row, _) = self.row_of(name)?;
+        let mut notes = self.table().notes.iter().filter(|it| it.0 == row.0);
+        notes.next().map(|it| it.1)
+    }
+
+    /// The triples that a name of this dialect means: several of a name such as `universal2`, which [`read`](Dialect::read) refuses, that
+    /// of every other name that is [read](Dialect::read_loosely), and none of others.
+    ///
+    /// # Examples
+    ///
+    /// ```
+    /// use target_names::Dialect;
+    ///
+    /// let both = Dialect::Rust.read_each("universal2-apple-darwin").map(|it| it.to_string());
+    /// assert!(both.eq(["x86_64-apple-darwin", "aarch64-apple-darwin"]));
+    /// assert_eq!(Dialect::Go.read_each("linux/amd64").count(), 1);
+    /// ```
+    pub fn read_each(self, name: &str) -> impl Iterator<Item = TripleRef<'static>> + Clone {
+        let tag = if self == Dialect::Python {
+            last_tag(name)
         } else {
-            None
+            name
         };
-        platform.map_or(Err(NameError::Unknown), |row| meaning(row, None))
+        let (several, numbers) = match self.row_of(tag) {
+            Some((row, numbers)) if row.2 == Way::Several => (row.1, numbers),
+            _ => ("", None),
+        };
+        let each = several.split('+').filter(|it| !it.is_empty());
+        let each = each.filter_map(move |triple| with_numbers(triple, numbers).ok());
+        each.chain(self.read_loosely(name).ok())
     }
 
     /// The name of a triple in this dialect: that of its [shape](Dialect::shape). `None` if it has none, and if its vendor
     /// says that the target is another one: a system that no triple has, such as `wasip3`, or a variant such as `uwp`.
-    /// Nothing is allocated.
+    /// In GNU a triple that has no name of a cross compiler is its own name where config.sub takes it. Nothing is allocated.
     ///
     /// # Examples
     ///
@@ -169,10 +225,13 @@ impl Dialect {
 
     /// The name of a triple, which states a version if one is said.
     fn name_of(self, triple: &TripleRef<'_>, version: Numbers) -> Option<Name> {
-        if is_another_target(triple.vendor) {
-            return None;
-        }
         let mut rules = self.table().rules;
+        if is_another_target(triple.vendor) || triple.vendor.is_custom() && rules.itself {
+            let itself = self.row_of_itself(triple).filter(|_| version.is_none());
+            if itself.is_some() || is_another_target(triple.vendor) {
+                return itself.map(|row| Name::filled(row.0, None));
+            }
+        }
         if version.is_some() {
             rules.abi = AbiRule::Kept;
         }
@@ -199,8 +258,32 @@ impl Dialect {
         let length = shape.write_to(&mut buffer);
         let text = buffer.get(..length)?;
         let mut rows = self.rows().iter().filter(|row| row.1.as_bytes() == text);
-        rows.find(|row| is_wanted(row))
-            .map(|row| Name::filled(row.0, numbers))
+        match rows.find(|row| is_wanted(row)) {
+            Some(row) => Some(Name::filled(row.0, numbers)),
+            None if rules.spelled && version.is_none() => {
+                let text = core::str::from_utf8(text).ok()?;
+                let is_name = text.len() <= Name::MOST && read_as_gnu(text) == Ok(shape);
+                is_name.then(|| Name::filled(text, None))
+            }
+            None => None,
+        }
+    }
+
+    /// The name without a version that is written for a triple, if a row has it.
+    pub(crate) fn row_written(self, triple: &TripleRef<'_>) -> Option<&'static str> {
+        let name = self.name_of(triple, None)?;
+        let mut rows = self.rows().iter().filter(|row| is_written(row));
+        rows.find(|row| row.0 == name.as_str()).map(|row| row.0)
+    }
+
+    /// The row that means just this triple, with its vendor.
+    fn row_of_itself(self, triple: &TripleRef<'_>) -> Option<&'static Row> {
+        let mut buffer = [0; MAX_LENGTH];
+        let length = triple.write_to(&mut buffer);
+        let text = buffer.get(..length)?;
+        let rows = self.rows().iter().filter(|_| self.table().rules.itself);
+        let mut rows = rows.filter(|row| row.1.as_bytes() == text && is_read(row));
+        rows.next()
     }
 
     /// The triple without what the dialect doesn't name: the vendor, which is the usual one of the system; the version
@@ -263,8 +346,14 @@ fn meaning(row: &Row, numbers: Numbers) -> Result<TripleRef<'static>, NameError>
         Way::Both | Way::Read => {}
         Way::Written => return Err(NameError::WithoutTriple(ONLY_WRITTEN)),
         Way::NoTriple => return Err(NameError::WithoutTriple(row.1)),
+        Way::Several => return Err(NameError::WithoutTriple(SEVERAL)),
     }
-    let mut triple = TripleRef::from_str(row.1).map_err(|_| NameError::Unknown)?;
+    with_numbers(row.1, numbers)
+}
+
+/// The triple of a row's text with some numbers.
+fn with_numbers(text: &'static str, numbers: Numbers) -> Result<TripleRef<'static>, NameError> {
+    let mut triple = TripleRef::from_str(text).map_err(|_| NameError::Unknown)?;
     if let (Some((major, minor)), Some(version)) =
         (numbers, version_in(&mut triple.operating_system))
     {

@@ -1,10 +1,13 @@
 //! The name that is suggested for an unknown name of a dialect.
 use crate::dialect::{Row, Way};
-use crate::{Dialect, FloatAbi};
+use crate::hints::triple_of_words;
+use crate::{hint, read, Dialect, FloatAbi, Hint};
 use core::ops::Range;
 use target_lexicon::spellings::meant;
 use target_lexicon::spellings::{architecture_of, machine_of, Abi, Machine};
-use target_lexicon::{Architecture, PointerWidth, TripleRef};
+use target_lexicon::{
+    Architecture, PointerWidth, Riscv32Architecture, Riscv64Architecture, TripleRef,
+};
 
 impl Dialect {
     /// The name that is suggested for an unknown one, of those without a version that [`read`](Dialect::read) knows. Nothing is
@@ -33,8 +36,14 @@ impl Dialect {
         if let Some(known) = found.or_else(|| self.name_inside(name)) {
             return Some(known);
         }
+        if let Some(known) = self.name_of_words(name) {
+            return Some(known);
+        }
         let read = self.rows_read();
         let stated = Stated::of(name);
+        if stated.is_other {
+            return None;
+        }
         if let Some(word) = &stated.machine {
             let mut others = read.clone().filter(|row| word.is_in(name, row));
             // A machine of Arm's says nothing of floating-point arguments by itself.
@@ -60,6 +69,18 @@ impl Dialect {
             |row| stated.allows(row),
         )
         .or_else(|| self.name_at_end(name))
+        .or_else(|| match hint(name)? {
+            Hint::Triple(triple) => self.row_written(&triple),
+            _ => None,
+        })
+    }
+}
+
+impl Dialect {
+    /// The name of what is spelled like a triple or, if that isn't known, of what all words say.
+    fn name_of_words(self, name: &str) -> Option<&'static str> {
+        let triple = read(name).ok().or_else(|| triple_of_words(name))?;
+        self.row_written(&triple)
     }
 }
 
@@ -93,6 +114,8 @@ impl Said {
 struct Stated {
     machine: Option<MachineWord>,
     floats: Option<FloatAbi>,
+    /// A machine that isn't known here, and would pass for a misspelled one.
+    is_other: bool,
 }
 
 impl Stated {
@@ -101,6 +124,10 @@ impl Stated {
         Stated {
             machine: words(name).find_map(|range| MachineWord::at(range, name)),
             floats: Stated::floats_in(name),
+            is_other: words(name).any(|range| {
+                name.get(range)
+                    .map_or(false, |it| OTHER_MACHINES.contains(&it))
+            }),
         }
     }
 
@@ -165,6 +192,15 @@ impl MachineWord {
         let are_versions = is_version(word) && is_version(&name[self.range.clone()]);
         match (triple_of(row), self.architecture) {
             (Some(triple), Architecture::Arm(_)) => triple.architecture == self.architecture,
+            // No profile or extension that the name doesn't state.
+            (Some(triple), Architecture::Riscv32(_) | Architecture::Riscv64(_)) => {
+                let is_usual = matches!(
+                    triple.architecture,
+                    Architecture::Riscv32(Riscv32Architecture::Riscv32gc)
+                        | Architecture::Riscv64(Riscv64Architecture::Riscv64gc)
+                );
+                is_usual || triple.architecture == self.architecture
+            }
             (Some(triple), Architecture::X86_32(_)) => {
                 !are_versions || triple.architecture == self.architecture
             }
@@ -194,7 +230,7 @@ pub(super) fn words(name: &str) -> impl Iterator<Item = Range<usize>> + '_ {
 }
 
 /// Words for machines that are neither known names nor spellings of parts.
-const WORDS: [(&str, &str); 14] = [
+const WORDS: [(&str, &str); 24] = [
     ("386", "i386"),
     ("x86", "i386"),
     ("ia32", "i386"),
@@ -209,11 +245,24 @@ const WORDS: [(&str, &str); 14] = [
     ("s390_64", "s390x"),
     ("x86_32", "i386"),
     ("armeabi", "armv7"),
+    ("arm32v5", "armv5te"),
+    ("arm32v6", "armv6"),
+    ("arm32v7", "armv7"),
+    ("arm64v8", "aarch64"),
+    ("armv5b", "armeb"),
+    ("armv6b", "armeb"),
+    ("armv7b", "armeb"),
+    ("armebv5", "armeb"),
+    ("armebv6", "armeb"),
+    ("armebv7", "armeb"),
 ];
+
+/// Words of machines that aren't known here, and would pass for misspelled ones.
+const OTHER_MACHINES: [&str; 4] = ["arceb", "mips16", "ppcle", "powerpcle"];
 
 /// How floating-point arguments are passed, by a word.
 #[inline]
-fn floats_of(word: &str) -> Option<FloatAbi> {
+pub(super) fn floats_of(word: &str) -> Option<FloatAbi> {
     match (word, Abi::of(word)) {
         ("armel", _) | (_, Some(Abi::Soft | Abi::Embedded | Abi::Softfloat)) => {
             Some(FloatAbi::Soft)

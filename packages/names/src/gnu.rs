@@ -1,64 +1,175 @@
-//! Strings that are spelled like triples, as GNU's config.sub completes them.
+//! Strings that are spelled like triples, as GNU's config.sub takes and completes them.
+use crate::buffer::Buffer;
 use crate::object_format::wasm_or;
-use crate::reading::read;
+use crate::reading::{is_soft_floats, read};
 use crate::shape::usual_vendor;
-use crate::spelled::may_be_versioned;
-use crate::table::{KERNELS, MAKERS, SYSTEMS};
+use crate::spelled::{is_like_system, may_be_versioned};
+use crate::table::{refusals, KERNELS, MAKERS, NOT_MACHINES, NOT_SYSTEMS, OTHER_MAKERS, SYSTEMS};
 use crate::NameError;
-use target_lexicon::spellings::first_part;
+use core::fmt::Write;
+use target_lexicon::spellings::is_dropped_version;
 use target_lexicon::{
-    BinaryFormat, Environment, Field, KnownVendor, OperatingSystem, TripleRef, VendorRef,
+    BinaryFormat, Environment, Field, OperatingSystem, Refusal, TripleRef, VendorRef,
 };
 
 /// The triple that a string means to config.sub, which is spelled like a triple; or why it has none, if that is known.
 pub(super) fn read_as_gnu(text: &str) -> Result<TripleRef<'static>, NameError> {
-    match read(text) {
-        Ok(triple) if triple.architecture.is_clever() => Err(NameError::Unknown),
-        Ok(triple) => second_system(text, triple.vendor)
-            .map_or_else(|| Ok(as_gnu(&triple)), |it| Err(why_no(it))),
-        Err(refusal) if refusal.expected == Some(Field::OperatingSystem) => {
-            Err(why_no(refusal.part.text))
+    let parts = Parts::of(text)?;
+    let mut spelled = Spelled::new();
+    parts.write(&mut spelled).map_err(|_| NameError::Unknown)?;
+    let triple = read(spelled.as_str()).map_err(|it| why_refused(&it))?;
+    parts.check()?;
+    complete(&triple, &parts)
+}
+
+/// The parts that config.sub takes a string apart into. A kernel is named before a system, a C library or an ABI.
+struct Parts<'a> {
+    machine: &'a str,
+    maker: &'a str,
+    kernel: Option<&'a str>,
+    system: Option<&'a str>,
+}
+
+/// No string that is read is longer, without its maker.
+type Spelled = Buffer<64>;
+
+impl<'a> Parts<'a> {
+    fn of(text: &'a str) -> Result<Self, NameError> {
+        let mut parts = text.split('-');
+        let machine = parts.next().unwrap_or("");
+        let (second, third, fourth) = (parts.next(), parts.next(), parts.next());
+        let (maker, kernel, system) = match (second, third, fourth) {
+            _ if parts.next().is_some() => return Err(NameError::WithoutTriple(refusals::PARTS)),
+            (Some(maker), kernel, Some(system)) => (maker, kernel, Some(system)),
+            (Some("android"), Some("linux"), None) => ("", Some("linux"), Some("android")),
+            (Some(kernel), Some(system), None) if is_kernel_of(kernel, system) => {
+                ("", Some(kernel), Some(system))
+            }
+            (Some(maker), system @ Some(_), None) => (maker, None, system),
+            (Some(maker), None, None) if is_one_of(MAKERS, maker) => (maker, None, None),
+            (system, ..) => ("", None, system),
+        };
+        Ok(Parts {
+            machine,
+            maker,
+            kernel,
+            system,
+        })
+    }
+
+    /// Writes the string without a maker, of whom only floating-point arguments say something.
+    fn write(&self, out: &mut Spelled) -> core::fmt::Result {
+        let states_floats = self.maker == "hardfloat" || is_soft_floats(self.maker);
+        let maker = if states_floats { self.maker } else { "unknown" };
+        out.write_str(self.machine)?;
+        if self.kernel.is_some() || self.system.is_some() || states_floats {
+            write!(out, "-{maker}")?;
         }
-        Err(_) => Err(NameError::Unknown),
+        let mut later = self.kernel.iter().chain(&self.system);
+        later.try_for_each(|part| write!(out, "-{part}"))
+    }
+
+    /// Refuses what config.sub refuses, or takes for something else, of what is spelled like a triple.
+    fn check(&self) -> Result<(), NameError> {
+        let maker = self.maker.trim_end_matches(|it: char| it.is_ascii_digit());
+        let is_other_maker = |end: &&str| maker.ends_with(*end);
+        let is_refused = |part: &str| {
+            let has = |pattern: &&str| match pattern.strip_suffix('*') {
+                Some(name) => part == name || is_versioned(part, name),
+                None => part == *pattern,
+            };
+            part.is_empty() || NOT_SYSTEMS.iter().any(has)
+        };
+        let why = if NOT_MACHINES.contains(&self.machine) {
+            refusals::MACHINE
+        } else if self.system.map_or(false, is_refused) {
+            refusals::SYSTEM
+        } else if is_system(self.maker) || OTHER_MAKERS.iter().any(is_other_maker) {
+            refusals::MAKER
+        } else {
+            return Ok(());
+        };
+        Err(NameError::WithoutTriple(why))
     }
 }
 
-/// Why a string isn't read in which this part is the system.
-fn why_no(system: &str) -> NameError {
-    let mut known = SYSTEMS.iter().filter(|it| may_be_versioned(system, it.0));
-    known
-        .next()
-        .map_or(NameError::Unknown, |it| NameError::WithoutTriple(it.1))
+/// Whether config.sub takes two parts after a machine for a kernel and what runs on it, instead of a maker and a system.
+fn is_kernel_of(kernel: &str, system: &str) -> bool {
+    let takes_abi = ["netbsd", "cloudabi"]
+        .iter()
+        .any(|it| kernel.starts_with(it));
+    kernel == "linux" || takes_abi && system.starts_with("eabi")
 }
 
-/// The second part, if it is a system to config.sub: a kernel, or no maker where it states a vendor and is the last part.
-fn second_system<'a>(text: &'a str, vendor: VendorRef<'_>) -> Option<&'a str> {
-    let (part, after) = first_part(first_part(text).1?);
-    let is_one_of = |names: &[&str]| names.iter().any(|name| may_be_versioned(part, name));
-    let is_last_vendor = after.is_none() && vendor != VendorRef::Known(KnownVendor::Unknown);
-    (is_one_of(KERNELS) || is_last_vendor && !is_one_of(MAKERS)).then_some(part)
+/// Whether a part is this name and a version of digits and dots.
+fn is_versioned(part: &str, name: &str) -> bool {
+    part.strip_prefix(name)
+        .map_or(false, |it| is_dropped_version(it.as_bytes()))
 }
 
-/// The triple with what is missing, and the usual vendor.
-fn as_gnu(triple: &TripleRef<'_>) -> TripleRef<'static> {
-    let operating_system = match (triple.operating_system, triple.environment) {
-        (OperatingSystem::Unknown, Environment::Gnu) => OperatingSystem::Hurd,
-        (OperatingSystem::Unknown, _) => OperatingSystem::None_,
-        (other, _) => other,
+/// Whether a part is a system or a kernel, which config.sub takes for a maker.
+fn is_system(part: &str) -> bool {
+    is_one_of(KERNELS, part) || is_like_system(part) && !["none", "unknown"].contains(&part)
+}
+
+fn is_one_of(names: &[&str], part: &str) -> bool {
+    names.iter().any(|name| may_be_versioned(part, name))
+}
+
+/// Why a string isn't read that is refused as a triple: for a system that no triple has, or a part that contradicts another.
+fn why_refused(refusal: &Refusal<'_>) -> NameError {
+    let part = refusal.part.text;
+    let mut systems = SYSTEMS.iter().filter(|it| may_be_versioned(part, it.0));
+    match refusal.expected {
+        _ if is_soft_floats(part) => NameError::WithoutTriple(refusals::SOFT_FLOATS),
+        Some(Field::OperatingSystem) => systems
+            .next()
+            .map_or(NameError::Unknown, |it| NameError::WithoutTriple(it.1)),
+        _ => NameError::Unknown,
+    }
+}
+
+/// The triple with what is missing, and the usual vendor; or why config.sub refuses the parts together.
+fn complete(triple: &TripleRef<'_>, parts: &Parts<'_>) -> Result<TripleRef<'static>, NameError> {
+    use {Environment::*, OperatingSystem as System};
+    let is_format = |it: &str| it.parse::<BinaryFormat>().is_ok();
+    let (operating_system, environment) = match (
+        triple.operating_system,
+        triple.environment,
+        parts.kernel.is_some(),
+    ) {
+        (.., true) if parts.system.map_or(false, is_format) => {
+            return Err(NameError::WithoutTriple(refusals::KERNEL))
+        }
+        (System::Linux, Unknown, _) => (System::Linux, Gnu),
+        (System::Linux, Environment::None | Spe, _) => {
+            return Err(NameError::WithoutTriple(refusals::KERNEL))
+        }
+        (System::Unknown, none @ (Unknown | Eabi | Eabihf), _) => (System::None_, none),
+        (System::Unknown, Gnu, false) => (System::Hurd, Gnu),
+        (System::Unknown, android @ (Android | Androideabi), false) => (System::Linux, android),
+        (
+            System::Unknown,
+            Musl | Musleabi | Musleabihf | Muslabi64 | Newlib | Uclibc | Uclibceabi | Uclibceabihf,
+            false,
+        ) => return Err(NameError::WithoutTriple(refusals::C_LIBRARY)),
+        (System::Unknown, ..) => return Err(NameError::WithoutTriple(refusals::ABI)),
+        (system @ System::Linux, other, true) => (system, other),
+        (system @ System::VxWorks, spe @ Spe, true) => (system, spe),
+        (system, abi @ (Eabi | Eabihf | Gnueabi | Gnueabihf), true) => (system, abi),
+        (system, other, false) => (system, other),
+        (.., true) => return Err(NameError::WithoutTriple(refusals::KERNEL)),
     };
-    TripleRef {
+    Ok(TripleRef {
         architecture: triple.architecture,
         vendor: VendorRef::Known(usual_vendor(operating_system)),
         operating_system,
-        environment: match (operating_system, triple.environment) {
-            (OperatingSystem::Linux, Environment::Unknown) => Environment::Gnu,
-            (_, other) => other,
-        },
+        environment,
         binary_format: match (operating_system, triple.binary_format) {
-            (OperatingSystem::None_, BinaryFormat::Unknown) => {
+            (System::None_, BinaryFormat::Unknown) => {
                 wasm_or(BinaryFormat::Elf, triple.architecture)
             }
             (_, other) => other,
         },
-    }
+    })
 }

@@ -1,9 +1,13 @@
 //! What the words of a name say that no tool has here.
 use crate::buffer::Buffer;
-use crate::dialect_suggestions::{words, MachineWord};
-use crate::{read, LinuxLibc, TargetInfo};
+use crate::dialect_suggestions::{floats_of, MachineWord};
+use crate::{read, FloatAbi, LinuxLibc, TargetInfo};
 use core::fmt::{self, Write};
-use target_lexicon::{Architecture, Environment, TripleRef, VendorRef, X86_32Architecture};
+use target_lexicon::spellings::machine_of;
+use target_lexicon::{
+    Architecture, ArmArchitecture, Environment, Field, OperatingSystem, PointerWidth, TripleRef,
+    VendorRef, X86_32Architecture,
+};
 
 /// What the words of a name say, in whatever order they are: [`hint`] returns it. `Display` says it.
 ///
@@ -18,14 +22,20 @@ use target_lexicon::{Architecture, Environment, TripleRef, VendorRef, X86_32Arch
 #[derive(Clone, Copy, Debug, PartialEq, Eq)]
 #[non_exhaustive]
 pub enum Hint {
-    /// They name a machine and a system, perhaps with a C library: those of this triple.
+    /// They name a machine and a system, perhaps with a C library or an ABI: those of this triple, which says no more.
     Triple(TripleRef<'static>),
-    /// They name a system, and no machine, or one that may have 32 bits or 64: `arm`.
+    /// They name a system, and no machine that is known here, or one that may have 32 bits or 64: `arm`.
     NoMachine,
-    /// They name a machine, and no system.
+    /// They name a machine, and each of them is known: none is a system.
     NoSystem,
+    /// They name a machine. What the others say isn't known here.
+    UnknownSystem,
     /// They name several machines.
     SeveralMachines,
+    /// They name several systems.
+    SeveralSystems,
+    /// They name a machine and a system, and something else that no triple of these says, or that contradicts them.
+    NoTriple,
 }
 
 impl fmt::Display for Hint {
@@ -33,15 +43,21 @@ impl fmt::Display for Hint {
     fn fmt(&self, f: &mut fmt::Formatter<'_>) -> fmt::Result {
         match self {
             Hint::Triple(triple) => write!(f, "its words name {triple}"),
-            Hint::NoMachine => f.write_str("it names a system, and no single machine"),
+            Hint::NoMachine => f.write_str("it names a system, and no single machine known here"),
             Hint::NoSystem => f.write_str("it names a machine, and no system"),
+            Hint::UnknownSystem => f.write_str("it names a machine, and no system known here"),
             Hint::SeveralMachines => f.write_str("it names several machines"),
+            Hint::SeveralSystems => f.write_str("it names several systems"),
+            Hint::NoTriple => f.write_str(
+                "it names a machine and a system, and an ABI that no triple of them states",
+            ),
         }
     }
 }
 
 /// What the words of a name may mean that no dialect has, such as one of vcpkg, Kotlin, Maven or Homebrew: to be shown to a
-/// user, and not to be taken for what the name means. Nothing is allocated.
+/// user, and not to be taken for what the name means. A triple has a C library or an ABI only if a word says so, and no triple is
+/// named where a word says an ABI, a width or a byte order that it doesn't have. Nothing is allocated.
 ///
 /// # Examples
 ///
@@ -54,110 +70,342 @@ impl fmt::Display for Hint {
 ///     ("windows-x86_64", "x86_64-pc-windows"),
 ///     ("arm64_sonoma", "aarch64-apple-darwin"),
 ///     ("arm64-v8a", "aarch64-linux-android"),
+///     ("debian-12-armhf", "arm-unknown-linux-gnueabihf"),
 /// ] {
 ///     let Some(Hint::Triple(found)) = hint(name) else { panic!("{name}") };
 ///     assert_eq!(found.to_string(), triple);
 /// }
-/// assert_eq!(hint("ubuntu-22.04").unwrap().to_string(), "it names a system, and no single machine");
+/// assert_eq!(hint("ubuntu-22.04").unwrap().to_string(), "it names a system, and no single machine known here");
 /// assert_eq!(hint("windows-11-arm"), Some(Hint::NoMachine));
-/// assert_eq!(hint("mipsel_24kc"), Some(Hint::NoSystem));
+/// assert_eq!(hint("x86_64"), Some(Hint::NoSystem));
+/// assert_eq!(hint("mipsel_24kc"), Some(Hint::UnknownSystem));
 /// assert_eq!(hint("macos-arm64_x86_64"), Some(Hint::SeveralMachines));
+/// assert_eq!(hint("x86_64-linux-muslx32"), Some(Hint::NoTriple));
 /// assert_eq!(hint("foo"), None);
 /// ```
 #[must_use]
-#[inline]
 pub fn hint(text: &str) -> Option<Hint> {
-    let spaced = spaced(text)?;
-    let spaced = spaced.as_str();
-    let single = || spaced.split(|it: char| !it.is_ascii_alphanumeric());
-    let has = |word: &str| single().any(|it| it == word);
-    // `arm` may be one of 32 bits or of 64.
-    let machine_of = |word: &str| match word {
-        "arm" => None,
-        word => MachineWord::at(0..word.len(), word),
-    };
-    let mut machines = words(spaced).filter_map(|range| machine_of(spaced.get(range)?));
-    let machine = machines.next();
-    if let Some(first) = &machine {
-        if machines.any(|it| it.machine != first.machine) {
-            return Some(Hint::SeveralMachines);
-        }
-    }
-    let machine = machine.or_else(|| single().find_map(machine_of));
-    let system = SYSTEMS.iter().find(|(word, _)| has(word));
-    match (machine, system) {
-        (Some(machine), Some((_, system))) => {
-            let is_simulator = has("simulator") || has("iphonesimulator");
-            let triple = triple_with(machine.architecture, system, is_simulator)?;
-            let libc = LIBRARIES.iter().find(|(word, _)| has(word));
-            let triple = libc.map_or(triple, |(_, libc)| triple.with_c_library(*libc));
-            Some(Hint::Triple(triple))
-        }
-        (None, Some(_)) => Some(Hint::NoMachine),
-        (Some(_), None) => Some(Hint::NoSystem),
-        (None, None) => None,
+    said(text)?.hint()
+}
+
+/// The triple that the words of a name say, if no word or number is left over.
+pub(crate) fn triple_of_words(text: &str) -> Option<TripleRef<'static>> {
+    let said = said(text)?;
+    match said.hint()? {
+        Hint::Triple(triple) if !said.has_other && !said.has_number => Some(triple),
+        _ => None,
     }
 }
 
-/// The triple of a machine and of what follows it. Each x86 is an i686, as in Go.
-#[inline]
-fn triple_with(
-    machine: Architecture,
-    rest: &str,
+fn said(text: &str) -> Option<Said> {
+    let spaced = spaced(text)?;
+    let mut said = Said::default();
+    let mut rest = spaced.as_str();
+    while !rest.is_empty() {
+        let (word, after) = rest.split_once(' ').unwrap_or((rest, ""));
+        rest = said.take(word, after);
+    }
+    Some(said)
+}
+
+/// What the words of a name say.
+#[derive(Default)]
+struct Said {
+    machine: Option<Architecture>,
+    /// How a triple goes on after the machine.
+    system: Option<&'static str>,
+    library: Option<Library>,
+    environment: Option<Environment>,
+    floats: Option<FloatAbi>,
+    width: Option<PointerWidth>,
+    /// It says `arm` or `armv8`, which may have 32 bits or 64.
+    is_arm: bool,
     is_simulator: bool,
-) -> Option<TripleRef<'static>> {
-    let architecture = match machine {
-        Architecture::X86_32(_) => Architecture::X86_32(X86_32Architecture::I686),
-        other => other,
-    };
-    let mut text = Text::new();
-    write!(text, "{architecture}-{rest}").ok()?;
-    let triple = read(text.as_str()).ok()?;
-    let environment = match (triple.environment, architecture) {
-        (Environment::Android, Architecture::Arm(_)) => Environment::Androideabi,
-        (Environment::Unknown, Architecture::Aarch64(_)) if is_simulator => Environment::Sim,
-        (environment, _) => environment,
-    };
-    match triple.vendor {
-        VendorRef::Known(vendor) => Some(TripleRef {
+    is_clang: bool,
+    has_several_machines: bool,
+    has_several_systems: bool,
+    /// A word is left over, or a number.
+    has_other: bool,
+    has_number: bool,
+    /// A word is of an ABI that isn't known, or two contradict each other.
+    has_other_abi: bool,
+}
+
+/// A word for a C library.
+#[derive(Clone, Copy, PartialEq, Eq)]
+enum Library {
+    /// Of a distribution, or by its name, which isn't that of an environment.
+    Glibc,
+    Gnu,
+    Musl,
+    Uclibc,
+    Msvc,
+}
+
+impl Said {
+    /// Takes a word, and the next one where both are a machine, and returns the rest.
+    fn take<'a>(&mut self, word: &str, after: &'a str) -> &'a str {
+        let (next, rest) = after.split_once(' ').unwrap_or((after, ""));
+        for between in ["_", ""] {
+            let mut pair = Buffer::<48>::new();
+            let is_written = write!(pair, "{word}{between}{next}").is_ok();
+            if !next.is_empty() && is_written && self.take_machine(pair.as_str()) {
+                return rest;
+            }
+        }
+        self.take_word(word);
+        after
+    }
+
+    fn take_machine(&mut self, word: &str) -> bool {
+        let Some(found) = MachineWord::at(0..word.len(), word) else {
+            return false;
+        };
+        match self.machine {
+            Some(machine) if machine_of(machine) != machine_of(found.architecture) => {
+                self.has_several_machines = true;
+            }
+            _ => self.machine = Some(found.architecture),
+        }
+        if found.machine.1 != found.architecture.pointer_width().ok() {
+            self.width = found.machine.1;
+        }
+        self.floats = floats_of(word).or(self.floats);
+        true
+    }
+
+    fn take_system(&mut self, found: &'static str) {
+        const NONE: &str = "unknown-none";
+        let is_of = |general: &str, own: &str| {
+            own.starts_with(general)
+                || general == NONE
+                || general == "unknown-linux" && own == "linux-android"
+        };
+        match self.system {
+            Some(system) if is_of(found, system) => {}
+            Some(system) if !is_of(system, found) => self.has_several_systems = true,
+            _ => self.system = Some(found),
+        }
+    }
+
+    fn take_library(&mut self, library: Library) {
+        let is_glibc = |it| matches!(it, Library::Glibc | Library::Gnu);
+        match self.library {
+            Some(other) if other != library && !(is_glibc(other) && is_glibc(library)) => {
+                self.has_other_abi = true;
+            }
+            Some(Library::Gnu) => {}
+            _ => self.library = Some(library),
+        }
+    }
+
+    fn take_word(&mut self, word: &str) {
+        let system = system_of(word);
+        let library = found_in(&LIBRARIES, word.trim_end_matches(is_digit));
+        let floats = found_in(&FLOATS, word);
+        let environment = ENVIRONMENTS
+            .contains(&word)
+            .then(|| word.parse().ok())
+            .flatten();
+        let width = found_in(&WIDTHS, word);
+        let is_known = system.is_some() || library.is_some() || floats.is_some() || width.is_some();
+        if let Some(system) = system {
+            self.take_system(system);
+        }
+        if let Some(library) = library {
+            self.take_library(library);
+        }
+        self.floats = floats.or(self.floats);
+        self.width = width.or(self.width);
+        if AMBIGUOUS.contains(&word) {
+            self.is_arm = true;
+        } else if is_known || self.take_machine(word) {
+        } else if environment.is_some() {
+            self.has_other_abi |= self.environment.is_some() && self.environment != environment;
+            self.environment = environment;
+        } else if SEVERAL.contains(&word) {
+            self.has_several_machines = true;
+        } else if SIMULATORS.contains(&word) {
+            self.is_simulator = true;
+        } else if word == "clang" {
+            self.is_clang = true;
+        } else {
+            let is_number = word.bytes().all(|it| it.is_ascii_digit());
+            self.has_number |= is_number;
+            self.has_other |= !is_number;
+            self.has_other_abi |= OF_ABIS.iter().any(|it| word.contains(it));
+        }
+    }
+
+    fn hint(&self) -> Option<Hint> {
+        let is_32_bit = self.floats.is_some() || self.environment.is_some();
+        let arm = (self.is_arm && is_32_bit).then_some(Architecture::Arm(ArmArchitecture::Arm));
+        let has_several = self.has_several_machines;
+        Some(match (self.machine.or(arm), self.system) {
+            (None, None) => return None,
+            _ if has_several => Hint::SeveralMachines,
+            (Some(_), Some(_)) if self.has_several_systems => Hint::SeveralSystems,
+            (Some(machine), Some(system)) => {
+                let triple = self.triple(machine, system);
+                let triple = triple.filter(|_| !self.has_other_abi);
+                triple.map_or(Hint::NoTriple, Hint::Triple)
+            }
+            (None, Some(_)) => Hint::NoMachine,
+            (Some(_), None) if self.has_other => Hint::UnknownSystem,
+            (Some(_), None) => Hint::NoSystem,
+        })
+    }
+
+    /// The triple of all that is said, if there is one.
+    fn triple(&self, machine: Architecture, system: &str) -> Option<TripleRef<'static>> {
+        let architecture = match machine {
+            Architecture::X86_32(X86_32Architecture::I386) => {
+                Architecture::X86_32(X86_32Architecture::I686)
+            }
+            other => other,
+        };
+        let mut text = Buffer::<64>::new();
+        write!(text, "{architecture}-{system}").ok()?;
+        let found = read(text.as_str()).ok()?;
+        let VendorRef::Known(vendor) = found.vendor else {
+            return None;
+        };
+        let environment = self.environment_on(&found)?;
+        let mut text = Buffer::<64>::new();
+        let system = found.operating_system;
+        write!(text, "{architecture}-{vendor}-{system}-{environment}").ok()?;
+        let binary_format = match environment {
+            Environment::Unknown => found.binary_format,
+            _ => TripleRef::from_str(text.as_str()).ok()?.binary_format,
+        };
+        let triple = TripleRef {
             vendor: VendorRef::Known(vendor),
             environment,
-            ..triple
-        }),
-        VendorRef::Custom(_) => None,
+            binary_format,
+            ..found
+        };
+        let keeps_floats = self.floats.is_none() || self.floats == FloatAbi::of(&triple);
+        let keeps_width = self.width.is_none() || self.width == triple.pointer_width().ok();
+        (keeps_floats && keeps_width).then_some(triple)
+    }
+
+    /// The environment that is said, with that of the system of a triple, if no word contradicts it.
+    fn environment_on(&self, triple: &TripleRef<'_>) -> Option<Environment> {
+        use Option::None;
+        use {Environment::*, FloatAbi::*};
+        let is_arm = matches!(triple.architecture, Architecture::Arm(_));
+        let is_linux = triple.operating_system == OperatingSystem::Linux;
+        let stated = match (self.environment, self.library, self.floats) {
+            (Some(it), ..) => it,
+            (_, Some(Library::Glibc | Library::Gnu), Some(Hard)) if is_arm => Gnueabihf,
+            (_, Some(Library::Glibc | Library::Gnu), Some(Soft)) if is_arm => Gnueabi,
+            (_, Some(Library::Musl), Some(Hard)) if is_arm => Musleabihf,
+            (_, Some(Library::Musl), Some(Soft)) if is_arm => Musleabi,
+            (_, Some(Library::Uclibc), Some(Hard)) if is_arm => Uclibceabihf,
+            (_, Some(Library::Uclibc), Some(Soft)) if is_arm => Uclibceabi,
+            (_, None, Some(Hard)) if is_arm && is_linux => Eabihf,
+            (_, None, Some(Soft)) if is_arm && is_linux => Eabi,
+            (_, Some(Library::Glibc), _) if is_arm => Unknown,
+            (_, Some(Library::Glibc), _) if !is_linux => return None,
+            (_, Some(Library::Glibc), _) => triple.with_c_library(LinuxLibc::Glibc).environment,
+            (_, Some(Library::Gnu), _) => Gnu,
+            (_, Some(Library::Musl), _) => Musl,
+            (_, Some(Library::Uclibc), _) => Uclibc,
+            (_, Some(Library::Msvc), _) => Msvc,
+            (_, None, _) => Unknown,
+        };
+        let is_simulator = self.is_simulator && triple.operating_system.is_like_darwin();
+        Some(match (triple.environment, stated) {
+            (Android, Unknown | Eabi | Androideabi) if is_arm => Androideabi,
+            (Unknown, Unknown) if is_simulator => match triple.architecture {
+                Architecture::Aarch64(_) => Sim,
+                // As in rustc, which has no `sim` on x86.
+                Architecture::X86_64 | Architecture::X86_32(_) => Unknown,
+                _ => return None,
+            },
+            (Gnu, Unknown | Gnu) if self.is_clang => GnuLlvm,
+            (found, Unknown) => found,
+            (Unknown, stated) => stated,
+            (found, stated) if found == stated => found,
+            _ => return None,
+        })
     }
 }
 
-/// A text in lower case, and again with a dash before each letter that was a capital and follows a small one or a digit.
-#[inline]
+fn is_digit(letter: char) -> bool {
+    letter.is_ascii_digit()
+}
+
+/// What a list says of a word.
+fn found_in<T: Copy>(list: &[(&str, T)], word: &str) -> Option<T> {
+    list.iter().find(|it| it.0 == word).map(|it| it.1)
+}
+
+/// How a triple goes on after the machine on the system of a word: of a list, perhaps with a version, or a known name.
+pub(crate) fn system_of(word: &str) -> Option<&'static str> {
+    let listed = |word| found_in(&SYSTEMS, word);
+    let known = || {
+        let mut names = Field::OperatingSystem.names().iter().copied();
+        names.find(|it| *it == word && *it != "unknown")
+    };
+    listed(word)
+        .or_else(|| listed(word.trim_end_matches(is_digit)))
+        .or_else(known)
+}
+
+/// The words of a text in lower case, with a space between them. A word goes on to the next sign, or to a capital letter after a small one
+/// or before one, unless all of it is known.
 fn spaced(text: &str) -> Option<Text> {
     let mut spaced = Text::new();
-    let mut is_after_word = false;
-    write!(spaced, "{text} ").ok()?;
-    for letter in text.chars() {
-        if is_after_word && letter.is_ascii_uppercase() {
-            spaced.write_char('-').ok()?;
+    for word in text.split(|it: char| !it.is_ascii_alphanumeric()) {
+        let mut lower = Buffer::<48>::new();
+        let is_whole = lower.write_str(word).is_ok() && {
+            lower.make_lowercase();
+            let lower = lower.as_str();
+            system_of(lower).is_some() || MachineWord::at(0..lower.len(), lower).is_some()
+        };
+        let letters = word.as_bytes();
+        for (at, letter) in letters.iter().enumerate() {
+            let is_small = |at: usize| letters.get(at).map_or(false, |it| !it.is_ascii_uppercase());
+            let begins = letter.is_ascii_uppercase() && at > 0;
+            let begins = begins
+                && (is_small(at - 1) || letters.get(at + 1).map_or(false, u8::is_ascii_lowercase));
+            if begins && !is_whole {
+                spaced.write_char(' ').ok()?;
+            }
+            spaced.write_char(letter.to_ascii_lowercase().into()).ok()?;
         }
-        is_after_word = letter.is_ascii_lowercase() || letter.is_ascii_digit();
-        spaced.write_char(letter).ok()?;
+        if !word.is_empty() {
+            spaced.write_char(' ').ok()?;
+        }
     }
-    spaced.make_lowercase();
     Some(spaced)
 }
 
-/// A name in both forms. A longer one gets no hint.
+/// A name with spaces. A longer one gets no hint.
 type Text = Buffer<192>;
 
-/// Words for systems, and how a triple goes on with them. The first that a name has is its own: `linux` is also said of Android.
-const SYSTEMS: [(&str, &str); 39] = [
+/// Words for systems that aren't the library's name, or that have a vendor, and how a triple goes on with them.
+const SYSTEMS: [(&str, &str); 64] = [
     ("android", "linux-android"),
+    ("androideabi", "linux-android"),
     ("v7a", "linux-android"),
     ("v8a", "linux-android"),
+    ("ohos", "unknown-linux-ohos"),
+    ("openharmony", "unknown-linux-ohos"),
     ("ios", "apple-ios"),
     ("iphoneos", "apple-ios"),
     ("iphonesimulator", "apple-ios"),
+    ("iossimulator", "apple-ios"),
+    ("catalyst", "apple-ios-macabi"),
+    ("maccatalyst", "apple-ios-macabi"),
     ("tvos", "apple-tvos"),
+    ("appletvos", "apple-tvos"),
+    ("appletvsimulator", "apple-tvos"),
+    ("visionos", "apple-visionos"),
+    ("xros", "apple-xros"),
     ("watchos", "apple-watchos"),
+    ("watchsimulator", "apple-watchos"),
     ("darwin", "apple-darwin"),
     ("mac", "apple-darwin"),
     ("macos", "apple-darwin"),
@@ -173,30 +421,114 @@ const SYSTEMS: [(&str, &str); 39] = [
     ("mingw", "pc-windows-gnu"),
     ("mingw32", "pc-windows-gnu"),
     ("mingw64", "pc-windows-gnu"),
+    ("ucrt", "pc-windows-gnu"),
+    ("ucrt64", "pc-windows-gnu"),
+    ("clang32", "pc-windows-gnullvm"),
+    ("clang64", "pc-windows-gnullvm"),
+    ("clangarm64", "pc-windows-gnullvm"),
     ("win", "pc-windows"),
-    ("win7", "pc-windows"),
-    ("win10", "pc-windows"),
-    ("win32", "pc-windows"),
-    ("win64", "pc-windows"),
     ("windows", "pc-windows"),
     ("dragonfly", "unknown-dragonfly"),
+    ("dragonflybsd", "unknown-dragonfly"),
     ("emscripten", "unknown-emscripten"),
     ("freebsd", "unknown-freebsd"),
-    ("illumos", "unknown-illumos"),
     ("netbsd", "unknown-netbsd"),
     ("openbsd", "unknown-openbsd"),
-    ("alpine", "unknown-linux-musl"),
-    ("debian", "unknown-linux-gnu"),
-    ("ubuntu", "unknown-linux-gnu"),
+    ("solaris", "pc-solaris"),
+    ("efi", "unknown-uefi"),
+    ("uefi", "unknown-uefi"),
+    ("freestanding", "unknown-none"),
+    ("baremetal", "unknown-none"),
+    ("none", "unknown-none"),
     ("linux", "unknown-linux"),
+    ("manylinux", "unknown-linux"),
+    ("musllinux", "unknown-linux"),
+    ("linuxmusl", "unknown-linux"),
+    ("alpine", "unknown-linux"),
+    ("debian", "unknown-linux"),
+    ("ubuntu", "unknown-linux"),
+    ("centos", "unknown-linux"),
+    ("rhel", "unknown-linux"),
+    ("fedora", "unknown-linux"),
+    ("opensuse", "unknown-linux"),
 ];
 
-/// Words for C libraries.
-const LIBRARIES: [(&str, LinuxLibc); 4] = [
-    ("musl", LinuxLibc::Musl),
-    ("glibc", LinuxLibc::Glibc),
-    ("gnu", LinuxLibc::Glibc),
-    ("msvc", LinuxLibc::Msvc),
+/// Words for C libraries, of which some are distributions.
+const LIBRARIES: [(&str, Library); 15] = [
+    ("alpine", Library::Musl),
+    ("musl", Library::Musl),
+    ("musllinux", Library::Musl),
+    ("linuxmusl", Library::Musl),
+    ("glibc", Library::Glibc),
+    ("manylinux", Library::Glibc),
+    ("debian", Library::Glibc),
+    ("ubuntu", Library::Glibc),
+    ("centos", Library::Glibc),
+    ("rhel", Library::Glibc),
+    ("fedora", Library::Glibc),
+    ("opensuse", Library::Glibc),
+    ("gnu", Library::Gnu),
+    ("uclibc", Library::Uclibc),
+    ("msvc", Library::Msvc),
+];
+
+/// Environments that say an ABI, and are words by themselves.
+const ENVIRONMENTS: [&str; 17] = [
+    "androideabi",
+    "eabi",
+    "eabihf",
+    "gnuabi64",
+    "gnueabi",
+    "gnueabihf",
+    "gnullvm",
+    "gnuspe",
+    "gnux32",
+    "macabi",
+    "musleabi",
+    "musleabihf",
+    "muslabi64",
+    "newlib",
+    "sgx",
+    "uclibceabi",
+    "uclibceabihf",
+];
+
+/// Words that say how floating-point arguments are passed.
+const FLOATS: [(&str, FloatAbi); 8] = [
+    ("hf", FloatAbi::Hard),
+    ("hardfp", FloatAbi::Hard),
+    ("hardfloat", FloatAbi::Hard),
+    ("sf", FloatAbi::Soft),
+    ("soft", FloatAbi::Soft),
+    ("softfp", FloatAbi::Soft),
+    ("softfloat", FloatAbi::Soft),
+    ("nofp", FloatAbi::Soft),
+];
+
+/// Words that say how wide a pointer is.
+const WIDTHS: [(&str, PointerWidth); 10] = [
+    ("32bit", PointerWidth::U32),
+    ("64bit", PointerWidth::U64),
+    ("n32", PointerWidth::U32),
+    ("ilp32", PointerWidth::U32),
+    ("linux32", PointerWidth::U32),
+    ("linux64", PointerWidth::U64),
+    ("mac64", PointerWidth::U64),
+    ("macos64", PointerWidth::U64),
+    ("osx64", PointerWidth::U64),
+    ("win64", PointerWidth::U64),
+];
+
+/// Words for an Arm of 32 bits or of 64.
+const AMBIGUOUS: [&str; 4] = ["arm", "armv8", "armv8a", "armv9"];
+
+/// Words for several machines, and for simulators.
+const SEVERAL: [&str; 4] = ["universal", "universal2", "fat", "multiarch"];
+const SIMULATORS: [&str; 2] = ["sim", "simulator"];
+
+/// What words of ABIs have within that aren't known here.
+const OF_ABIS: [&str; 8] = [
+    "gnu", "musl", "uclibc", "abi", "n32", "x32", "ilp32", "float",
 ];
 
 #[cfg(all(test, feature = "alloc"))]
@@ -206,19 +538,14 @@ mod tests {
     use alloc::vec::Vec;
     use target_lexicon::TripleRef;
 
-    /// Names of which a word says another machine than the whole: little-endian ones of Node, ABIs with pointers of 32 bits, and
-    /// programs of 32 bits.
-    const OTHERS: [&str; 10] = [
+    /// Names of which a word says another machine than the whole: little-endian ones of Node, and programs of 32 bits.
+    const OTHERS: [&str; 6] = [
         "linux-ppc64",
         "linux-ppc64-gnu",
         "linux-ppc64-musl",
         "linux-ppc64-glibc",
-        "aarch64-linux-gnu_ilp32",
-        "x86_64-linux-gnux32",
-        "aarch64-unknown-linux-gnu_ilp32",
-        "x86_64-unknown-linux-gnux32",
+        "linuxmusl-ppc64",
         "MINGW32_NT-10.0 x86_64",
-        "x86_64-linux-gnux32",
     ];
 
     #[test]

@@ -1,5 +1,7 @@
 //! Names with what files and commands have around them.
 use crate::buffer::Buffer;
+use crate::hints::system_of;
+use crate::table::OF_CONFIG_SUB;
 use crate::{Dialect, NameError};
 use core::fmt::Write;
 use target_lexicon::{Environment, TripleRef};
@@ -15,11 +17,11 @@ impl Dialect {
     /// | uname | two lines, more spaces than one, or a dash or `_` instead of the space; any version of Windows after `_NT-`; other words between and after, as `uname -a` prints them |
     /// | OCI | any version of Windows in parentheses |
     /// | Go | `_` or a dash instead of the slash; how GoReleaser's folders go on, such as `linux_amd64_v1`, and its capitals: `Linux_x86_64` |
-    /// | GNU | a compiler's or another tool's name, its path and version: `aarch64-linux-gnu-gcc-12`; only a dash |
+    /// | GNU | a compiler's or another tool's name, its path, version and model of threads: `aarch64-linux-gnu-gcc-12`; only a dash |
     /// | rustc | the version of glibc that cargo-zigbuild takes: `x86_64-unknown-linux-gnu.2.17` |
     /// | Zig | a range of versions of the system: `x86_64-linux.5.10...6.1-gnu.2.31`; what follows `native` |
     /// | Go, Node, rustc | the file name of an archive: `helm-v3.14.0-linux-amd64.tar.gz` |
-    /// | Debian, RPM, pacman | the file name of a package; in Debian `uclibc-` instead of `musl-` |
+    /// | Debian, RPM, pacman | the file name of a package; in Debian `uclibc-` instead of `musl-`, and `libc6:i386` |
     ///
     /// # Errors
     ///
@@ -47,10 +49,17 @@ impl Dialect {
     pub fn read_loosely(self, text: &str) -> Result<TripleRef<'static>, NameError> {
         let in_file = self.read_file(text);
         let found = in_file.or_else(|| self.read_version_of_glibc(text));
-        match found.unwrap_or_else(|| self.read(text)) {
-            Err(NameError::Unknown) => self.read_within(text).unwrap_or(Err(NameError::Unknown)),
-            found => found,
-        }
+        let found = found.unwrap_or_else(|| self.read(text));
+        let is_unknown = match found {
+            Err(NameError::WithoutTriple(why)) => OF_CONFIG_SUB.contains(&why),
+            found => found == Err(NameError::Unknown),
+        };
+        let within = if is_unknown {
+            self.read_within(text)
+        } else {
+            None
+        };
+        within.unwrap_or(found)
     }
 
     /// What the name within a text means, if the text has the form of one that has a name within.
@@ -64,7 +73,9 @@ impl Dialect {
             Dialect::Go => self.read_port(text),
             Dialect::Gnu => self.read_compiler(text),
             Dialect::Zig => self.read_versions(text),
-            Dialect::Debian => self.read_uclibc(text),
+            Dialect::Debian => self
+                .read_uclibc(text)
+                .or_else(|| self.read_architecture(text)),
             _ => None,
         }
     }
@@ -106,8 +117,11 @@ impl Dialect {
         let may_be_name = |end: &&str| {
             end.len() <= LONGEST_NAME && !end.starts_with(|it: char| it.is_ascii_digit())
         };
+        // A machine alone is no reason: the words before it may name a system.
+        let is_port = |end: &str| end.contains(['-', '_', '/']);
         let mut found = ends.filter(may_be_name).map(|end| match self.read(end) {
             Err(NameError::Unknown) if self == Dialect::Go => self.read_port(end),
+            Err(_) if self == Dialect::Go && !is_port(end) => None,
             found => Some(found),
         });
         found.find_map(|it| it.filter(|it| *it != Err(NameError::Unknown)))
@@ -126,7 +140,10 @@ impl Dialect {
         let dialect = if has_capital { Dialect::Oci } else { self };
         let mut name = Text::new();
         write!(name, "{system}/{machine}").ok()?;
-        match (dialect.read(name.as_str()), machine.split_once('_')) {
+        match (dialect.read(name.as_str()), machine.split_once(['_', '-'])) {
+            (Err(NameError::Unknown), None) if machine.starts_with("armv") => {
+                Some(Dialect::Oci.read(name.as_str()))
+            }
             (Err(NameError::Unknown), Some((machine, variant))) => {
                 let mut name = Text::new();
                 write!(name, "{system}/{machine}/{variant}").ok()?;
@@ -136,17 +153,29 @@ impl Dialect {
         }
     }
 
+    /// The architecture after the name of a package and a colon.
+    #[inline]
+    fn read_architecture(self, text: &str) -> Option<Result<TripleRef<'static>, NameError>> {
+        let (package, architecture) = text.split_once(':')?;
+        let is_name = |it: u8| matches!(it, b'a'..=b'z' | b'0'..=b'9' | b'+' | b'-' | b'.');
+        let is_package = package.len() > 1 && package.bytes().all(is_name);
+        (is_package && system_of(package).is_none()).then(|| self.read(architecture))
+    }
+
     /// The prefix of a cross compiler, before the name of one of its tools or nothing.
     #[inline]
     fn read_compiler(self, text: &str) -> Option<Result<TripleRef<'static>, NameError>> {
         let file = text.rsplit(['/', '\\']).next()?;
         let file = file.strip_suffix(".exe").unwrap_or(file);
-        let (prefix, tool) = match file.rsplit_once('-')? {
-            (tool, version) if is_version(version) => tool.rsplit_once('-')?,
-            found => found,
+        let models = ["-posix", "-win32"].iter();
+        let file = models.fold(file, |file, model| file.strip_suffix(model).unwrap_or(file));
+        let file = match file.rsplit_once('-') {
+            Some((file, version)) if is_version(version) => file,
+            _ => file,
         };
-        let is_tool = prefix.contains('-') && TOOLS.contains(&tool);
-        is_tool.then(|| self.read(prefix))
+        let before = |tool: &&str| file.strip_suffix(*tool)?.strip_suffix('-');
+        let prefix = TOOLS.iter().find_map(|tool| before(&tool))?;
+        prefix.contains('-').then(|| self.read(prefix))
     }
 
     /// A target of rustc with the version of glibc, as cargo-zigbuild takes it.
@@ -192,12 +221,10 @@ impl Dialect {
     /// Of a wheel, or of its tags, the last: all platforms in it mean the same, or one means no triple.
     #[inline]
     fn read_tags(self, text: &str) -> Option<Result<TripleRef<'static>, NameError>> {
-        let platforms = match text.strip_suffix(".whl") {
-            Some(file) => file.rsplit_once('-')?.1,
-            None if is_python(text) => text.rsplit_once('-')?.1,
-            None if text.contains('.') => text,
-            None => return None,
-        };
+        let platforms = last_tag(text);
+        if platforms.len() == text.len() && !text.contains('.') {
+            return None;
+        }
         let found = || platforms.split('.').map(|platform| self.read(platform));
         let first = found().find(Result::is_err).or_else(|| found().next())?;
         found()
@@ -289,10 +316,52 @@ const USUAL_MACHINES: [&str; 10] = [
     "riscv64_rva20u64",
 ];
 
-/// The tools after the prefix of a cross compiler.
-const TOOLS: [&str; 16] = [
-    "", "gcc", "g++", "cc", "c++", "cpp", "clang", "clang++", "gfortran", "ld", "as", "ar", "nm",
-    "ranlib", "strip", "objcopy",
+/// The tools after the prefix of a cross compiler, of which the first that fits is it.
+const TOOLS: [&str; 44] = [
+    "gcc-ar",
+    "gcc-nm",
+    "gcc-ranlib",
+    "gcov-dump",
+    "gcov-tool",
+    "lto-dump",
+    "",
+    "gcc",
+    "g++",
+    "cc",
+    "c++",
+    "cpp",
+    "clang",
+    "clang++",
+    "gfortran",
+    "ld",
+    "as",
+    "ar",
+    "nm",
+    "ranlib",
+    "strip",
+    "objcopy",
+    "objdump",
+    "readelf",
+    "size",
+    "strings",
+    "addr2line",
+    "c++filt",
+    "elfedit",
+    "dwp",
+    "gprof",
+    "gdb",
+    "ld.bfd",
+    "ld.gold",
+    "ld.lld",
+    "gcov",
+    "gccgo",
+    "gdc",
+    "gnatmake",
+    "gm2",
+    "windres",
+    "windmc",
+    "dlltool",
+    "dllwrap",
 ];
 
 /// What `uname` prints after the machine.
@@ -303,6 +372,16 @@ const AFTER_MACHINES: [&str; 4] = ["GNU/Linux", "Msys", "Cygwin", "unknown"];
 fn is_version(text: &str) -> bool {
     let is_number = |it: &str| !it.is_empty() && it.bytes().all(|it| it.is_ascii_digit());
     text.split('.').all(is_number)
+}
+
+/// The platforms of a wheel's file, or of its tags: the last tag.
+pub(crate) fn last_tag(text: &str) -> &str {
+    let tags = match text.strip_suffix(".whl") {
+        Some(file) => file,
+        None if is_python(text) => text,
+        None => return text,
+    };
+    tags.rsplit_once('-').map_or(tags, |it| it.1)
 }
 
 /// Whether a text begins with the tag of a version of Python, such as `cp311` or `py3`.

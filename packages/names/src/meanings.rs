@@ -1,7 +1,9 @@
 //! What a name means to every tool that has it.
+use crate::spelled::is_of_machine;
+use crate::table::OF_CONFIG_SUB;
 use crate::{read, Dialect, NameError};
 use core::fmt;
-use target_lexicon::TripleRef;
+use target_lexicon::{TripleRef, VendorRef};
 
 /// Whose name it is: that of a dialect, or of nobody but who spells triples. `Display` says it in a word.
 ///
@@ -70,10 +72,10 @@ pub struct Meaning<'a> {
     pub triple: Result<TripleRef<'a>, &'static str>,
 }
 
-/// What a name means to each dialect that has it, in the order of [`Dialect::ALL`], with what files and commands have
-/// [around it](Dialect::read_loosely); and then as a triple or its spelling. A single word isn't taken for a triple if some tool has the
-/// name. Nobody means anything by a name of which there is no meaning: [`hint`](crate::hint) says what its words may mean. Nothing is
-/// allocated.
+/// What a name means: first as a triple, if it parses as one; then to each dialect that has it, in the order of [`Dialect::ALL`], with what
+/// files and commands have [around it](Dialect::read_loosely); and last as what is spelled like a triple. A name such as `universal2` has a
+/// meaning for each of its machines. A single word isn't taken for a triple if some tool has the name. Nobody means anything by a name of
+/// which there is no meaning: [`hint`](crate::hint) says what its words may mean. Nothing is allocated.
 ///
 /// # Examples
 ///
@@ -86,34 +88,43 @@ pub struct Meaning<'a> {
 ///
 /// let plan_9 = meanings("plan9/amd64").next().unwrap();
 /// assert_eq!((plan_9.of, plan_9.triple), (NameOf::Dialect(Dialect::Go), Err("Plan 9 is no known name")));
-/// assert!(meanings("x86_64-unknown-none").any(|it| it.of == NameOf::Triple));
+/// assert_eq!(meanings("x86_64-unknown-none").next().unwrap().of, NameOf::Triple);
 /// assert_eq!(meanings("foo/bar").next(), None);
 /// ```
 #[inline]
 pub fn meanings(text: &str) -> impl Iterator<Item = Meaning<'_>> + Clone {
-    let to_dialect = |dialect: &Dialect| {
-        let triple = match dialect.read_loosely(text) {
-            Ok(triple) => Ok(triple),
-            Err(NameError::WithoutTriple(why)) => Err(why),
-            Err(NameError::Unknown) => return None,
+    let to_dialect = move |dialect: &Dialect| {
+        let why = match dialect.read_loosely(text) {
+            Err(NameError::WithoutTriple(why)) if !OF_CONFIG_SUB.contains(&why) => Some(Err(why)),
+            _ => None,
         };
         let of = NameOf::Dialect(*dialect);
-        Some(Meaning { of, triple })
+        let each = dialect.read_each(text).map(Ok);
+        let why = why.filter(|_| each.clone().next().is_none());
+        each.chain(why).map(move |triple| Meaning { of, triple })
     };
-    let of_dialects = Dialect::ALL.iter().filter_map(to_dialect);
+    let of_dialects = Dialect::ALL.iter().flat_map(to_dialect);
     let is_triple = text.contains('-') || of_dialects.clone().next().is_none();
-    of_dialects.chain(is_triple.then(|| as_triple(text)).flatten())
+    let own = is_triple.then(|| as_triple(text)).flatten();
+    let (first, last) = own.map_or((None, None), |own| match own.of {
+        NameOf::Triple => (Some(own), None),
+        _ => (None, Some(own)),
+    });
+    first.into_iter().chain(of_dialects).chain(last)
 }
 
-/// What a string means that is a triple, or is spelled like one.
+/// What a string means that is a triple, or is spelled like one. A vendor that is a word of a machine says that it isn't.
 #[inline]
 fn as_triple(text: &str) -> Option<Meaning<'_>> {
     let (of, triple) = match TripleRef::from_str(text) {
         Ok(triple) => (NameOf::Triple, triple),
         Err(_) => (NameOf::Spelling, read(text).ok()?),
     };
-    Some(Meaning {
-        of,
-        triple: Ok(triple.step()),
-    })
+    match triple.vendor {
+        VendorRef::Custom(vendor) if is_of_machine(vendor) => None,
+        _ => Some(Meaning {
+            of,
+            triple: Ok(triple.step()),
+        }),
+    }
 }

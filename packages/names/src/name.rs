@@ -15,9 +15,12 @@ use core::fmt::{self, Write};
 /// assert_eq!(Dialect::Go.write(&triple).unwrap().to_string(), "freebsd/amd64");
 /// ```
 #[derive(Clone, Copy, PartialEq, Eq, Hash)]
-pub struct Name(Buffer<36>);
+pub struct Name(Buffer<{ Name::MOST }>);
 
 impl Name {
+    /// The most bytes of a name.
+    pub(super) const MOST: usize = 36;
+
     /// The name. It has at most 36 bytes.
     ///
     /// # Examples

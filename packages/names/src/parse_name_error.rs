@@ -1,4 +1,5 @@
 //! Why a name of another tool isn't read, and why a word is no dialect, in errors that own the string.
+use crate::table::OF_CONFIG_SUB;
 use crate::{Dialect, LinuxLibc, Mistake, NameError};
 use alloc::boxed::Box;
 use core::fmt;
@@ -269,6 +270,9 @@ impl fmt::Display for ParseNameError {
         let (dialect, name) = (self.dialect, self.name.escape_debug());
         match self.why {
             NameError::Unknown => write!(f, "Unknown name of {dialect}: {name}")?,
+            NameError::WithoutTriple(why) if OF_CONFIG_SUB.contains(&why) => {
+                write!(f, "Unknown name of {dialect}: {name}: {why}")?;
+            }
             NameError::WithoutTriple(why) => {
                 write!(f, "No triple means the name of {dialect} {name}: {why}")?;
             }

@@ -1,7 +1,8 @@
 //! Reading a string that is spelled like a triple, and what is changed in it.
 use crate::spelled::{SpelledParts, Spelling};
-use target_lexicon::spellings::{fit_alone, Place, Reading};
-use target_lexicon::{Refusal, TextPart, TripleRef};
+use crate::FloatAbi;
+use target_lexicon::spellings::{first_part, fit_alone, Place, Reading};
+use target_lexicon::{Named, Refusal, TextPart, TripleRef};
 
 /// The triple that a string means which is spelled like a triple, as the tools of GNU and LLVM print them. Nothing is
 /// allocated.
@@ -14,7 +15,8 @@ use target_lexicon::{Refusal, TextPart, TripleRef};
 ///
 /// rpm says with a first part `armv6hl`, `armv7hl` or `armv7hnl`, and Gentoo with a second part `hardfloat`, that
 /// floating-point arguments are in floating-point registers. After them `gnueabi` is `gnueabihf`, and likewise for other C
-/// libraries; `hardfloat` is no vendor.
+/// libraries; `hardfloat` is no vendor. Nor is `softfloat` before `linux`, where the environment says the same: other triples can't state
+/// it, and are refused.
 ///
 /// A second part that is a system which isn't known, such as `macos.11.0`, `linux5.10` or `nuttx`, is no vendor: it is
 /// refused, since a triple without its system would be another target.
@@ -40,9 +42,27 @@ pub fn read(text: &str) -> Result<TripleRef<'_>, Refusal<'_>> {
         _ => {
             let mut reading = Reading::start();
             SpelledParts::of(text).try_for_each(|(part, names)| names.give(&mut reading, part))?;
-            Ok(reading.finish().0)
+            let triple = reading.finish().0;
+            let (first, rest) = first_part(text);
+            let second = first_part(rest.unwrap_or("")).0;
+            if is_soft_floats(second) && FloatAbi::of(&triple) != Some(FloatAbi::Soft) {
+                // It stays the vendor that isn't known.
+                let (mut reading, start) = (Reading::start(), first.len() + 1);
+                let part = |text, start| TextPart { text, start };
+                reading.take(part(triple.architecture.name(), 0))?;
+                reading.take(part("", start)).map_err(|mut refusal| {
+                    refusal.part = part(second, start);
+                    refusal
+                })?;
+            }
+            Ok(triple)
         }
     }
+}
+
+/// Whether a second part says that no floating-point registers are used, as Gentoo's says.
+pub(crate) fn is_soft_floats(part: &str) -> bool {
+    part == "softfloat"
 }
 
 /// A part of a string that is another spelling of known names, by itself or together with the part before or after it, or a

@@ -1,5 +1,5 @@
 //! The shape of a triple in a dialect: what names state.
-use crate::spelled::is_like_system;
+use crate::spelled::{is_like_system, is_of_machine};
 use target_lexicon::{
     Architecture, ArmArchitecture, DeploymentTarget, Environment, KnownVendor, OperatingSystem,
     Riscv32Architecture, Riscv64Architecture, TripleRef, VendorRef, X86_32Architecture,
@@ -48,6 +48,8 @@ pub(super) struct Rules {
     pub spelled: bool,
     /// Names are platforms of container images, with containerd's other names.
     pub platforms: bool,
+    /// A triple whose vendor is custom, or says that the target is another one, has the name that means just it.
+    pub itself: bool,
 }
 
 /// The rules that go without saying.
@@ -58,6 +60,7 @@ pub(super) const USUAL: Rules = Rules {
     tags: false,
     spelled: false,
     platforms: false,
+    itself: false,
 };
 
 impl Rules {
@@ -166,10 +169,8 @@ impl MachineRule {
             },
             // Of rustc `arm` is Armv6, except on Android, where it is older. Armv8 in 32 bits runs programs of Armv7.
             (MachineRule::Rustc, environment, OperatingSystem::Linux) => match (arm, environment) {
-                (Armv6 | Armv6j | Armv6k | Armv6z | Armv6kz | Armv6t2, Androideabi) => Arm,
-                (Armv6j | Armv6k | Armv6z | Armv6kz | Armv6t2, _) => Armv6,
+                (Armv6 | Armv6j | Armv6k | Armv6z | Armv6kz | Armv6t2, _) => Arm,
                 (Armv7a | Armv7ve | Armv8 | Armv8a, _) => Armv7,
-                (Arm, environment) if environment != Androideabi => Armv6,
                 (other, _) => other,
             },
             // Windows has needed Armv7 from the first.
@@ -229,11 +230,13 @@ pub(super) fn usual_vendor(system: OperatingSystem) -> KnownVendor {
 }
 
 /// Whether a vendor is a system that no triple has, or says which variant of a system it is: for Windows 7, for a unikernel, or
-/// WebAssembly with the system calls of Linux. A triple that keeps all but the vendor would be another target.
+/// WebAssembly with the system calls of Linux, or is a word of a machine. A triple that keeps all but the vendor would be another target.
 pub(super) fn is_another_target(vendor: VendorRef<'_>) -> bool {
     match vendor {
         VendorRef::Custom(text) => {
-            ["win7", "unikraft", "wali"].contains(&text) || is_like_system(text)
+            ["win7", "unikraft", "wali"].contains(&text)
+                || is_like_system(text)
+                || is_of_machine(text)
         }
         VendorRef::Known(known) => known == KnownVendor::Uwp,
     }

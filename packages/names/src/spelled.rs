@@ -1,6 +1,9 @@
 //! What each part of a string spells.
+use crate::table::NO_VENDORS;
 use core::fmt;
-use target_lexicon::spellings::{first_part, fit, is_digit_or_dot, Fit, Form, Place, Reading};
+use target_lexicon::spellings::{
+    architecture_of, first_part, fit, is_digit_or_dot, Fit, Form, Place, Reading,
+};
 use target_lexicon::{DeploymentTarget, Field, OperatingSystem, Refusal, TextPart, VendorRef};
 
 /// What the parts before a part say of it.
@@ -149,9 +152,15 @@ impl fmt::Display for Spelling<'_> {
 /// Names of systems that aren't known names: other spellings, and systems of rustc that have no triple.
 const OTHER_SYSTEMS: [&str; 5] = ["macos", "netbsdelf", "nuttx", "rtems", "wasip"];
 
-/// Whether a part parses as a custom vendor but is a system that isn't known.
+/// Whether a part parses as a custom vendor but is a system that isn't known, or says something of the machine.
 fn is_other_system(part: &str) -> bool {
-    VendorRef::from_str(part).map_or(false, |it| it.is_custom()) && is_like_system(part)
+    let is_custom = VendorRef::from_str(part).map_or(false, |it| it.is_custom());
+    is_custom && (is_like_system(part) || is_of_machine(part))
+}
+
+/// Whether a part is a machine, or a word for a byte order, a width, a version or how floating-point arguments are passed.
+pub(crate) fn is_of_machine(part: &str) -> bool {
+    NO_VENDORS.contains(&part) || architecture_of(part).is_some()
 }
 
 /// Whether a part is the name of a system, perhaps with a version.

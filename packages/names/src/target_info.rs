@@ -105,9 +105,9 @@ pub trait TargetInfo<'a>: Copy + Into<TripleRef<'a>> {
     /// Nothing is allocated.
     ///
     /// Names of Go, OCI and Python don't state the C library, so that what they mean has no name of Debian, of GNU or of
-    /// rustc. Nothing is guessed: the caller says which C library it is. With glibc the environment is `gnueabihf` on `arm`,
-    /// `armv6`, `armv7` and `armv8`, `gnueabi` on `armv5te`, `gnuabi64` on 64-bit MIPS, and `gnu` on every other architecture;
-    /// with musl it is `musleabihf`, `musleabi`, `muslabi64` or `musl`. A name of one Arm that stands for a version, such as
+    /// rustc. Nothing is guessed: the caller says which C library it is. With glibc the environment is `gnueabihf` on
+    /// `armv6`, `armv7` and `armv8`, `gnueabi` on `armv5te`, `gnuabi64` on 64-bit MIPS, and `gnu` on every other architecture but
+    /// `arm`, which stays as it is: its version says how floating-point arguments are passed. With musl it is `musleabihf`, `musleabi`, `muslabi64` or `musl`. A name of one Arm that stands for a version, such as
     /// `armv7a`, counts as that version. On Windows it is `msvc`, with MinGW `gnu`, and with that of LLVM's tools `gnullvm`.
     ///
     /// # Examples

@@ -111,6 +111,11 @@ fn environment_on(triple: &TripleRef<'_>, architecture: Architecture) -> Environ
     if triple.operating_system != OperatingSystem::Linux {
         return triple.environment;
     }
+    // An Arm without a version has the environment of today's.
+    let architecture = match architecture {
+        Architecture::Arm(ArmArchitecture::Arm) => Architecture::Arm(ArmArchitecture::Armv7),
+        other => other,
+    };
     let usual = |c_library| {
         let without = TripleRef {
             architecture,

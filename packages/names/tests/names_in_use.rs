@@ -2,7 +2,8 @@
 use std::collections::BTreeSet;
 use target_lexicon::TripleRef;
 use target_names::{
-    hint, meanings, Dialect, LinuxLibc, Meaning, NameError, TargetInfo, TranslateError, WriteError,
+    hint, meanings, Dialect, LinuxLibc, Meaning, NameError, NameOf, TargetInfo, TranslateError,
+    WriteError,
 };
 
 /// A line has the dialect, the name, the C library that is said or a dash, where the name is from, and three answers, each
@@ -280,33 +281,47 @@ fn a_version_is_asked_for_where_a_name_states_one() {
     }
 }
 
-/// From rustc to rustc each target that parses is itself, or has no name, for a reason.
+/// From rustc to rustc each target that parses is its triple and itself. It has a note where it is more than its triple.
 #[test]
 fn targets_of_rustc_are_themselves() {
-    for target in [
-        "x86_64-unknown-linux-gnu",
-        "arm-unknown-linux-gnueabihf",
-        "armv5te-unknown-linux-gnueabi",
-        "i586-unknown-linux-musl",
-        "wasm32-wasip1",
-        "x86_64-pc-windows-gnullvm",
-    ] {
-        let triple = TripleRef::from_str(target).unwrap();
-        assert_eq!(Dialect::Rust.write(triple).unwrap().as_str(), target);
+    let (mut parsed, mut noted) = (0, 0);
+    for target in rustc_targets() {
+        let found = Dialect::Rust.read(target);
+        let Ok(triple) = TripleRef::from_str(target) else {
+            assert!(
+                matches!(found, Err(NameError::WithoutTriple(_))),
+                "{target}"
+            );
+            continue;
+        };
+        assert_eq!(found, Ok(triple.step()), "{target}");
+        assert_eq!(Dialect::Rust.write(triple.step()).unwrap().as_str(), target);
+        let own = meanings(target).next().unwrap();
+        assert_eq!(
+            (own.of, own.triple),
+            (NameOf::Triple, Ok(triple.step())),
+            "{target}"
+        );
+        parsed += 1;
+        noted += usize::from(Dialect::Rust.note(target).is_some());
+        // Nothing is offered instead of it.
+        assert_eq!(Dialect::Rust.suggestion(target), Some(target));
     }
-    for target in [
-        "wasm32-wasip3",
-        "x86_64-uwp-windows-msvc",
-        "x86_64-win7-windows-msvc",
-        "x86_64-unikraft-linux-musl",
-        "armv7a-nuttx-eabi",
-    ] {
-        let triple = TripleRef::from_str(target).unwrap();
-        let found = Dialect::Rust.write_with(triple, None);
-        assert_eq!(found, Err(WriteError::OtherTarget), "{target}");
-        let found = Dialect::Rust.translate(target, None, Dialect::Rust);
-        assert!(matches!(found, Err(TranslateError::Read(_))), "{target}");
-    }
+    assert_eq!((parsed, noted), (263, 38));
+}
+
+/// The targets of rustc's list, which `checks/compare elsewhere` compares with the table: without what older ones had.
+fn rustc_targets() -> impl Iterator<Item = &'static str> {
+    let rows = include_str!("../elsewhere.tsv").lines();
+    let mut names: Vec<&str> = rows
+        .filter_map(|line| {
+            let mut cells = line.split('\t');
+            let name = (cells.next()? == "rust").then(|| cells.next()).flatten()?;
+            (!line.contains("rustc's name ") && !name.starts_with("universal2")).then_some(name)
+        })
+        .collect();
+    names.dedup();
+    names.into_iter()
 }
 
 #[test]

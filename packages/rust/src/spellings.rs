@@ -1,4 +1,4 @@
-//! Other tools' spellings of known names: the names of a part that a rule of [`words`](crate::words) fits. Suggestions ask for them, and the
+//! Other tools' spellings of known names: the names of a part that a rule of `words` fits. Suggestions ask for them, and the
 //! crate `target-names`, for which this module is public and not documented.
 pub use crate::proved::{first_part, refusal_prefix, Reading};
 pub use crate::suggestions::misspellings::meant;

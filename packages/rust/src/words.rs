@@ -93,6 +93,7 @@ pub static FIRST_RULES: &[Rule] = &[
 /// The rules for a later part, those that look at more than the part before the others.
 pub static LATER_RULES: &[Rule] = &[
     (Second, "none-linux", Pair, "unknown-linux"),
+    (Second, "softfloat-linux", Pair, "unknown-linux"),
     (AfterHardFloats, "eabi", Whole, "eabihf"),
     (AfterHardFloats, "gnueabi", Whole, "gnueabihf"),
     (AfterHardFloats, "gnueabi", Dropped, "gnueabihf"),
