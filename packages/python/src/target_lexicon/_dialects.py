@@ -16,7 +16,7 @@ class Dialect(NamedValue):
     GO = "go"
     #: Platforms of container images, as containerd writes them: `linux/arm/v7`.
     OCI = "oci"
-    #: `process.platform` and `process.arch` of Node, as npm's packages join them, some with a C library: `linux-x64`, `linux-x64-musl`.
+    #: Names of npm's packages for a platform: `process.platform` and `process.arch` of Node with a dash between them, some with a C library: `linux-x64`, `linux-x64-musl`.
     NODE = "node"
     #: Prefixes of GNU's cross compilers, and strings that mean the same to config.sub: `x86_64-w64-mingw32`.
     GNU = "gnu"
