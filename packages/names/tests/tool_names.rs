@@ -715,9 +715,15 @@ fn calls_take_either_type_of_triple() {
 #[test]
 fn an_error_shows_printable_ascii() {
     let shows = |shown: String| {
-        assert!(shown.bytes().all(|it| (b' '..=b'~').contains(&it)), "{shown}");
+        assert!(
+            shown.bytes().all(|it| (b' '..=b'~').contains(&it)),
+            "{shown}"
+        );
     };
-    for c in ('\0'..='\u{3400}').chain('\u{a000}'..='\u{11fff}').chain('\u{e0000}'..='\u{e01ff}') {
+    for c in ('\0'..='\u{3400}')
+        .chain('\u{a000}'..='\u{11fff}')
+        .chain('\u{e0000}'..='\u{e01ff}')
+    {
         for dialect in [Dialect::Gnu, Dialect::Node] {
             for name in [format!("{c}-linux-gnu"), format!("@{c}/linux-x46")] {
                 if let Err(error) = dialect.parse(&name) {
@@ -733,8 +739,18 @@ fn an_error_shows_printable_ascii() {
 
 #[test]
 fn suggestions_are_those_of_each_dialect() {
-    for name in ["linux/amd46", "linux-x46", "/opt/linux/amd64/", "AMD64", "turbo-linux-arm64", "x86_64-pc-linx", ""] {
-        let of_each = Dialect::ALL.iter().filter_map(|it| Some((*it, it.suggestion(name)?)));
+    for name in [
+        "linux/amd46",
+        "linux-x46",
+        "/opt/linux/amd64/",
+        "AMD64",
+        "turbo-linux-arm64",
+        "x86_64-pc-linx",
+        "",
+    ] {
+        let of_each = Dialect::ALL
+            .iter()
+            .filter_map(|it| Some((*it, it.suggestion(name)?)));
         assert!(suggestions(name).eq(of_each), "{name}");
         let long = format!("{}/{name}", "a".repeat(256));
         assert_eq!(suggestions(&long).next(), None);
