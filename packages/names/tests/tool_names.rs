@@ -720,9 +720,10 @@ fn an_error_shows_printable_ascii() {
             "{shown}"
         );
     };
-    for c in ('\0'..='\u{3400}')
-        .chain('\u{a000}'..='\u{11fff}')
-        .chain('\u{e0000}'..='\u{e01ff}')
+    let low = ('\0'..='\u{700}').chain('\u{1100}'..='\u{1200}');
+    for c in low
+        .chain('\u{2000}'..='\u{2100}')
+        .chain(['\u{3164}', '\u{feff}', '\u{e0001}'])
     {
         for dialect in [Dialect::Gnu, Dialect::Node] {
             for name in [format!("{c}-linux-gnu"), format!("@{c}/linux-x46")] {
