@@ -12,7 +12,7 @@ const WRITTEN = ["debian", "go", "oci", "node", "gnu", "python", "rust", "rpm", 
 const TOOLS = { oci: "containers", gnu: "GNU", rust: "rustc", uname: "uname", rpm: "RPM", apk: "apk", pacman: "pacman", dotnet: ".NET", conda: "conda",
   spelling: "LLVM", triple: "a triple" };
 const toolName = (tool) => TOOLS[tool] ?? tool[0].toUpperCase() + tool.slice(1);
-// The linkers of an object format, as docs/RECIPES.md lists them.
+// The linkers of an object format.
 const LINKERS = { elf: "ld, ld.lld, mold", macho: "ld64, ld64.lld", coff: "link.exe, lld-link", wasm: "wasm-ld", xcoff: "AIX's ld" };
 // The targets of which there are chips, with the word for one and for more. Those of a kind that is a mistake come first.
 const KINDS = { all: ["target", "targets"], refused: ["refused"], suspicious: ["suspicious"], duplicate: ["duplicate", "duplicates"] };
