@@ -219,9 +219,18 @@ impl<'a> Refusal<'a> {
 /// The name that the first dialect suggests that suggests one, and what is wrong with the unknown one, as far as it says more. A name after
 /// another is none if all the words together name a triple.
 fn nearest(name: &str) -> Option<(&'static str, Option<Mistake<'_>>)> {
-    let has_triple = matches!(hint(name), Some(Hint::Triple(_)));
+    let of_words = match hint(name) {
+        Some(Hint::Triple(triple)) => Some(triple),
+        _ => None,
+    };
+    let has_triple = of_words.is_some();
     let mut found = Dialect::ALL.iter().filter_map(|dialect| {
         let suggestion = dialect.suggestion(name)?;
+        // What all words say is a triple.
+        let named = dialect.write(of_words.unwrap_or_else(TripleRef::unknown));
+        if named.map_or(false, |it| it == suggestion) {
+            return None;
+        }
         match dialect.mistake(name) {
             Some(Mistake::Prefix) if has_triple => None,
             Some(Mistake::NoTriple(_)) => Some((suggestion, None)),

@@ -426,7 +426,7 @@ fn names_of_other_tools_are_read_and_written() {
     assert_eq!(
         errors,
         "error: unknown name of go `linux/foo`\n  linux/foo\n  ^^^^^^^^^\n  \
-         note: it names a system, and no single machine\n1 of 2 targets refused\n"
+         note: it names a system, and no single machine known here\n1 of 2 targets refused\n"
     );
     let (_, errors, _) = read(&["--from", "go", "linux/amd46"]);
     assert_eq!(
@@ -969,12 +969,16 @@ fn a_name_of_another_tool_is_recognised() {
         );
         assert_eq!(status, 1);
     }
-    let (_, errors, _) = answers(&["read", "--from", "oci", "linux/amd64/v3"]);
+    let (_, errors, _) = answers(&["read", "--from", "go", "plan9/amd64"]);
     assert_eq!(
         errors,
-        "error: no triple means the same as the name of oci `linux/amd64/v3`\n  linux/amd64/v3\n  \
-         ^^^^^^^^^^^^^^ a triple can't state a level of x86-64\n"
+        "error: no triple means the same as the name of go `plan9/amd64`\n  plan9/amd64\n  \
+         ^^^^^^^^^^^ Plan 9 is no known name\n"
     );
+    // A level of the machine isn't in the triple.
+    let (out, _, _) = answers(&["what", "linux/amd64/v3"]);
+    let note = "    note    oci: for a level of x86-64, which a triple can't state\n";
+    assert!(out.contains(note), "{out}");
 }
 
 #[test]
@@ -1030,7 +1034,7 @@ fn any_tool_may_have_a_name() {
     );
     // A string may be spelled like a triple too, and a single word that a tool has isn't taken for one.
     let (out, _, _) = answers(&["read", "--from", "any", "x86_64-linux"]);
-    assert!(out.ends_with("\ntriple\tx86_64-unknown-linux\n"), "{out}");
+    assert!(out.starts_with("triple\tx86_64-unknown-linux\n"), "{out}");
     let (out, _, _) = answers(&["read", "--from", "any", "armhf"]);
     assert_eq!(out.lines().count(), 2, "{out}");
     let (_, errors, status) = answers(&["read", "--from", "any", "foo/bar"]);
@@ -1070,7 +1074,7 @@ debian armhf node - linux-arm-gnueabihf
 oci windows/amd64 rust - it depends on the ABI of Windows
 oci windows/amd64 rust msvc x86_64-pc-windows-msvc
 oci linux/arm/v6 debian glibc armhf of Debian is for Armv7
-rust arm-unknown-linux-gnueabihf oci - linux/arm/v6";
+rust armv7-unknown-linux-gnueabihf oci - linux/arm/v7";
 
 #[test]
 fn names_are_translated() {
@@ -1229,24 +1233,24 @@ const MISTAKES: &str = "\
 go|Linux/AMD64|linux/amd64|capital letters matter
 go|./linux/amd64|linux/amd64|it has a path
 go|linux amd64|linux/amd64|it has a space
-go|x86_64-unknown-linux-gnu|-|it is a name of gnu and rust; TRIPLE
+go|x86_64-unknown-linux-gnu|linux/amd64|it is a name of gnu and rust; TRIPLE
 go|linux/amd46|linux/amd64|-
 go|linux/riscv/64|linux/riscv64|-
-go|linux/amd64/bin|-|its words name x86_64-unknown-linux
+go|linux/amd64/bin|linux/amd64|-
 oci|linux\\amd64|linux/amd64|-
-oci|linux/amd64:latest|-|its words name x86_64-unknown-linux
+oci|linux/amd64:latest|linux/amd64|-
 oci|/usr/lib/linux/amd64|linux/amd64|it has a path
 debian|AMD64|amd64|capital letters matter
 debian|x86-64|amd64|-
-debian|x86_64-linux-gnu|-|it is a name of gnu and zig; TRIPLE
+debian|x86_64-linux-gnu|amd64|it is a name of gnu and zig; TRIPLE
 debian|linux-image-amd64|-|its words name x86_64-unknown-linux
 pacman|mingw-w64-ucrt-x86_64|-|its words name x86_64-pc-windows-gnu
-oci|arm32v7/debian|-|it names a system, and no single machine
+oci|arm32v7/debian|linux/arm/v7|-
 rust|amd64|-|it is a name of debian, gnu and rpm
 rust|X86_64-unknown-linux-gnu|x86_64-unknown-linux-gnu|capital letters matter
 rust|target/x86_64-unknown-linux-gnu/release|x86_64-unknown-linux-gnu|it has a path
 rust|x86_64|-|it is a part of a name, such as `x86_64-unknown-linux-gnu`
-node|linux/amd64|-|it is a name of go and oci
+node|linux/amd64|linux-x64|it is a name of go and oci
 node|turbo-linux-arm64|linux-arm64|another name comes before it
 node|@foo/bar|-|-
 node|win32-amd64|win32-x64|-
@@ -1257,9 +1261,9 @@ uname|linux x86_64|Linux x86_64|capital letters matter
 rpm|arm64|aarch64|it is a name of debian and gnu
 dotnet|Win-x64|win-x64|capital letters matter
 conda|linux64|linux-64|it is a name of node
-zig|x86_64-unknown-linux-gnu|-|it is a name of gnu and rust; TRIPLE
-nix|x86_64-macos|-|it is a name of gnu and zig
-nix|x86_64-unknown-linux|-|it is a name of gnu; TRIPLE
+zig|x86_64-unknown-linux-gnu|x86_64-linux-gnu|it is a name of gnu and rust; TRIPLE
+nix|x86_64-macos|x86_64-darwin|it is a name of gnu and zig
+nix|x86_64-unknown-linux|x86_64-linux|it is a name of gnu; TRIPLE
 gnu|x86_64-linux-gnuu|x86_64-linux-gnu|-
 gnu|alpha-linux-gnu|-|as a triple: Unrecognized architecture: alpha";
 
@@ -1296,15 +1300,15 @@ fn mistakes_in_names_are_explained() {
 
 /// Names that no tool has, the suggestion, and the note, a dash for none.
 const NOBODYS: &str = "\
-Linux-AMD65|-|it names a system, and no single machine
+Linux-AMD65|-|it names a system, and no single machine known here
 linux/amd46|linux/amd64|-
 x86_64-linux-gnuu|x86_64-linux-gnu|-
 macosArm64|aarch64-apple-darwin|its words name aarch64-apple-darwin
 alpine-linux-x64|x86_64-unknown-linux-musl|its words name x86_64-unknown-linux-musl
 FreeBSD:14:amd64|x86_64-unknown-freebsd|its words name x86_64-unknown-freebsd
 turbo-darwin-64|darwin-64|another name comes before it
-windows-11-arm|-|it names a system, and no single machine
-aarch64_cortex-a53|-|it names a machine, and no system
+windows-11-arm|-|it names a system, and no single machine known here
+aarch64_cortex-a53|-|it names a machine, and no system known here
 ios-arm64_x86_64-simulator|-|it names several machines
 alpha-linux-gnu|-|as a triple: Unrecognized architecture: alpha
 java|-|-";
@@ -1324,7 +1328,6 @@ fn names_that_no_tool_has_are_explained() {
     for (name, note) in [
         ("x86_64-appel-darwin", "`appel` is a custom vendor; did you mean `apple`?"),
         ("arm64-osx", "`osx` is a custom vendor; did you mean `aarch64-apple-darwin`?"),
-        ("arm64-v8a", "`v8a` is a custom vendor; did you mean `aarch64-linux-android`?"),
         ("x86_64-redhat-linux", "`redhat` is a custom vendor"),
     ] {
         let meanings = &json_of(&["what", "--json", name])[0]["meanings"];

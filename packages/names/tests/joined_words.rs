@@ -212,5 +212,5 @@ fn answers_say_what_the_words_say() {
             }
         }
     }
-    assert!(names > 40_000 && answers > 30_000, "{names} {answers}");
+    assert!(names > 40_000 && answers > 20_000, "{names} {answers}");
 }
