@@ -1335,9 +1335,10 @@ fn names_that_no_tool_has_are_explained() {
         assert_eq!(noted, [note], "{name}");
         assert!(answers(&["what", name]).0.contains(&format!("\n    note    {note}\n")), "{name}");
     }
-    // To GNU `android` without a kernel is a C library of no system.
+    // To GNU `android` without a kernel is Android.
+    let meanings = &json_of(&["what", "--json", "arm64-android"])[0]["meanings"];
+    assert_eq!(meanings[1]["canonical"], "aarch64-linux-android");
     let note = |name| json_of(&["what", "--json", name])[0]["meanings"][0]["note"].clone();
-    assert_eq!(note("arm64-android"), "it has no system; did you mean `aarch64-linux-android`?");
     assert_eq!(note("x86_64-unknown-none"), Value::Null);
     // The machine is said where the tool has it on no system.
     let (_, errors, _) = answers(&["write", "--to", "debian", "wasm32-unknown-unknown"]);
