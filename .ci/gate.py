@@ -85,6 +85,7 @@ WITHOUT_PROOF = [
 LAST = [
     ("links, names, samples, counts and versions of the pages, and the pictures", "checks/pages", "cargo cc"),
     ("the program `triples` and the command `target-lexicon`: stored rows, unusual streams, large inputs, samples of the pages", "checks/rows/run", "cargo cram3"),
+    ("no message and no output has what isn't printable ASCII of a hostile string", "checks/visible", "cargo cc"),
     ("each allocation fails in turn", "checks/fail_allocations", "rt cc"),
     ("names, rules and tables are upstream's, by its kept answers; what other tools say of names and targets; suggestions keep the machine",
      "checks/compare answers && checks/compare elsewhere && checks/compare llvm && checks/compare edits", "cargo cc"),

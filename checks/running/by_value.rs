@@ -10,7 +10,7 @@ use std::fmt::Debug;
 use std::hash::{Hash, Hasher};
 use target_lexicon::TripleExt as _;
 use target_lexicon::{
-    Architecture, CDataModel, CallingConvention, CustomVendor, DeploymentTarget, Endianness, Field, PointerWidth, Size, Triple, Vendor,
+    Architecture, CDataModel, CallingConvention, CustomVendor, DeploymentTarget, Endianness, Field, PointerWidth, Size, Triple, Vendor, VendorRef,
 };
 
 /// A hasher that keeps what it is fed.
@@ -118,7 +118,7 @@ pub fn values(r: &mut Report) {
     compared(r, &fields.architectures, &by_name(s::architecture_name));
     // of each kind one in 50, and the first
     let all: Vec<_> = fields.vendors.iter().flat_map(|it| it.iter().step_by(50)).cloned().collect();
-    compared(r, &all.iter().map(|it| (it.0, it.1.as_vendor_ref())).collect::<Vec<_>>(), &by_vendor);
+    compared(r, &all.iter().map(|it| (it.0, VendorRef::from(&it.1))).collect::<Vec<_>>(), &by_vendor);
     compared(r, &all.iter().flat_map(|it| vendors(it.0, &it.1)).collect::<Vec<_>>(), &by_vendor);
     compared(r, &fields.systems.iter().flat_map(|it| it.iter().step_by(50)).cloned().collect::<Vec<_>>(), &by_system);
     compared(r, &fields.environments, &by_name(s::environment_name));

@@ -31,8 +31,8 @@ pub fn fields(r: &mut Report) {
         let (x, json) = (v(&word), Value::from(word.clone()));
         crate::answers! { r, &word, (x):
             architecture_of = from_value::<Architecture>(json.clone()).ok();
-            vendor_of = from_value::<Vendor>(json.clone()).ok().as_ref().map(Vendor::as_vendor_ref);
-            vendor_of = from_str::<Vendor>(&json.to_string()).ok().as_ref().map(Vendor::as_vendor_ref);
+            vendor_of = from_value::<Vendor>(json.clone()).ok().as_ref().map(VendorRef::from);
+            vendor_of = from_str::<Vendor>(&json.to_string()).ok().as_ref().map(VendorRef::from);
             vendor_of = VendorRef::deserialize(&json).ok();
             operating_system_of = from_value::<OperatingSystem>(json.clone()).ok();
             environment_of = from_value::<Environment>(json.clone()).ok();

@@ -277,7 +277,7 @@ class Module:
 class Kit(Module):
     """The kit's library: the first definition of each name in these files. What isn't a definition is left out."""
 
-    FILES = ["core/specs/" + name for name in ("Option", "Result", "Bool", "List", "List/Sorted", "Str", "Str/Parse", "Char", "Int", "Ordering", "Fmt")]
+    FILES = ["core/specs/" + name for name in ("Option", "Result", "Bool", "List", "List/Sorted", "Str", "Str/Parse", "Char", "Int", "Ordering", "Fmt", "Cmp/Lexicographic")]
     FILES += ["logic/Lib/ListN", "logic/Lib/Pointwise", "antt/port/mathlib/src/Core/Bool", "serde_json/specs/Find", "serde_json/specs/View"]
 
     def __init__(self, kit):

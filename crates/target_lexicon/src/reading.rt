@@ -130,22 +130,30 @@ impl<'a> Reading<'a> {
                     }
                 }
             }
-            None => {
-                if is_open(Field::Vendor, expected) {
+            // an arm for each field, by which the kit's compiler sees that these calls repeat the look-up, and drops it,
+            // except after a part that is no vendor
+            None => match expected {
+                Field::Vendor => {
                     if let Ok(vendor) = VendorRef::from_str(part.text) {
                         self.triple.vendor = vendor;
                         self.fill(Field::Vendor, part);
                         return Ok(());
                     }
-                }
-                if is_open(Field::OperatingSystem, expected) {
                     if let Ok(operating_system) = OperatingSystem::from_str(part.text) {
                         self.triple.operating_system = operating_system;
                         self.fill(Field::OperatingSystem, part);
                         return Ok(());
                     }
                 }
-            }
+                Field::OperatingSystem => {
+                    if let Ok(operating_system) = OperatingSystem::from_str(part.text) {
+                        self.triple.operating_system = operating_system;
+                        self.fill(Field::OperatingSystem, part);
+                        return Ok(());
+                    }
+                }
+                Field::Architecture | Field::Environment | Field::BinaryFormat => {}
+            },
         }
         Err(Refusal {
             expected: self.expected,

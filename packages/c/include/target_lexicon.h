@@ -101,7 +101,7 @@ enum lexicon_dialect {
   LEXICON_DIALECT_DEBIAN = 1, /* Debian's architectures, as dpkg names them: amd64, armhf, musl-linux-arm64 */
   LEXICON_DIALECT_GO = 2, /* Go's ports, as go tool dist list prints them: linux/amd64 */
   LEXICON_DIALECT_OCI = 3, /* Platforms of container images, as containerd writes them: linux/arm/v7 */
-  LEXICON_DIALECT_NODE = 4, /* process.platform and process.arch of Node, as npm's packages join them, some with a C library: linux-x64, linux-x64-musl */
+  LEXICON_DIALECT_NODE = 4, /* Names of npm's packages for a platform: process.platform and process.arch of Node with a dash between them, some with a C library: linux-x64, linux-x64-musl */
   LEXICON_DIALECT_GNU = 5, /* Prefixes of GNU's cross compilers, and strings that mean the same to config.sub: x86_64-w64-mingw32 */
   LEXICON_DIALECT_PYTHON = 6, /* Platforms of Python, as tags of wheels such as macosx_11_0_arm64, and as sysconfig.get_platform() prints them */
   LEXICON_DIALECT_RUST = 7, /* Targets of rustc, as rustc --print target-list lists them: riscv64gc-unknown-linux-gnu */
@@ -761,8 +761,8 @@ const char *lexicon_name_suggestion(uint32_t dialect, const char *name, size_t n
 
        Unrecognized operating system: linx
 
-   lexicon_error_text writes three lines, without a line feed at the end. Characters that control a terminal are replaced, and
-   so are bytes that are no character:
+   lexicon_error_text writes three lines, without a line feed at the end. What isn't printable ASCII is escaped, as \u{1b}, and
+   bytes that are no character are \u{fffd}:
 
        Unrecognized operating system: linx
          x86_64-pc-linx

@@ -3,10 +3,10 @@ use crate::error::{expected_at, TextError};
 use crate::text::Text;
 use crate::{Status, NAME_WITHOUT_TRIPLE, NEEDS_C_LIBRARY, NOT_UTF8, NO_SUCH_VALUE, TRIPLE_WITHOUT_NAME, UNKNOWN_NAME};
 use core::str;
-use target_lexicon::spellings::{architecture_in, refusal_prefix, suggestion_on};
+use target_lexicon::spellings::{architecture_in, is_visible, refusal_prefix, suggestion_on};
 use target_lexicon::Suggestion;
 
-/// What stands for a character that could change what a terminal or a log shows, and for bytes that are no character.
+/// What stands for bytes that are no character.
 const REPLACEMENT: char = '\u{fffd}';
 
 /// The refused part, if the error is one of this text.
@@ -45,11 +45,12 @@ pub(crate) fn line_and_caret(bytes: &[u8], error: &TextError, out: &mut Text) ->
         push_visible(part.as_bytes(), out);
     }
     out.push("\n  ");
-    push_visible(bytes, out);
+    let before = push_visible(&bytes[..error.start], out);
+    let part = push_visible(part(bytes, error)?, out);
+    push_visible(&bytes[error.end..], out);
     out.push("\n  ");
-    let (before, part) = (&bytes[..error.start], part(bytes, error)?);
-    (0..columns(before)).for_each(|_| out.push(" "));
-    (0..columns(part).max(1)).for_each(|_| out.push("^"));
+    (0..before).for_each(|_| out.push(" "));
+    (0..part.max(1)).for_each(|_| out.push("^"));
     if let Some(meant) = suggestion(bytes, error) {
         [" did you mean `", meant.names, meant.version, "`?"].iter().for_each(|it| out.push(it));
     }
@@ -79,31 +80,19 @@ fn characters(mut bytes: &[u8]) -> impl Iterator<Item = char> + '_ {
     })
 }
 
-/// The columns of a terminal that the characters take, as they are shown.
-fn columns(bytes: &[u8]) -> usize {
-    characters(bytes).map(|it| if is_visible(it) { width(it) } else { 1 }).sum()
-}
-
-/// The columns of a character: 2 of the scripts of East Asia and of most pictures, 0 of what is written over the character before.
-/// `test` asks the system's C library.
-fn width(it: char) -> usize {
-    match it {
-        '\u{300}'..='\u{36f}' | '\u{1160}'..='\u{11ff}' | '\u{1ab0}'..='\u{1aff}' | '\u{1dc0}'..='\u{1dff}' | '\u{20d0}'..='\u{20f0}' => 0,
-        '\u{d7b0}'..='\u{d7ff}' | '\u{fe00}'..='\u{fe0f}' | '\u{fe20}'..='\u{fe2f}' => 0,
-        '\u{1100}'..='\u{115f}' | '\u{2329}' | '\u{232a}' | '\u{2e80}'..='\u{303e}' | '\u{3041}'..='\u{4dbf}' | '\u{4e00}'..='\u{a4c6}' => 2,
-        '\u{a960}'..='\u{a97c}' | '\u{ac00}'..='\u{d7a3}' | '\u{f900}'..='\u{fad9}' | '\u{fe10}'..='\u{fe6b}' | '\u{ff01}'..='\u{ff60}' => 2,
-        '\u{ffe0}'..='\u{ffe6}' | '\u{16fe0}'..='\u{16fe3}' | '\u{16ff0}'..='\u{1b2fb}' | '\u{20000}'..='\u{3134a}' => 2,
-        '\u{1f300}'..='\u{1f64f}' | '\u{1f680}'..='\u{1f6ff}' | '\u{1f900}'..='\u{1faff}' => 2,
-        _ => 1,
+/// Writes the characters, each that isn't visible escaped. Returns how many are written.
+fn push_visible(bytes: &[u8], out: &mut Text) -> usize {
+    let mut count = 0;
+    let mut push = |it: char| {
+        out.push(it.encode_utf8(&mut [0; 4]));
+        count += 1;
+    };
+    for it in characters(bytes) {
+        if is_visible(it) {
+            push(it);
+        } else {
+            it.escape_default().for_each(&mut push);
+        }
     }
-}
-
-fn push_visible(bytes: &[u8], out: &mut Text) {
-    let mut encoded = [0; 4];
-    characters(bytes).for_each(|it| out.push(if is_visible(it) { it } else { REPLACEMENT }.encode_utf8(&mut encoded)));
-}
-
-/// Whether a character is shown as itself: it neither controls a terminal nor turns the direction of text.
-fn is_visible(it: char) -> bool {
-    !it.is_control() && !matches!(it, '\u{61c}' | '\u{200b}'..='\u{200f}' | '\u{2028}'..='\u{202e}' | '\u{2066}'..='\u{2069}' | '\u{feff}')
+    count
 }

@@ -51,12 +51,12 @@ static const struct { const char *text; enum lexicon_status status; size_t start
     {"x86_64-linux-gnuu", LEXICON_UNRECOGNIZED_ENVIRONMENT, 13, 17, "Unrecognized environment: gnuu",
      "\n  x86_64-linux-gnuu\n               ^^^^ did you mean `gnu`?"},
     {"x86_64-linux-gn\xc3\xbc", LEXICON_UNRECOGNIZED_ENVIRONMENT, 13, 17, "Unrecognized environment: gn\xc3\xbc",
-     "\n  x86_64-linux-gn\xc3\xbc\n               ^^^"},
+     "Unrecognized environment: gn\\u{fc}\n  x86_64-linux-gn\\u{fc}\n               ^^^^^^^^"}, /* with a first line of its own */
     {"x86_64-gnu-linux", LEXICON_UNRECOGNIZED_BINARY_FORMAT, 11, 16, "Unrecognized binary format: linux",
      "\n  x86_64-gnu-linux\n             ^^^^^"},
     {"x86_64-elf-linux", LEXICON_UNRECOGNIZED_FIELD, 11, 16, "Unrecognized field: linux", "\n  x86_64-elf-linux\n             ^^^^^"},
-    {"avr-\xff-linux", LEXICON_NOT_UTF8, 4, 5, "Not UTF-8", "\n  avr-\xef\xbf\xbd-linux\n      ^"},
-    {"x86_64-\xe2\x82", LEXICON_NOT_UTF8, 7, 9, "Not UTF-8", "\n  x86_64-\xef\xbf\xbd\xef\xbf\xbd\n         ^^"},
+    {"avr-\xff-linux", LEXICON_NOT_UTF8, 4, 5, "Not UTF-8", "\n  avr-\\u{fffd}-linux\n      ^^^^^^^^"},
+    {"x86_64-\xe2\x82", LEXICON_NOT_UTF8, 7, 9, "Not UTF-8", "\n  x86_64-\\u{fffd}\\u{fffd}\n         ^^^^^^^^^^^^^^^^"},
 };
 
 /* What a call writes, with a buffer of exactly its size, one that is a byte smaller, and none. */
@@ -118,7 +118,7 @@ static void try_refused(void) {
     error_of = refused[i].text;
     try_text(error_line, &error, refused[i].line, true);
     named = strstr(refused[i].rest, " `");
-    snprintf(whole, sizeof whole, "%s%s", refused[i].line, refused[i].rest);
+    snprintf(whole, sizeof whole, "%s%s", *refused[i].rest == '\n' ? refused[i].line : "", refused[i].rest);
     try_text(error_text, &error, whole, true);
     if (named == NULL) {
       expect(lexicon_suggestion(text, size, &error, NULL, 0, NULL) == LEXICON_NO_SUGGESTION, "no suggestion", refused[i].text);
@@ -151,7 +151,7 @@ static void try_bad_errors(void) {
   expect(lexicon_suggestion(text, 3, NULL, out, sizeof out, NULL) == LEXICON_NO_SUGGESTION, "no error", "suggestion");
   expect(is_filled(out, sizeof out), "no error", "unchanged");
   expect(lexicon_error_text("\x1b[31m\xe2\x80\xae!", 9, &error, out, sizeof out, NULL) == LEXICON_OK, "control characters", "");
-  expect(strcmp(out, "Unrecognized architecture: \xef\xbf\xbd[31m\xef\xbf\xbd!\n  \xef\xbf\xbd[31m\xef\xbf\xbd!\n  ^^^^^^^") == 0, out, "replaced");
+  expect(strcmp(out, "Unrecognized architecture: \\u{1b}[31m\\u{202e}!\n  \\u{1b}[31m\\u{202e}!\n  ^^^^^^^^^^^^^^^^^^^") == 0, out, "escaped");
 }
 
 static struct lexicon_triple triple_of(const char *text) {

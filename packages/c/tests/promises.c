@@ -123,13 +123,14 @@ static enum lexicon_status versioned_name(const struct lexicon_triple *triple, c
 
 /* Calls that write a text, with each size of buffer that matters: what is written is ASCII without controls, except line feeds. */
 static void try_texts(const struct lexicon_triple *triple) {
-  static text_call *const calls[] = {lexicon_rustc_cfg, lexicon_llvm_target, lexicon_multiarch_tuple, versioned_name, lexicon_vendor_suggestion};
+  static text_call *const calls[] = {lexicon_rustc_cfg, lexicon_llvm_target, lexicon_program_suffix, lexicon_multiarch_tuple, versioned_name,
+      lexicon_vendor_suggestion, lexicon_dynamic_linker, lexicon_linker_emulation};
   for (size_t call = 0; call < sizeof calls / sizeof *calls; call++) {
     size_t length = 77, again = 0;
     enum lexicon_status status = calls[call](triple, NULL, 0, &length);
     if (status != LEXICON_TOO_SMALL) {
       CHECK(length == 77 && call >= 2);
-      CHECK(status == (call == 4 ? LEXICON_NO_SUGGESTION : LEXICON_TRIPLE_WITHOUT_NAME) || (call == 3 && status == LEXICON_NEEDS_C_LIBRARY));
+      CHECK(status == (call == 5 ? LEXICON_NO_SUGGESTION : call == 3 || call == 4 ? LEXICON_TRIPLE_WITHOUT_NAME : LEXICON_NO_ANSWER) || (call == 4 && status == LEXICON_NEEDS_C_LIBRARY));
       continue;
     }
     char *small = (char *)before_guard(2, length);
@@ -299,6 +300,8 @@ static void try_bad(const struct lexicon_triple *bad, const struct lexicon_tripl
   CHECK(lexicon_set_pointer_width(&copy, 32) == status && memcmp(&copy, bad, sizeof copy) == 0);
   CHECK(lexicon_set_endianness(&copy, LEXICON_ENDIANNESS_BIG) == status && memcmp(&copy, bad, sizeof copy) == 0);
   CHECK(lexicon_rustc_cfg(bad, out, sizeof out, &length) == status && lexicon_llvm_target(bad, out, sizeof out, &length) == status);
+  CHECK(lexicon_dynamic_linker(bad, out, sizeof out, &length) == status && lexicon_linker_emulation(bad, out, sizeof out, &length) == status);
+  CHECK(lexicon_program_suffix(bad, out, sizeof out, &length) == status);
   CHECK(lexicon_multiarch_tuple(bad, out, sizeof out, &length) == status && versioned_name(bad, out, sizeof out, &length) == status);
   CHECK(lexicon_vendor_suggestion(bad, out, sizeof out, &length) == LEXICON_NO_SUGGESTION && length == 77 && is_unchanged(out, sizeof out));
   CHECK(lexicon_write_reason(LEXICON_DIALECT_GO, bad) == NULL && lexicon_write_versioned_reason(LEXICON_DIALECT_PYTHON, bad, 2, 17) == NULL);
@@ -533,6 +536,10 @@ int LLVMFuzzerTestOneInput(const uint8_t *data, size_t data_size) {
   try_text(text, size);
   try_lines(text, size);
   if (how & 2) try_translations(text, size);
+  struct lexicon_versions versions;
+  struct lexicon_triple read;
+  memset(&versions, 0xa5, sizeof versions);
+  CHECK(lexicon_stated_versions(text, size, &versions, NULL) == lexicon_read(LEXICON_DIALECT_NONE, text, size, &read, NULL));
   CHECK(strncmp(lexicon_version(), LEXICON_VERSION, sizeof LEXICON_VERSION - 1) == 0);
   uint32_t number = 12345, status = lexicon_number(word % 7, text, size, &number);
   CHECK(status == LEXICON_OK || number == 12345);

@@ -2,7 +2,7 @@
 use crate::arguments::FIELDS;
 use crate::input::{Place, Target};
 use crate::json::{Json, Object};
-use crate::refusal::Parsed;
+use crate::refusal::{visible, Parsed};
 use std::io::{self, Write};
 use target_lexicon::{Named as _, OperatingSystemExt as _};
 use target_lexicon::{
@@ -131,7 +131,7 @@ pub fn write_changes(out: &mut dyn Write, text: &str) -> io::Result<()> {
     for change in changes(text) {
         match change.part.text {
             "" => write!(out, "  the empty part")?,
-            part => write!(out, "  `{part}`")?,
+            part => write!(out, "  `{}`", visible(part))?,
         }
         writeln!(out, " is read as `{}`", change.names)?;
     }

@@ -174,8 +174,8 @@ pub fn command() -> Command {
             of_targets(
                 "read",
                 "Write the canonical form of the target that another tool's name means",
-                "Without --from a name is one that GNU and LLVM tools print.\n\n\
-                 Examples:\n  $ target-lexicon read --from oci linux/arm/v7\n  $ target-lexicon read \"$(cc -dumpmachine)\"",
+                "Without --from a name is spelled like a triple, as clang takes it after -target.\n\n\
+                 Examples:\n  $ target-lexicon read --from oci linux/arm/v7\n  $ target-lexicon read --from gnu \"$(cc -dumpmachine)\"",
             )
             .mut_arg("target", |names| names.value_name("NAME"))
             .arg(

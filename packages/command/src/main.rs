@@ -198,13 +198,11 @@ impl Run {
         if let Some(help) = self.helps.get(target.text) {
             return help.clone();
         }
+        let Help { suggestion, note } = refusal.help(target.text);
+        let note = note.or_else(|| self.note(target));
         let help = Help {
-            suggestion: refusal.suggestion(target.text),
-            note: self.triple_note(
-                target.text,
-                refusal,
-                refusal.mistake().or_else(|| self.note(target)),
-            ),
+            suggestion,
+            note: self.triple_note(target.text, refusal, note),
         };
         if self.helps.len() < REMEMBERED
             && target.text.len() <= REMEMBERED_LENGTH
@@ -391,7 +389,7 @@ impl Run {
         match target.place {
             Place::Argument(_) if is_file() => Some(format!(
                 "there is a file of that name: `-f {}` answers for its lines",
-                visible(text)
+                visible(text).shortened()
             )),
             _ if self.call == Call::Read(From::Triples) && text.contains('/') => {
                 Some("a name of another tool needs `--from`".to_string())
@@ -565,12 +563,13 @@ fn run(arguments: &ArgMatches) -> Result<i32, Fault> {
 
 /// What clap says of the arguments, without a control character of theirs: it is asked about the escaped ones.
 fn usage_text(error: &clap::Error) -> String {
-    let shown = env::args_os().map(|word| visible(&word.to_string_lossy()));
+    let shown = env::args_os().map(|word| visible(word.to_string_lossy()).to_string());
     let text = match arguments::command().try_get_matches_from(shown) {
         Err(again) if again.kind() == error.kind() => again.render().to_string(),
         _ => error.render().to_string(),
     };
-    text.split('\n').map(visible).collect::<Vec<_>>().join("\n")
+    let lines = text.split('\n').map(|line| visible(line).to_string());
+    lines.collect::<Vec<_>>().join("\n")
 }
 
 /// Help, the version, or what is wrong with the arguments. Returns the status.

@@ -42,8 +42,8 @@ fn is_terminal() -> bool {
     return false;
 }
 
-/// Whether that terminal wants colours.
-fn is_colorful_terminal() -> bool {
+/// Whether that terminal takes escape sequences, and the user wants them.
+fn takes_escapes() -> bool {
     let is_unset = |name| env::var_os(name).map_or(true, |it| it.is_empty());
     is_terminal()
         && is_unset("NO_COLOR")
@@ -70,7 +70,7 @@ impl Outputs {
         let has_color = match arguments.get_one::<String>("color").map(String::as_str) {
             Some("always") => true,
             Some("never") => false,
-            _ => is_colorful_terminal(),
+            _ => takes_escapes(),
         };
         Outputs {
             layout,
@@ -156,7 +156,7 @@ impl Outputs {
     }
 }
 
-/// How far a long run is. On a terminal it is shown each second, in a line that the next one covers.
+/// How far a long run is. On a terminal that takes escape sequences it is shown each second, in a line that the next one covers.
 pub struct Progress {
     pub targets: usize,
     pub refused: usize,
@@ -170,7 +170,7 @@ impl Progress {
             targets: 0,
             refused: 0,
             is_shown: false,
-            next: is_terminal().then(|| Instant::now() + Duration::from_secs(2)),
+            next: takes_escapes().then(|| Instant::now() + Duration::from_secs(2)),
         }
     }
 

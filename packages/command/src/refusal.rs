@@ -4,9 +4,12 @@ use crate::input::{Place, Target};
 use crate::json::{Json, Object};
 use crate::From;
 use std::io::{self, Write};
+pub use target_lexicon::spellings::visible;
+use target_lexicon::spellings::SHOWN;
 use target_lexicon::{Field, Source, Sources, TextPart, TripleRef, VendorRef};
 use target_names::{
-    hint, Dialect, Hint, LinuxLibc, Mistake, Name, NameError, TranslateError, WriteError,
+    hint, suggestions, Dialect, Hint, LinuxLibc, Mistake, Name, NameError, TranslateError,
+    WriteError,
 };
 
 pub struct Refusal<'a> {
@@ -218,16 +221,13 @@ impl<'a> Refusal<'a> {
 
 /// The name that the first dialect suggests that suggests one, and what is wrong with the unknown one, as far as it says more. A name after
 /// another is none if all the words together name a triple.
-fn nearest(name: &str) -> Option<(&'static str, Option<Mistake<'_>>)> {
-    let has_triple = matches!(hint(name), Some(Hint::Triple(_)));
-    let mut found = Dialect::ALL.iter().filter_map(|dialect| {
-        let suggestion = dialect.suggestion(name)?;
-        match dialect.mistake(name) {
+fn nearest(name: &str, has_triple: bool) -> Option<(&'static str, Option<Mistake<'_>>)> {
+    let mut found =
+        suggestions(name).filter_map(|(dialect, suggestion)| match dialect.mistake(name) {
             Some(Mistake::Prefix) if has_triple => None,
             Some(Mistake::NoTriple(_)) => Some((suggestion, None)),
             mistake => Some((suggestion, mistake)),
-        }
-    });
+        });
     found.next()
 }
 
@@ -250,40 +250,34 @@ impl Refusal<'_> {
         matches!(self.names, Names::OfDialect(..))
     }
 
-    /// What is wrong with a name that a dialect doesn't have.
-    pub fn mistake(&self) -> Option<String> {
-        match self.names {
-            Names::OfDialect(dialect, name) => match dialect.mistake(name) {
-                None | Some(Mistake::NoTriple(_)) if dialect.suggestion(name).is_some() => None,
-                None => hint(name).map(|it| it.to_string()),
-                mistake => mistake.map(|it| it.to_string()),
-            },
-            Names::OfAll(name) => match (nearest(name), hint(name)) {
-                (Some((_, mistake)), _) => mistake.map(|it| it.to_string()),
-                (None, Some(Hint::NoMachine) | None) if may_be_triple(name) => {
-                    Dialect::Gnu.mistake(name).map(|it| it.to_string())
-                }
-                (None, hint) => hint.map(|it| it.to_string()),
-            },
-            _ => None,
-        }
-    }
-
-    /// What is suggested for a part of this target.
-    pub fn suggestion(&self, target: &str) -> Option<String> {
-        let found = match &self.names {
-            Names::OfParts(refusal) => refusal.suggestion_in(target),
-            Names::OfVendors(triple) => triple.vendor_suggestion(),
+    /// What is suggested for a part of this target, and what is wrong with a name that a dialect doesn't have.
+    pub fn help(&self, target: &str) -> Help {
+        let (suggestion, note) = match &self.names {
+            Names::OfParts(refusal) => (shown(refusal.suggestion_in(target)), None),
+            Names::OfVendors(triple) => (shown(triple.vendor_suggestion()), None),
             Names::OfAll(name) => {
-                return match (nearest(name), hint(name)) {
-                    (None, Some(Hint::Triple(triple))) => Some(triple.to_string()),
-                    (nearest, _) => nearest.map(|(name, _)| name.to_string()),
-                };
+                let hint = hint(name);
+                match (nearest(name, matches!(hint, Some(Hint::Triple(_)))), hint) {
+                    (Some((name, mistake)), _) => (shown(Some(name)), shown(mistake)),
+                    (None, Some(Hint::NoMachine) | None) if may_be_triple(name) => {
+                        (None, shown(Dialect::Gnu.mistake(name)))
+                    }
+                    (None, Some(Hint::Triple(triple))) => (shown(Some(triple)), shown(hint)),
+                    (None, hint) => (None, shown(hint)),
+                }
             }
-            Names::OfDialect(dialect, name) => return dialect.suggestion(name).map(str::to_string),
-            Names::No => None,
+            Names::OfDialect(dialect, name) => {
+                let suggestion = dialect.suggestion(name);
+                let note = match dialect.mistake(name) {
+                    None | Some(Mistake::NoTriple(_)) if suggestion.is_some() => None,
+                    None => shown(hint(name)),
+                    mistake => shown(mistake),
+                };
+                (shown(suggestion), note)
+            }
+            Names::No => (None, None),
         };
-        found.map(|it| it.to_string())
+        Help { suggestion, note }
     }
 
     /// The place, what is wrong, the target, and carets below the part.
@@ -306,9 +300,9 @@ impl Refusal<'_> {
             &target.text[self.part.range().end..],
         );
         let (before, part, after) = (
-            last(&visible(before)),
-            first(&visible(self.part.text)),
-            first(&visible(after)),
+            last(before),
+            visible(self.part.text).shortened().to_string(),
+            visible(after).shortened(),
         );
         if let Place::Line {
             file,
@@ -333,13 +327,16 @@ impl Refusal<'_> {
             color("1;31", &carets)
         )?;
         match (&help.suggestion, self.reason) {
-            (Some(name), _) => write!(out, " did you mean `{}`?", color("1;32", name))?,
+            (Some(name), _) => {
+                let name = visible(name).to_string();
+                write!(out, " did you mean `{}`?", color("1;32", &name))?;
+            }
             (None, Some(reason)) => write!(out, " {reason}")?,
             (None, None) => {}
         }
         writeln!(out)?;
         match &help.note {
-            Some(note) => writeln!(out, "  {} {note}", color("1", "note:")),
+            Some(note) => writeln!(out, "  {} {}", color("1", "note:"), visible(note)),
             None => Ok(()),
         }
     }
@@ -365,31 +362,16 @@ impl Refusal<'_> {
     }
 }
 
-/// The text with what is no printable character escaped: what steers a terminal, turns the direction of text, or can't be seen.
-pub fn visible(text: &str) -> String {
-    let mut shown = String::new();
-    for c in text.chars() {
-        match c {
-            '"' | '\'' | '\\' => shown.push(c),
-            c => shown.extend(c.escape_debug()),
-        }
-    }
-    shown
+fn shown<T: ToString>(value: Option<T>) -> Option<String> {
+    value.map(|it| it.to_string())
 }
 
-/// As many characters as are shown of a long text.
-const SHOWN: usize = 200;
-
-fn first(text: &str) -> String {
-    match text.char_indices().nth(SHOWN) {
-        Some((at, _)) => format!("{}...", &text[..at]),
-        None => text.to_string(),
-    }
-}
-
+/// The end of a text, as it is shown before a part.
 fn last(text: &str) -> String {
-    match text.char_indices().nth_back(SHOWN) {
-        Some((at, c)) => format!("...{}", &text[at + c.len_utf8()..]),
-        None => text.to_string(),
+    let start = text.char_indices().nth_back(SHOWN).map_or(0, |(at, _)| at);
+    let text = visible(&text[start..]).to_string(); // which is ASCII
+    match text.len().checked_sub(SHOWN) {
+        None | Some(0) => text,
+        Some(at) => format!("...{}", &text[at..]),
     }
 }

@@ -3,7 +3,7 @@ use crate::answers::canonical;
 use crate::arguments::written;
 use crate::input::{Place, Target};
 use crate::json::{Json, Object};
-use crate::refusal::{reason, Refusal};
+use crate::refusal::{reason, visible, Refusal};
 use std::io::{self, Write};
 use target_lexicon::{OperatingSystem, TripleRef, VendorRef};
 use target_names::{hint, meanings, Hint, LinuxLibc, Meaning, Name, TargetInfo, WriteError};
@@ -22,8 +22,11 @@ pub fn names_in(target: Target<'_>) -> impl Iterator<Item = Target<'_>> {
     if names.is_empty() {
         names.push(whole);
     }
+    let (mut at, mut column) = (0, 0);
     names.into_iter().map(move |text| {
-        let before = &whole[..text.as_ptr() as usize - whole.as_ptr() as usize];
+        let start = text.as_ptr() as usize - whole.as_ptr() as usize;
+        column += whole[at..start].chars().count();
+        at = start;
         let place = match target.place {
             Place::Line {
                 file,
@@ -32,7 +35,7 @@ pub fn names_in(target: Target<'_>) -> impl Iterator<Item = Target<'_>> {
             } => Place::Line {
                 file,
                 number,
-                indent: indent + before.chars().count(),
+                indent: indent + column,
             },
             place => place,
         };
@@ -105,7 +108,7 @@ impl<'a> What<'a> {
     /// For each meaning a line with the tools that mean it, a note about its vendor, a line for each tool that has a name for it, and a line
     /// for each reason why others have none.
     pub fn write(&self, out: &mut dyn Write, text: &str) -> io::Result<()> {
-        writeln!(out, "{text}")?;
+        writeln!(out, "{}", visible(text))?;
         for (triple, tools) in &self.meanings {
             writeln!(out, "  is {triple}, as {}", tools.join(", "))?;
             if let Some(note) = self.note(text, triple) {

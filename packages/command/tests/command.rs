@@ -5,7 +5,7 @@ use std::io::{BufRead, BufReader, Write};
 use std::process::{Command, Output, Stdio};
 use std::sync::mpsc;
 use std::thread;
-use std::time::Duration;
+use std::time::{Duration, Instant};
 
 fn target_lexicon(words: &[&str]) -> Command {
     let mut command = Command::new(env!("CARGO_BIN_EXE_target-lexicon"));
@@ -70,7 +70,7 @@ fn a_refused_line_is_shown_with_its_place() {
     assert_eq!(
         errors,
         "<stdin>:2:11: error: unrecognized operating system `linx`\n  x86_64-pc-linx\n            ^^^^ did you mean `linux`?\n\
-         <stdin>:3:8: error: unrecognized vendor `éé`\n  x86_64-éé-a\n         ^^\n2 of 3 targets refused\n"
+         <stdin>:3:8: error: unrecognized vendor `\\u{e9}\\u{e9}`\n  x86_64-\\u{e9}\\u{e9}-a\n         ^^^^^^^^^^^^\n2 of 3 targets refused\n"
     );
     assert_eq!(status, 1);
     // Arguments have no place, and follow each other and the lines of files in the order given.
@@ -199,6 +199,51 @@ fn hostile_targets_do_not_reach_the_terminal() {
     let (_, errors, status) = answers(&["check", "-f", "no\u{1b}file"]);
     assert_eq!(status, 3);
     assert!(errors.starts_with(r"target-lexicon: no\u{1b}file: "));
+}
+
+#[test]
+fn hostile_names_do_not_reach_the_terminal() {
+    let hostile = "\u{1b}]0;pwned\u{7}";
+    for words in [
+        &["what", &format!("{hostile}-linux-gnu")] as &[&str],
+        &["what", &format!("@{hostile}\u{1b}[2J/linux-x64")],
+        &["read", &format!("{hostile}-linux-gnu")],
+        &["translate", "--from", "gnu", "--to", "go", &format!("{hostile}-linux-gnu")],
+        &["read", "--from", "node", &format!("@a\u{3164}/{hostile}")],
+    ] {
+        let (out, errors, _) = answers(words);
+        let written = out + &errors;
+        assert!(written.bytes().all(|it| it == b'\n' || (b' '..=b'~').contains(&it)), "{written}");
+        assert!(written.contains(r"\u{1b}"), "{written}");
+    }
+    // A note is no longer than what is shown of the target.
+    let long = format!("{}-linux-gnu", "A".repeat(5000));
+    let (_, errors, _) = answers(&["read", "--from", "gnu", &long]);
+    assert!(errors.lines().all(|line| line.len() < 600), "{errors}");
+}
+
+#[test]
+fn many_names_take_as_long_in_a_line_as_in_many() {
+    let time_of = |names: String| {
+        let begun = Instant::now();
+        let (out, _, status) = answers_on(&["read", "--from", "debian"], &names);
+        assert_eq!((out.lines().count(), status), (20_000, 0));
+        begun.elapsed()
+    };
+    let commas = ",".repeat(1000);
+    let in_many = time_of(format!("amd64{commas}\n").repeat(20_000));
+    let in_one = time_of(format!("amd64{commas}").repeat(20_000));
+    assert!(in_one < 4 * in_many + Duration::from_secs(4), "{in_one:?} and {in_many:?}");
+    let (_, errors, _) = answers_on(&["read", "--from", "debian"], "\u{e9}, amd64, \u{e9}");
+    assert!(errors.contains("<stdin>:1:1: error: ") && errors.contains("<stdin>:1:11: error: "));
+}
+
+#[test]
+fn a_name_that_is_longer_than_any_gets_no_suggestion() {
+    let begun = Instant::now();
+    let (_, errors, _) = answers_on(&["what"], &format!("{}/linux-x46\n", "-a_".repeat(300_000)));
+    assert!(errors.contains("no tool has the name") && !errors.contains("did you mean"));
+    assert!(begun.elapsed() < Duration::from_secs(30));
 }
 
 #[test]

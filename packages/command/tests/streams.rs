@@ -140,3 +140,25 @@ fn an_input_larger_than_memory_is_reported() {
         ("".into(), "target-lexicon: <stdin>: out of memory\n".into(), 3)
     );
 }
+
+#[test]
+fn a_refused_line_needs_no_memory_but_its_own() {
+    let input = "head -c 3000000 /dev/zero | tr '\\0' '\\1'";
+    let (_, errors, status) = shell(&format!("ulimit -v 24000; {input} | target-lexicon check"));
+    assert!(errors.starts_with("<stdin>:1:1: error: ") && errors.len() < 1000, "{errors}");
+    assert_eq!(status, 1);
+}
+
+#[test]
+fn progress_is_shown_where_escapes_are_taken() {
+    let command = env!("CARGO_BIN_EXE_target-lexicon");
+    let run = format!("{{ echo avr; sleep 2.5; echo avr; }} | {command} settle > /dev/null");
+    for (variables, is_shown) in [
+        ("TERM=xterm NO_COLOR=", true),
+        ("TERM=dumb NO_COLOR=", false),
+        ("TERM=xterm NO_COLOR=1", false),
+    ] {
+        let (out, _, _) = shell(&format!("{variables} script -qec '{run}' /dev/null < /dev/null"));
+        assert_eq!(out.contains('\u{1b}'), is_shown, "{variables}: {out:?}");
+    }
+}

@@ -248,8 +248,8 @@ export class ParseError extends Error {
   /** Whether `translate` has a name with a C library that is said. */
   readonly needsLibc: boolean;
   /**
-   * The message, the string below it, and carets below the refused part, with the suggestion or the reason. A control character is
-   * shown as U+FFFD; `message` keeps it.
+   * The message, the string below it, and carets below the refused part, with the suggestion or the reason. What isn't printable
+   * ASCII is escaped; `message` keeps it.
    */
   readonly report: string;
 }
@@ -275,8 +275,8 @@ export class Triple {
   /** The triple of a string, or null if it is refused, which takes a small part of the time of an error. */
   static tryParse(text: string): Triple | null;
   /**
-   * The triple of what another tool calls a target. Without a dialect, the string is spelled like a triple, such as what `cc -dumpmachine`
-   * prints: `x86_64-w64-mingw32` is read as `x86_64-pc-windows-gnu`. With one, it is a name of that tool, and no other is tried; what
+   * The triple of what another tool calls a target. Without a dialect, the string is spelled like a triple, as clang takes it after
+   * `-target`: `x86_64-w64-mingw32` is read as `x86_64-pc-windows-gnu`. With one, it is a name of that tool, and no other is tried; what
    * the name doesn't state is unknown. Throws a ParseError for any other string, and where a name means no triple.
    */
   static read(text: string, dialect?: Dialect | null): Triple;

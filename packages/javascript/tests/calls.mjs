@@ -27,7 +27,7 @@ const tests = {
   "nothing works before the module is loaded": async () => {
     assert.throws(() => Triple.parse("x86_64"), /load/);
     await load(readFileSync(file));
-    assert.match(version(), /^\d+\.\d+\.\d+( \([0-9a-f]{12}\))?$/);
+    assert.match(version(), /^\d+\.\d+\.\d+( \([0-9a-f]{12}(-dirty)?\))?$/);
   },
   "a triple never changes": () => {
     const it = Triple.parse("x86_64-unknown-linux-gnu");
@@ -128,7 +128,7 @@ const tests = {
   "a report has carets below the part": () => {
     const report = "Unrecognized operating system: linx\n  x86_64-pc-linx\n            ^^^^ did you mean `linux`?";
     assert.equal(refusal("x86_64-pc-linx").report, report);
-    assert.equal(refusal("x86_64-\u{1f600}\n-x").report, "Unrecognized vendor: \u{1f600}\ufffd\n  x86_64-\u{1f600}\ufffd-x\n         ^^");
+    assert.equal(refusal("x86_64-\u{1f600}\n-x").report, "Unrecognized vendor: \\u{1f600}\\n\n  x86_64-\\u{1f600}\\n-x\n         ^^^^^^^^^^^");
   },
   "a report of a long string": () => {
     const lines = refusal(`x86_64-${"Z".repeat(999)}`).report.split("\n");
@@ -444,6 +444,21 @@ const tests = {
     }
     assert.throws(() => hostOf(undefined, undefined), /Node/);
     assert.equal(host().facts().endianness, "little");
+  },
+  "what Node says of itself is a name, or has a reason": () => {
+    const platforms = { aix: "ppc ppc64", android: "arm arm64 ia32 riscv64 x64", darwin: "arm64 ia32 x64", freebsd: "arm arm64 ia32 ppc64 riscv64 x64", haiku: "ia32 x64",
+      linux: "arm arm64 ia32 loong64 mips mipsel mips64el ppc ppc64 riscv64 s390 s390x x64", netbsd: "arm arm64 ia32 x64", openbsd: "arm arm64 ia32 ppc64 riscv64 x64",
+      sunos: "ia32 x64", win32: "arm64 ia32 x64" };
+    const named = { aix: "aix", android: "linux", darwin: "darwin", freebsd: "freebsd", haiku: "haiku", linux: "linux", netbsd: "netbsd", openbsd: "openbsd", win32: "windows" };
+    const without = [];
+    for (const [platform, machines] of Object.entries(platforms)) {
+      for (const machine of machines.split(" ")) {
+        const name = `${platform}-${machine}`, known = meanings(name).withoutTriple.node;
+        if (known) without.push(name);
+        else assert.equal(Triple.read(name, "node").operatingSystem, named[platform], name);
+      }
+    }
+    assert.deepEqual(without, ["freebsd-ppc64", "linux-ppc", "linux-s390", "sunos-ia32", "sunos-x64"]);
   },
   "strings of any length": () => {
     for (const size of [60, 64, 65, 128, 65535, 65536, 300000, 30000000]) {

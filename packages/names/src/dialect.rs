@@ -454,7 +454,7 @@ impl Dialect {
     pub(crate) fn rows_read(self) -> impl Iterator<Item = &'static Row> + Clone {
         let of = move |way| {
             let rows = self.rows().iter();
-            rows.filter(move |row| row.2 == way && !row.0.contains('*'))
+            rows.filter(move |row| row.2 == way && star_count(row.0) == 0)
         };
         of(Way::Both).chain(of(Way::Read))
     }

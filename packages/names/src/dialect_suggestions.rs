@@ -1,6 +1,7 @@
 //! The name that is suggested for an unknown name of a dialect.
 use crate::dialect::{Row, Way};
 use crate::hints::triple_of_words;
+use crate::mistakes::LONGEST_PATH;
 use crate::{hint, read, Dialect, FloatAbi, Hint};
 use core::ops::Range;
 use target_lexicon::spellings::meant;
@@ -32,6 +33,11 @@ impl Dialect {
     #[must_use]
     #[inline]
     pub fn suggestion(self, name: &str) -> Option<&'static str> {
+        self.name_meant(name, &Stated::of(within_longest(name)?))
+    }
+
+    #[inline(never)]
+    fn name_meant(self, name: &str, stated: &Stated) -> Option<&'static str> {
         let found = self.name_in_other_letters(name);
         if let Some(known) = found.or_else(|| self.name_inside(name)) {
             return Some(known);
@@ -40,7 +46,6 @@ impl Dialect {
             return Some(known);
         }
         let read = self.rows_read();
-        let stated = Stated::of(name);
         if stated.is_other {
             return None;
         }
@@ -82,6 +87,31 @@ impl Dialect {
         let triple = read(name).ok().or_else(|| triple_of_words(name))?;
         self.row_written(&triple)
     }
+}
+
+/// The name that each dialect suggests for an unknown one, as [`Dialect::suggestion`] does, in the order of [`Dialect::ALL`]. Asking for the
+/// first is cheaper than asking each dialect, since what the words of the name say is found out once. Nothing is allocated.
+///
+/// # Examples
+///
+/// ```
+/// use target_names::{suggestions, Dialect};
+///
+/// assert_eq!(suggestions("linux/amd46").next(), Some((Dialect::Go, "linux/amd64")));
+/// assert_eq!(suggestions("foo").next(), None);
+/// ```
+#[inline]
+pub fn suggestions(name: &str) -> impl Iterator<Item = (Dialect, &'static str)> + '_ {
+    let stated = within_longest(name).map(Stated::of);
+    Dialect::ALL
+        .iter()
+        .filter_map(move |dialect| Some((*dialect, dialect.name_meant(name, stated.as_ref()?)?)))
+}
+
+/// The name, if it may be one with a path or another name around it. A longer string gets no suggestion, so that none takes long.
+#[inline]
+fn within_longest(name: &str) -> Option<&str> {
+    (name.len() <= LONGEST_PATH).then_some(name)
 }
 
 /// What a name says of the machine.

@@ -67,6 +67,7 @@ mod variants;
 pub use arm::ArmProfile;
 pub use c_library::LinuxLibc;
 pub use dialect::NameError;
+pub use dialect_suggestions::suggestions;
 pub use driver::{CLibrary, FloatAbi, Signedness, TypeLayout, TypeSizes};
 pub use hints::{hint, Hint};
 pub use llvm_target::LlvmTarget;

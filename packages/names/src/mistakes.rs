@@ -1,6 +1,7 @@
 //! What is wrong with an unknown name of a dialect.
 use crate::{read, Dialect};
 use core::fmt;
+use target_lexicon::spellings::visible;
 use target_lexicon::Refusal;
 
 /// What is wrong with a name that a dialect doesn't have. `Display` says it.
@@ -63,7 +64,9 @@ impl fmt::Display for Mistake<'_> {
             Mistake::Path => f.write_str("it has a path"),
             Mistake::Part(name) => write!(f, "it is a part of a name, such as `{name}`"),
             Mistake::Prefix => f.write_str("another name comes before it"),
-            Mistake::NoTriple(refusal) => write!(f, "as a triple: {refusal}"),
+            Mistake::NoTriple(refusal) => {
+                write!(f, "as a triple: {}", visible(refusal).shortened())
+            }
         }
     }
 }
@@ -164,23 +167,22 @@ impl Dialect {
         if text.len() > LONGEST_PATH {
             return None;
         }
-        let is_end = |byte: Option<&u8>| matches!(byte, None | Some(b'/' | b'\\'));
-        let is_inside = |name: &&str| {
-            let places = text.match_indices(*name);
-            places.clone().any(|(at, _)| {
-                let before = text.as_bytes()[..at].last();
-                let after = text.as_bytes().get(at + name.len());
-                is_end(before) && is_end(after) && !(self.has_slashes() && after.is_some())
+        let slashes = text.match_indices(['/', '\\']).map(|(at, _)| at + 1);
+        let ends = core::iter::once(0).chain(slashes).map(|at| &text[at..]);
+        let found = ends.flat_map(|end| {
+            self.names_read().filter(move |name| {
+                let after = end.strip_prefix(*name);
+                after.map_or(false, |it| {
+                    it.is_empty() || it.starts_with(['/', '\\']) && !self.has_slashes()
+                })
             })
-        };
-        self.names_read()
-            .filter(is_inside)
-            .max_by_key(|name| name.len())
+        });
+        found.max_by_key(|name| name.len())
     }
 }
 
-/// The most bytes of a path in which a name is looked for.
-const LONGEST_PATH: usize = 1024;
+/// The most bytes of a path in which a name is looked for, and of a name that gets a suggestion.
+pub(super) const LONGEST_PATH: usize = 256;
 
 /// Whether a word begins or ends a name, up to a sign.
 #[inline]

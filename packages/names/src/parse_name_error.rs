@@ -4,6 +4,7 @@ use crate::{Dialect, LinuxLibc, Mistake, NameError};
 use alloc::boxed::Box;
 use core::fmt;
 use core::str::FromStr;
+use target_lexicon::spellings::visible;
 use target_lexicon::TripleRef;
 
 /// Why a word is no [`Dialect`], or no [`LinuxLibc`]: there is none of that name.
@@ -89,7 +90,7 @@ impl UnknownWord {
 impl fmt::Display for UnknownWord {
     #[inline]
     fn fmt(&self, f: &mut fmt::Formatter<'_>) -> fmt::Result {
-        let word = self.word.escape_debug();
+        let word = visible(&self.word);
         match (self.of, self.suggestion()) {
             (Words::Dialects, Some(name)) => {
                 write!(f, "Unknown dialect: {word}; did you mean `{name}`?")
@@ -267,7 +268,7 @@ impl ParseNameError {
 impl fmt::Display for ParseNameError {
     #[inline]
     fn fmt(&self, f: &mut fmt::Formatter<'_>) -> fmt::Result {
-        let (dialect, name) = (self.dialect, self.name.escape_debug());
+        let (dialect, name) = (self.dialect, visible(&self.name));
         match self.why {
             NameError::Unknown => write!(f, "Unknown name of {dialect}: {name}")?,
             NameError::WithoutTriple(why) if OF_CONFIG_SUB.contains(&why) => {

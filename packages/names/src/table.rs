@@ -24,7 +24,7 @@ pub enum Dialect {
     Go,
     /// Platforms of container images, as containerd writes them: `linux/arm/v7`.
     Oci,
-    /// `process.platform` and `process.arch` of Node, as npm's packages join them, some with a C library: `linux-x64`, `linux-x64-musl`.
+    /// Names of npm's packages for a platform: `process.platform` and `process.arch` of Node with a dash between them, some with a C library: `linux-x64`, `linux-x64-musl`.
     Node,
     /// Prefixes of GNU's cross compilers, and strings that mean the same to config.sub: `x86_64-w64-mingw32`.
     Gnu,
@@ -609,6 +609,20 @@ pub(crate) static TABLES: [Table; 15] = [
         ("win64", "x86_64-pc-windows", Read),
         ("windows-64", "x86_64-pc-windows", Read),
         ("windows-arm64", "aarch64-pc-windows", Read),
+        ("aix-ppc", "powerpc-ibm-aix", Read),
+        ("android-riscv64", "riscv64-linux-android", Read),
+        ("darwin-ia32", "i686-apple-darwin", Read),
+        ("freebsd-riscv64", "riscv64-unknown-freebsd", Read),
+        ("haiku-ia32", "i686-unknown-haiku", Read),
+        ("haiku-x64", "x86_64-unknown-haiku", Read),
+        ("netbsd-arm", "arm-unknown-netbsd", Read),
+        ("netbsd-ia32", "i686-unknown-netbsd", Read),
+        ("openbsd-arm", "arm-unknown-openbsd", Read),
+        ("openbsd-ia32", "i686-unknown-openbsd", Read),
+        ("openbsd-ppc64", "powerpc64-unknown-openbsd", Read),
+        ("openbsd-riscv64", "riscv64-unknown-openbsd", Read),
+        ("freebsd-ppc64", "both byte orders", NoTriple),
+        ("sunos-ia32", "two systems: Solaris and illumos", NoTriple),
     ],
     notes: &[
         ("bun-linux-x64-modern", "for a level of x86-64, which a triple can't state"),
@@ -616,12 +630,12 @@ pub(crate) static TABLES: [Table; 15] = [
         ("bun-windows-x64-modern", "for a level of x86-64, which a triple can't state"),
     ],
     by_name: &[
-        0, 1, 2, 3, 4, 5, 6, 7, 123, 122, 115, 117, 114, 118, 119, 116, 120, 121, 125, 124, 126, 127, 8, 128, 109, 9,
-        10, 11, 129, 110, 103, 12, 130, 13, 131, 105, 106, 14, 15, 16, 17, 18, 19, 20, 21, 22, 132, 23, 134, 24, 133,
-        25, 26, 27, 28, 29, 30, 31, 32, 33, 34, 104, 35, 36, 37, 38, 39, 40, 41, 42, 43, 44, 45, 46, 47, 48, 49, 50,
-        51, 52, 53, 54, 55, 56, 57, 58, 59, 60, 61, 107, 62, 135, 63, 64, 108, 136, 137, 98, 65, 99, 102, 100, 101,
-        66, 138, 139, 67, 68, 69, 70, 79, 80, 81, 82, 83, 84, 87, 88, 89, 90, 91, 92, 140, 93, 94, 95, 96, 97, 141,
-        142, 113, 143, 111, 112,
+        144, 0, 1, 2, 3, 4, 5, 6, 145, 7, 123, 122, 115, 117, 114, 118, 119, 116, 120, 121, 125, 124, 126, 127, 8,
+        128, 109, 9, 146, 10, 11, 129, 110, 103, 12, 130, 156, 147, 13, 148, 149, 131, 105, 106, 14, 15, 16, 17, 18,
+        19, 20, 21, 22, 132, 23, 134, 24, 133, 25, 26, 27, 28, 29, 30, 31, 32, 33, 34, 104, 35, 36, 37, 38, 39, 40,
+        41, 42, 43, 44, 45, 46, 47, 48, 49, 50, 51, 52, 53, 54, 55, 56, 57, 58, 59, 60, 61, 107, 62, 135, 63, 64,
+        108, 136, 137, 98, 65, 99, 102, 100, 101, 66, 138, 139, 67, 68, 150, 69, 151, 70, 152, 79, 153, 154, 155, 80,
+        81, 82, 83, 157, 84, 87, 88, 89, 90, 91, 92, 140, 93, 94, 95, 96, 97, 141, 142, 113, 143, 111, 112,
     ],
     patterns: &[
         71, 72, 73, 74, 75, 76, 77, 78,
@@ -693,6 +707,13 @@ pub(crate) static TABLES: [Table; 15] = [
         ("riscv64-linux-gnu", "riscv64-unknown-linux-gnu", Both),
         ("riscv64-linux-musl", "riscv64-unknown-linux-musl", Both),
         ("riscv64-unknown-elf", "riscv64-unknown-none-elf", Both),
+        ("alpha-linux-gnu", "its architecture is no known name", NoTriple),
+        ("arc-linux-gnu", "its architecture is no known name", NoTriple),
+        ("h8300-hms", "its architecture is no known name", NoTriple),
+        ("hppa-linux-gnu", "its architecture is no known name", NoTriple),
+        ("hppa64-linux-gnu", "its architecture is no known name", NoTriple),
+        ("or1k-elf", "its architecture is no known name", NoTriple),
+        ("sh4-linux-gnu", "its architecture is no known name", NoTriple),
         ("rs6000", "powerpc-ibm-aix", Read),
         ("s390x-linux-gnu", "s390x-unknown-linux-gnu", Both),
         ("s390x-linux-musl", "s390x-unknown-linux-musl", Both),
@@ -721,10 +742,10 @@ pub(crate) static TABLES: [Table; 15] = [
     notes: &[
     ],
     by_name: &[
-        0, 82, 1, 2, 3, 4, 6, 5, 7, 8, 83, 9, 10, 11, 12, 13, 14, 15, 16, 17, 18, 19, 20, 21, 22, 24, 84, 25, 26, 27,
-        28, 29, 30, 31, 32, 87, 88, 33, 34, 35, 36, 37, 38, 39, 40, 41, 42, 43, 44, 45, 46, 47, 48, 49, 50, 51, 52,
-        53, 54, 55, 56, 57, 58, 59, 60, 61, 86, 62, 63, 64, 65, 66, 67, 68, 69, 70, 71, 72, 73, 74, 75, 76, 85, 77,
-        78, 79, 80, 81,
+        0, 89, 1, 2, 3, 4, 6, 5, 65, 66, 7, 8, 90, 9, 10, 11, 12, 13, 14, 15, 16, 17, 18, 19, 20, 67, 21, 68, 69, 22,
+        24, 91, 25, 26, 27, 28, 29, 30, 31, 32, 94, 95, 33, 34, 35, 36, 37, 38, 39, 40, 41, 42, 43, 44, 45, 46, 47,
+        48, 49, 50, 70, 51, 52, 53, 54, 55, 56, 57, 58, 59, 60, 61, 93, 62, 63, 64, 72, 73, 74, 71, 75, 76, 77, 78,
+        79, 80, 81, 82, 83, 92, 84, 85, 86, 87, 88,
     ],
     patterns: &[
     ],

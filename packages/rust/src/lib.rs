@@ -88,6 +88,7 @@ mod serde;
 #[doc(hidden)]
 pub mod spellings;
 mod suggestions;
+mod visible;
 #[rustfmt::skip]
 mod words;
 

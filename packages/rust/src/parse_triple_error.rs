@@ -1,7 +1,8 @@
 //! Why a string doesn't parse as a triple, in an error that owns the string and shows the place in it.
+use crate::visible::visible;
 use crate::{Field, ParseError, Refusal, Suggestion, TextPart, TripleRef};
 use alloc::boxed::Box;
-use alloc::string::String;
+use alloc::string::ToString;
 use core::fmt::{self, Write as _};
 use core::ops::Range;
 
@@ -191,7 +192,7 @@ impl fmt::Display for ParseTripleError {
             refusal.part.text,
             &self.text[self.range.end..],
         ]
-        .map(visible);
+        .map(|it| visible(it).to_string());
         // The line of upstream's error, with the part as it is shown below.
         let line = Refusal {
             part: TextPart {
@@ -211,19 +212,6 @@ impl fmt::Display for ParseTripleError {
             None => Ok(()),
         }
     }
-}
-
-/// A string without what controls a terminal, turns the direction of text or can't be seen: such a character is escaped.
-#[inline]
-fn visible(text: &str) -> String {
-    let mut shown = String::with_capacity(text.len());
-    for c in text.chars() {
-        match c {
-            '"' | '\'' | '\\' => shown.push(c),
-            _ => shown.extend(c.escape_debug()),
-        }
-    }
-    shown
 }
 
 impl From<ParseTripleError> for ParseError {

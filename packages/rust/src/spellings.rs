@@ -3,6 +3,7 @@
 pub use crate::proved::{first_part, refusal_prefix, Reading};
 pub use crate::suggestions::misspellings::meant;
 pub use crate::suggestions::{architecture_in, architecture_of, machine_of, suggestion, suggestion_on, Abi, Machine};
+pub use crate::visible::{is_visible, visible, Visible, SHOWN};
 pub use crate::words::{FIRST_RULES, LATER_RULES};
 use crate::{Architecture, BinaryFormat, DeploymentTarget, OperatingSystem};
 

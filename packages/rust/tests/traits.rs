@@ -186,13 +186,30 @@ fn an_error_leaves_the_function_that_owns_its_string() {
         Environment::Gnu
     );
     let error = environment("x86_64-é-linux".into()).unwrap_err();
-    let shown = "Unrecognized vendor: é\n  x86_64-é-linux\n         ^";
+    let shown = "Unrecognized vendor: \\u{e9}\n  x86_64-\\u{e9}-linux\n         ^^^^^^";
     assert_eq!(error.to_string(), shown);
     let error = error.downcast::<ParseTripleError>().unwrap();
     assert_eq!(
         ParseError::from(*error),
         "x86_64-é-linux".parse::<Triple>().unwrap_err()
     );
+}
+
+#[test]
+fn an_error_shows_printable_ascii() {
+    for c in ('\0'..='\u{700}')
+        .chain('\u{2000}'..='\u{2100}')
+        .chain(['\u{3164}', '\u{e0001}'])
+    {
+        let error = Triple::parse(&format!("x86_64-A{c}")).unwrap_err();
+        let shown = error.to_string();
+        assert!(
+            shown
+                .bytes()
+                .all(|it| it == b'\n' || (b' '..=b'~').contains(&it)),
+            "{shown}"
+        );
+    }
 }
 
 fn hash(value: impl Hash) -> u64 {

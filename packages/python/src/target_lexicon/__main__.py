@@ -11,13 +11,13 @@ import json
 import os
 import sys
 from contextlib import suppress
-from typing import Any, Dict, Iterator, List, Optional, Tuple, Union
+from typing import Any, Dict, Iterator, List, NoReturn, Optional, Tuple, Union
 
 from . import LIBRARY_VERSION, Dialect, LinuxLibc, OperatingSystem, ParseError, Triple, explain, meanings
 from ._dialects import OTHER_NAMES, READ, WRITTEN
 from ._errors import other_calls
 from ._facts import NO_ANSWER
-from ._named import members
+from ._named import members, shown
 from ._triple import _version_text
 
 # What is answered for a target, with the keys of JSON. Of one that is refused there is an `error`.
@@ -194,9 +194,15 @@ def _words(dialects: List[Dialect]) -> List[str]:
     return [*map(str, dialects), *(name for name, it in OTHER_NAMES.items() if Dialect(it) in dialects)]
 
 
+class _Parser(argparse.ArgumentParser):
+    def error(self, message: str) -> NoReturn:
+        """What is wrong with the arguments, which anybody may have written."""
+        super().error("\n".join(map(shown, message.split("\n"))))
+
+
 def _parser() -> argparse.ArgumentParser:
     name = "python -m target_lexicon" if os.path.basename(sys.argv[0]) == "__main__.py" else "target-lexicon"
-    parser = argparse.ArgumentParser(name, description=__doc__, formatter_class=argparse.RawDescriptionHelpFormatter)
+    parser = _Parser(name, description=__doc__, formatter_class=argparse.RawDescriptionHelpFormatter)
     parser.add_argument("--version", action="version", version=f"target_lexicon {LIBRARY_VERSION}")
     commands = parser.add_subparsers(dest="command", required=True, metavar="COMMAND")
     for word, about in _COMMANDS.items():

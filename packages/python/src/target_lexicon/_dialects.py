@@ -3,7 +3,7 @@ from __future__ import annotations
 
 from typing import List, Literal, Optional, Type, Union
 
-from ._named import NamedValue
+from ._named import NamedValue, shown
 
 
 class Dialect(NamedValue):
@@ -16,7 +16,7 @@ class Dialect(NamedValue):
     GO = "go"
     #: Platforms of container images, as containerd writes them: `linux/arm/v7`.
     OCI = "oci"
-    #: `process.platform` and `process.arch` of Node, as npm's packages join them, some with a C library: `linux-x64`, `linux-x64-musl`.
+    #: Names of npm's packages for a platform: `process.platform` and `process.arch` of Node with a dash between them, some with a C library: `linux-x64`, `linux-x64-musl`.
     NODE = "node"
     #: Prefixes of GNU's cross compilers, and strings that mean the same to config.sub: `x86_64-w64-mingw32`.
     GNU = "gnu"
@@ -45,7 +45,7 @@ class Dialect(NamedValue):
     @classmethod
     def _missing_(cls, value: object) -> Optional[Dialect]:
         """The dialect of another name, such as `docker`."""
-        return cls(OTHER_NAMES[value]) if isinstance(value, str) and value in OTHER_NAMES else None
+        return cls(OTHER_NAMES[value]) if isinstance(value, str) and value in OTHER_NAMES else super()._missing_(value)
 
 
 #: The names of the dialects; the other names; and those that are only read, or only written.
@@ -99,7 +99,7 @@ def _number(value: str, of: Type[NamedValue], what: str) -> int:
     names = list(of)
     if value not in names:
         word = value.lower()
-        near = [it for it in names if word.startswith(it)] or [it for it in names if sorted(it) == sorted(word)]
+        near = [it for it in names if word.startswith(it)] or [it for it in names if len(it) == len(word) and sorted(it) == sorted(word)]
         meant = f"; did you mean {near[0]}?" if near else ""
-        raise ValueError(f"the {what} must be one of {', '.join(names)}, not {value}{meant}")
+        raise ValueError(f"the {what} must be one of {', '.join(names)}, not {shown(value)}{meant}")
     return names.index(of(value)) + 1

@@ -6,7 +6,7 @@ from typing import Callable, Optional, Tuple, Union
 
 from . import _library
 from ._dialects import Dialect, DialectName, dialect_number
-from ._named import members
+from ._named import members, shown
 
 #: The names of the fields, in their order.
 FIELDS = ("architecture", "vendor", "operating_system", "environment", "binary_format")
@@ -60,11 +60,11 @@ class ParseError(ValueError):
         if not isinstance(text, str):
             raise TypeError(f"the text must be a str, not {type(text).__name__}")
         text = str.__str__(text)
-        part = text[start:] if part is None else part
+        part = text[start:] if part is None else str.__str__(part)
         if field is not None and field not in FIELDS:
-            raise ValueError(f"the field must be one of {', '.join(FIELDS)}, or None, not {field}")
+            raise ValueError(f"the field must be one of {', '.join(FIELDS)}, or None, not {shown(str(field))}")
         if start < 0 or not text.startswith(part, start):
-            raise ValueError(f"the text doesn't have the part {part!r} at {start}")
+            raise ValueError(f"the text doesn't have the part {part!a} at {start}")
         self._number = 0 if dialect is None else dialect_number(dialect)
         super().__init__(text, field, start, part, dialect and str(dialect))
         #: The whole string that is refused.
@@ -126,10 +126,10 @@ class ParseError(ValueError):
     @property
     def report(self) -> str:
         """The message without the note that names the calls that read the string, where it is a name of another tool."""
-        part = _shown(_cut(self.part))
+        part = shown(_cut(self.part))
         before, after = self.text[: self.start], self.text[self.end:]
-        begin = _shown(before if len(before) <= _SHOWN_BEFORE else "..." + before[-_SHOWN_BEFORE:])
-        end = _shown(after if len(after) <= _SHOWN_AFTER else after[:_SHOWN_AFTER] + "...")
+        begin = shown(before if len(before) <= _SHOWN_BEFORE else "..." + before[-_SHOWN_BEFORE:])
+        end = shown(after if len(after) <= _SHOWN_AFTER else after[:_SHOWN_AFTER] + "...")
         name, reason = self.suggestion, self.reason
         hint = f" did you mean `{name}`?" if name else f" {reason}" if reason else ""
         return f"{self._line(part)}\n  {begin}{part}{end}\n  {' ' * len(begin)}{'^' * max(1, len(part))}{hint}"
@@ -152,13 +152,6 @@ def other_calls(error: ParseError, call: Callable[[Optional[Dialect]], str]) -> 
 
 def _cut(part: str) -> str:
     return part if len(part) <= _SHOWN_PART else part[:_SHOWN_PART] + "..."
-
-
-def _shown(text: str) -> str:
-    """The string with every character that isn't printable ASCII escaped, so that columns are characters."""
-    if text.isascii() and text.isprintable():
-        return text
-    return "".join(it if " " <= it <= "~" else it.encode("unicode_escape").decode() for it in text)
 
 
 def encoded(text: object, what: str) -> bytes:

@@ -3,7 +3,7 @@ from __future__ import annotations
 
 import enum
 import functools
-from typing import TYPE_CHECKING, Any, Tuple, Type, TypeVar
+from typing import TYPE_CHECKING, Any, Optional, Tuple, Type, TypeVar
 
 Member = TypeVar("Member", bound="NamedValue")
 
@@ -27,11 +27,24 @@ class NamedValue(str, enum.Enum):
         member.number = len(cls.__members__)
         return member
 
+    @classmethod
+    def _missing_(cls, value: object) -> Optional[NamedValue]:
+        """Enumerations of Python would write a name as `repr` does, which escapes less."""
+        raise ValueError(f"{value!a} is not a valid {cls.__name__}")
+
     def __str__(self) -> str:
         return self.value
 
     def __repr__(self) -> str:
         return f"{type(self).__name__}.{self.name}"
+
+
+def shown(text: str) -> str:
+    """The string as a message shows it: every character that isn't printable ASCII is escaped, so that columns are characters."""
+    text = str.__str__(text)
+    if text.isascii() and text.isprintable():
+        return text
+    return "".join(it if " " <= it <= "~" else it.encode("unicode_escape").decode() for it in text)
 
 
 def members(of: Type[Member]) -> Tuple[Member, ...]:

@@ -5,8 +5,12 @@ from typing import List, NamedTuple, Optional, Union
 from . import _library
 from ._dialects import NO_DIALECT, Dialect, DialectName, LinuxLibc, LinuxLibcName, dialect_number, libc_number
 from ._errors import encoded, range_in
-from ._named import members
+from ._named import members, shown
 from ._triple import Triple, _triple_of
+
+
+# How many characters of a name a message shows.
+_SHOWN = 60
 
 
 class TranslationError(ValueError):
@@ -24,6 +28,7 @@ class TranslationError(ValueError):
     __module__ = "target_lexicon"
 
     def __init__(self, text: str, source: Optional[str], target: str, needs_libc: bool, reason: str) -> None:
+        text = str.__str__(text)
         super().__init__(text, source, target, needs_libc, reason)
         #: The name that is read.
         self.text = text
@@ -37,7 +42,8 @@ class TranslationError(ValueError):
         self.reason = reason
 
     def __str__(self) -> str:
-        return f"{_library.error_line(_library.TRIPLE_WITHOUT_NAME, self.text.encode())}: {self.reason}"
+        name = self.text if len(self.text) <= _SHOWN else self.text[:_SHOWN] + "..."
+        return f"{_library.error_line(_library.TRIPLE_WITHOUT_NAME, shown(name).encode())}: {shown(self.reason)}"
 
 
 def translate(

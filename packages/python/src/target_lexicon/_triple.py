@@ -13,7 +13,7 @@ from ._dialects import NO_DIALECT, Dialect, DialectName, LinuxLibc, LinuxLibcNam
 from ._errors import FIELDS, ParseError, encoded, refusal
 from ._facts import ArmProfile, CallingConvention, CLibrary, DataModel, Endianness, FloatAbi, Signedness
 from ._fields import CustomVendor
-from ._named import NamedValue, members
+from ._named import NamedValue, members, shown
 from ._values import Architecture, BinaryFormat, Environment, Family, OperatingSystem, Vendor
 
 if TYPE_CHECKING:
@@ -111,7 +111,7 @@ class Triple:
         >>> Triple.read("linux/arm64", Dialect.OCI), Triple.read("armhf", "debian")
         (Triple('aarch64-unknown-linux'), Triple('armv7-unknown-linux-gnueabihf'))
 
-        Without a dialect the string is spelled like a triple, as `cc -dumpmachine` and `config.guess` print it:
+        Without a dialect the string is spelled like a triple, as clang takes it after `-target`:
 
         >>> Triple.read("x86_64-w64-mingw32"), Triple.read("amd64-unknown-freebsd13.2")
         (Triple('x86_64-pc-windows-gnu'), Triple('x86_64-unknown-freebsd'))
@@ -186,7 +186,7 @@ class Triple:
 
         unknown = [it for it in values if it not in Facts._fields]
         if unknown:
-            raise ValueError(f"a triple has no {', '.join(map(str, unknown))}")
+            raise ValueError(f"a triple has no {', '.join(shown(str(it)) for it in unknown)}")
         architecture, vendor, system, environment = (values.get(it, "unknown") for it in FIELDS[:4])
         form, version = values.get("binary_format"), values.get("version")
         return cls.from_fields(
@@ -668,7 +668,7 @@ def _number(value: Any, of: Type[NamedValue], name: str) -> int:
             with suppress(ParseError):
                 return Architecture.parse(value).number  # an alias, such as arm64
         meant = ParseError(value, name).suggestion
-        raise ValueError(f"no {name} has the name {value!r}{f'; did you mean {meant!r}?' if meant else ''}") from None
+        raise ValueError(f"no {name} has the name {value!a}{f'; did you mean {meant!r}?' if meant else ''}") from None
 
 
 def _stated_version(version: Optional[Sequence[int]]) -> Optional[Tuple[int, int]]:
