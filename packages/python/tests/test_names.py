@@ -274,7 +274,7 @@ class Names(unittest.TestCase):
                     self.assertEqual(target_lexicon.translate(name, row.tool, target, libc), expected)
                 except target_lexicon.TranslationError as error:
                     # The version of an Arm without one is asked for after the C library.
-                    versioned = completed.replace(architecture="armv7") if libc is None and completed.architecture == "arm" else completed
+                    versioned = completed.replace(architecture="armv7") if str(completed) == "arm-unknown-linux" else completed
                     with_libc = [versioned.complete(it).name_in(target) for it in LinuxLibc]
                     self.assertEqual((expected, error.needs_libc), (None, any(with_libc)), name)
                     self.assertEqual(error.reason, completed.reason_without_name(target), name)
