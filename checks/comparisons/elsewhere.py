@@ -295,7 +295,7 @@ class Comparison(Report):
     def check_host(self):
         """Tools that name the machine that they run on."""
         host = output("uname", "-m").strip()
-        nix = shutil.which("nix-instantiate") and output("nix-instantiate", "--eval", "--expr", "builtins.currentSystem").strip('"\n')
+        nix = shutil.which("nix-instantiate") and output("nix-instantiate", "--store", "dummy://", "--eval", "--expr", "builtins.currentSystem").strip('"\n')
         makepkg = re.search(r'^CARCH="(.*)"', upstream.read("/etc/makepkg.conf"), re.M) if os.path.exists("/etc/makepkg.conf") else None
         for tool, dialect, name in (("nix-instantiate", "nix", nix), ("makepkg", "pacman", makepkg and makepkg[1])):
             if self.has(tool, name):

@@ -381,7 +381,7 @@ pub unsafe extern "C" fn lexicon_facts(triple: *const Triple, facts: *mut u8, fa
             }
             status
         },
-        0..=MAX_SIZE => NO_SUCH_VALUE,
+        _ if facts_size <= MAX_SIZE => NO_SUCH_VALUE,
         _ => TOO_LARGE,
     }
 }

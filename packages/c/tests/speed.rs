@@ -28,7 +28,7 @@ struct Facts([u8; ALL]);
 /// How many bytes the first group of facts has, the first two have, and all.
 const QUERIES: usize = 13;
 const FIRST: usize = 16;
-const ALL: usize = 25;
+const ALL: usize = 28;
 
 unsafe extern "C" {
     fn lexicon_parse(text: *const u8, size: usize, triple: *mut Triple, error: *mut Error) -> u32;
