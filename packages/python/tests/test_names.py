@@ -276,8 +276,7 @@ class Names(unittest.TestCase):
                     with_libc = [completed.complete(it).name_in(target) for it in LinuxLibc]
                     self.assertIsNone(expected, name)
                     if str(completed) != "arm-unknown-linux":  # which no C library completes without its version
-                        self.assertEqual(error.needs_libc, any(with_libc), name)
-                    self.assertEqual(error.reason, completed.reason_without_name(target), name)
+                        self.assertEqual((error.needs_libc, error.reason), (any(with_libc), completed.reason_without_name(target)), name)
                     self.assertTrue(error.reason and str(error).endswith(f": {error.reason}"), name)
 
     def test_translations_that_fail(self):
