@@ -18,9 +18,9 @@ MACHINES = ("x86_64 i686 aarch64 armv7", "i386 aarch64_be armv6 armeb thumbv7a m
             "riscv64 s390x sparc sparc64 m68k")
 SYSTEMS = ("pc-windows-msvc pc-windows-msvc19.33.31629 w64-mingw32 apple-darwin22.6 apple-macos13.1 apple-ios16.2",
            "linux-gnu none-linux-musl linux-android21 unknown-freebsd14.0 unknown-netbsd9.3 unknown-openbsd7.3 unknown-elf")
-# Where clang 14 knows less: that ILP32 has narrow pointers, and visionOS. It takes other processors for the two names of macOS, and needs a system
+# Where clang 14 knows less: that ILP32 has narrow pointers, and visionOS. It takes other processors of Arm for the two names of macOS, and needs a system
 # to say how frames are unwound.
-ILP32, SIGNS, MACROS = "gnu_ilp32", "xros", "apple-darwin|unknown-unknown|-unknown-elf"
+ILP32, SIGNS, MACROS = "gnu_ilp32", "xros", "(aarch64|armv7)-apple-darwin|unknown-unknown|-unknown-elf"
 SOURCE = """
 int long_double_size = sizeof(long double), long_double_alignment = _Alignof(long double);
 int wchar_size = sizeof(__WCHAR_TYPE__), wchar_alignment = _Alignof(__WCHAR_TYPE__);

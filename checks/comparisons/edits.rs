@@ -4,14 +4,24 @@
 // the same.) A suggestion must have its place, and keep machine, width, byte order and float ABI: those of the name, or of a
 // machine that the edited name states by its whole word.
 use std::collections::HashMap;
-use target_names::{Dialect, FloatAbi, NameError, TargetInfo};
 use target_lexicon::{Architecture, Endianness, PointerWidth, Triple, TripleExt as _, TripleRef};
+use target_names::{Dialect, FloatAbi, NameError, TargetInfo};
 
-type Said = (String, Option<PointerWidth>, Option<Endianness>, Option<FloatAbi>);
+type Said = (
+    String,
+    Option<PointerWidth>,
+    Option<Endianness>,
+    Option<FloatAbi>,
+);
 
 fn said(triple: &TripleRef) -> Said {
     let (width, order) = (triple.pointer_width().ok(), triple.endianness().ok());
-    (triple.rustc_cfg().target_arch.to_string(), width, order, triple.float_abi())
+    (
+        triple.rustc_cfg().target_arch.to_string(),
+        width,
+        order,
+        triple.float_abi(),
+    )
 }
 
 /// Calls for each edit of one letter.
@@ -45,27 +55,54 @@ fn distance(a: &[char], b: &[char]) -> usize {
 
 /// Whether two names are at most two edits apart. Each letter that only one of them has takes an edit.
 fn is_near(a: &[char], b: &[char]) -> bool {
-    let letters = |text: &[char]| text.iter().fold(0_u64, |bits, letter| bits | 1 << (*letter as u32 % 64));
+    let letters = |text: &[char]| {
+        text.iter()
+            .fold(0_u64, |bits, letter| bits | 1 << (*letter as u32 % 64))
+    };
     let (of_a, of_b) = (letters(a), letters(b));
-    a.len().abs_diff(b.len()) <= 2 && (of_a & !of_b).count_ones().max((of_b & !of_a).count_ones()) <= 2 && distance(a, b) <= 2
+    a.len().abs_diff(b.len()) <= 2
+        && (of_a & !of_b).count_ones().max((of_b & !of_a).count_ones()) <= 2
+        && distance(a, b) <= 2
 }
 
 /// The machine and byte order that a word of a string names: an architecture, or one of these other names of architectures.
 fn machine_in(words: &HashMap<&str, Said>, text: &str) -> Option<(String, Option<Endianness>)> {
     let is_separator = |c: char| "-/ .".contains(c);
-    let mut parts = text.split(is_separator).chain(text.split(|c| is_separator(c) || c == '_'));
+    let mut parts = text
+        .split(is_separator)
+        .chain(text.split(|c| is_separator(c) || c == '_'));
     parts.find_map(|word| {
-        let architecture = || word.parse::<Architecture>().ok().filter(|it| *it != Architecture::Unknown);
-        let known = || Some(said(&TripleRef { architecture: architecture()?, ..TripleRef::unknown() }));
-        words.get(word).cloned().or_else(known).map(|it| (it.0, it.2))
+        let architecture = || {
+            word.parse::<Architecture>()
+                .ok()
+                .filter(|it| *it != Architecture::Unknown)
+        };
+        let known = || {
+            Some(said(&TripleRef {
+                architecture: architecture()?,
+                ..TripleRef::unknown()
+            }))
+        };
+        words
+            .get(word)
+            .cloned()
+            .or_else(known)
+            .map(|it| (it.0, it.2))
     })
 }
 
 /// What is wrong with what is suggested for a string, of which this name with this meaning is near.
-fn wrong(words: &HashMap<&str, Said>, kind: &str, name: &str, text: &str, means: &Said) -> Option<String> {
+fn wrong(
+    words: &HashMap<&str, Said>,
+    kind: &str,
+    name: &str,
+    text: &str,
+    means: &Said,
+) -> Option<String> {
     let keeps = |suggested: String, triple: &TripleRef| {
         let says = said(triple);
-        let states = machine_in(words, text).is_some_and(|it| it != (means.0.clone(), means.2) && it == (says.0.clone(), says.2));
+        let states = machine_in(words, text)
+            .is_some_and(|it| it != (means.0.clone(), means.2) && it == (says.0.clone(), says.2));
         (says != *means && !states).then_some(suggested)
     };
     match kind.parse::<Dialect>() {
@@ -85,7 +122,8 @@ fn wrong(words: &HashMap<&str, Said>, kind: &str, name: &str, text: &str, means:
             let meant = refusal.suggestion_in(text)?.to_string();
             let whole = format!("{}{meant}{}", &text[..range.start], &text[range.end..]);
             // What another edit made of another part is no matter of this one.
-            let is_edited_elsewhere = !name.starts_with(&text[..range.start]) || !name.ends_with(&text[range.end..]);
+            let is_edited_elsewhere =
+                !name.starts_with(&text[..range.start]) || !name.ends_with(&text[range.end..]);
             match TripleRef::from_str(&whole) {
                 Ok(_) if is_edited_elsewhere => None,
                 Ok(triple) => keeps(whole.clone(), &triple),
@@ -101,11 +139,20 @@ pub fn check(input: &str, step: usize) {
     let mut groups: HashMap<&str, Vec<(Vec<char>, Said)>> = HashMap::new();
     for line in input.lines() {
         let mut words = line.split('\t');
-        let (Some(kind), Some(name), Some(means)) = (words.next(), words.next(), words.next()) else { continue };
+        let (Some(kind), Some(name), Some(means)) = (words.next(), words.next(), words.next())
+        else {
+            continue;
+        };
         let triple: Triple = means.parse().unwrap_or_else(|_| panic!("{line}"));
-        groups.entry(kind).or_default().push((name.chars().collect(), said(&triple.as_triple_ref())));
+        groups
+            .entry(kind)
+            .or_default()
+            .push((name.chars().collect(), said(&triple.as_triple_ref())));
     }
-    for (name, means) in input.lines().filter_map(|line| line.strip_prefix("word\t")?.split_once('\t')) {
+    for (name, means) in input
+        .lines()
+        .filter_map(|line| line.strip_prefix("word\t")?.split_once('\t'))
+    {
         let triple: Triple = means.parse().unwrap_or_else(|_| panic!("{name}"));
         words.insert(name, said(&triple.as_triple_ref()));
     }
@@ -113,12 +160,19 @@ pub fn check(input: &str, step: usize) {
     let mut kinds: Vec<_> = groups.into_iter().collect();
     kinds.sort_by_key(|it| it.0);
     for (kind, names) in kinds {
-        let mut letters: Vec<char> = names.iter().flat_map(|it| it.0.iter().copied()).chain(['q', '7', '_']).collect();
+        let mut letters: Vec<char> = names
+            .iter()
+            .flat_map(|it| it.0.iter().copied())
+            .chain(['q', '7', '_'])
+            .collect();
         letters.sort_unstable();
         letters.dedup();
         let (mut made, mut asked, mut found) = (0_u64, 0_u64, 0_u64);
         for (name, means) in &names {
-            let others: Vec<_> = names.iter().filter(|it| it.1 != *means && distance(&it.0, name) <= 4).collect();
+            let others: Vec<_> = names
+                .iter()
+                .filter(|it| it.1 != *means && distance(&it.0, name) <= 4)
+                .collect();
             let text_of_name: String = name.iter().collect();
             let mut ask = |edited: &[char]| {
                 let text: String = edited.iter().collect();
@@ -141,12 +195,17 @@ pub fn check(input: &str, step: usize) {
                 edits(&once, &letters, &mut |twice| {
                     made += 1;
                     count += 1;
-                    if count % step.max(11) == 0 || step == 1 && others.iter().any(|it| is_near(&it.0, &twice)) {
+                    if count % step.max(11) == 0
+                        || step == 1 && others.iter().any(|it| is_near(&it.0, &twice))
+                    {
                         ask(&twice);
                     }
                 });
             });
         }
-        println!("{kind}: {} names, {made} edits, {asked} asked, {found} wrong", names.len());
+        println!(
+            "{kind}: {} names, {made} edits, {asked} asked, {found} wrong",
+            names.len()
+        );
     }
 }

@@ -78,6 +78,10 @@ MACHINES = "x86_64 i686 aarch64 arm armv7l armv6l armeb powerpc powerpc64le ppc6
 ENDS = ("", "linux", "unknown-linux", "redhat-linux", "suse-linux", "poky-linux", "buildroot-linux-gnu", "linux-gnu", "alpine-linux-musl", "linux-musl",
         "linux-uclibc", "linux-gnueabihf", "gnu", "elf", "unknown-elf", "none-elf", "none-eabi", "unknown-freebsd13.2", "unknown-netbsd", "-netbsd",
         "pc-cygwin", "w64-mingw32", "apple-darwin20")
+# Where a word stands: what is before it, after the machine, and what is after it. And makers that config.sub has no words for.
+PLACES = (("", ""), ("", "-elf"), ("", "-gnu"), ("", "-eabi"), ("-unknown", ""), ("-linux", ""), ("-netbsd", ""), ("-pc-linux", ""), ("-pc-netbsd", ""))
+MAKERS = ("redhat", "linuxmint", "softfloat", "le", "el", "w64")
+SHELLS = 4
 SYSTEM_CASES = ("# Now, validate our (potentially fixed-up) OS.", "# Now, normalize the OS")
 MAKER_CASE, PAIR_CASE = "# Manufacturers", "case $maybe_os in"
 PLATFORMS = """package main
@@ -351,20 +355,27 @@ class Comparison(Report):
                 (name, it, pairs[name]) for name, it in written.items()), "musl|powerpc64|armebv7r|armv[67]--netbsdelf|-frc-|-rumprun-|-uwp-")
 
     def check_words(self, sub):
-        """What the words of config.sub's own text mean, alone after a machine, and with a version."""
+        """What config.sub makes of each machine of the library with each word, of its own and of the library, in each place."""
         text = upstream.read(sub)
-        words = [*dict.fromkeys(word for case in SYSTEM_CASES for word in words_of_case(text, case))]
-        of_words = {f"{machine}-{word}{version}" for machine in MACHINES for word in words for version in ("", "7.1")}
-        others = {f"{machine}-{word}" for machine in MACHINES for case in (MAKER_CASE, PAIR_CASE) for word in words_of_case(text, case)}
-        with concurrent.futures.ThreadPoolExecutor() as several:
-            texts = sorted(of_words | others)
-            forms = dict(zip(texts, several.map(lambda it: output("sh", sub, it).strip(), texts)))
-        ours, theirs = ({it: self.read(it, "gnu") for it in {*which}} for which in (texts, forms.values()))
-        # Solaris 1 is SunOS 4, SunOS 6 never came, and PikeOS has the formats of bare machines.
-        self.fact(f"a machine and one of config.sub's {len(words)} words of systems mean what its form means", (
-            (it, forms[it], ours[it], theirs[forms[it]]) for it in of_words if forms[it]), "solaris1|sunos6|pikeos")
-        self.fact("a machine and a maker or a kernel are refused, or mean what that form means", (
-            (it, forms[it], ours[it] or theirs[forms[it]], theirs[forms[it]]) for it in others if forms[it]))
+        lexicon = self.target_lexicon
+        known = [str(it) for field in (lexicon.Vendor, lexicon.OperatingSystem, lexicon.Environment, lexicon.BinaryFormat) for it in known_names(field)]
+        spelled = [re.sub(r"[*+]$", "7.1", row.name.rstrip("!")) for of in ("second", "hard", "later") for row in self.rows_of(of) if "-" not in row.name]
+        own = [word for case in (*SYSTEM_CASES, MAKER_CASE, PAIR_CASE) for word in words_of_case(text, case)]
+        words = [*dict.fromkeys([*own, *known, *spelled, *MAKERS])]
+        machines = [*dict.fromkeys([*map(str, known_names(lexicon.Architecture)), *(row.name.rstrip("!") for row in self.rows_of("first")), "arm64"])]
+        texts = [*dict.fromkeys(f"{machine}{before}-{word}{after}" for machine in machines for word in words
+                                for before, after in PLACES if word or not after)]
+        texts = [it for it in texts if not it.endswith("-")] + machines
+        forms = forms_of_config_sub(text, texts)
+        sample = texts[::len(texts) // 300]
+        self.fact("config.sub, run many times in one shell, says what it says alone", (
+            (it, forms[it], output("sh", sub, it).strip()) for it in sample))
+        ours = {it: self.read(it, "gnu") for it in texts}
+        self.fact(f"of each of {len(machines)} machines with each of {len(words)} words in each place, what config.sub refuses is refused", (
+            (it, ours[it], None) for it in texts if not forms[it]))
+        # A machine alone may be a program's name: that of Debian's `mingw32` is a row.
+        self.fact("and what it takes has its system, or is refused", (
+            (it, forms[it], str(ours[it]), system_of(ours[it]), system_of_form(forms[it])) for it in texts if forms[it] and ours[it]))
 
     def check_rust(self):
         if not self.has("rustc", shutil.which("rustc")):
@@ -422,6 +433,40 @@ class Comparison(Report):
             (tag, order_and_width(it), order_and_width_of_tag(tag)) for tag, it in named.items()))
         self.fact("a tag of Linux has the machine of `uname -m`, and the C library of its word", (
             (tag, it, self.read(gnu_type(tag))) for tag, it in named.items() if "linux" in tag))
+
+
+def known_names(values):
+    return [getattr(it, "value", it) for it in values]
+
+
+def forms_of_config_sub(text, strings):
+    """What config.sub prints for each string, or nothing: its own text as a function, in a few shells."""
+    body = text[text.index("# Split fields of configuration type"):text.index("# Local variables:")]
+    body = re.sub(r"^([ \t]*)exit( 1)?[ \t]*$", r"\1return", body, flags=re.M)
+    script = f'sub() {{\ncase $1 in *local*) echo "$1"; return;; esac\n{body}}}\nwhile IFS= read -r line; do sub "$line" 2>&1; done\n'
+    parts = [strings[i::SHELLS] for i in range(SHELLS)]
+    with concurrent.futures.ThreadPoolExecutor(SHELLS) as shells:
+        answers = shells.map(lambda part: output("sh", "-c", script, input="".join(f"{it}\n" for it in part)).splitlines(), parts)
+    found = {it: said for part, lines in zip(parts, answers) for it, said in zip(part, lines, strict=True)}
+    return {it: "" if said.startswith("Invalid") else said for it, said in found.items()}
+
+
+def system_of_form(form):
+    """The library's word for the system of a string that config.sub prints."""
+    _, _, *rest = form.split("-", 3)
+    if len(rest) == 2:
+        return "none" if rest[0] == "unknown" else bare(rest[0])
+    words = ((r"android", "linux"), (r"gnu(?!eabi)", "hurd"), (r"elf|coff|eabi|none", "none"), (r"mingw", "windows"), (r"solaris2", "solaris"),
+             (r"macosx?", "macosx"), (r"netbsd", "netbsd"))
+    return next((word for pattern, word in words if re.match(pattern, rest[0])), bare(rest[0]))
+
+
+def bare(word):
+    return re.sub(r"(?<=[a-z])[\d.]+$", "", re.sub(r"^netbsd.*", "netbsd", word))
+
+
+def system_of(triple):
+    return bare(str(triple.operating_system))
 
 
 def words_of_case(text, start):

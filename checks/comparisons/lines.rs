@@ -36,7 +36,9 @@ pub fn answer(
     print: impl Fn(&mut String, &Triple),
     canonical: impl Fn(Triple) -> Option<Triple>,
 ) -> io::Result<()> {
-    let mode = std::env::args().nth(1).unwrap_or_else(|| "print".to_string());
+    let mode = std::env::args()
+        .nth(1)
+        .unwrap_or_else(|| "print".to_string());
     let mut input = String::new();
     io::stdin().read_to_string(&mut input)?;
     let lines: Vec<&str> = input.split_terminator('\n').collect();

@@ -25,6 +25,10 @@ that character, `*`, and how many:
   >   triples $mode < lines > answers
   >   triples $mode < input | cmp - <(many answers)
   > done
+  $ for mode in stream stream-show stream-settle; do
+  >   triples $mode < lines > answers
+  >   triples $mode < input | cmp - <(many answers)
+  > done
   $ triples show < lines
   aarch64-apple-ios little 64 AppleAarch64 LP64
   error: Unrecognized architecture: foo

@@ -102,6 +102,38 @@ One JSON text:
   fault: Input is not a JSON list
   [1]
 
+Line by line, `stream` answers as `print`, and `stream-show` and `stream-settle` as `show` and `settle`:
+
+  $ cat > lines << 'END'
+  > arm64-apple-ios
+  > wasm32-unknown-wasi-unknown-unknown
+  > foo
+  > x86_64-customvendor-linux
+  > END
+  $ answers stream | cmp - <(triples print < lines)
+  $ for mode in show settle; do answers stream-$mode | cmp - <(triples $mode < lines); done
+  $ triples stream < /dev/null
+  $ coproc triples stream; echo x86_64-linux >&${COPROC[1]}
+  $ read -r -t 60 line <&${COPROC[0]}; echo $line
+  x86_64-unknown-linux
+
+There a line that is not UTF-8, or has 65,536 bytes, is refused, and the others are answered:
+
+  $ printf 'x86_64-linux\n\377\n\303\n\251\navr-pc-none' | triples stream
+  x86_64-unknown-linux
+  error: Line is not UTF-8
+  error: Line is not UTF-8
+  error: Line is not UTF-8
+  avr-pc-none
+  $ long() { head -c $1 /dev/zero | tr '\0' a; }
+  $ { long 65535; echo; long 65536; echo; long 1000000; printf '\nx86_64-linux\n'; long 200000; } | triples stream | cut -c 1-36
+  error: Unrecognized architecture: aa
+  error: Line too long
+  error: Line too long
+  x86_64-unknown-linux
+  error: Line too long
+  $ long 65535 | triples stream-show | cmp - <(long 65535 | triples print)
+
 The known triples print and settle as themselves:
 
   $ known=$TESTDIR/../known_triples.txt

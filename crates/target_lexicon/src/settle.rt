@@ -144,6 +144,7 @@ impl<'a> TripleRef<'a> {
     }
 
     /// The normal step of any triple. If the vendor is plain, it is the canonical form.
+    #[inline(always)]
     pub fn step(mut self) -> TripleRef<'a>
         ensures step { values_of_ref result ≡ spec.normal_step (values_of_ref self.entry) }
         ensures vendor { (result.vendor ≡ self.entry.vendor)

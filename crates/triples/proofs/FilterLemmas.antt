@@ -1,23 +1,28 @@
 -- Answers in a buffer, and the lines that were answered so far.
-use Rattle.std.proofs.Common.{◌≡◌, ◌∙◌, ℕ, suc, ◌+◌, ◌-◌, ◌<◌, ◌≤◌, ◌==◌, Bool, true, false, List, [], ◌∷◌, ◌++◌, codes, length, take, drop, get_or, Option, Some, None, inl, inr, ◌⊎◌, refl, sym, ap, subst, append_assoc, add-one, arith}
+use Rattle.std.proofs.Common.{◌≡◌, ◌∙◌, ℕ, suc, ◌+◌, ◌-◌, ◌<◌, ◌≤◌, ◌==◌, Bool, true, false, List, [], ◌∷◌, ◌++◌, codes, length, take, drop, get_or, Option, Some, None, inl, inr, ◌⊎◌, refl, sym, ap, subst, append_assoc, add-one, lit≤, option_map, arith}
 use Rattle.std.proofs.lemmas.Bool.{ne_eqb}
 use Rattle.std.proofs.lemmas.List.{append-nil, get_or-take, get_or_default, length-append, length-drop, length-take, take_all, take-append-drop, drop-drop}
 use Rattle.std.proofs.lemmas.List.Elements.{All-append}
 use Rattle.std.proofs.lemmas.List.Splits.{slice_split_at, slice_split_none, length-slice_split}
-use Rattle.std.proofs.Math.Seq.{drop-cons, take-append-add}
-use Rattle.std.proofs.KnownBytes.{Appends-nil, Appends-trans, Appends-kept, Consumes-nil, Consumes-trans, Consumes-kept}
-use Rattle.std.specs.Io.KnownBytes.{Appends, Consumes, Keeps}
-use Rattle.std.specs.List.{All, AllZip, AllByRecursion, slice_split}
+use Rattle.std.proofs.Math.Seq.{drop-cons}
+use Rattle.std.specs.List.{AllZip, AllByRecursion, slice_split}
 use Rattle.std.specs.Str.{IsUtf8}
-use Rattle.target_lexicon.specs.{Reading.ReadsAs, Reading.IsRefusedAs, Refusal.Refusal, Refusal.refusal_line, Values.Values}
-use Rattle.triples.specs.{Filter.HasNoFeed, Filter.IsFiltered, Filter.IsFilteredTo, Filter.IsFilterAnswer, Filter.IsShortAnswer, Filter.ended_lines, Filter.shown_by, Filter.too_long, Filter.not_text}
-use Rattle.triples.specs.FilterSteps.{AnswersLines, AnswersRest, IsLate, IsLineAnswer, IsLineEnd, Pushes, PushesAnswer}
-use Rattle.triples.specs.Lines.{line_feed, lines_of, parts_without_empty_last}
-use Rattle.triples.specs.Output.{Answer, Shown, Refused, written_lines}
-use Rattle.triples.specs.Run.{Gives, Takes, use_of}
-use Rattle.triples.specs.declared.counted.Counted.{Counted}
+use Rattle.lexicon_fields.specs.{declared.endianness.Endianness.Endianness, declared.pointer_width.PointerWidth.PointerWidth}
+use Rattle.lexicon_fields.specs.declared.endianness.Endianness.TheVariants.{Little, Big}
+use Rattle.lexicon_fields.specs.declared.pointer_width.PointerWidth.TheVariants.{U16, U32, U64}
+use Rattle.target_lexicon.specs.{CallingConvention.convention_name, DataModel.model_name, declared.calling_convention.CallingConvention.CallingConvention, declared.data_model.CDataModel.CDataModel}
+use Rattle.target_lexicon.specs.declared.calling_convention.CallingConvention.TheVariants.{SystemV, WasmBasicCAbi, WindowsFastcall, AppleAarch64}
+use Rattle.target_lexicon.specs.declared.data_model.CDataModel.TheVariants.{LP32, ILP32, LLP64, LP64, ILP64}
+use Rattle.target_lexicon.specs.Queries.{endianness_name, width_name, endianness, pointer_width, calling_convention, data_model}
+use Rattle.target_lexicon.specs.{FixedPoints.PrintedTextsGrowAtMost, FixedPoints.CanonicalTextsGrowAtMost, Laws.EveryTextHasOneOutcome, Printing.text_of, Reading.ReadsAs, Reading.IsRefusedAs, Refusal.Refusal, Refusal.refusal_line, Values.Values}
+use Rattle.triples.specs.{Facts.facts_of, Facts.spaced_word, Filter.AreFilterAnswers, Filter.IsFilterAnswer}
+use Rattle.triples.specs.FilterSteps.{AnswersLines, AnswersRest, HasNoFeed, IsFilteredTo, IsLate, IsLineAnswer, IsLineEnd, IsShortAnswer, Pushes, PushesAnswer, with_feeds}
+use Rattle.triples.specs.Lines.{line_feed, lines_of, ended_lines_of, parts_without_empty_last, parts_without_last}
+use Rattle.triples.specs.Output.{Answer, Shown, Refused, shown_by, written_lines}
 use Rattle.triples.specs.declared.line_mode.LineMode.{LineMode}
+use Rattle.triples.specs.declared.line_mode.LineMode.TheVariants.{Print, Show, Settle}
 use Rattle.triples.proofs.AnswerLemmas.{written_lines-append}
+use Rattle.triples.proofs.FilterLawLemmas.{every_input_is_filtered}
 use Rattle.triples.proofs.LineLemmas.{stays-first}
 
 -- a text after another in a buffer
@@ -45,6 +50,56 @@ refused-pushes mode line refusal old one mid new at a m end utf8 refused words f
   is = record { text = λ _. (refusal, refused, refl); other = λ other. absurd (other utf8) };
   pushed = pushes-then (codes "error: " ++ refusal_line refusal) (line_feed ∷ []) old mid new at m end (pushes-then (codes "error: ") (refusal_line refusal) old one mid at a m words first) next;
 }
+
+-- four words are short
+short-word : {A : Type 0} (name : A → List ℕ) (most : ℕ) → 1 ≤ most → ((a : A) → length (name a) ≤ most) → (o : Option A) → length (spaced_word (option_map name o)) ≤ most + 1
+short-word name most some short None = omega (arith, some)
+short-word name most some short (Some a) = omega (arith, short a)
+
+short-endianness : (e : Endianness) → length (endianness_name e) ≤ 6
+short-endianness Little = lit≤ tt
+short-endianness Big = lit≤ tt
+
+short-width : (w : PointerWidth) → length (width_name w) ≤ 2
+short-width U16 = lit≤ tt
+short-width U32 = lit≤ tt
+short-width U64 = lit≤ tt
+
+short-convention : (c : CallingConvention) → length (convention_name c) ≤ 15
+short-convention SystemV = lit≤ tt
+short-convention WasmBasicCAbi = lit≤ tt
+short-convention WindowsFastcall = lit≤ tt
+short-convention AppleAarch64 = lit≤ tt
+
+short-model : (m : CDataModel) → length (model_name m) ≤ 5
+short-model LP32 = lit≤ tt
+short-model ILP32 = lit≤ tt
+short-model LLP64 = lit≤ tt
+short-model LP64 = lit≤ tt
+short-model ILP64 = lit≤ tt
+
+pub facts-short : (t : Values) → length (facts_of t) ≤ 32
+facts-short t =
+    let order = spaced_word (option_map endianness_name (endianness t)) in
+    let width = spaced_word (option_map width_name (pointer_width t)) in
+    let convention = spaced_word (option_map convention_name (calling_convention t)) in
+    let model = spaced_word (option_map model_name (data_model t)) in
+    omega (
+      arith,
+      length-append order (width ++ (convention ++ model)),
+      length-append width (convention ++ model),
+      length-append convention model,
+      short-word endianness_name 6 (lit≤ tt) short-endianness (endianness t),
+      short-word width_name 2 (lit≤ tt) short-width (pointer_width t),
+      short-word convention_name 15 (lit≤ tt) short-convention (calling_convention t),
+      short-word model_name 5 (lit≤ tt) short-model (data_model t),
+    )
+
+-- what a mode shows is not much longer than the line
+pub shown-short : PrintedTextsGrowAtMost → CanonicalTextsGrowAtMost → (mode : LineMode) (line : List ℕ) (t : Values) → ReadsAs line t → length (shown_by mode t) ≤ length line + 54
+shown-short printed canonical Print line t reads = omega (arith, printed line t reads)
+shown-short printed canonical Show line t reads = omega (arith, printed line t reads, facts-short t, length-append (text_of t) (facts_of t))
+shown-short printed canonical Settle line t reads = omega (arith, canonical line t reads)
 
 -- no line feed, by index
 pub no-feed : (bytes : List ℕ) → ((k : ℕ) → k < length bytes → get_or bytes k 0 ≡ 10 → ⊥) → HasNoFeed bytes
@@ -76,9 +131,9 @@ each-append : {A : Type 0} (P : A → Type 0) (xs ys : List A) → AllByRecursio
 each-append P [] ys all is = is
 each-append P (x ∷ xs) ys all is = (all.0, each-append P xs ys all.1 is)
 
-ended-append : (xs ys : List (List ℕ)) → ended_lines (xs ++ ys) ≡ ended_lines xs ++ ended_lines ys
-ended-append [] ys = refl
-ended-append (x ∷ xs) ys = ap (λ (t : List ℕ). x ++ (line_feed ∷ t)) (ended-append xs ys) ∙ sym (append_assoc x (line_feed ∷ ended_lines xs) (ended_lines ys))
+feeds-append : (xs ys : List (List ℕ)) → with_feeds (xs ++ ys) ≡ with_feeds xs ++ with_feeds ys
+feeds-append [] ys = refl
+feeds-append (x ∷ xs) ys = ap (λ (t : List ℕ). x ++ (line_feed ∷ t)) (feeds-append xs ys) ∙ sym (append_assoc x (line_feed ∷ with_feeds xs) (with_feeds ys))
 
 module _ (mode : LineMode) (size : ℕ) where
   pub filtered-none : (bytes : List ℕ) → IsFilteredTo mode size bytes bytes []
@@ -90,8 +145,8 @@ module _ (mode : LineMode) (size : ℕ) where
   filtered-then bytes mid rest first next a b = record {
     lines = a.lines ++ b.lines;
     whole =
-        a.whole ∙ ap (λ (t : List ℕ). ended_lines a.lines ++ t) b.whole ∙ sym (append_assoc (ended_lines a.lines) (ended_lines b.lines) rest)
-        ∙ ap (λ (t : List ℕ). t ++ rest) (sym (ended-append a.lines b.lines));
+        a.whole ∙ ap (λ (t : List ℕ). with_feeds a.lines ++ t) b.whole ∙ sym (append_assoc (with_feeds a.lines) (with_feeds b.lines) rest)
+        ∙ ap (λ (t : List ℕ). t ++ rest) (sym (feeds-append a.lines b.lines));
     each = each-append HasNoFeed a.lines b.lines a.each b.each;
     answered = (
       a.answered.0 ++ b.answered.0,
@@ -114,7 +169,7 @@ module _ (mode : LineMode) (size : ℕ) where
   pub filtered-more : (bytes rest output more : List ℕ) → IsFilteredTo mode size bytes rest output → IsFilteredTo mode size (bytes ++ more) (rest ++ more) output
   filtered-more bytes rest output more far = record {
     lines = far.lines;
-    whole = ap (λ (t : List ℕ). t ++ more) far.whole ∙ append_assoc (ended_lines far.lines) rest more;
+    whole = ap (λ (t : List ℕ). t ++ more) far.whole ∙ append_assoc (with_feeds far.lines) rest more;
     each = far.each;
     answered = far.answered;
   }
@@ -128,30 +183,73 @@ lines-first line rest none =
     ap parts_without_empty_last (split-first line rest none)
     ∙ stays-first line (slice_split (λ b. b == line_feed) rest) (omega (arith, length-slice_split (λ b. b == line_feed) rest))
 
-lines-ended : (lines : List (List ℕ)) (rest : List ℕ) → AllByRecursion HasNoFeed lines → lines_of (ended_lines lines ++ rest) ≡ lines ++ lines_of rest
+lines-ended : (lines : List (List ℕ)) (rest : List ℕ) → AllByRecursion HasNoFeed lines → lines_of (with_feeds lines ++ rest) ≡ lines ++ lines_of rest
 lines-ended [] rest each = refl
 lines-ended (line ∷ lines) rest each =
-    ap lines_of (append_assoc line (line_feed ∷ ended_lines lines) rest)
-    ∙ lines-first line (ended_lines lines ++ rest) each.0
+    ap lines_of (append_assoc line (line_feed ∷ with_feeds lines) rest)
+    ∙ lines-first line (with_feeds lines ++ rest) each.0
     ∙ ap (λ (t : List (List ℕ)). line ∷ t) (lines-ended lines rest each.1)
 
 lines-last : (rest : List ℕ) → HasNoFeed rest → 0 < length rest → lines_of rest ≡ rest ∷ []
 lines-last [] none some = absurd (omega arith)
 lines-last (b ∷ bs) none some = ap parts_without_empty_last (slice_split_none (λ b. b == line_feed) (b ∷ bs) none)
 
+without-last-first : (part : List ℕ) (parts : List (List ℕ)) → 0 < length parts → parts_without_last (part ∷ parts) ≡ part ∷ parts_without_last parts
+without-last-first part [] some = absurd (omega arith)
+without-last-first part (next ∷ parts) some = refl
+
+ended-first : (line rest : List ℕ) → HasNoFeed line → ended_lines_of (line ++ (line_feed ∷ rest)) ≡ line ∷ ended_lines_of rest
+ended-first line rest none =
+    ap parts_without_last (split-first line rest none)
+    ∙ without-last-first line (slice_split (λ b. b == line_feed) rest) (omega (arith, length-slice_split (λ b. b == line_feed) rest))
+
+ended-lines : (lines : List (List ℕ)) (rest : List ℕ) → AllByRecursion HasNoFeed lines → ended_lines_of (with_feeds lines ++ rest) ≡ lines ++ ended_lines_of rest
+ended-lines [] rest each = refl
+ended-lines (line ∷ lines) rest each =
+    ap ended_lines_of (append_assoc line (line_feed ∷ with_feeds lines) rest)
+    ∙ ended-first line (with_feeds lines ++ rest) each.0
+    ∙ ap (λ (t : List (List ℕ)). line ∷ t) (ended-lines lines rest each.1)
+
+ended-none : (rest : List ℕ) → HasNoFeed rest → ended_lines_of rest ≡ []
+ended-none rest none = ap parts_without_last (slice_split_none (λ b. b == line_feed) rest none)
+
 module _ (mode : LineMode) (size : ℕ) where
+  -- the lines that have ended were answered
+  pub filtered-so-far : (bytes rest output : List ℕ) → IsFilteredTo mode size bytes rest output → HasNoFeed rest → AreFilterAnswers mode size (ended_lines_of bytes) output
+  filtered-so-far bytes rest output far none =
+      let lines : ended_lines_of bytes ≡ far.lines =
+      ap ended_lines_of far.whole ∙ ended-lines far.lines rest far.each ∙ ap (λ (t : List (List ℕ)). far.lines ++ t) (ended-none rest none) ∙ append-nil far.lines in
+      subst (λ (t : List (List ℕ)). AreFilterAnswers mode size t output) (sym lines) far.answered
+
+  -- what was answered is a beginning of the answers to all lines that have ended
+  pub filtered-part : EveryTextHasOneOutcome → (bytes rest output : List ℕ) → IsFilteredTo mode size bytes rest output
+      → (answers : List ℕ) × AreFilterAnswers mode size (ended_lines_of bytes) answers × (more : List ℕ) × (answers ≡ output ++ more)
+  filtered-part one bytes rest output far =
+      let others = every_input_is_filtered one mode size (ended_lines_of rest) in
+      let lines : ended_lines_of bytes ≡ far.lines ++ ended_lines_of rest = ap ended_lines_of far.whole ∙ ended-lines far.lines rest far.each in (
+        output ++ others.output,
+        subst (λ (t : List (List ℕ)). AreFilterAnswers mode size t (output ++ others.output)) (sym lines) (
+          far.answered.0 ++ others.is.0,
+          zip-append (IsFilterAnswer mode size) far.lines (ended_lines_of rest) far.answered.0 others.is.0 far.answered.1 others.is.1,
+          ap (λ (t : List ℕ). t ++ others.output) far.answered.2 ∙ ap (λ (t : List ℕ). written_lines far.answered.0 ++ t) others.is.2
+              ∙ sym (written_lines-append far.answered.0 others.is.0),
+        ),
+        others.output,
+        refl,
+      )
+
   -- all lines were answered: there is no rest, or its answer is written too
   pub filtered-end : (bytes rest output last : List ℕ) → IsFilteredTo mode size bytes rest output → HasNoFeed rest
       → ((rest ≡ []) × (last ≡ [])) ⊎ ((0 < length rest) × (answer : Answer) × IsFilterAnswer mode size rest answer × (last ≡ written_lines (answer ∷ [])))
-      → IsFiltered mode size (lines_of bytes) (output ++ last)
+      → AreFilterAnswers mode size (lines_of bytes) (output ++ last)
   filtered-end bytes rest output last far none (inl end) =
       let lines : lines_of bytes ≡ far.lines = ap lines_of far.whole ∙ lines-ended far.lines rest far.each ∙ ap (λ (t : List ℕ). far.lines ++ lines_of t) end.0 ∙ append-nil far.lines in
-      subst (λ (t : List (List ℕ)). IsFiltered mode size t (output ++ last)) (sym lines)
-      (subst (λ (t : List ℕ). IsFiltered mode size far.lines t) (sym (ap (λ (t : List ℕ). output ++ t) end.1 ∙ append-nil output)) far.answered)
+      subst (λ (t : List (List ℕ)). AreFilterAnswers mode size t (output ++ last)) (sym lines)
+      (subst (λ (t : List ℕ). AreFilterAnswers mode size far.lines t) (sym (ap (λ (t : List ℕ). output ++ t) end.1 ∙ append-nil output)) far.answered)
   filtered-end bytes rest output last far none (inr end) =
       let lines : lines_of bytes ≡ far.lines ++ rest ∷ [] =
       ap lines_of far.whole ∙ lines-ended far.lines rest far.each ∙ ap (λ (t : List (List ℕ)). far.lines ++ t) (lines-last rest none end.0) in
-      subst (λ (t : List (List ℕ)). IsFiltered mode size t (output ++ last)) (sym lines) (
+      subst (λ (t : List (List ℕ)). AreFilterAnswers mode size t (output ++ last)) (sym lines) (
         far.answered.0 ++ end.1 ∷ [],
         zip-push (IsFilterAnswer mode size) far.lines far.answered.0 rest end.1 far.answered.1 end.2,
         ap (λ (t : List ℕ). t ++ last) far.answered.2 ∙ ap (λ (t : List ℕ). written_lines far.answered.0 ++ t) end.3 ∙ sym (written_lines-append far.answered.0 (end.1 ∷ [])),
@@ -161,11 +259,13 @@ module _ (mode : LineMode) (size : ℕ) where
 line-answer : (mode : LineMode) (late : Bool) (size : ℕ) (before line : List ℕ) (answer : Answer) → IsLate late size before → length line < size
     → IsLineAnswer mode late line answer → IsFilterAnswer mode size (before ++ line) answer
 line-answer mode true size before line answer fits less is = record {
-  short = λ bad. absurd (omega (arith, bad, fits.0, length-append before line));
   long = λ _. is;
+  other = λ bad _. absurd (omega (arith, bad, fits.0, length-append before line));
+  text = λ bad _. absurd (omega (arith, bad, fits.0, length-append before line));
 }
 line-answer mode false size before line answer fits less is =
-    subst (λ (t : List ℕ). IsFilterAnswer mode size (t ++ line) answer) (sym fits) (record { short = λ _. is; long = λ bad. absurd (omega (arith, bad, less)) })
+    subst (λ (t : List ℕ). IsFilterAnswer mode size (t ++ line) answer) (sym fits)
+    (record { long = λ bad. absurd (omega (arith, bad, less)); other = λ _ other. is.other other; text = λ _ utf8. is.text utf8 })
 
 pub late-no-feed : (late : Bool) (size : ℕ) (before line : List ℕ) → IsLate late size before → HasNoFeed line → HasNoFeed (before ++ line)
 late-no-feed true size before line fits none = All-append (λ b. (b == line_feed) ≡ false) before line fits.1 none
@@ -201,32 +301,6 @@ rest-answered mode false bytes answer some is = record {
 
 pub rest-none : (mode : LineMode) (bytes : List ℕ) → bytes ≡ [] → AnswersRest mode false bytes []
 rest-none mode bytes none = record { rest = λ size before less fits. inl (ap (λ (t : List ℕ). t ++ bytes) fits ∙ none, refl) }
-
--- what a writer took and a reader gave, call after call
-module _ {D : Type 0} (bytes : D → Option (List ℕ)) (a b c : Counted D) where
-  pub takes-then : (x y : List ℕ) → Takes (use_of bytes a b) x → Takes (use_of bytes b c) y → Takes (use_of bytes a c) (x ++ y)
-  takes-then x y first next = record {
-    moved = next.moved ∙ ap (λ (t : List ℕ). t ++ y) first.moved ∙ append_assoc _ x y;
-    known = Appends-trans _ _ _ x y first.known next.known;
-  }
-
-  pub gives-then : (x y : List ℕ) → Gives (use_of bytes a b) x → Gives (use_of bytes b c) y → Gives (use_of bytes a c) (x ++ y)
-  gives-then x y first next = record {
-    moved = next.moved ∙ ap (λ (t : List ℕ). t ++ y) first.moved ∙ append_assoc _ x y;
-    known = Consumes-trans _ _ _ x y first.known next.known;
-  }
-
-module _ {D : Type 0} (bytes : D → Option (List ℕ)) (a : Counted D) where
-  pub takes-none : Takes (use_of bytes a a) []
-  takes-none = record { moved = sym (append-nil _); known = Appends-nil _ }
-
-  pub gives-none : Gives (use_of bytes a a) []
-  gives-none = record { moved = sym (append-nil _); known = Consumes-nil _ }
-
--- what was taken before, and a beginning of more
-pub takes-part : {D : Type 0} (bytes : D → Option (List ℕ)) (a b c : Counted D) (x y : List ℕ) (n : ℕ) → Takes (use_of bytes a b) x → Takes (use_of bytes b c) (take n y)
-    → (k : ℕ) × Takes (use_of bytes a c) (take k (x ++ y))
-takes-part bytes a b c x y n first next = (length x + n, rw (take-append-add x y n) (takes-then bytes a b c x (take n y) first next))
 
 -- an answer was put after what is used of the buffer, of which a part may have gone to the writer first
 pub used-more : (gone more written old new : List ℕ) (used now end : ℕ) → more ++ take now old ≡ take used old → take end new ≡ take now old ++ written

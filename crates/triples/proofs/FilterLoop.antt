@@ -1,21 +1,22 @@
 -- A filter between its reads, and its ends.
-use Rattle.std.proofs.Common.{◌≡◌, ◌∙◌, ℕ, ◌+◌, ◌-◌, ◌^◌, ◌<◌, ◌≤◌, ◌⊎◌, inl, inr, Bool, true, false, List, [], ◌∷◌, ◌++◌, length, take, drop, Option, Result, Ok, Err, refl, sym, ap, subst, append_assoc, arith, rules}
-use Rattle.std.proofs.lemmas.List.{append-nil, length-append, length-take, take-append-le}
-use Rattle.std.proofs.lemmas.List.Elements.{All-append}
-use Rattle.std.proofs.KnownBytes.{Consumes-kept}
-use Rattle.std.proofs.Math.Seq.{take-append-add}
+use Rattle.std.proofs.Common.{◌≡◌, ◌∙◌, ℕ, ◌+◌, ◌-◌, ◌^◌, ◌<◌, ◌≤◌, ◌⊎◌, inl, inr, Bool, true, false, List, [], ◌++◌, length, take, drop, Option, Result, Ok, Err, refl, sym, ap, subst, append_assoc, arith, rules}
+use Rattle.std.proofs.lemmas.List.{append-nil, length-append, length-take, take-append-drop, take-append-le}
+use Rattle.std.proofs.Math.Seq.{take-append-add, take-append_seam}
 use Rattle.std.proofs.lemmas.List.{places, length-drop}
 use borrow.Rule.Slice.PartMut.{put_mid, post_of}
 use Rattle.std.specs.Io.KnownBytes.{Consumes, IsAtEnd, Keeps}
-use Rattle.triples.specs.{Filter.HasNoFeed, Filter.IsFilteredTo, Filter.FilterEndsAs, Lines.line_feed}
-use Rattle.triples.specs.FilterSteps.{IsKept, IsLate, LinesAnswered, RestAnswered}
+use Rattle.triples.specs.{Filter.AreFilterAnswers, Filter.FilterEndsAs, Filter.complete_lines}
+use Rattle.triples.specs.FilterSteps.{HasNoFeed, IsFilteredTo, IsKept, IsLate, LinesAnswered, RestAnswered}
 use Rattle.triples.specs.Run.{Use, Gives, Takes, IsUnfailed, HasFailed, use_of}
-use Rattle.triples.specs.Streams.{inner, moved}
+use Rattle.std.proofs.lemmas.Bool.{ne_eqb}
+use Rattle.triples.specs.Streams.{finds_end, inner, is_ended, moved}
 use Rattle.triples.specs.declared.counted.Counted.{Counted}
 use Rattle.triples.specs.declared.filter_error.FilterError.{FilterError}
 use Rattle.triples.specs.declared.filter_error.FilterError.TheVariants as filter_error
 use Rattle.triples.specs.declared.line_mode.LineMode.{LineMode}
-use Rattle.triples.proofs.FilterLemmas.{filtered-none, filtered-then, filtered-more, filtered-end, gives-none, gives-then, late-no-feed, takes-none, takes-part, takes-then}
+use Rattle.target_lexicon.specs.Laws.{EveryTextHasOneOutcome}
+use Rattle.triples.proofs.FilterLemmas.{filtered-none, filtered-then, filtered-more, filtered-end, filtered-part, filtered-so-far, late-no-feed}
+use Rattle.triples.proofs.UseLemmas.{gives-kept, gives-none, gives-then, takes-none, takes-part, takes-then}
 
 -- the lines that have ended were answered, and of the next line the buffer holds what is not late
 pub record IsBetweenReads (mode : LineMode) (size : ℕ) (late : Bool) (held : List ℕ) (input written : Use) (count : ℕ) : Type 0 where
@@ -28,8 +29,16 @@ pub record IsBetweenReads (mode : LineMode) (size : ℕ) (late : Bool) (held : L
   pub is_late : IsLate late size before
   pub none : HasNoFeed held
   pub counted : count ≤ length bytes
+  pub not_ended : 0 < count → input.is_ended ≡ false
   pub input_unfailed : IsUnfailed input
   pub written_unfailed : IsUnfailed written
+
+-- a beginning of bytes is one of these and more
+beginning : (n : ℕ) (bytes more : List ℕ) → take n bytes ≡ take (length (take n bytes)) (bytes ++ more)
+beginning n bytes more =
+    sym (take-append_seam (take n bytes) (drop n bytes ++ more))
+    ∙ ap (λ (t : List ℕ). take (length (take n bytes)) t)
+    (sym (append_assoc (take n bytes) (drop n bytes) more) ∙ ap (λ (t : List ℕ). t ++ more) (take-append-drop n bytes))
 
 no-bytes : HasNoFeed []
 no-bytes k d below = absurd (omega (arith, below))
@@ -51,6 +60,7 @@ module _ {A B : Type 0} (rem : A → Option (List ℕ)) (con : B → Option (Lis
     is_late = refl;
     none = no-bytes;
     counted = omega arith;
+    not_ended = λ bad. absurd (omega (arith, bad));
     input_unfailed = refl;
     written_unfailed = refl;
   }
@@ -71,75 +81,72 @@ module _ {A B : Type 0} (rem : A → Option (List ℕ)) (con : B → Option (Lis
     );
     none = no-bytes;
     counted = state.counted;
+    not_ended = state.not_ended;
     input_unfailed = state.input_unfailed;
     written_unfailed = state.written_unfailed;
   }
 
   module _ (r0 r1 r2 : Counted A) (w0 w1 w2 : Counted B) (late : Bool) (held : List ℕ) (count : ℕ) (state : IsBetweenReads mode size late held (use_of rem r0 r1) (use_of con w0 w1) count) where
-    -- a read that failed
-    kept : Keeps (rem (inner r1)) (rem (inner r2)) → moved r2 ≡ moved r1 ++ [] → Gives (use_of rem r0 r2) state.bytes
-    kept keeps same = record {
-      moved = same ∙ append-nil (moved r1) ∙ state.given.moved;
-      known = Consumes-kept _ _ _ state.bytes state.given.known keeps;
-    }
+    -- the lines that have ended were answered
+    pub so-far : AreFilterAnswers mode size (complete_lines false state.bytes) state.output
+    so-far = filtered-so-far mode size state.bytes (state.before ++ held) state.output state.filtered (late-no-feed late size state.before held state.is_late state.none)
 
-    pub ends-read : Keeps (rem (inner r1)) (rem (inner r2)) → moved r2 ≡ moved r1 ++ [] → HasFailed (use_of rem r1 r2)
+    -- a read that failed
+    pub ends-read : Keeps (rem (inner r1)) (rem (inner r2)) → moved r2 ≡ moved r1 ++ [] → HasFailed (use_of rem r1 r2) → is_ended r2 ≡ false
         → FilterEndsAs mode size (use_of rem r0 r2) (use_of con w0 w1) (Err filter_error.Read)
-    ends-read keeps same failed = (
-      state.bytes,
-      state.output,
-      kept keeps same,
-      state.taken,
-      (omega (arith, failed, state.input_unfailed), state.written_unfailed, (state.before ++ held, state.filtered, late-no-feed late size state.before held state.is_late state.none)),
-    )
+    ends-read keeps same failed ended = record {
+      input = state.bytes;
+      answers = state.output;
+      output = state.output;
+      gives = gives-kept rem r0 r1 r2 state.bytes state.given keeps same;
+      takes = state.taken;
+      answered = subst (λ (b : Bool). AreFilterAnswers mode size (complete_lines b state.bytes) state.output) (sym ended) so-far;
+      by_result = (omega (arith, failed, state.input_unfailed), state.written_unfailed, refl);
+    }
 
     -- all reads were made
     pub ends-endless : 2 ^ 64 - 1 ≤ count → FilterEndsAs mode size (use_of rem r0 r1) (use_of con w0 w1) (Err filter_error.Endless)
-    ends-endless all = (
-      state.bytes,
-      state.output,
-      state.given,
-      state.taken,
-      (state.input_unfailed, state.written_unfailed, omega (arith, all, state.counted), (state.before ++ held, state.filtered, late-no-feed late size state.before held state.is_late state.none)),
-    )
+    ends-endless all = record {
+      input = state.bytes;
+      answers = state.output;
+      output = state.output;
+      gives = state.given;
+      takes = state.taken;
+      answered = subst (λ (b : Bool). AreFilterAnswers mode size (complete_lines b state.bytes) state.output) (sym (state.not_ended (omega (arith, all)))) so-far;
+      by_result = (state.input_unfailed, state.written_unfailed, omega (arith, all, state.counted), refl);
+    }
 
     -- a read found the end, and the last line was answered
-    pub ends-rest : (given : List ℕ) (result : Result (Unit {0}) FilterError) → given ≡ [] → Gives (use_of rem r1 r2) given → IsUnfailed (use_of rem r1 r2) → IsAtEnd (rem (inner r2))
-        → length held < size → RestAnswered mode late held (use_of con w1 w2) result → FilterEndsAs mode size (use_of rem r0 r2) (use_of con w0 w2) result
-    ends-rest given (Ok u) none gives unfailed at_end short done =
-        let all = subst (λ (t : List ℕ). Gives (use_of rem r0 r2) t) (ap (λ (t : List ℕ). state.bytes ++ t) none ∙ append-nil state.bytes) (gives-then rem r0 r1 r2 state.bytes given state.given gives) in
-        let free = late-no-feed late size state.before held state.is_late state.none in (
-          state.bytes,
-          state.output ++ done.1,
-          all,
-          takes-then con w0 w1 w2 state.output done.1 state.taken done.2,
-          (
-            at_end,
-            unfailed ∙ state.input_unfailed,
-            done.0 ∙ state.written_unfailed,
-            filtered-end mode size state.bytes (state.before ++ held) state.output done.1 state.filtered free (done.3.rest size state.before short state.is_late),
-          ),
-        )
-    ends-rest given (Err e) none gives unfailed at_end short done =
-        let all = subst (λ (t : List ℕ). Gives (use_of rem r0 r2) t) (ap (λ (t : List ℕ). state.bytes ++ t) none ∙ append-nil state.bytes) (gives-then rem r0 r1 r2 state.bytes given state.given gives) in
+    pub ends-rest : (given : List ℕ) (result : Result (Unit {0}) FilterError) → given ≡ [] → Gives (use_of rem r1 r2) given → IsUnfailed (use_of rem r1 r2) → is_ended r2 ≡ true
+        → IsAtEnd (rem (inner r2)) → length held < size → RestAnswered mode late held (use_of con w1 w2) result → FilterEndsAs mode size (use_of rem r0 r2) (use_of con w0 w2) result
+    ends-rest given (Ok u) none gives unfailed ended at_end short done =
         let free = late-no-feed late size state.before held state.is_late state.none in
-        let part = takes-part con w0 w1 w2 state.output done.2 done.4 state.taken done.5 in
-        subst (λ (f : FilterError). FilterEndsAs mode size (use_of rem r0 r2) (use_of con w0 w2) (Err f)) (sym done.0) (
-          state.bytes,
-          take part.0 (state.output ++ done.2),
-          all,
-          part.1,
-          (
-            unfailed ∙ state.input_unfailed,
-            omega (arith, done.1, state.written_unfailed),
-            state.output ++ done.2,
-            inr (at_end, filtered-end mode size state.bytes (state.before ++ held) state.output done.2 state.filtered free (done.3.rest size state.before short state.is_late)),
-            part.0,
-            refl,
-          ),
-        )
+        let whole = filtered-end mode size state.bytes (state.before ++ held) state.output done.1 state.filtered free (done.3.rest size state.before short state.is_late) in
+        record {
+          input = state.bytes;
+          answers = state.output ++ done.1;
+          output = state.output ++ done.1;
+          gives = subst (λ (t : List ℕ). Gives (use_of rem r0 r2) t) (ap (λ (t : List ℕ). state.bytes ++ t) none ∙ append-nil state.bytes) (gives-then rem r0 r1 r2 state.bytes given state.given gives);
+          takes = takes-then con w0 w1 w2 state.output done.1 state.taken done.2;
+          answered = subst (λ (b : Bool). AreFilterAnswers mode size (complete_lines b state.bytes) (state.output ++ done.1)) (sym ended) whole;
+          by_result = ((ended, at_end, unfailed ∙ state.input_unfailed), (done.0.0, done.0.1 ∙ state.written_unfailed), refl);
+        }
+    ends-rest given (Err e) none gives unfailed ended at_end short done =
+        let free = late-no-feed late size state.before held state.is_late state.none in
+        let whole = filtered-end mode size state.bytes (state.before ++ held) state.output done.2 state.filtered free (done.3.rest size state.before short state.is_late) in
+        let part = takes-part con w0 w1 w2 state.output done.2 state.taken (done.4, done.5) in
+        subst (λ (f : FilterError). FilterEndsAs mode size (use_of rem r0 r2) (use_of con w0 w2) (Err f)) (sym done.0)
+        (record {
+          input = state.bytes;
+          answers = state.output ++ done.2;
+          output = take part.0 (state.output ++ done.2);
+          gives = subst (λ (t : List ℕ). Gives (use_of rem r0 r2) t) (ap (λ (t : List ℕ). state.bytes ++ t) none ∙ append-nil state.bytes) (gives-then rem r0 r1 r2 state.bytes given state.given gives);
+          takes = part.1;
+          answered = subst (λ (b : Bool). AreFilterAnswers mode size (complete_lines b state.bytes) (state.output ++ done.2)) (sym ended) whole;
+          by_result = (unfailed ∙ state.input_unfailed, omega (arith, done.1, state.written_unfailed), part.0, refl);
+        })
 
-    module _ (more : List ℕ) (gives : Gives (use_of rem r1 r2) more) (unfailed : IsUnfailed (use_of rem r1 r2)) (piece : List ℕ) (is : piece ≡ held ++ more) (fits : length piece ≤ size) where
+    module _ (more : List ℕ) (gives : Gives (use_of rem r1 r2) more) (unfailed : IsUnfailed (use_of rem r1 r2)) (ended : is_ended r2 ≡ false) (piece : List ℕ) (is : piece ≡ held ++ more) (fits : length piece ≤ size) where
       -- the lines so far, up to what is held and what came
       far : IsFilteredTo mode size (state.bytes ++ more) (state.before ++ piece) state.output
       far =
@@ -162,28 +169,34 @@ module _ {A B : Type 0} (rem : A → Option (List ℕ)) (con : B → Option (Lis
             is_late = next.2;
             none = done.2;
             counted = omega (arith, some, state.counted, length-append state.bytes more);
+            not_ended = λ _. ended;
             input_unfailed = unfailed ∙ state.input_unfailed;
             written_unfailed = done.0 ∙ state.written_unfailed;
           }
 
       -- a write failed
-      pub ends-write : (e : FilterError) → LinesAnswered mode late piece (use_of con w1 w2) (Err e) → FilterEndsAs mode size (use_of rem r0 r2) (use_of con w0 w2) (Err filter_error.Write)
-      ends-write e done =
+      pub ends-write : EveryTextHasOneOutcome → (e : FilterError) → LinesAnswered mode late piece (use_of con w1 w2) (Err e)
+          → FilterEndsAs mode size (use_of rem r0 r2) (use_of con w0 w2) (Err filter_error.Write)
+      ends-write one e done =
           let next = done.5 size state.before fits state.is_late in
-          let part = takes-part con w0 w1 w2 state.output done.2 done.6 state.taken done.7 in (
-            state.bytes ++ more,
-            take part.0 (state.output ++ done.2),
-            gives-then rem r0 r1 r2 state.bytes more state.given gives,
-            part.1,
-            (
+          let part = takes-part con w0 w1 w2 state.output done.2 state.taken (done.6, done.7) in
+          let written = state.output ++ done.2 in
+          let so_far = filtered-then mode size (state.bytes ++ more) (state.before ++ piece) (next.0 ++ done.4) state.output done.2 far next.1 in
+          let all = filtered-part mode size one (state.bytes ++ more) (next.0 ++ done.4) written so_far in
+          record {
+            input = state.bytes ++ more;
+            answers = all.0;
+            output = take part.0 written;
+            gives = gives-then rem r0 r1 r2 state.bytes more state.given gives;
+            takes = part.1;
+            answered = subst (λ (b : Bool). AreFilterAnswers mode size (complete_lines b (state.bytes ++ more)) all.0) (sym ended) all.1;
+            by_result = (
               unfailed ∙ state.input_unfailed,
               omega (arith, done.1, state.written_unfailed),
-              state.output ++ done.2,
-              inl (next.0 ++ done.4, filtered-then mode size (state.bytes ++ more) (state.before ++ piece) (next.0 ++ done.4) state.output done.2 far next.1),
-              part.0,
-              refl,
-            ),
-          )
+              length (take part.0 written),
+              beginning part.0 written all.2 ∙ ap (λ (t : List ℕ). take (length (take part.0 written)) t) (sym all.3),
+            );
+          }
 
 -- what is held after the lines that ended
 pub between-kept : {A B : Type 0} (rem : A → Option (List ℕ)) (con : B → Option (List ℕ)) (mode : LineMode) (size : ℕ) (late late_after : Bool) (rest new : List ℕ) (held : ℕ) (input written : Use) (count : ℕ)
@@ -210,6 +223,13 @@ gave rem r1 r2 bytes same known = record { moved = same; known = known }
 -- the buffer keeps its length
 pub length-read : (held : ℕ) (xs ys : List ℕ) → held ≤ length xs → length ys ≡ length xs - held → length (put_mid held (length xs - held) xs ys) ≡ length xs
 length-read held xs ys within size = search (rules, places)
+
+-- a read that gave some byte did not find the end, and one that gave none, with room for one, did
+pub some-is-no-end : (count : ℕ) (buffer : List ℕ) → (count ≡ 0 → ⊥) → finds_end {E = ⊥} (Ok count) buffer ≡ false
+some-is-no-end count buffer some = rw (ne_eqb count 0 some) refl
+
+pub none-is-end : (count : ℕ) (buffer : List ℕ) → count ≡ 0 → 0 < length buffer → finds_end {E = ⊥} (Ok count) buffer ≡ true
+none-is-end count buffer none room = rw (none, ne_eqb (length buffer) 0 (λ bad. omega (arith, bad, room))) refl
 
 -- a count that rose by nothing
 pub unfailed-read : (it : Use) → it.failures_after ≡ it.failures_before + 0 → IsUnfailed it

@@ -1,14 +1,14 @@
 -- Each input has an outcome in each mode.
-use Rattle.std.proofs.Common.{◌≡◌, ◌≢◌, ◌⊎◌, ℕ, zero, suc, ◌<◌, Bool, true, false, List, [], ◌∷◌, ◌++◌, codes, Option, Some, None, MatchOption, inl, inr, Result, Ok, Err, refl, sym, ap, subst, ◌∙◌, arith}
+use Rattle.std.proofs.Common.{◌≡◌, ◌≢◌, ◌⊎◌, ℕ, zero, suc, ◌<◌, Bool, true, false, List, [], ◌∷◌, ◌++◌, codes, Option, Some, None, MatchOption, inl, inr, Result, Ok, Err, refl, sym, ◌∙◌, arith}
+use Rattle.std.proofs.lemmas.List.{append-nil}
 use Rattle.std.proofs.lemmas.Str.{IsUtf8-from_is_utf8, is_utf8-from_IsUtf8}
-use Rattle.std.specs.List.{AllZip}
 use Rattle.std.specs.Str.{IsUtf8, is_utf8}
-use Rattle.serde_json.specs.{Data.Data, Data.Items, Data.no_items, Data.item, Find.as_array, Find.as_str, Find.get_item, Read.read, Written.compact_text}
+use Rattle.serde_json.specs.{Data.Data, Data.Items, Data.no_items, Data.item, Find.as_array, Find.as_str, Read.read, Written.compact_text}
 use Rattle.target_lexicon.specs.Json.{JsonReadsAs, JsonErrorValue, NotText, Parse, Element, IsElementRead, IsJsonErrorOf, ElementsReadAs, IsFirstError, list_json_of, list_error_line}
 use Rattle.target_lexicon.specs.{FixedPoints.canonical_text, Laws.EveryTextHasOneOutcome, Printing.text_of, Reading.ReadsAs, Reading.IsRefusedAs, Refusal.Refusal, Refusal.refusal_line, Values.Values}
-use Rattle.triples.specs.{Facts.text_with_facts, JsonOutput.IsJsonAnswer, JsonOutput.IsJsonInputErrorOf, Lines.line_feed, Lines.lines_of}
-use Rattle.triples.specs.Output.{Answer, Shown, Refused, IsAnswer, AreAnswers, IsOutput, matrix_of, written_lines}
-use Rattle.triples.specs.Run.{Use, EndsAs}
+use Rattle.triples.specs.{Facts.text_with_facts, Lines.line_feed, Lines.lines_of}
+use Rattle.triples.specs.Output.{Answer, Shown, Refused, AreAnswers, matrix_of, written_lines}
+use Rattle.triples.specs.Run.{Use, RunEnds}
 use Rattle.triples.specs.RunLaws.{RunGives, EveryInputHasAnOutcome}
 use Rattle.triples.specs.declared.mode.Mode.{Mode}
 use Rattle.triples.specs.declared.mode.Mode.TheVariants.{Print, Show, Settle, Json, Matrix}
@@ -108,18 +108,18 @@ module _ (one : EveryTextHasOneOutcome) where
 
 -- what such a run did to its reader and its writer
 abbrev read_from : List ℕ → Use
-read_from text = record { bytes_before = Some text; bytes_after = Some []; failures_before = 0; failures_after = 0; moved_before = []; moved_after = text }
+read_from text = record { bytes_before = Some text; bytes_after = Some []; failures_before = 0; failures_after = 0; moved_before = []; moved_after = text; is_ended = true }
 
 abbrev written_to : List ℕ → Use
-written_to bytes = record { bytes_before = Some []; bytes_after = Some bytes; failures_before = 0; failures_after = 0; moved_before = []; moved_after = bytes }
+written_to bytes = record { bytes_before = Some []; bytes_after = Some bytes; failures_before = 0; failures_after = 0; moved_before = []; moved_after = bytes; is_ended = true }
 
-ends : (mode : Mode) (text bytes : List ℕ) (result : Result (Unit {0}) RunError) → Outcome mode text result bytes → EndsAs mode (read_from text) (written_to bytes) result
-ends mode text bytes (Ok _) is = ((refl, refl), refl, (is.0, (bytes, is.1, refl)))
+ends : (mode : Mode) (text bytes : List ℕ) (result : Result (Unit {0}) RunError) → Outcome mode text result bytes → RunEnds mode (read_from text) (written_to bytes) text bytes result
+ends mode text bytes (Ok _) is = ((refl, refl, refl), (refl, refl), is.0, is.1)
 ends mode text bytes (Err run_error.Read) is = absurd is
 ends mode text bytes (Err run_error.Write) is = absurd is
-ends mode text bytes (Err run_error.NotUtf8) is = ((refl, refl), (is.1, refl), is.0)
-ends mode text bytes (Err run_error.NotJson) is = (is.0, (refl, refl), (is.3, refl), (is.1, is.2))
-ends mode text bytes (Err run_error.NotList) is = (is.0, (refl, refl), (is.3, refl), (is.1, is.2))
+ends mode text bytes (Err run_error.NotUtf8) is = ((refl, refl, refl), (refl, is.1), is.0)
+ends mode text bytes (Err run_error.NotJson) is = (is.0, (refl, refl, refl), (refl, is.3), is.1, is.2)
+ends mode text bytes (Err run_error.NotList) is = (is.0, (refl, refl, refl), (refl, is.3), is.1, is.2)
 ends mode text bytes (Err run_error.OutOfMemory) is = absurd is
 
 memory : (mode : Mode) (text bytes : List ℕ) (result : Result (Unit {0}) RunError) → Outcome mode text result bytes → result ≢ Err run_error.OutOfMemory
@@ -134,16 +134,20 @@ memory mode text bytes (Err run_error.OutOfMemory) is bad = absurd is
 -- a run with this outcome
 run-of : (mode : Mode) (text : List ℕ) (result : Result (Unit {0}) RunError) (bytes : List ℕ) → Outcome mode text result bytes → RunGives mode text result bytes
 run-of mode text result bytes is = record {
-  input = read_from text;
-  written = written_to bytes;
-  ends = ends mode text bytes result is;
+  reader = read_from text;
+  writer = written_to bytes;
+  ends = record {
+    input = text;
+    output = bytes;
+    gives = record { moved = refl; known = sym (append-nil text) };
+    takes = record { moved = refl; known = refl };
+    by_result = ends mode text bytes result is;
+  };
   read_unfailed = refl;
   write_unfailed = refl;
   memory = memory mode text bytes result is;
-  text_is = refl;
-  start = [];
-  start_is = refl;
-  end_is = refl;
+  text_is = inr refl;
+  bytes_are = inr ([], refl, refl);
 }
 
 pub every_input_has_an_outcome : EveryTextHasOneOutcome → EveryInputHasAnOutcome

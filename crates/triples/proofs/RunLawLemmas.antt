@@ -1,25 +1,16 @@
 -- The laws of how runs end.
-use Rattle.std.proofs.Common.{◌≡◌, ◌↔◌, ℕ, List, [], ◌++◌, Option, Some, None, IfSome, MatchOption, IsErrOf, Result, Ok, Err, refl, sym, subst, ◌∙◌, arith}
-use Rattle.std.proofs.lemmas.List.{append_cancel_left, append-nil}
-use Rattle.std.specs.Io.KnownBytes.{Appends, Keeps}
+use Rattle.std.proofs.Common.{◌≡◌, ◌≢◌, ◌↔◌, ℕ, List, [], take, Option, None, MatchOption, IsErrAnd, IsErrOf, IsTrue, Result, Ok, Err, refl, sym, subst, ◌∙◌}
 use Rattle.std.specs.Str.{IsUtf8}
 use Rattle.serde_json.specs.{Data.Data, Find.as_array, Read.read}
 use Rattle.target_lexicon.specs.Laws.{EveryTextHasOneOutcome}
-use Rattle.triples.specs.{JsonOutput.IsJsonInputErrorOf, Output.IsOutput, Streams.AppendsBeginning, Run.Use, Run.IsUnfailed, Run.HasFailed, Run.IfKnownText, Run.IsWritten, Run.EndsAs}
+use Rattle.triples.specs.{JsonOutput.IsJsonInputErrorOf, Output.IsOutput, Run.Use, Run.Gives, Run.Takes, Run.TakesBeginning, Run.IsReadWhole, Run.IsUnfailed, Run.HasFailed, Run.RunEnds, Run.EndsAs}
 use Rattle.triples.specs.RunLaws.{RunGives, RunsEndOneWay, IsJudged, ErrorsOfRunsAreExact}
 use Rattle.triples.specs.declared.mode.Mode.{Mode}
 use Rattle.triples.specs.declared.mode.Mode.TheVariants.{Json}
 use Rattle.triples.specs.declared.run_error.RunError.{RunError}
 use Rattle.triples.specs.declared.run_error.RunError.TheVariants as run_error
 use Rattle.triples.proofs.UniqueOutputs.{outputs-unique, text-is-json, text-is-list}
-
--- a call that didn't fail has not failed
-not-both : (it : Use) → IsUnfailed it → HasFailed it → ⊥
-not-both it unfailed failed = omega (arith, unfailed, failed)
-
--- what is known of a text
-known : (input : Use) (text : List ℕ) (Holds : List ℕ → Type 0) → input.bytes_before ≡ Some text → IfKnownText input Holds → IsUtf8 text × Holds text
-known input text Holds is holds = subst (λ (o : Option (List ℕ)). IfSome o (λ t. IsUtf8 t × Holds t)) is holds
+use Rattle.triples.proofs.UseLemmas.{input-is, not-both, output-is}
 
 -- an input with an output has no error of JSON
 output-no-json-error : (mode : Mode) (text output : List ℕ) → IsOutput mode text output → mode ≡ Json → IsJsonInputErrorOf text run_error.NotJson → ⊥
@@ -38,34 +29,40 @@ Outcome mode text (Err run_error.NotJson) bytes = (mode ≡ Json) × IsUtf8 text
 Outcome mode text (Err run_error.NotList) bytes = (mode ≡ Json) × IsUtf8 text × IsJsonInputErrorOf text run_error.NotList × (bytes ≡ [])
 Outcome mode text (Err _) bytes = ⊥
 
-module _ (mode : Mode) (text bytes : List ℕ) where
-  grown : (written : Use) (start output : List ℕ) → written.bytes_before ≡ Some start → written.bytes_after ≡ Some (start ++ bytes)
-      → Appends written.bytes_before written.bytes_after output → bytes ≡ output
-  grown written start output before after appends =
-      append_cancel_left start bytes output
-      (subst (λ (new : Option (List ℕ)). Appends (Some start) new output) after (subst (λ (old : Option (List ℕ)). Appends old written.bytes_after output) before appends))
+-- a run in which no read failed and memory did not run out read the input to its end
+read-whole : (mode : Mode) (reader writer : Use) (input output : List ℕ) (result : Result (Unit {0}) RunError) → RunEnds mode reader writer input output result
+    → IsUnfailed reader → result ≢ Err run_error.OutOfMemory → IsReadWhole reader
+read-whole mode reader writer input output (Ok _) ends unfailed memory = ends.0
+read-whole mode reader writer input output (Err run_error.Read) ends unfailed memory = absurd (not-both reader unfailed ends.0)
+read-whole mode reader writer input output (Err run_error.Write) ends unfailed memory = ends.0
+read-whole mode reader writer input output (Err run_error.NotUtf8) ends unfailed memory = ends.0
+read-whole mode reader writer input output (Err run_error.NotJson) ends unfailed memory = ends.1
+read-whole mode reader writer input output (Err run_error.NotList) ends unfailed memory = ends.1
+read-whole mode reader writer input output (Err run_error.OutOfMemory) ends unfailed memory = absurd (memory refl)
 
-  kept : (written : Use) (start : List ℕ) → written.bytes_before ≡ Some start → written.bytes_after ≡ Some (start ++ bytes)
-      → Keeps written.bytes_before written.bytes_after → bytes ≡ []
-  kept written start before after keeps =
-      append_cancel_left start bytes []
-      (subst (λ (new : Option (List ℕ)). Keeps (Some start) new) after (subst (λ (old : Option (List ℕ)). Keeps old written.bytes_after) before keeps) ∙ sym (append-nil start))
+-- so what it did is said of its input
+judged : (mode : Mode) (reader writer : Use) (result : Result (Unit {0}) RunError) (text : List ℕ) (ends : EndsAs mode reader writer result) → IsJudged reader result text
+    → RunEnds mode reader writer text ends.output result
+judged mode reader writer result text ends it =
+    let whole = read-whole mode reader writer ends.input ends.output result ends.by_result it.read_unfailed it.memory in
+    subst (λ (t : List ℕ). RunEnds mode reader writer t ends.output result) (input-is reader ends.input text it.text_is ends.gives whole) ends.by_result
 
-  outcome : (result : Result (Unit {0}) RunError) → RunGives mode text result bytes → Outcome mode text result bytes
-  outcome (Ok _) run =
-      let is = known run.input text (IsWritten Appends mode run.written) run.text_is run.ends.2 in
-      (is.0, subst (λ (o : List ℕ). IsOutput mode text o) (sym (grown run.written run.start is.1.0 run.start_is run.end_is is.1.2)) is.1.1)
-  outcome (Err run_error.Read) run = not-both run.input run.read_unfailed run.ends.0
-  outcome (Err run_error.Write) run = not-both run.written run.write_unfailed run.ends.1
-  outcome (Err run_error.OutOfMemory) run = run.memory refl
-  outcome (Err run_error.NotUtf8) run =
-      (subst (λ (o : Option (List ℕ)). IfSome o (λ t. IsUtf8 t → ⊥)) run.text_is run.ends.2, kept run.written run.start run.start_is run.end_is run.ends.1.0)
-  outcome (Err run_error.NotJson) run =
-      let is = known run.input text (λ t. IsJsonInputErrorOf t run_error.NotJson) run.text_is run.ends.3 in
-      (run.ends.0, is.0, is.1, kept run.written run.start run.start_is run.end_is run.ends.2.0)
-  outcome (Err run_error.NotList) run =
-      let is = known run.input text (λ t. IsJsonInputErrorOf t run_error.NotList) run.text_is run.ends.3 in
-      (run.ends.0, is.0, is.1, kept run.written run.start run.start_is run.end_is run.ends.2.0)
+outcome-of : (mode : Mode) (reader writer : Use) (text bytes : List ℕ) (result : Result (Unit {0}) RunError) → RunEnds mode reader writer text bytes result
+    → IsUnfailed reader → IsUnfailed writer → result ≢ Err run_error.OutOfMemory → Outcome mode text result bytes
+outcome-of mode reader writer text bytes (Ok _) ends read write memory = (ends.2, ends.3)
+outcome-of mode reader writer text bytes (Err run_error.Read) ends read write memory = not-both reader read ends.0
+outcome-of mode reader writer text bytes (Err run_error.Write) ends read write memory = not-both writer write ends.1
+outcome-of mode reader writer text bytes (Err run_error.NotUtf8) ends read write memory = (ends.2, ends.1.1)
+outcome-of mode reader writer text bytes (Err run_error.NotJson) ends read write memory = (ends.0, ends.3, ends.4, ends.2.1)
+outcome-of mode reader writer text bytes (Err run_error.NotList) ends read write memory = (ends.0, ends.3, ends.4, ends.2.1)
+outcome-of mode reader writer text bytes (Err run_error.OutOfMemory) ends read write memory = memory refl
+
+outcome : (mode : Mode) (text bytes : List ℕ) (result : Result (Unit {0}) RunError) → RunGives mode text result bytes → Outcome mode text result bytes
+outcome mode text bytes result run =
+    let ends = judged mode run.reader run.writer result text run.ends (record { text_is = run.text_is; read_unfailed = run.read_unfailed; memory = run.memory }) in
+    outcome-of mode run.reader run.writer text bytes result
+    (subst (λ (t : List ℕ). RunEnds mode run.reader run.writer text t result) (output-is run.writer run.ends.output bytes run.bytes_are run.ends.takes) ends)
+    run.read_unfailed run.write_unfailed run.memory
 
 -- no text is JSON that is no list, and no JSON
 not-json-or-not-list : (text : List ℕ) → IsJsonInputErrorOf text run_error.NotJson → IsJsonInputErrorOf text run_error.NotList → ⊥
@@ -101,84 +98,93 @@ runs_end_one_way one mode text x y a b first second =
     same-outcome one mode text x y a b (outcome mode text x a first) (outcome mode text y b second)
 
 -- each error is the result exactly in its case
-
-module _ (mode : Mode) (input written : Use) where
-  not_utf8-known : (text : List ℕ) → input.bytes_before ≡ Some text → IfSome input.bytes_before (λ bytes. ¬ (IsUtf8 bytes)) → IsUtf8 text → ⊥
-  not_utf8-known text is differs = subst (λ (o : Option (List ℕ)). IfSome o (λ t. IsUtf8 t → ⊥)) is differs
-
-  read-exact : (result : Result (Unit {0}) RunError) → EndsAs mode input written result → IsErrOf result run_error.Read ↔ HasFailed input
-  read-exact (Ok _) ends = (λ bad. absurd cc, λ failed. absurd (not-both input ends.0.1 failed))
+module _ (mode : Mode) (reader writer : Use) (text output : List ℕ) where
+  read-exact : (result : Result (Unit {0}) RunError) → RunEnds mode reader writer text output result → IsErrOf result run_error.Read ↔ HasFailed reader
+  read-exact (Ok _) ends = (λ bad. absurd cc, λ failed. absurd (not-both reader ends.0.2 failed))
   read-exact (Err run_error.Read) ends = (λ is. ends.0, λ failed. refl)
-  read-exact (Err run_error.Write) ends = (λ bad. absurd cc, λ failed. absurd (not-both input ends.0.1 failed))
-  read-exact (Err run_error.NotUtf8) ends = (λ bad. absurd cc, λ failed. absurd (not-both input ends.0.1 failed))
-  read-exact (Err run_error.NotJson) ends = (λ bad. absurd cc, λ failed. absurd (not-both input ends.1.1 failed))
-  read-exact (Err run_error.NotList) ends = (λ bad. absurd cc, λ failed. absurd (not-both input ends.1.1 failed))
-  read-exact (Err run_error.OutOfMemory) ends = (λ bad. absurd cc, λ failed. absurd (not-both input ends.1 failed))
+  read-exact (Err run_error.Write) ends = (λ bad. absurd cc, λ failed. absurd (not-both reader ends.0.2 failed))
+  read-exact (Err run_error.NotUtf8) ends = (λ bad. absurd cc, λ failed. absurd (not-both reader ends.0.2 failed))
+  read-exact (Err run_error.NotJson) ends = (λ bad. absurd cc, λ failed. absurd (not-both reader ends.1.2 failed))
+  read-exact (Err run_error.NotList) ends = (λ bad. absurd cc, λ failed. absurd (not-both reader ends.1.2 failed))
+  read-exact (Err run_error.OutOfMemory) ends = (λ bad. absurd cc, λ failed. absurd (not-both reader ends.0 failed))
 
-  write-exact : (result : Result (Unit {0}) RunError) → EndsAs mode input written result → IsErrOf result run_error.Write ↔ HasFailed written
-  write-exact (Ok _) ends = (λ bad. absurd cc, λ failed. absurd (not-both written ends.1 failed))
-  write-exact (Err run_error.Read) ends = (λ bad. absurd cc, λ failed. absurd (not-both written ends.1.1 failed))
+  write-exact : (result : Result (Unit {0}) RunError) → RunEnds mode reader writer text output result → IsErrOf result run_error.Write ↔ HasFailed writer
+  write-exact (Ok _) ends = (λ bad. absurd cc, λ failed. absurd (not-both writer ends.1.1 failed))
+  write-exact (Err run_error.Read) ends = (λ bad. absurd cc, λ failed. absurd (not-both writer ends.1.0 failed))
   write-exact (Err run_error.Write) ends = (λ is. ends.1, λ failed. refl)
-  write-exact (Err run_error.NotUtf8) ends = (λ bad. absurd cc, λ failed. absurd (not-both written ends.1.1 failed))
-  write-exact (Err run_error.NotJson) ends = (λ bad. absurd cc, λ failed. absurd (not-both written ends.2.1 failed))
-  write-exact (Err run_error.NotList) ends = (λ bad. absurd cc, λ failed. absurd (not-both written ends.2.1 failed))
-  write-exact (Err run_error.OutOfMemory) ends = (λ bad. absurd cc, λ failed. absurd (not-both written ends.2.1 failed))
+  write-exact (Err run_error.NotUtf8) ends = (λ bad. absurd cc, λ failed. absurd (not-both writer ends.1.0 failed))
+  write-exact (Err run_error.NotJson) ends = (λ bad. absurd cc, λ failed. absurd (not-both writer ends.2.0 failed))
+  write-exact (Err run_error.NotList) ends = (λ bad. absurd cc, λ failed. absurd (not-both writer ends.2.0 failed))
+  write-exact (Err run_error.OutOfMemory) ends = (λ bad. absurd cc, λ failed. absurd (not-both writer ends.1.0 failed))
 
-  utf8-exact : (result : Result (Unit {0}) RunError) → EndsAs mode input written result → (text : List ℕ) → IsJudged input result text
+  utf8-exact : (result : Result (Unit {0}) RunError) → RunEnds mode reader writer text output result → IsUnfailed reader → result ≢ Err run_error.OutOfMemory
       → IsErrOf result run_error.NotUtf8 ↔ ¬ (IsUtf8 text)
-  utf8-exact (Ok _) ends text it = (λ bad. absurd cc, λ differs. absurd (differs (known input text (IsWritten Appends mode written) it.text_is ends.2).0))
-  utf8-exact (Err run_error.Read) ends text it = (λ bad. absurd cc, λ differs. absurd (not-both input it.read_unfailed ends.0))
-  utf8-exact (Err run_error.Write) ends text it = (λ bad. absurd cc, λ differs. absurd (differs (known input text (IsWritten AppendsBeginning mode written) it.text_is ends.2).0))
-  utf8-exact (Err run_error.NotUtf8) ends text it = (λ is. not_utf8-known text it.text_is ends.2, λ differs. refl)
-  utf8-exact (Err run_error.NotJson) ends text it = (λ bad. absurd cc, λ differs. absurd (differs (known input text (λ t. IsJsonInputErrorOf t run_error.NotJson) it.text_is ends.3).0))
-  utf8-exact (Err run_error.NotList) ends text it = (λ bad. absurd cc, λ differs. absurd (differs (known input text (λ t. IsJsonInputErrorOf t run_error.NotList) it.text_is ends.3).0))
-  utf8-exact (Err run_error.OutOfMemory) ends text it = (λ bad. absurd cc, λ differs. absurd (it.memory refl))
+  utf8-exact (Ok _) ends unfailed memory = (λ bad. absurd cc, λ differs. absurd (differs ends.2))
+  utf8-exact (Err run_error.Read) ends unfailed memory = (λ bad. absurd cc, λ differs. absurd (not-both reader unfailed ends.0))
+  utf8-exact (Err run_error.Write) ends unfailed memory = (λ bad. absurd cc, λ differs. absurd (differs ends.2))
+  utf8-exact (Err run_error.NotUtf8) ends unfailed memory = (λ is. ends.2, λ differs. refl)
+  utf8-exact (Err run_error.NotJson) ends unfailed memory = (λ bad. absurd cc, λ differs. absurd (differs ends.3))
+  utf8-exact (Err run_error.NotList) ends unfailed memory = (λ bad. absurd cc, λ differs. absurd (differs ends.3))
+  utf8-exact (Err run_error.OutOfMemory) ends unfailed memory = (λ bad. absurd cc, λ differs. absurd (memory refl))
 
   -- the input is UTF-8 in mode `json`, with this error
-  abbrev HasJsonError : List ℕ → RunError → Type 0
-  HasJsonError text e = (mode ≡ Json) × IsUtf8 text × IsJsonInputErrorOf text e
+  abbrev HasJsonError : RunError → Type 0
+  HasJsonError e = (mode ≡ Json) × IsUtf8 text × IsJsonInputErrorOf text e
 
-  json-exact : (result : Result (Unit {0}) RunError) → EndsAs mode input written result → (text : List ℕ) → IsJudged input result text
-      → IsErrOf result run_error.NotJson ↔ HasJsonError text run_error.NotJson
-  json-exact (Ok _) ends text it =
-      let is = (known input text (IsWritten Appends mode written) it.text_is ends.2).1 in
-      (λ bad. absurd cc, λ error. absurd (output-no-json-error mode text is.0 is.1 error.0 error.2))
-  json-exact (Err run_error.Read) ends text it = (λ bad. absurd cc, λ error. absurd (not-both input it.read_unfailed ends.0))
-  json-exact (Err run_error.Write) ends text it =
-      let is = (known input text (IsWritten AppendsBeginning mode written) it.text_is ends.2).1 in
-      (λ bad. absurd cc, λ error. absurd (output-no-json-error mode text is.0 is.1 error.0 error.2))
-  json-exact (Err run_error.NotUtf8) ends text it = (λ bad. absurd cc, λ error. absurd (not_utf8-known text it.text_is ends.2 error.1))
-  json-exact (Err run_error.NotJson) ends text it =
-      let is = known input text (λ t. IsJsonInputErrorOf t run_error.NotJson) it.text_is ends.3 in
-      (λ same. (ends.0, is.0, is.1), λ error. refl)
-  json-exact (Err run_error.NotList) ends text it =
-      let is = known input text (λ t. IsJsonInputErrorOf t run_error.NotList) it.text_is ends.3 in
-      (λ bad. absurd cc, λ error. absurd (not-json-or-not-list text error.2 is.1))
-  json-exact (Err run_error.OutOfMemory) ends text it = (λ bad. absurd cc, λ error. absurd (it.memory refl))
+  json-exact : (result : Result (Unit {0}) RunError) → RunEnds mode reader writer text output result → IsUnfailed reader → result ≢ Err run_error.OutOfMemory
+      → IsErrOf result run_error.NotJson ↔ HasJsonError run_error.NotJson
+  json-exact (Ok _) ends unfailed memory = (λ bad. absurd cc, λ error. absurd (output-no-json-error mode text output ends.3 error.0 error.2))
+  json-exact (Err run_error.Read) ends unfailed memory = (λ bad. absurd cc, λ error. absurd (not-both reader unfailed ends.0))
+  json-exact (Err run_error.Write) ends unfailed memory = (λ bad. absurd cc, λ error. absurd (output-no-json-error mode text ends.3 ends.4 error.0 error.2))
+  json-exact (Err run_error.NotUtf8) ends unfailed memory = (λ bad. absurd cc, λ error. absurd (ends.2 error.1))
+  json-exact (Err run_error.NotJson) ends unfailed memory = (λ same. (ends.0, ends.3, ends.4), λ error. refl)
+  json-exact (Err run_error.NotList) ends unfailed memory = (λ bad. absurd cc, λ error. absurd (not-json-or-not-list text error.2 ends.4))
+  json-exact (Err run_error.OutOfMemory) ends unfailed memory = (λ bad. absurd cc, λ error. absurd (memory refl))
 
-  list-exact : (result : Result (Unit {0}) RunError) → EndsAs mode input written result → (text : List ℕ) → IsJudged input result text
-      → IsErrOf result run_error.NotList ↔ HasJsonError text run_error.NotList
-  list-exact (Ok _) ends text it =
-      let is = (known input text (IsWritten Appends mode written) it.text_is ends.2).1 in
-      (λ bad. absurd cc, λ error. absurd (output-no-list-error mode text is.0 is.1 error.0 error.2))
-  list-exact (Err run_error.Read) ends text it = (λ bad. absurd cc, λ error. absurd (not-both input it.read_unfailed ends.0))
-  list-exact (Err run_error.Write) ends text it =
-      let is = (known input text (IsWritten AppendsBeginning mode written) it.text_is ends.2).1 in
-      (λ bad. absurd cc, λ error. absurd (output-no-list-error mode text is.0 is.1 error.0 error.2))
-  list-exact (Err run_error.NotUtf8) ends text it = (λ bad. absurd cc, λ error. absurd (not_utf8-known text it.text_is ends.2 error.1))
-  list-exact (Err run_error.NotJson) ends text it =
-      let is = known input text (λ t. IsJsonInputErrorOf t run_error.NotJson) it.text_is ends.3 in
-      (λ bad. absurd cc, λ error. absurd (not-json-or-not-list text is.1 error.2))
-  list-exact (Err run_error.NotList) ends text it =
-      let is = known input text (λ t. IsJsonInputErrorOf t run_error.NotList) it.text_is ends.3 in
-      (λ same. (ends.0, is.0, is.1), λ error. refl)
-  list-exact (Err run_error.OutOfMemory) ends text it = (λ bad. absurd cc, λ error. absurd (it.memory refl))
+  list-exact : (result : Result (Unit {0}) RunError) → RunEnds mode reader writer text output result → IsUnfailed reader → result ≢ Err run_error.OutOfMemory
+      → IsErrOf result run_error.NotList ↔ HasJsonError run_error.NotList
+  list-exact (Ok _) ends unfailed memory = (λ bad. absurd cc, λ error. absurd (output-no-list-error mode text output ends.3 error.0 error.2))
+  list-exact (Err run_error.Read) ends unfailed memory = (λ bad. absurd cc, λ error. absurd (not-both reader unfailed ends.0))
+  list-exact (Err run_error.Write) ends unfailed memory = (λ bad. absurd cc, λ error. absurd (output-no-list-error mode text ends.3 ends.4 error.0 error.2))
+  list-exact (Err run_error.NotUtf8) ends unfailed memory = (λ bad. absurd cc, λ error. absurd (ends.2 error.1))
+  list-exact (Err run_error.NotJson) ends unfailed memory = (λ bad. absurd cc, λ error. absurd (not-json-or-not-list text ends.4 error.2))
+  list-exact (Err run_error.NotList) ends unfailed memory = (λ same. (ends.0, ends.3, ends.4), λ error. refl)
+  list-exact (Err run_error.OutOfMemory) ends unfailed memory = (λ bad. absurd cc, λ error. absurd (memory refl))
 
 pub errors_of_runs_are_exact : ErrorsOfRunsAreExact
-errors_of_runs_are_exact mode input written result ends = record {
-  read = read-exact mode input written result ends;
-  write = write-exact mode input written result ends;
-  not_utf8 = utf8-exact mode input written result ends;
-  not_json = json-exact mode input written result ends;
-  not_list = list-exact mode input written result ends;
+errors_of_runs_are_exact mode reader writer result ends = record {
+  read = read-exact mode reader writer ends.input ends.output result ends.by_result;
+  write = write-exact mode reader writer ends.input ends.output result ends.by_result;
+  not_utf8 = λ text it. utf8-exact mode reader writer text ends.output result (judged mode reader writer result text ends it) it.read_unfailed it.memory;
+  not_json = λ text it. json-exact mode reader writer text ends.output result (judged mode reader writer result text ends it) it.read_unfailed it.memory;
+  not_list = λ text it. list-exact mode reader writer text ends.output result (judged mode reader writer result text ends it) it.read_unfailed it.memory;
 }
+
+-- how a run ends, from its steps
+module _ (mode : Mode) (reader writer : Use) (input : List ℕ) (gives : Gives reader input) (whole : IsReadWhole reader) (utf8 : IsUtf8 input) where
+  -- the output was written and flushed
+  pub written-ends : (output : List ℕ) → IsOutput mode input output → Takes writer output → IsTrue writer.is_ended → IsUnfailed writer → EndsAs mode reader writer (Ok tt)
+  written-ends output is takes flushed unfailed =
+      record { input = input; output = output; gives = gives; takes = takes; by_result = (whole, (flushed, unfailed), utf8, is) }
+
+  -- a write or the flush failed
+  pub write-ends : (output : List ℕ) → IsOutput mode input output → TakesBeginning writer output → HasFailed writer → EndsAs mode reader writer (Err run_error.Write)
+  write-ends output is begun failed =
+      record { input = input; output = take begun.0 output; gives = gives; takes = begun.1; by_result = (whole, failed, utf8, output, is, begun.0, refl) }
+
+  -- the input has no output
+  json-ends : (e : RunError) → mode ≡ Json → Takes writer [] → IsUnfailed writer → IsJsonInputErrorOf input e → RunEnds mode reader writer input [] (Err e)
+  json-ends run_error.NotJson json takes unfailed error = (json, whole, (unfailed, refl), utf8, error)
+  json-ends run_error.NotList json takes unfailed error = (json, whole, (unfailed, refl), utf8, error)
+  json-ends run_error.OutOfMemory json takes unfailed error = (whole.2, (unfailed, refl), error)
+  json-ends run_error.Read json takes unfailed error = absurd error
+  json-ends run_error.Write json takes unfailed error = absurd error
+  json-ends run_error.NotUtf8 json takes unfailed error = absurd error
+
+  pub json-error-ends : (e : RunError) → mode ≡ Json → Takes writer [] → IsUnfailed writer → IsJsonInputErrorOf input e → EndsAs mode reader writer (Err e)
+  json-error-ends e json takes unfailed error = record { input = input; output = []; gives = gives; takes = takes; by_result = json-ends e json takes unfailed error }
+
+-- the error of a step is that of the run
+pub as-error : (mode : Mode) (reader writer : Use) (found : Result (Unit {0}) RunError) (e : RunError) → IsErrAnd found (λ error. error ≡ e) → EndsAs mode reader writer (Err e) → EndsAs mode reader writer found
+as-error mode reader writer (Err error) e same ends = rw same ends
+as-error mode reader writer (Ok x) e same ends = absurd same

@@ -1,87 +1,54 @@
--- What a filter writes for the lines that it reads, and how it ends. A line is too long for a filter if its buffer has
--- not more bytes.
-use Rattle.std.specs.Prelude.{ℕ, ◌≡◌, ◌-◌, ◌^◌, ◌<◌, ◌≤◌, ◌==◌, ◌⊎◌, Bool, true, false, List, [], ◌∷◌, ◌++◌, length, take, codes, Result, Ok, Err}
-use Rattle.std.specs.Io.KnownBytes.{IsAtEnd}
-use Rattle.std.specs.List.{All, AllZip, AllByRecursion}
+-- What a filter answers to the lines that it reads, and how it ends.
+use Rattle.std.specs.Prelude.{ℕ, ◌≡◌, ◌-◌, ◌^◌, ◌<◌, ◌≤◌, Bool, if◌then◌else◌, List, length, take, codes, Result, Ok, Err}
+use Rattle.std.specs.List.{AllZip}
 use Rattle.std.specs.Str.{IsUtf8}
-use Rattle.target_lexicon.specs.{FixedPoints.canonical_text, Printing.text_of, Values.Values}
 use Rattle.triples.specs.{declared.filter_error.FilterError.FilterError, declared.line_mode.LineMode.LineMode}
-use Rattle.triples.specs.declared.line_mode.LineMode.TheVariants.{Print, Settle}
 use Rattle.triples.specs.declared.filter_error.FilterError.TheVariants as filter_error
-use Rattle.triples.specs.Lines.{line_feed, lines_of}
-use Rattle.triples.specs.Output.{Answer, Refused, IsAnswer, written_lines}
-use Rattle.triples.specs.Run.{Use, IsUnfailed, HasFailed, Gives, Takes}
+use Rattle.triples.specs.Lines.{lines_of, ended_lines_of}
+use Rattle.triples.specs.Output.{Answer, Refused, IsAnswer, shown_by, written_lines}
+use Rattle.triples.specs.Run.{Use, Gives, Takes, IsReadWhole, IsWrittenWhole, IsUnfailed, HasFailed}
 
--- what a mode shows of a triple
-abbrev pub shown_by : LineMode → Values → List ℕ
-shown_by Print = text_of
-shown_by Settle = canonical_text
-
--- the answer to a line that is too long
+-- the answers to a line that does not fit the input buffer, and to one that is not UTF-8
 abbrev pub too_long : Answer
 too_long = Refused (codes "error: Line too long")
 
--- the answer to a line that is not UTF-8
-abbrev pub not_text : Answer
-not_text = Refused (codes "error: Line is not UTF-8")
+abbrev pub not_utf8 : Answer
+not_utf8 = Refused (codes "error: Line is not UTF-8")
 
--- the answer to a line that is not too long: that of `triples`, if the line is UTF-8
-pub record IsShortAnswer (mode : LineMode) (line : List ℕ) (answer : Answer) : Type 0 where
-  pub text : IsUtf8 line → IsAnswer (shown_by mode) line answer
-  pub other : ¬ (IsUtf8 line) → answer ≡ not_text
-
--- the answer to a line, for a buffer of this size
+-- the answer to a line; it fits a buffer of this size if it is shorter
 pub record IsFilterAnswer (mode : LineMode) (size : ℕ) (line : List ℕ) (answer : Answer) : Type 0 where
-  pub short : length line < size → IsShortAnswer mode line answer
   pub long : size ≤ length line → answer ≡ too_long
+  pub other : length line < size → ¬ (IsUtf8 line) → answer ≡ not_utf8
+  pub text : length line < size → IsUtf8 line → IsAnswer (shown_by mode) line answer
 
--- the output is the answers to these lines, with a line feed after each
-abbrev pub IsFiltered : LineMode → ℕ → List (List ℕ) → List ℕ → Type 0
-IsFiltered mode size lines output = (answers : List Answer) × AllZip (IsFilterAnswer mode size) lines answers × (output ≡ written_lines answers)
+-- the answers to these lines, in order, with a line feed after each
+abbrev pub AreFilterAnswers : LineMode → ℕ → List (List ℕ) → List ℕ → Type 0
+AreFilterAnswers mode size lines bytes =
+    (answers : List Answer) × AllZip (IsFilterAnswer mode size) lines answers × (bytes ≡ written_lines answers)
 
--- no byte is a line feed
-abbrev pub HasNoFeed : List ℕ → Type 0
-HasNoFeed bytes = All (λ b. (b == line_feed) ≡ false) bytes
+-- the lines that are complete: a line feed ends a line, and the end of the input ends its last line
+abbrev pub complete_lines : Bool → List ℕ → List (List ℕ)
+complete_lines is_ended input = if is_ended then lines_of input else ended_lines_of input
 
--- these lines, with a line feed after each
-abbrev pub ended_lines : List (List ℕ) → List ℕ
-ended_lines [] = []
-ended_lines (line ∷ lines) = line ++ (line_feed ∷ ended_lines lines)
+-- what a filter has written by its result, if these are the answers to the complete lines that it read
+abbrev pub FilterEnds : Use → Use → List ℕ → List ℕ → List ℕ → Result (Unit {0}) FilterError → Type 0
+-- the input was read to its end, and the answers were written and flushed
+FilterEnds reader writer input answers output (Ok _) = IsReadWhole reader × IsWrittenWhole writer × (output ≡ answers)
+-- a read failed, and the answers were written
+FilterEnds reader writer input answers output (Err filter_error.Read) = HasFailed reader × IsUnfailed writer × (output ≡ answers)
+-- a write or the flush failed, after a beginning of the answers
+FilterEnds reader writer input answers output (Err filter_error.Write) = IsUnfailed reader × HasFailed writer × (n : ℕ) × (output ≡ take n answers)
+-- each of `u64::MAX` reads gave some byte, and the answers were written
+FilterEnds reader writer input answers output (Err filter_error.Endless) =
+    IsUnfailed reader × IsUnfailed writer × (2 ^ 64 - 1 ≤ length input) × (output ≡ answers)
 
--- the bytes begin with lines that end, and go on with the rest; the output is the answers to these lines
-pub record IsFilteredTo (mode : LineMode) (size : ℕ) (bytes rest output : List ℕ) : Type 0 where
-  pub lines : List (List ℕ)
-  pub whole : bytes ≡ ended_lines lines ++ rest
-  pub each : AllByRecursion HasNoFeed lines
-  pub answered : IsFiltered mode size lines output
-
--- each line of the bytes that ends was answered
-abbrev pub IsFilteredSoFar : LineMode → ℕ → List ℕ → List ℕ → Type 0
-IsFilteredSoFar mode size bytes output = (rest : List ℕ) × IsFilteredTo mode size bytes rest output × HasNoFeed rest
-
--- the output for the first lines of the bytes, or for all lines of bytes that have ended
-abbrev pub IsFilteredInPart : LineMode → ℕ → Use → List ℕ → List ℕ → Type 0
-IsFilteredInPart mode size input bytes output =
-    ((rest : List ℕ) × IsFilteredTo mode size bytes rest output)
-    ⊎ (IsAtEnd input.bytes_after × IsFiltered mode size (lines_of bytes) output)
-
--- how a filter ends that read these bytes and wrote this output, by its result
-abbrev pub FilterEnds : LineMode → ℕ → Use → Use → List ℕ → List ℕ → Result (Unit {0}) FilterError → Type 0
--- the input was read to its end, and each line was answered
-FilterEnds mode size input written bytes output (Ok _) =
-    IsAtEnd input.bytes_after × IsUnfailed input × IsUnfailed written × IsFiltered mode size (lines_of bytes) output
--- a read failed, and each line that had ended was answered
-FilterEnds mode size input written bytes output (Err filter_error.Read) =
-    HasFailed input × IsUnfailed written × IsFilteredSoFar mode size bytes output
--- a write or the flush failed after a beginning of the answers
-FilterEnds mode size input written bytes output (Err filter_error.Write) =
-    IsUnfailed input × HasFailed written × (whole : List ℕ) × IsFilteredInPart mode size input bytes whole × (n : ℕ) × (output ≡ take n whole)
--- the filter made as many reads as it can, each of which gave some byte, and each line that had ended was answered
-FilterEnds mode size input written bytes output (Err filter_error.Endless) =
-    IsUnfailed input × IsUnfailed written × (2 ^ 64 - 1 ≤ length bytes) × IsFilteredSoFar mode size bytes output
-
--- the same, for the bytes that it read and those that it wrote, whether or not the bytes of its reader and writer are
--- known
-abbrev pub FilterEndsAs : LineMode → ℕ → Use → Use → Result (Unit {0}) FilterError → Type 0
-FilterEndsAs mode size input written result =
-    (bytes output : List ℕ) × Gives input bytes × Takes written output × FilterEnds mode size input written bytes output result
+-- how a filter ends, whether or not the bytes of its reader and writer are known: what its reads gave, the answers to the
+-- complete lines of that, and what its writes took
+pub record FilterEndsAs (mode : LineMode) (size : ℕ) (reader writer : Use) (result : Result (Unit {0}) FilterError) : Type 0 where
+  pub input : List ℕ
+  pub answers : List ℕ
+  pub output : List ℕ
+  pub gives : Gives reader input
+  pub takes : Takes writer output
+  pub answered : AreFilterAnswers mode size (complete_lines reader.is_ended input) answers
+  pub by_result : FilterEnds reader writer input answers output result

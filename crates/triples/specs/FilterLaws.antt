@@ -1,52 +1,51 @@
 -- Laws of what a filter writes and how it ends.
-use Rattle.std.specs.Prelude.{ℕ, ◌≡◌, ◌↔◌, ◌<◌, ◌-◌, ◌^◌, List, length, Some, IsErrOf, Result, Ok, Err}
-use Rattle.std.specs.Io.KnownBytes.{Appends, IsAtEnd}
+use Rattle.std.specs.Prelude.{ℕ, ◌≡◌, ◌↔◌, ◌<◌, ◌-◌, ◌^◌, List, length, IsErrOf, Result, Ok}
 use Rattle.std.specs.List.{AllByRecursion}
 use Rattle.std.specs.Str.{IsUtf8}
-use Rattle.triples.specs.{declared.filter_error.FilterError.FilterError, declared.line_mode.LineMode.LineMode, Filter.IsFiltered, Filter.FilterEndsAs, Filter.shown_by}
-use Rattle.triples.specs.{Lines.lines_of, Output.IsLineOutput, Run.Use, Run.Gives, Run.Takes, Run.IsUnfailed, Run.HasFailed}
+use Rattle.triples.specs.{declared.filter_error.FilterError.FilterError, declared.line_mode.LineMode.LineMode, declared.mode.Mode.Mode}
+use Rattle.triples.specs.{Filter.AreFilterAnswers, Filter.FilterEndsAs, Lines.lines_of, Output.IsOutput}
+use Rattle.triples.specs.{Run.Use, Run.Takes, Run.IsUnfailed, Run.HasFailed, RunLaws.IsInput}
 use Rattle.triples.specs.declared.filter_error.FilterError.TheVariants as filter_error
+use Rattle.triples.specs.declared.line_mode.LineMode.TheVariants.{Print, Show, Settle}
+use Rattle.triples.specs.declared.mode.Mode.TheVariants as mode
 
--- for each buffer and all lines there is exactly one output
+-- for each buffer and all lines there are answers, and no others
 pub record HasOneFilterOutput (mode : LineMode) (size : ℕ) (lines : List (List ℕ)) : Type 0 where
   pub output : List ℕ
-  pub is : IsFiltered mode size lines output
-  pub only : (other : List ℕ) → IsFiltered mode size lines other → other ≡ output
+  pub is : AreFilterAnswers mode size lines output
+  pub only : (other : List ℕ) → AreFilterAnswers mode size lines other → other ≡ output
 
 abbrev pub EveryInputIsFiltered : Type 0
 EveryInputIsFiltered = (mode : LineMode) (size : ℕ) (lines : List (List ℕ)) → HasOneFilterOutput mode size lines
 
--- for lines that are UTF-8 and not too long, the output is that of `triples`
-abbrev pub IsShortText : ℕ → List ℕ → Type 0
-IsShortText size line = IsUtf8 line × (length line < size)
+-- the mode of a run that answers each line so
+abbrev pub run_mode : LineMode → Mode
+run_mode Print = mode.Print
+run_mode Show = mode.Show
+run_mode Settle = mode.Settle
 
+-- for an input that is UTF-8 and whose lines fit the buffer, the answers are the output of the run
 abbrev pub FiltersAgreeWithRuns : Type 0
-FiltersAgreeWithRuns = (mode : LineMode) (size : ℕ) (lines : List (List ℕ)) (output : List ℕ) → AllByRecursion (IsShortText size) lines
-    → IsFiltered mode size lines output ↔ IsLineOutput (shown_by mode) lines output
+FiltersAgreeWithRuns = (mode : LineMode) (size : ℕ) (input output : List ℕ) → IsUtf8 input → AllByRecursion (λ line. length line < size) (lines_of input)
+    → AreFilterAnswers mode size (lines_of input) output ↔ IsOutput (run_mode mode) input output
 
--- a filter of which no read, write or flush failed
-pub record FilterGives (mode : LineMode) (size : ℕ) (input written : Use) (result : Result (Unit {0}) FilterError) : Type 0 where
-  pub ends : FilterEndsAs mode size input written result
-  pub read_unfailed : IsUnfailed input
-  pub write_unfailed : IsUnfailed written
+-- a filter over this input, in which no read, write or flush failed
+pub record FilterGives (mode : LineMode) (size : ℕ) (input : List ℕ) (writer : Use) (result : Result (Unit {0}) FilterError) : Type 0 where
+  pub reader : Use
+  pub ends : FilterEndsAs mode size reader writer result
+  pub read_unfailed : IsUnfailed reader
+  pub write_unfailed : IsUnfailed writer
+  pub input_is : IsInput reader input
 
--- each such filter that read fewer than `u64::MAX` bytes succeeds, and what its writes took is the one output for what
--- its reads gave, of which the end was found. So it is for readers and writers whose bytes aren't known too
+-- each such filter of fewer than `u64::MAX` bytes succeeds, and its writes took the answers to all lines
 abbrev pub FiltersEndOneWay : Type 0
-FiltersEndOneWay = (mode : LineMode) (size : ℕ) (input written : Use) (result : Result (Unit {0}) FilterError) (text : List ℕ) → length text < 2 ^ 64 - 1
-    → FilterGives mode size input written result → Gives input text → (result ≡ Ok tt) × IsAtEnd input.bytes_after × (output : List ℕ) × Takes written output × IsFiltered mode size (lines_of text) output
-
--- if the bytes of the reader were known, these are the ones that it gave, and if those of the writer are known, they grew
--- by the one output for these
-abbrev pub KnownInputsAreFiltered : Type 0
-KnownInputsAreFiltered = (mode : LineMode) (size : ℕ) (input written : Use) (result : Result (Unit {0}) FilterError) (text : List ℕ) → length text < 2 ^ 64 - 1
-    → FilterGives mode size input written result → input.bytes_before ≡ Some text
-    → (result ≡ Ok tt) × (output : List ℕ) × IsFiltered mode size (lines_of text) output × Appends written.bytes_before written.bytes_after output
+FiltersEndOneWay = (mode : LineMode) (size : ℕ) (input : List ℕ) (writer : Use) (result : Result (Unit {0}) FilterError) → length input < 2 ^ 64 - 1
+    → FilterGives mode size input writer result → (result ≡ Ok tt) × (output : List ℕ) × AreFilterAnswers mode size (lines_of input) output × Takes writer output
 
 -- the errors of reads and writes are the results exactly in their cases
-pub record HasExactFilterErrors (input written : Use) (result : Result (Unit {0}) FilterError) : Type 0 where
-  pub read : IsErrOf result filter_error.Read ↔ HasFailed input
-  pub write : IsErrOf result filter_error.Write ↔ HasFailed written
+pub record HasExactFilterErrors (reader writer : Use) (result : Result (Unit {0}) FilterError) : Type 0 where
+  pub read : IsErrOf result filter_error.Read ↔ HasFailed reader
+  pub write : IsErrOf result filter_error.Write ↔ HasFailed writer
 
 abbrev pub ErrorsOfFiltersAreExact : Type 0
-ErrorsOfFiltersAreExact = (mode : LineMode) (size : ℕ) (input written : Use) (result : Result (Unit {0}) FilterError) → FilterEndsAs mode size input written result → HasExactFilterErrors input written result
+ErrorsOfFiltersAreExact = (mode : LineMode) (size : ℕ) (reader writer : Use) (result : Result (Unit {0}) FilterError) → FilterEndsAs mode size reader writer result → HasExactFilterErrors reader writer result

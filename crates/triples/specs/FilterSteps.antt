@@ -1,11 +1,34 @@
--- Definitions for the contracts of the filter's private functions; no public contract cites them.
-use Rattle.std.specs.Prelude.{ℕ, ◌≡◌, ◌+◌, ◌<◌, ◌≤◌, ◌⊎◌, Bool, true, false, List, [], ◌∷◌, ◌++◌, length, take, drop, Option, Some, None, Result, Ok, Err}
+-- Definitions for the contracts of private functions of the filter; no public contract cites them.
+use Rattle.std.specs.Prelude.{ℕ, ◌≡◌, ◌+◌, ◌<◌, ◌≤◌, ◌==◌, ◌⊎◌, Bool, true, false, List, [], ◌∷◌, ◌++◌, length, take, drop, Option, Some, None, Result, Ok, Err}
 use Rattle.triples.specs.{declared.filter_error.FilterError.FilterError, declared.line_mode.LineMode.LineMode}
-use Rattle.triples.specs.Filter.{HasNoFeed, IsFilterAnswer, IsFilteredTo, IsShortAnswer, too_long}
+use Rattle.std.specs.List.{All, AllByRecursion}
+use Rattle.std.specs.Str.{IsUtf8}
+use Rattle.triples.specs.Filter.{AreFilterAnswers, IsFilterAnswer, not_utf8, too_long}
 use Rattle.triples.specs.declared.filter_error.FilterError.TheVariants as filter_error
 use Rattle.triples.specs.Lines.{line_feed}
-use Rattle.triples.specs.Output.{Answer, written_lines}
-use Rattle.triples.specs.Run.{Use, IsUnfailed, HasFailed, Takes}
+use Rattle.triples.specs.Output.{Answer, IsAnswer, shown_by, written_lines}
+use Rattle.triples.specs.Run.{Use, IsUnfailed, IsWrittenWhole, HasFailed, Takes}
+
+-- no byte is a line feed
+abbrev pub HasNoFeed : List ℕ → Type 0
+HasNoFeed bytes = All (λ b. (b == line_feed) ≡ false) bytes
+
+-- these lines, with a line feed after each
+abbrev pub with_feeds : List (List ℕ) → List ℕ
+with_feeds [] = []
+with_feeds (line ∷ lines) = line ++ (line_feed ∷ with_feeds lines)
+
+-- the bytes begin with lines that end, and go on with the rest; the output is the answers to these lines
+pub record IsFilteredTo (mode : LineMode) (size : ℕ) (bytes rest output : List ℕ) : Type 0 where
+  pub lines : List (List ℕ)
+  pub whole : bytes ≡ with_feeds lines ++ rest
+  pub each : AllByRecursion HasNoFeed lines
+  pub answered : AreFilterAnswers mode size lines output
+
+-- the answer to a line that fits
+pub record IsShortAnswer (mode : LineMode) (line : List ℕ) (answer : Answer) : Type 0 where
+  pub text : IsUtf8 line → IsAnswer (shown_by mode) line answer
+  pub other : ¬ (IsUtf8 line) → answer ≡ not_utf8
 
 -- a text was put into a buffer at this position, after what was there
 pub record Pushes (text old : List ℕ) (at : ℕ) (new : List ℕ) (end : ℕ) : Type 0 where
@@ -65,7 +88,7 @@ pub record AnswersRest (mode : LineMode) (late : Bool) (bytes output : List ℕ)
 
 -- what `finish` does
 abbrev pub RestAnswered : LineMode → Bool → List ℕ → Use → Result (Unit {0}) FilterError → Type 0
-RestAnswered mode late bytes written (Ok _) = IsUnfailed written × (output : List ℕ) × Takes written output × AnswersRest mode late bytes output
+RestAnswered mode late bytes written (Ok _) = IsWrittenWhole written × (output : List ℕ) × Takes written output × AnswersRest mode late bytes output
 RestAnswered mode late bytes written (Err e) = (e ≡ filter_error.Write) × HasFailed written × (output : List ℕ) × AnswersRest mode late bytes output × (n : ℕ) × Takes written (take n output)
 
 -- what `keep_rest` does with a rest of bytes in a buffer of this size: the line is too long and the rest is dropped, or

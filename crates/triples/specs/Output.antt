@@ -3,7 +3,8 @@ use Rattle.std.specs.Prelude.{ℕ, ◌≡◌, ◌<◌, Bool, true, false, not, i
 use Rattle.std.specs.List.{AllZip, list_any}
 use Rattle.std.specs.Str.{bytes_eq}
 use Rattle.target_lexicon.specs.{FixedPoints.canonical_text, Printing.text_of, Reading.ReadsAs, Reading.IsRefusedAs, Refusal.Refusal, Refusal.refusal_line, Values.Values}
-use Rattle.triples.specs.{declared.mode.Mode.Mode, Facts.text_with_facts}
+use Rattle.triples.specs.{declared.line_mode.LineMode.LineMode, declared.mode.Mode.Mode, Facts.text_with_facts}
+use Rattle.triples.specs.declared.line_mode.LineMode.TheVariants as line_mode
 use Rattle.triples.specs.declared.mode.Mode.TheVariants.{Print, Show, Settle, Json, Matrix}
 use Rattle.triples.specs.{declared.run_error.RunError.RunError, declared.run_error.RunError.TheVariants.OutOfMemory}
 use Rattle.triples.specs.Lines.{line_feed, lines_of}
@@ -13,6 +14,12 @@ use Rattle.triples.specs.JsonOutput.{IsJsonOutput, IsJsonInputErrorOf}
 pub data Answer : Type 0 where
   Shown : List ℕ → Answer
   Refused : List ℕ → Answer
+
+-- what a mode of lines shows of a triple
+abbrev pub shown_by : LineMode → Values → List ℕ
+shown_by line_mode.Print = text_of
+shown_by line_mode.Show = text_with_facts
+shown_by line_mode.Settle = canonical_text
 
 -- an answer shows the triple that the line parses as, or is `error: ` and the line of its refusal
 abbrev pub IsAnswer : (Values → List ℕ) → List ℕ → Answer → Type 0
@@ -64,9 +71,9 @@ IsMatrix lines output =
 
 -- the output of a mode for an input
 abbrev pub IsOutput : Mode → List ℕ → List ℕ → Type 0
-IsOutput Print input output = IsLineOutput text_of (lines_of input) output
-IsOutput Show input output = IsLineOutput text_with_facts (lines_of input) output
-IsOutput Settle input output = IsLineOutput canonical_text (lines_of input) output
+IsOutput Print input output = IsLineOutput (shown_by line_mode.Print) (lines_of input) output
+IsOutput Show input output = IsLineOutput (shown_by line_mode.Show) (lines_of input) output
+IsOutput Settle input output = IsLineOutput (shown_by line_mode.Settle) (lines_of input) output
 IsOutput Matrix input output = IsMatrix (lines_of input) output
 IsOutput Json input output = IsJsonOutput input output
 

@@ -4,19 +4,8 @@ use Rattle.std.specs.declared.alloc.Global.{Global}
 use Rattle.std.specs.HashSet.{HashSet, contains_text}
 use Rattle.std.specs.declared.hash.{BuildHasherDefault.BuildHasherDefault, FoldHasher.FoldHasher}
 use Rattle.std.specs.Str.{bytes_eq}
-use Rattle.target_lexicon.specs.{FixedPoints.canonical_text, Printing.text_of, Refusal.Refusal, Refusal.refusal_line, Refusal.refusal_of, declared.parse_error.ParseError.ParseError, Values.Values}
-use Rattle.triples.specs.Facts.{text_with_facts}
-use Rattle.triples.specs.declared.mode.Mode.{Mode}
-use Rattle.triples.specs.declared.mode.Mode.TheVariants.{Print, Show, Settle, Json, Matrix}
+use Rattle.target_lexicon.specs.{FixedPoints.canonical_text, Refusal.Refusal, Refusal.refusal_line, Refusal.refusal_of, declared.parse_error.ParseError.ParseError, Values.Values}
 use Rattle.triples.specs.Output.{Answer, Shown, Refused, IsAnswer, shows, written_lines}
-
--- what a mode shows of a triple
-abbrev pub shown_text : Mode → Values → List ℕ
-shown_text Print = text_of
-shown_text Show = text_with_facts
-shown_text Settle = canonical_text
-shown_text Json = text_of
-shown_text Matrix = canonical_text
 
 -- the printed triples that were seen
 abbrev pub Seen : Type 0

@@ -1,15 +1,6 @@
--- What is read from a reader and written to a writer, and what counts as a failure of them.
-use Rattle.std.specs.Prelude.{if◌then◌else◌, ℕ, ◌<◌, List, [], length, take, Option, ◌==◌, ◌&&◌, not, Result, Ok, Err}
+-- What a call of a reader or writer moves, what counts as its failure, and as the end.
+use Rattle.std.specs.Prelude.{Bool, false, if◌then◌else◌, ℕ, List, [], length, take, ◌==◌, ◌&&◌, not, Result, Ok, Err}
 use Rattle.triples.specs.declared.counted.Counted.{Counted}
-use Rattle.std.specs.Io.KnownBytes.{Appends, Consumes}
-
--- if the bytes are known, they grew by a beginning of these
-abbrev pub AppendsBeginning : Option (List ℕ) → Option (List ℕ) → List ℕ → Type 0
-AppendsBeginning old new bytes = (n : ℕ) × Appends old new (take n bytes)
-
--- if the bytes are known, at least one was taken
-abbrev pub ConsumesSome : Option (List ℕ) → Option (List ℕ) → Type 0
-ConsumesSome old new = (bytes : List ℕ) × (0 < length bytes) × Consumes old new bytes
 
 -- the reader or writer of a `Counted`
 abbrev pub inner : {D : Type 0} → Counted D → D
@@ -31,7 +22,16 @@ write_failures_of (Err _) piece = 1
 
 -- the bytes that its calls moved: those that its reads gave, or that its writes took
 abbrev pub moved : {D : Type 0} → Counted D → List ℕ
-moved counted = counted.moved.bytes
+moved counted = counted.trace.bytes
+
+-- whether its last call was the end: a read that found the end, or a flush that didn't fail
+abbrev pub is_ended : {D : Type 0} → Counted D → Bool
+is_ended counted = counted.trace.is_ended
+
+-- whether a read found the end: it gave no byte, and had room for one
+abbrev pub finds_end : {E : Type 0} → Result ℕ E → List ℕ → Bool
+finds_end (Ok count) buffer = (count == 0) && not (length buffer == 0)
+finds_end (Err _) buffer = false
 
 -- the bytes that a read gave, or a write took, of these: as many as it says, and none at an error
 abbrev pub moved_by : {E : Type 0} → Result ℕ E → List ℕ → List ℕ

@@ -14,7 +14,7 @@ mode_from_word word =
 
 -- the mode of a filter that a word names
 abbrev pub line_mode_from_word : List ℕ → Option LineMode
-line_mode_from_word word = value_named ((codes "stream", line_mode.Print) ∷ (codes "stream-settle", line_mode.Settle) ∷ []) word
+line_mode_from_word word = value_named ((codes "stream", line_mode.Print) ∷ (codes "stream-show", line_mode.Show) ∷ (codes "stream-settle", line_mode.Settle) ∷ []) word
 
 -- the end of a run, if there was one
 abbrev pub End : Type 0

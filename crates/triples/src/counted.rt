@@ -1,24 +1,24 @@
-//! A reader or writer with a count of its failures and a trace of the bytes that it moved. This file alone can change
-//! these, so that the contracts of other files can't claim a failure, or bytes, that no call had.
-ghost use Rattle.std.specs.Prelude.{◌≡◌, ◌+◌, ◌++◌, []};
+//! A reader or writer with a count of its failures and a trace of the bytes that it moved. Only this file can change
+//! these, so that no other contract can claim a failure, or bytes, that no call had.
+ghost use Rattle.std.specs.Prelude.{◌≡◌, ◌+◌, ◌++◌, [], false, is_ok};
 ghost use Rattle.std.specs.Io.{ReadsAtMost, WritesAtMost};
 ghost use Rattle.std.specs.Io.KnownBytes.{Keeps, ReadConsumes, WriteAppends};
-ghost use Rattle.triples.specs.Streams.{inner, failures, moved, failures_of, write_failures_of, moved_by};
+ghost use Rattle.triples.specs.Streams.{inner, failures, moved, is_ended, failures_of, write_failures_of, moved_by, finds_end};
 
 use crate::trace::Trace;
 use std::io;
 use std::io::{Read, Write};
 use target_lexicon::Steps;
 
-/// A reader or writer, the number of its failed calls, and the bytes that its other calls moved. Each call makes the same
-/// call of the reader or writer and returns its result.
+/// A reader or writer, the number of its failed calls, and a trace of the others. Each call makes the same call of the
+/// reader or writer and returns its result.
 #[derive(Drop)]
 pub struct Counted<D> {
     inner: D,
     /// One step for each failed call: only contracts see their number, which takes no memory and has no upper limit.
     failures: Steps,
     /// The bytes that its reads gave, or that its writes took: only contracts see them.
-    moved: Trace,
+    trace: Trace,
 }
 
 impl<D> Counted<D> {
@@ -31,7 +31,7 @@ impl<D> Counted<D> {
         Counted {
             inner: of,
             failures: Steps::new(),
-            moved: Trace::new(),
+            trace: Trace::new(),
         }
     }
 
@@ -42,9 +42,20 @@ impl<D> Counted<D> {
         let Counted {
             inner,
             failures: _,
-            moved: _,
+            trace: _,
         } = self;
         inner
+    }
+
+    /// Notes a failed call, which moved no byte.
+    fn note_failure(&mut self)
+        ensures inner { inner self.new ≡ inner self.old }
+        ensures count { failures self.new ≡ failures self.old + 1 }
+        ensures moved { moved self.new ≡ moved self.old ++ [] }
+        ensures ended { is_ended self.new ≡ false }
+    {
+        self.failures.tick();
+        self.trace.add(b"");
     }
 }
 
@@ -56,11 +67,13 @@ impl<R: Read> Counted<R> {
             result buf.new }
         ensures count { failures self.new ≡ failures self.old + failures_of result }
         ensures moved { moved self.new ≡ moved self.old ++ moved_by result buf.new }
+        ensures ended { is_ended self.new ≡ finds_end result buf.new }
     {
         let answer = self.inner.read(buf);
         match answer {
-            Ok(count) => self.moved.add(&buf[..count]),
-            Err(_) => self.failures.tick(),
+            Ok(0) if !buf.is_empty() => self.trace.end(),
+            Ok(count) => self.trace.add(&buf[..count]),
+            Err(_) => self.note_failure(),
         }
         answer
     }
@@ -74,12 +87,13 @@ impl<W: Write> Counted<W> {
             result buf.now }
         ensures count { failures self.new ≡ failures self.old + write_failures_of result buf.now }
         ensures moved { moved self.new ≡ moved self.old ++ moved_by result buf.now }
+        ensures ended { is_ended self.new ≡ false }
     {
         let answer = self.inner.write(buf);
         match answer {
-            Ok(0) if !buf.is_empty() => self.failures.tick(),
-            Ok(count) => self.moved.add(&buf[..count]),
-            Err(_) => self.failures.tick(),
+            Ok(0) if !buf.is_empty() => self.note_failure(),
+            Ok(count) => self.trace.add(&buf[..count]),
+            Err(_) => self.note_failure(),
         }
         answer
     }
@@ -89,10 +103,12 @@ impl<W: Write> Counted<W> {
         ensures bytes { Keeps (W.contents (inner self.old)) (W.contents (inner self.new)) }
         ensures count { failures self.new ≡ failures self.old + failures_of result }
         ensures moved { moved self.new ≡ moved self.old }
+        ensures ended { is_ended self.new ≡ is_ok result }
     {
         let answer = self.inner.flush();
-        if answer.is_err() {
-            self.failures.tick();
+        match answer {
+            Ok(()) => self.trace.end(),
+            Err(_) => self.note_failure(),
         }
         answer
     }

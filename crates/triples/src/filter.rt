@@ -1,10 +1,14 @@
 //! A filter: it answers line by line, between a buffer for its input and one for its output. It takes no memory.
-ghost use Rattle.std.specs.Prelude.{◌≡◌, ◌+◌, ◌-◌, ◌<◌, ◌≤◌, length, take, drop};
+ghost use Rattle.std.specs.Prelude.{◌≡◌, ◌+◌, ◌-◌, ◌<◌, ◌≤◌, length, option_map, take, drop, true};
+ghost use Rattle.lexicon_fields.specs.Vendor.{is_plain};
+ghost use Rattle.lexicon_fields.specs.VendorRef.{ref_value};
 ghost use Rattle.target_lexicon.specs.Printing.{text_of};
 ghost use Rattle.target_lexicon.specs.Refusal.{refusal_line};
 ghost use Rattle.target_lexicon.specs.ValuesRef.{refusal_value, values_of_ref};
-ghost use Rattle.triples.specs.Filter.{FilterEndsAs, IsShortAnswer};
-ghost use Rattle.triples.specs.FilterSteps.{AnswersRest, IsKept, IsLineAnswer, IsLineEnd, LinesAnswered, MakesRoom, Pushes, PushesAnswer, RestAnswered};
+ghost use Rattle.triples.specs.Facts.{facts_of, spaced_word};
+ghost use Rattle.triples.specs.Filter.{FilterEndsAs};
+ghost use Rattle.triples.specs.FilterSteps.{AnswersRest, IsKept, IsLineAnswer, IsLineEnd, IsShortAnswer, LinesAnswered, MakesRoom, Pushes, PushesAnswer, RestAnswered};
+ghost use Rattle.triples.specs.Output.{shown_by};
 ghost use Rattle.triples.specs.Run.{use_of};
 
 use crate::counted::Counted;
@@ -12,24 +16,27 @@ use crate::filter_error::FilterError;
 use crate::line_mode::LineMode;
 use crate::streams::write_all;
 use std::io::{Read, Write};
-use target_lexicon::laws::{printed_texts_grow_at_most, read_vendors_are_plain};
-use target_lexicon::{Refusal, TripleRef};
+use target_lexicon::laws::{
+    every_text_has_one_outcome, printed_texts_grow_at_most, read_vendors_are_plain,
+};
+use target_lexicon::{CDataModel, CallingConvention, Endianness, PointerWidth, Refusal, TripleRef};
 
-/// How many bytes an answer can have more than its line, with the line feed: those of `error: Unrecognized operating
-/// system: ` and one.
-pub const ANSWER_ROOM: usize = 39;
+/// How many bytes an answer can have more than its line: 22 that printing can add, 32 for four words in mode `show`, and
+/// the line feed.
+pub const ANSWER_ROOM: usize = 55;
 
-/// Reads the input to its end and answers each line, as the mode says: after each read the lines that have ended.
+/// Reads the input to its end, writes the answer to each line, as the mode says, and flushes. After each read the lines
+/// that have ended are answered.
 ///
 /// A line that is refused gives a line of `error: ` and why, and so does one that is not UTF-8, or that has at least as
 /// many bytes as the input buffer. An interrupted call is an error like any other.
 ///
 /// # Errors
 ///
-/// - [`FilterError::Read`] exactly if a read failed. Each line that had ended was answered.
+/// - [`FilterError::Read`] exactly if a read failed. The answers to all lines before it were written.
 /// - [`FilterError::Write`] exactly if a write or the flush failed, or a write took no byte of a piece. A beginning of
 ///   the answers was written.
-/// - [`FilterError::Endless`] after `u64::MAX` reads, if none of them found the end. Each line that had ended was answered.
+/// - [`FilterError::Endless`] after `u64::MAX` reads, if none of them found the end. The answers to all lines were written.
 pub fn filter<R: Read, W: Write>(
     mode: LineMode,
     input: &mut [u8],
@@ -38,10 +45,11 @@ pub fn filter<R: Read, W: Write>(
     w: &mut Counted<W>,
 ) -> Result<(), FilterError>
     requires some { 0 < length input.old }
-    requires room { length input.old + 39 ≤ length output.old }
+    requires room { length input.old + ANSWER_ROOM ≤ length output.old }
     ensures ends { FilterEndsAs mode (length input.old) (use_of R.remaining r.old r.new)
         (use_of W.contents w.old w.new) result }
 {
+    every_text_has_one_outcome();
     let mut held = 0;
     let mut is_late = false;
     for _ in 0..u64::MAX {
@@ -69,7 +77,7 @@ fn answer_lines<W: Write>(
     output: &mut [u8],
     w: &mut Counted<W>,
 ) -> Result<(usize, bool), FilterError>
-    requires { length bytes.now + 39 ≤ length output.old }
+    requires { length bytes.now + ANSWER_ROOM ≤ length output.old }
     ensures lines { LinesAnswered mode is_late bytes.now (use_of W.contents w.old w.new) result }
     ensures same_length { length output.new ≡ length output.old }
 {
@@ -118,7 +126,7 @@ fn finish<W: Write>(
     output: &mut [u8],
     w: &mut Counted<W>,
 ) -> Result<(), FilterError>
-    requires { length rest.now + 39 ≤ length output.old }
+    requires { length rest.now + ANSWER_ROOM ≤ length output.old }
     ensures { RestAnswered mode is_late rest.now (use_of W.contents w.old w.new) result }
 {
     let used = push_rest(mode, is_late, rest, output);
@@ -133,7 +141,7 @@ fn finish<W: Write>(
 
 /// Puts the answer to a last line that doesn't end, if there is one, at the front of the buffer. Returns its length.
 fn push_rest(mode: LineMode, is_late: bool, rest: &[u8], out: &mut [u8]) -> usize
-    requires { length rest.now + 39 ≤ length out.old }
+    requires { length rest.now + ANSWER_ROOM ≤ length out.old }
     ensures answer { AnswersRest mode is_late rest.now (take result out.new) }
     ensures within { result ≤ length out.new }
 {
@@ -167,7 +175,7 @@ fn keep_rest(buffer: &mut [u8], start: usize, end: usize, is_late: bool) -> (usi
 /// Puts the answer to a line, which is too long if it `is_late`, into the buffer at this position, and a line feed. Returns
 /// where they end.
 fn push_line(mode: LineMode, is_late: bool, line: &[u8], out: &mut [u8], at: usize) -> usize
-    requires { at + length line.now + 39 ≤ length out.old }
+    requires { at + length line.now + ANSWER_ROOM ≤ length out.old }
     ensures { PushesAnswer (IsLineAnswer mode is_late line.now) out.old at out.new result }
 {
     if is_late {
@@ -191,7 +199,7 @@ fn line_end(bytes: &[u8]) -> Option<usize>
 /// Puts the answer to a line that is not too long into the buffer at this position, and a line feed. Returns where they
 /// end.
 fn push_answer(mode: LineMode, line: &[u8], out: &mut [u8], at: usize) -> usize
-    requires { at + length line.now + 39 ≤ length out.old }
+    requires { at + length line.now + ANSWER_ROOM ≤ length out.old }
     ensures { PushesAnswer (IsShortAnswer mode line.now) out.old at out.new result }
 {
     let Ok(line) = str::from_utf8(line) else {
@@ -201,11 +209,7 @@ fn push_answer(mode: LineMode, line: &[u8], out: &mut [u8], at: usize) -> usize
     printed_texts_grow_at_most();
     match TripleRef::from_str(line) {
         Ok(triple) => {
-            let shown = match mode {
-                LineMode::Print => triple,
-                LineMode::Settle => triple.settle(),
-            };
-            let end = put_triple(out, at, &shown);
+            let end = put_shown(mode, out, at, triple);
             put(out, end, b"\n")
         }
         Err(refusal) => {
@@ -216,12 +220,55 @@ fn push_answer(mode: LineMode, line: &[u8], out: &mut [u8], at: usize) -> usize
     }
 }
 
+/// Puts what the mode shows of a triple into the buffer at this position. Returns where it ends.
+fn put_shown(mode: LineMode, out: &mut [u8], at: usize, triple: TripleRef<'_>) -> usize
+    requires plain { is_plain (ref_value triple.vendor) ≡ true }
+    requires room { at + length (shown_by mode (values_of_ref triple)) ≤ length out.old }
+    ensures { Pushes (shown_by mode (values_of_ref triple.entry)) out.old at out.new result }
+{
+    match mode {
+        LineMode::Print => put_triple(out, at, &triple),
+        LineMode::Show => {
+            let end = put_triple(out, at, &triple);
+            put_facts(out, end, &triple)
+        }
+        LineMode::Settle => put_triple(out, at, &triple.settle()),
+    }
+}
+
 /// Puts the printed triple into the buffer at this position. Returns where it ends.
 fn put_triple(out: &mut [u8], at: usize, triple: &TripleRef<'_>) -> usize
     requires { at + length (text_of (values_of_ref triple.now)) ≤ length out.old }
     ensures { Pushes (text_of (values_of_ref triple.now)) out.old at out.new result }
 {
     at + triple.write_to(&mut out[at..])
+}
+
+/// Puts the words for the byte order, pointer width, calling convention and data model of a triple, as [`put_triple`] puts
+/// the triple.
+fn put_facts(out: &mut [u8], at: usize, triple: &TripleRef<'_>) -> usize
+    requires { at + length (facts_of (values_of_ref triple.now)) ≤ length out.old }
+    ensures { Pushes (facts_of (values_of_ref triple.now)) out.old at out.new result }
+{
+    let end = put_word(out, at, triple.endianness().ok().map(Endianness::name));
+    let end = put_word(
+        out,
+        end,
+        triple.pointer_width().ok().map(PointerWidth::name),
+    );
+    let convention = triple.default_calling_convention().ok();
+    let end = put_word(out, end, convention.map(CallingConvention::name));
+    put_word(out, end, triple.data_model().ok().map(CDataModel::name))
+}
+
+/// Puts a space and a word, `-` for none, as [`put_triple`] puts a triple.
+fn put_word(out: &mut [u8], at: usize, word: Option<&str>) -> usize
+    requires { at + length (spaced_word (option_map (λ word. word.now) word)) ≤ length out.old }
+    ensures { Pushes (spaced_word (option_map (λ word. word.now) word.entry)) out.old at out.new
+        result }
+{
+    let end = put(out, at, b" ");
+    put(out, end, word.unwrap_or("-").as_bytes())
 }
 
 /// Puts the line of a refusal, as [`put_triple`] puts a triple.

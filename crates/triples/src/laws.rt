@@ -1,7 +1,7 @@
 //! Laws of the definitions. Each function's contract is a law; a call does nothing.
 ghost use Rattle.std.specs.Prelude.{List};
 ghost use Rattle.target_lexicon.specs.Laws.{ComparesByValue, CopiesEqualTheirSources};
-ghost use Rattle.triples.specs.FilterLaws.{ErrorsOfFiltersAreExact, EveryInputIsFiltered, FiltersAgreeWithRuns, FiltersEndOneWay, KnownInputsAreFiltered};
+ghost use Rattle.triples.specs.FilterLaws.{ErrorsOfFiltersAreExact, EveryInputIsFiltered, FiltersAgreeWithRuns, FiltersEndOneWay};
 ghost use Rattle.triples.specs.MatrixLaws.{EntriesAreSettledTriples, KeepsEntriesOnce, FirstEntriesStayInOrder, EachSettledTripleHasAnEntry, MatricesAreTheirOwn};
 ghost use Rattle.triples.specs.Output.{Answer};
 ghost use Rattle.triples.specs.RunLaws.{ErrorsOfRunsAreExact, EveryInputHasAnOutcome, RunsEndOneWay};
@@ -77,7 +77,7 @@ pub fn matrices_are_their_own()
     target_lexicon::laws::settled_texts_are_keys();
 }
 
-/// A run over known bytes, in which no read, write or flush failed and memory did not run out, has one result and
+/// A run over an input, in which no read, write or flush failed and memory did not run out, has one result and
 /// writes one output.
 pub fn runs_end_one_way()
     ensures { RunsEndOneWay }
@@ -93,30 +93,29 @@ pub fn every_input_has_an_outcome()
     target_lexicon::laws::every_text_has_one_outcome();
 }
 
-/// A run returns `Read` exactly if a read failed, and `Write` exactly if a write or the flush did. Of an input that is
-/// known and was read whole, unless memory runs out, it returns `NotUtf8` exactly if it isn't UTF-8, and in mode `json`
+/// A run returns `Read` exactly if a read failed, and `Write` exactly if a write or the flush did. Of an input that was read
+/// whole, unless memory runs out, it returns `NotUtf8` exactly if it isn't UTF-8, and in mode `json`
 /// only `NotJson` exactly if it is UTF-8 but not JSON, and `NotList` exactly if it is JSON but not a list.
 pub fn errors_of_runs_are_exact()
     ensures { ErrorsOfRunsAreExact }
 {}
 
-/// For each buffer and all lines, a filter has exactly one output.
+/// For each buffer and all lines there are answers, and no others.
 pub fn every_input_is_filtered()
     ensures { EveryInputIsFiltered }
 {
     target_lexicon::laws::every_text_has_one_outcome();
 }
 
-/// For lines that are UTF-8 and shorter than the buffer, the output of a filter is that of a run.
+/// For an input that is UTF-8 and whose lines fit the buffer, the answers of a filter are the output of the run.
 pub fn filters_agree_with_runs()
     ensures { FiltersAgreeWithRuns }
 {}
 
-/// A filter of which no read, write or flush failed, and that read fewer than `u64::MAX` bytes, succeeds. Its writes took
-/// the one output for the lines that its reads gave, whether or not the bytes of its reader and writer are known.
+/// A filter of fewer than `u64::MAX` bytes, in which no read, write or flush failed, succeeds, and its writes took the
+/// answers to all lines.
 pub fn filters_end_one_way()
-    ensures traced { FiltersEndOneWay }
-    ensures known { KnownInputsAreFiltered }
+    ensures { FiltersEndOneWay }
 {}
 
 /// A filter returns `Read` exactly if a read failed, and `Write` exactly if a write or the flush did.

@@ -1,11 +1,13 @@
-//! The modes of a filter.
+//! The modes that answer each line by itself.
 ghost use Rattle.std.specs.Prelude.{◌≡◌};
 
-/// What a filter writes for each line.
+/// What is written for each line.
 #[derive(Clone, Copy, Debug, PartialEq, Eq)]
 pub enum LineMode {
     /// The printed triple.
     Print,
+    /// The printed triple, its byte order, pointer width, calling convention and data model.
+    Show,
     /// The canonical triple, printed.
     Settle,
 }
@@ -13,12 +15,13 @@ pub enum LineMode {
 impl LineMode {
     ghost use Rattle.triples.specs.Words.{line_mode_from_word};
 
-    /// The mode that the word names, if any.
+    /// The mode in which the word asks for a filter, if any.
     pub fn from_word(word: &str) -> Option<LineMode>
         ensures { result ≡ line_mode_from_word word.now }
     {
         match word {
             "stream" => Some(LineMode::Print),
+            "stream-show" => Some(LineMode::Show),
             "stream-settle" => Some(LineMode::Settle),
             _ => None,
         }

@@ -3,18 +3,18 @@ ghost use Rattle.std.specs.Prelude.{◌≡◌, ◌<◌, ◌++◌, length, option
 ghost use Rattle.target_lexicon.specs.Values.{values_of};
 ghost use Rattle.triples.specs.Facts.{facts_of, spaced_word};
 ghost use Rattle.triples.specs.Lines.{lines_of};
-ghost use Rattle.triples.specs.Output.{IsLineOutput};
-ghost use Rattle.triples.specs.Private.{AddsAnswer, AddsRefusal, shown_text};
+ghost use Rattle.triples.specs.Output.{IsLineOutput, shown_by};
+ghost use Rattle.triples.specs.Private.{AddsAnswer, AddsRefusal};
 
-use crate::mode::Mode;
+use crate::line_mode::LineMode;
 use std::alloc::{AllocError, Global};
 use target_lexicon::laws::read_vendors_are_plain;
 use target_lexicon::{CDataModel, CallingConvention, Endianness, ParseError, PointerWidth, Triple};
 
 /// The answers to the lines of an input, in order, with a line feed after each.
-pub(crate) fn answers(alloc: Global, mode: Mode, input: &str) -> Result<String, AllocError>
+pub(crate) fn answers(alloc: Global, mode: LineMode, input: &str) -> Result<String, AllocError>
     ensures output { IfOk result
-        (λ output. IsLineOutput (shown_text mode) (lines_of input.now) (string_bytes output)) }
+        (λ output. IsLineOutput (shown_by mode) (lines_of input.now) (string_bytes output)) }
     ensures memory { OnErr result (0 < length input.now) }
 {
     let mut output = String::new(alloc);
@@ -29,22 +29,27 @@ pub(crate) fn answers(alloc: Global, mode: Mode, input: &str) -> Result<String, 
 
 /// Appends the answer to a line, and a line feed: the triple that the line parses as, or in mode `settle` its canonical form,
 /// printed, and in mode `show` its facts; or why the line is refused.
-fn push_answer(alloc: Global, output: &mut String, mode: Mode, line: &str) -> Result<(), AllocError>
+fn push_answer(
+    alloc: Global,
+    output: &mut String,
+    mode: LineMode,
+    line: &str,
+) -> Result<(), AllocError>
     ensures { OnOk result
-        (AddsAnswer (shown_text mode) line.now (string_bytes output.old)
+        (AddsAnswer (shown_by mode) line.now (string_bytes output.old)
         (string_bytes output.new)) }
 {
     read_vendors_are_plain();
     match Triple::from_str(alloc, line) {
         Ok(triple) => {
             let shown = match mode {
-                Mode::Settle | Mode::Matrix => triple.settle(),
-                Mode::Print | Mode::Show | Mode::Json => triple,
+                LineMode::Print | LineMode::Show => triple,
+                LineMode::Settle => triple.settle(),
             };
             output.push_str(&shown.to_text(alloc)?)?;
             match mode {
-                Mode::Show => push_facts(output, &shown)?,
-                Mode::Print | Mode::Settle | Mode::Json | Mode::Matrix => {}
+                LineMode::Show => push_facts(output, &shown)?,
+                LineMode::Print | LineMode::Settle => {}
             }
             output.push('\n')
         }

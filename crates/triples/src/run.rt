@@ -1,13 +1,12 @@
 //! A run, from a reader to a writer, and the end of the program.
-ghost use Rattle.std.specs.Prelude.{◌≡◌, ◌+◌, [], ◌∷◌, ◌++◌, IfErr, OnOk};
-ghost use Rattle.std.specs.Io.KnownBytes.{Appends};
-ghost use Rattle.triples.specs.Run.{EndsAs, use_of};
-ghost use Rattle.triples.specs.Streams.{inner, failures, AppendsBeginning};
+ghost use Rattle.std.specs.Prelude.{◌≡◌, [], ◌∷◌, ◌++◌, IfErr, OnOk};
+ghost use Rattle.triples.specs.Run.{EndsAs, HasFailed, IsUnfailed, Takes, TakesBeginning, use_of};
 ghost use Rattle.triples.specs.Lines.{line_feed};
 ghost use Rattle.triples.specs.Words.{status_of, closing_words};
 
 use crate::counted::Counted;
 use crate::json::json_output;
+use crate::line_mode::LineMode;
 use crate::lines::answers;
 use crate::matrix::matrix;
 use crate::mode::Mode;
@@ -46,7 +45,9 @@ pub fn run<R: Read, W: Write>(
         return Err(RunError::NotUtf8);
     };
     let output = match mode {
-        Mode::Print | Mode::Show | Mode::Settle => answers(alloc, mode, input)?,
+        Mode::Print => answers(alloc, LineMode::Print, input)?,
+        Mode::Show => answers(alloc, LineMode::Show, input)?,
+        Mode::Settle => answers(alloc, LineMode::Settle, input)?,
         Mode::Matrix => matrix(alloc, input)?,
         Mode::Json => json_output(alloc, input)?,
     };
@@ -65,10 +66,9 @@ pub fn run<R: Read, W: Write>(
 /// If the writer fails, a part of the line may be missing; the status is the same.
 pub fn conclude<W: Write>(end: Option<Result<(), RunError>>, w: &mut Counted<W>) -> u8
     ensures status { result ≡ status_of end }
-    ensures said { failures w.new ≡ failures w.old →
-        Appends (W.contents (inner w.old)) (W.contents (inner w.new)) (closing_words end) }
-    ensures begun { AppendsBeginning (W.contents (inner w.old)) (W.contents (inner w.new))
-        (closing_words end) }
+    ensures said { IsUnfailed (use_of W.contents w.old w.new) →
+        Takes (use_of W.contents w.old w.new) (closing_words end) }
+    ensures begun { TakesBeginning (use_of W.contents w.old w.new) (closing_words end) }
 {
     match end {
         Some(Ok(())) => 0,
@@ -86,14 +86,14 @@ pub fn conclude<W: Write>(end: Option<Result<(), RunError>>, w: &mut Counted<W>)
 /// Writes the first word of a line, the rest of it and a line feed, and flushes. If the writer fails, a part of the line may be
 /// missing.
 fn write_line<W: Write>(writer: &mut Counted<W>, word: &str, rest: &str) -> Result<(), RunError>
-    ensures ok { OnOk result
-        (Appends (W.contents (inner writer.old)) (W.contents (inner writer.new))
+    ensures whole { OnOk result
+        (Takes (use_of W.contents writer.old writer.new)
         (word.now ++ (rest.now ++ line_feed ∷ []))) }
-    ensures unfailed { OnOk result (failures writer.new ≡ failures writer.old) }
-    ensures begun { AppendsBeginning (W.contents (inner writer.old)) (W.contents (inner writer.new))
+    ensures unfailed { OnOk result (IsUnfailed (use_of W.contents writer.old writer.new)) }
+    ensures begun { TakesBeginning (use_of W.contents writer.old writer.new)
         (word.now ++ (rest.now ++ line_feed ∷ [])) }
     ensures failed { IfErr result
-        (λ e. (e ≡ RunError.Write) × (failures writer.new ≡ failures writer.old + 1)) }
+        (λ e. (e ≡ RunError.Write) × HasFailed (use_of W.contents writer.old writer.new)) }
 {
     write_all(writer, word.as_bytes())?;
     write_all(writer, rest.as_bytes())?;

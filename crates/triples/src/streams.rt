@@ -1,8 +1,6 @@
 //! A whole input is read, or a whole output written, through a [`Counted`].
-ghost use Rattle.std.specs.Prelude.{◌≡◌, ◌+◌, ℕ, take, IfOk, OnOk, IfErr, IfSome};
-ghost use Rattle.std.specs.Io.KnownBytes.{Appends, Consumes};
-ghost use Rattle.triples.specs.Run.{IsReadErrorOf, IsReadWhole, Takes, use_of};
-ghost use Rattle.triples.specs.Streams.{inner, failures, AppendsBeginning};
+ghost use Rattle.std.specs.Prelude.{◌≡◌, ℕ, List, IfOk, OnOk, IfErr};
+ghost use Rattle.triples.specs.Run.{Gives, HasFailed, IsReadErrorOf, IsReadWhole, IsUnfailed, Takes, TakesBeginning, use_of};
 
 use crate::counted::Counted;
 use crate::run_error::RunError;
@@ -12,13 +10,12 @@ use std::io::{Read, Write};
 /// Reads to the end of the reader.
 pub fn read_all<R: Read>(alloc: Global, reader: &mut Counted<R>) -> Result<Vec<u8>, RunError>
     ensures whole { OnOk result (IsReadWhole (use_of R.remaining reader.old reader.new)) }
-    ensures taken { IfOk result
-        (λ bytes.
-        Consumes (R.remaining (inner reader.old)) (R.remaining (inner reader.new))
-        bytes.items) }
     ensures bytes { IfOk result
-        (λ bytes. IfSome (R.remaining (inner reader.old)) (λ input. bytes.items ≡ input)) }
-    ensures err { IfErr result (IsReadErrorOf (use_of R.remaining reader.old reader.new)) }
+        (λ bytes. Gives (use_of R.remaining reader.old reader.new) bytes.items) }
+    ensures err { IfErr result
+        (λ e.
+        (bytes : List ℕ) × Gives (use_of R.remaining reader.old reader.new) bytes
+        × IsReadErrorOf (use_of R.remaining reader.old reader.new) bytes e) }
 {
     let mut bytes = Vec::new(alloc);
     let mut piece = [0u8; 8192];
@@ -37,15 +34,11 @@ pub fn read_all<R: Read>(alloc: Global, reader: &mut Counted<R>) -> Result<Vec<u
 
 /// Writes all bytes.
 pub fn write_all<W: Write>(writer: &mut Counted<W>, bytes: &[u8]) -> Result<(), RunError>
-    ensures ok { OnOk result
-        (Appends (W.contents (inner writer.old)) (W.contents (inner writer.new)) bytes.now) }
-    ensures unfailed { OnOk result (failures writer.new ≡ failures writer.old) }
-    ensures begun { AppendsBeginning (W.contents (inner writer.old)) (W.contents (inner writer.new))
-        bytes.now }
     ensures whole { OnOk result (Takes (use_of W.contents writer.old writer.new) bytes.now) }
-    ensures part { (n : ℕ) × Takes (use_of W.contents writer.old writer.new) (take n bytes.now) }
+    ensures unfailed { OnOk result (IsUnfailed (use_of W.contents writer.old writer.new)) }
+    ensures begun { TakesBeginning (use_of W.contents writer.old writer.new) bytes.now }
     ensures failed { IfErr result
-        (λ e. (e ≡ RunError.Write) × (failures writer.new ≡ failures writer.old + 1)) }
+        (λ e. (e ≡ RunError.Write) × HasFailed (use_of W.contents writer.old writer.new)) }
 {
     let mut rest = bytes;
     while !rest.is_empty() {

@@ -4,10 +4,10 @@ use crate::input::{Place, Target};
 use crate::json::{Json, Object};
 use crate::refusal::{visible, Parsed};
 use std::io::{self, Write};
-use target_lexicon::{Named as _, OperatingSystemExt as _};
 use target_lexicon::{
     Architecture, Endianness, Field, OperatingSystem, PointerWidth, Source, TripleRef,
 };
+use target_lexicon::{Named as _, OperatingSystemExt as _};
 use target_names::{changes, read, Change, TargetInfo};
 
 pub fn canonical(triple: TripleRef<'_>) -> TripleRef<'_> {
@@ -246,7 +246,10 @@ pub fn facts(triple: &TripleRef<'_>) -> Object {
         ("has_comdat", triple.has_comdat().into()),
         // end of what is written
         ("llvm_target", triple.llvm_target().to_string().into()),
-        ("multiarch_tuple", triple.multiarch_tuple().map(|it| it.to_string()).into()),
+        (
+            "multiarch_tuple",
+            triple.multiarch_tuple().map(|it| it.to_string()).into(),
+        ),
         ("printed", triple.to_string().into()),
         ("canonical", canonical(*triple).to_string().into()),
     ]);

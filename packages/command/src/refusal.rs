@@ -221,13 +221,24 @@ impl<'a> Refusal<'a> {
 
 /// The name that the first dialect suggests that suggests one, and what is wrong with the unknown one, as far as it says more. A name after
 /// another is none if all the words together name a triple.
-fn nearest(name: &str, has_triple: bool) -> Option<(&'static str, Option<Mistake<'_>>)> {
-    let mut found =
-        suggestions(name).filter_map(|(dialect, suggestion)| match dialect.mistake(name) {
+fn nearest(name: &str, hint: Option<Hint>) -> Option<(&'static str, Option<Mistake<'_>>)> {
+    let of_words = match hint {
+        Some(Hint::Triple(triple)) => Some(triple),
+        _ => None,
+    };
+    let has_triple = of_words.is_some();
+    let mut found = suggestions(name).filter_map(|(dialect, suggestion)| {
+        // What all words say is a triple.
+        let named = dialect.write(of_words.unwrap_or_else(TripleRef::unknown));
+        if named.map_or(false, |it| it == suggestion) {
+            return None;
+        }
+        match dialect.mistake(name) {
             Some(Mistake::Prefix) if has_triple => None,
             Some(Mistake::NoTriple(_)) => Some((suggestion, None)),
             mistake => Some((suggestion, mistake)),
-        });
+        }
+    });
     found.next()
 }
 
@@ -257,7 +268,7 @@ impl Refusal<'_> {
             Names::OfVendors(triple) => (shown(triple.vendor_suggestion()), None),
             Names::OfAll(name) => {
                 let hint = hint(name);
-                match (nearest(name, matches!(hint, Some(Hint::Triple(_)))), hint) {
+                match (nearest(name, hint), hint) {
                     (Some((name, mistake)), _) => (shown(Some(name)), shown(mistake)),
                     (None, Some(Hint::NoMachine) | None) if may_be_triple(name) => {
                         (None, shown(Dialect::Gnu.mistake(name)))

@@ -6,7 +6,9 @@ use crate::json::{Json, Object};
 use crate::refusal::{reason, visible, Refusal};
 use std::io::{self, Write};
 use target_lexicon::{OperatingSystem, TripleRef, VendorRef};
-use target_names::{hint, meanings, Hint, LinuxLibc, Meaning, Name, TargetInfo, WriteError};
+use target_names::{
+    hint, meanings, Dialect, Hint, LinuxLibc, Meaning, Name, TargetInfo, WriteError,
+};
 
 /// What stands around the names of a list: in YAML, JSON, or a line of words with commas.
 const AROUND: &[char] = &[' ', '\t', ',', '"', '\'', '[', ']'];
@@ -85,6 +87,12 @@ impl<'a> What<'a> {
         }
     }
 
+    /// What tools mean by the name that its triple doesn't say.
+    fn notes(text: &'a str, tools: &'a [&'static str]) -> impl Iterator<Item = String> + 'a {
+        let dialects = tools.iter().filter_map(|it| it.parse::<Dialect>().ok());
+        dialects.filter_map(move |it| Some(format!("{it}: {}", it.note(text)?)))
+    }
+
     /// That the vendor of a meaning is custom, which may be a misspelling, or that it has no system; and the triple that the words of the name
     /// mean, if to no tool it is of a known vendor and a system.
     fn note(&self, text: &str, triple: &TripleRef<'_>) -> Option<String> {
@@ -111,7 +119,8 @@ impl<'a> What<'a> {
         writeln!(out, "{}", visible(text))?;
         for (triple, tools) in &self.meanings {
             writeln!(out, "  is {triple}, as {}", tools.join(", "))?;
-            if let Some(note) = self.note(text, triple) {
+            let own = self.note(text, triple).into_iter();
+            for note in own.chain(What::notes(text, tools)) {
                 writeln!(out, "    note    {note}")?;
             }
             let mut unnamed: Vec<(&str, Vec<&str>)> = Vec::new();
@@ -149,10 +158,13 @@ impl<'a> What<'a> {
             let why = |(tool, found): &(&'static str, Result<Name, WriteError>)| {
                 Some((*tool, found.as_ref().err()?.reason().into()))
             };
+            let own = self.note(text, triple).into_iter();
+            let notes: Vec<String> = own.chain(What::notes(text, tools)).collect();
+            let note = (!notes.is_empty()).then(|| notes.join("; "));
             Json::Object(vec![
                 ("canonical", triple.to_string().into()),
                 ("tools", strings(tools)),
-                ("note", self.note(text, triple).into()),
+                ("note", note.into()),
                 ("names", Json::Object(names.iter().map(name).collect())),
                 (
                     "reasons",

@@ -208,12 +208,24 @@ fn hostile_names_do_not_reach_the_terminal() {
         &["what", &format!("{hostile}-linux-gnu")] as &[&str],
         &["what", &format!("@{hostile}\u{1b}[2J/linux-x64")],
         &["read", &format!("{hostile}-linux-gnu")],
-        &["translate", "--from", "gnu", "--to", "go", &format!("{hostile}-linux-gnu")],
+        &[
+            "translate",
+            "--from",
+            "gnu",
+            "--to",
+            "go",
+            &format!("{hostile}-linux-gnu"),
+        ],
         &["read", "--from", "node", &format!("@a\u{3164}/{hostile}")],
     ] {
         let (out, errors, _) = answers(words);
         let written = out + &errors;
-        assert!(written.bytes().all(|it| it == b'\n' || (b' '..=b'~').contains(&it)), "{written}");
+        assert!(
+            written
+                .bytes()
+                .all(|it| it == b'\n' || (b' '..=b'~').contains(&it)),
+            "{written}"
+        );
         assert!(written.contains(r"\u{1b}"), "{written}");
     }
     // A note is no longer than what is shown of the target.
@@ -233,7 +245,10 @@ fn many_names_take_as_long_in_a_line_as_in_many() {
     let commas = ",".repeat(1000);
     let in_many = time_of(format!("amd64{commas}\n").repeat(20_000));
     let in_one = time_of(format!("amd64{commas}").repeat(20_000));
-    assert!(in_one < 4 * in_many + Duration::from_secs(4), "{in_one:?} and {in_many:?}");
+    assert!(
+        in_one < 4 * in_many + Duration::from_secs(4),
+        "{in_one:?} and {in_many:?}"
+    );
     let (_, errors, _) = answers_on(&["read", "--from", "debian"], "\u{e9}, amd64, \u{e9}");
     assert!(errors.contains("<stdin>:1:1: error: ") && errors.contains("<stdin>:1:11: error: "));
 }
@@ -471,7 +486,7 @@ fn names_of_other_tools_are_read_and_written() {
     assert_eq!(
         errors,
         "error: unknown name of go `linux/foo`\n  linux/foo\n  ^^^^^^^^^\n  \
-         note: it names a system, and no single machine\n1 of 2 targets refused\n"
+         note: it names a system, and no single machine known here\n1 of 2 targets refused\n"
     );
     let (_, errors, _) = read(&["--from", "go", "linux/amd46"]);
     assert_eq!(
@@ -1014,12 +1029,16 @@ fn a_name_of_another_tool_is_recognised() {
         );
         assert_eq!(status, 1);
     }
-    let (_, errors, _) = answers(&["read", "--from", "oci", "linux/amd64/v3"]);
+    let (_, errors, _) = answers(&["read", "--from", "go", "plan9/amd64"]);
     assert_eq!(
         errors,
-        "error: no triple means the same as the name of oci `linux/amd64/v3`\n  linux/amd64/v3\n  \
-         ^^^^^^^^^^^^^^ a triple can't state a level of x86-64\n"
+        "error: no triple means the same as the name of go `plan9/amd64`\n  plan9/amd64\n  \
+         ^^^^^^^^^^^ Plan 9 is no known name\n"
     );
+    // A level of the machine isn't in the triple.
+    let (out, _, _) = answers(&["what", "linux/amd64/v3"]);
+    let note = "    note    oci: for a level of x86-64, which a triple can't state\n";
+    assert!(out.contains(note), "{out}");
 }
 
 #[test]
@@ -1075,7 +1094,7 @@ fn any_tool_may_have_a_name() {
     );
     // A string may be spelled like a triple too, and a single word that a tool has isn't taken for one.
     let (out, _, _) = answers(&["read", "--from", "any", "x86_64-linux"]);
-    assert!(out.ends_with("\ntriple\tx86_64-unknown-linux\n"), "{out}");
+    assert!(out.starts_with("triple\tx86_64-unknown-linux\n"), "{out}");
     let (out, _, _) = answers(&["read", "--from", "any", "armhf"]);
     assert_eq!(out.lines().count(), 2, "{out}");
     let (_, errors, status) = answers(&["read", "--from", "any", "foo/bar"]);
@@ -1115,7 +1134,7 @@ debian armhf node - linux-arm-gnueabihf
 oci windows/amd64 rust - it depends on the ABI of Windows
 oci windows/amd64 rust msvc x86_64-pc-windows-msvc
 oci linux/arm/v6 debian glibc armhf of Debian is for Armv7
-rust arm-unknown-linux-gnueabihf oci - linux/arm/v6";
+rust armv7-unknown-linux-gnueabihf oci - linux/arm/v7";
 
 #[test]
 fn names_are_translated() {
@@ -1274,24 +1293,24 @@ const MISTAKES: &str = "\
 go|Linux/AMD64|linux/amd64|capital letters matter
 go|./linux/amd64|linux/amd64|it has a path
 go|linux amd64|linux/amd64|it has a space
-go|x86_64-unknown-linux-gnu|-|it is a name of gnu and rust; TRIPLE
+go|x86_64-unknown-linux-gnu|linux/amd64|it is a name of gnu and rust; TRIPLE
 go|linux/amd46|linux/amd64|-
 go|linux/riscv/64|linux/riscv64|-
-go|linux/amd64/bin|-|its words name x86_64-unknown-linux
+go|linux/amd64/bin|linux/amd64|-
 oci|linux\\amd64|linux/amd64|-
-oci|linux/amd64:latest|-|its words name x86_64-unknown-linux
+oci|linux/amd64:latest|linux/amd64|-
 oci|/usr/lib/linux/amd64|linux/amd64|it has a path
 debian|AMD64|amd64|capital letters matter
 debian|x86-64|amd64|-
-debian|x86_64-linux-gnu|-|it is a name of gnu and zig; TRIPLE
+debian|x86_64-linux-gnu|amd64|it is a name of gnu and zig; TRIPLE
 debian|linux-image-amd64|-|its words name x86_64-unknown-linux
 pacman|mingw-w64-ucrt-x86_64|-|its words name x86_64-pc-windows-gnu
-oci|arm32v7/debian|-|it names a system, and no single machine
+oci|arm32v7/debian|linux/arm/v7|-
 rust|amd64|-|it is a name of debian, gnu and rpm
 rust|X86_64-unknown-linux-gnu|x86_64-unknown-linux-gnu|capital letters matter
 rust|target/x86_64-unknown-linux-gnu/release|x86_64-unknown-linux-gnu|it has a path
 rust|x86_64|-|it is a part of a name, such as `x86_64-unknown-linux-gnu`
-node|linux/amd64|-|it is a name of go and oci
+node|linux/amd64|linux-x64|it is a name of go and oci
 node|turbo-linux-arm64|linux-arm64|another name comes before it
 node|@foo/bar|-|-
 node|win32-amd64|win32-x64|-
@@ -1302,9 +1321,9 @@ uname|linux x86_64|Linux x86_64|capital letters matter
 rpm|arm64|aarch64|it is a name of debian and gnu
 dotnet|Win-x64|win-x64|capital letters matter
 conda|linux64|linux-64|it is a name of node
-zig|x86_64-unknown-linux-gnu|-|it is a name of gnu and rust; TRIPLE
-nix|x86_64-macos|-|it is a name of gnu and zig
-nix|x86_64-unknown-linux|-|it is a name of gnu; TRIPLE
+zig|x86_64-unknown-linux-gnu|x86_64-linux-gnu|it is a name of gnu and rust; TRIPLE
+nix|x86_64-macos|x86_64-darwin|it is a name of gnu and zig
+nix|x86_64-unknown-linux|x86_64-linux|it is a name of gnu; TRIPLE
 gnu|x86_64-linux-gnuu|x86_64-linux-gnu|-
 gnu|alpha-linux-gnu|-|as a triple: Unrecognized architecture: alpha";
 
@@ -1330,10 +1349,20 @@ fn mistakes_in_names_are_explained() {
         let expected = (note != "-").then(|| format!("note: {}", note.replace("TRIPLE", TRIPLE)));
         assert_eq!((noted, status), (expected, 1), "{row}");
     }
-    let (_, errors, _) = answers(&["translate", "--from", "rust", "--to", "debian", "x86_64-linux-gnu"]);
+    let (_, errors, _) = answers(&[
+        "translate",
+        "--from",
+        "rust",
+        "--to",
+        "debian",
+        "x86_64-linux-gnu",
+    ]);
     let note = "; it is a triple, which `target-lexicon write --to debian` and `target-lexicon what` take\n";
     assert!(errors.ends_with(note), "{errors}");
-    assert_eq!(answers(&["write", "--to", "debian", "x86_64-linux-gnu"]).0, "amd64\n");
+    assert_eq!(
+        answers(&["write", "--to", "debian", "x86_64-linux-gnu"]).0,
+        "amd64\n"
+    );
     // The note is in JSON too.
     let refused = &json_of(&["read", "--from", "debian", "--json", "AMD64"])[0];
     assert_eq!(refused["note"], "capital letters matter");
@@ -1341,15 +1370,15 @@ fn mistakes_in_names_are_explained() {
 
 /// Names that no tool has, the suggestion, and the note, a dash for none.
 const NOBODYS: &str = "\
-Linux-AMD65|-|it names a system, and no single machine
+Linux-AMD65|-|it names a system, and no single machine known here
 linux/amd46|linux/amd64|-
 x86_64-linux-gnuu|x86_64-linux-gnu|-
 macosArm64|aarch64-apple-darwin|its words name aarch64-apple-darwin
 alpine-linux-x64|x86_64-unknown-linux-musl|its words name x86_64-unknown-linux-musl
 FreeBSD:14:amd64|x86_64-unknown-freebsd|its words name x86_64-unknown-freebsd
 turbo-darwin-64|darwin-64|another name comes before it
-windows-11-arm|-|it names a system, and no single machine
-aarch64_cortex-a53|-|it names a machine, and no system
+windows-11-arm|-|it names a system, and no single machine known here
+aarch64_cortex-a53|-|it names a machine, and no system known here
 ios-arm64_x86_64-simulator|-|it names several machines
 alpha-linux-gnu|-|as a triple: Unrecognized architecture: alpha
 java|-|-";
@@ -1363,27 +1392,50 @@ fn names_that_no_tool_has_are_explained() {
         };
         let refused = &json_of(&["what", "--json", name])[0];
         let said = |key: &str| refused[key].as_str().unwrap_or("-").to_string();
-        assert_eq!((said("suggestion").as_str(), said("note").as_str()), (suggestion, note), "{row}");
+        assert_eq!(
+            (said("suggestion").as_str(), said("note").as_str()),
+            (suggestion, note),
+            "{row}"
+        );
     }
     // A custom vendor may be a misspelling, or a word of a tool that isn't among the dialects.
     for (name, note) in [
-        ("x86_64-appel-darwin", "`appel` is a custom vendor; did you mean `apple`?"),
-        ("arm64-osx", "`osx` is a custom vendor; did you mean `aarch64-apple-darwin`?"),
-        ("arm64-v8a", "`v8a` is a custom vendor; did you mean `aarch64-linux-android`?"),
+        (
+            "x86_64-appel-darwin",
+            "`appel` is a custom vendor; did you mean `apple`?",
+        ),
+        (
+            "arm64-osx",
+            "`osx` is a custom vendor; did you mean `aarch64-apple-darwin`?",
+        ),
         ("x86_64-redhat-linux", "`redhat` is a custom vendor"),
     ] {
         let meanings = &json_of(&["what", "--json", name])[0]["meanings"];
-        let noted: Vec<_> = meanings.as_array().unwrap().iter().filter_map(|it| it["note"].as_str()).collect();
+        let noted: Vec<_> = meanings
+            .as_array()
+            .unwrap()
+            .iter()
+            .filter_map(|it| it["note"].as_str())
+            .collect();
         assert_eq!(noted, [note], "{name}");
-        assert!(answers(&["what", name]).0.contains(&format!("\n    note    {note}\n")), "{name}");
+        assert!(
+            answers(&["what", name])
+                .0
+                .contains(&format!("\n    note    {note}\n")),
+            "{name}"
+        );
     }
-    // To GNU `android` without a kernel is a C library of no system.
+    // To GNU `android` without a kernel is Android.
+    let meanings = &json_of(&["what", "--json", "arm64-android"])[0]["meanings"];
+    assert_eq!(meanings[1]["canonical"], "aarch64-linux-android");
     let note = |name| json_of(&["what", "--json", name])[0]["meanings"][0]["note"].clone();
-    assert_eq!(note("arm64-android"), "it has no system; did you mean `aarch64-linux-android`?");
     assert_eq!(note("x86_64-unknown-none"), Value::Null);
     // The machine is said where the tool has it on no system.
     let (_, errors, _) = answers(&["write", "--to", "debian", "wasm32-unknown-unknown"]);
-    assert!(errors.ends_with("^ the tool has no name for this machine on any system\n"), "{errors}");
+    assert!(
+        errors.ends_with("^ the tool has no name for this machine on any system\n"),
+        "{errors}"
+    );
 }
 
 #[test]
@@ -1397,5 +1449,11 @@ fn facts_without_an_answer_say_why() {
     // Only the version and the profile aren't stated.
     let out = answers(&["facts", "armv7-unknown-linux-gnueabihf"]).0;
     let without: Vec<_> = out.lines().filter(|line| line.contains("  -  ")).collect();
-    assert!(without.iter().map(|line| line.split_whitespace().next().unwrap()).eq(["version", "arm_profile"]), "{out}");
+    assert!(
+        without
+            .iter()
+            .map(|line| line.split_whitespace().next().unwrap())
+            .eq(["version", "arm_profile"]),
+        "{out}"
+    );
 }

@@ -76,14 +76,18 @@ fn an_output_that_is_closed_or_only_for_reading_is_reported() {
 #[test]
 fn an_input_that_is_closed_or_only_for_writing_is_reported() {
     for redirection in ["<&-", "0> /dev/null"] {
-        let (out, errors, status) = shell(&format!("target-lexicon settle --json z80 - {redirection}"));
+        let (out, errors, status) =
+            shell(&format!("target-lexicon settle --json z80 - {redirection}"));
         assert_eq!(
             errors,
             "target-lexicon: <stdin>: Bad file descriptor (os error 9)\n"
         );
         assert_eq!(out, "[{\"target\":\"z80\",\"file\":null,\"line\":null,\"canonical\":\"z80-unknown-unknown-elf\"}]\n");
         assert_eq!(status, 3);
-        assert_eq!(shell(&format!("target-lexicon check z80 {redirection}")).2, 0);
+        assert_eq!(
+            shell(&format!("target-lexicon check z80 {redirection}")).2,
+            0
+        );
     }
 }
 
@@ -137,7 +141,11 @@ fn an_input_larger_than_memory_is_reported() {
     let ran = shell(&format!("ulimit -v 100000; {input} | target-lexicon check"));
     assert_eq!(
         ran,
-        ("".into(), "target-lexicon: <stdin>: out of memory\n".into(), 3)
+        (
+            "".into(),
+            "target-lexicon: <stdin>: out of memory\n".into(),
+            3
+        )
     );
 }
 
@@ -145,7 +153,10 @@ fn an_input_larger_than_memory_is_reported() {
 fn a_refused_line_needs_no_memory_but_its_own() {
     let input = "head -c 3000000 /dev/zero | tr '\\0' '\\1'";
     let (_, errors, status) = shell(&format!("ulimit -v 24000; {input} | target-lexicon check"));
-    assert!(errors.starts_with("<stdin>:1:1: error: ") && errors.len() < 1000, "{errors}");
+    assert!(
+        errors.starts_with("<stdin>:1:1: error: ") && errors.len() < 1000,
+        "{errors}"
+    );
     assert_eq!(status, 1);
 }
 
@@ -158,7 +169,9 @@ fn progress_is_shown_where_escapes_are_taken() {
         ("TERM=dumb NO_COLOR=", false),
         ("TERM=xterm NO_COLOR=1", false),
     ] {
-        let (out, _, _) = shell(&format!("{variables} script -qec '{run}' /dev/null < /dev/null"));
+        let (out, _, _) = shell(&format!(
+            "{variables} script -qec '{run}' /dev/null < /dev/null"
+        ));
         assert_eq!(out.contains('\u{1b}'), is_shown, "{variables}: {out:?}");
     }
 }

@@ -1,6 +1,6 @@
 //! The name that is suggested for an unknown name of a dialect.
 use crate::dialect::{Row, Way};
-use crate::hints::triple_of_words;
+use crate::hints::{allows, triple_of_words};
 use crate::mistakes::LONGEST_PATH;
 use crate::{hint, read, Dialect, FloatAbi, Hint};
 use core::ops::Range;
@@ -16,7 +16,7 @@ impl Dialect {
     ///
     /// It is the name that is the same but for capital letters, white space around it or a path. Otherwise it is the name that
     /// differs only in the word for the same machine: `linux-x64` of Node for `linux-amd64`. Otherwise it is
-    /// the nearest name, if the unknown one may be a misspelling of it, and states no other machine or way to pass floating-point
+    /// the nearest name, if the unknown one may be a misspelling of it, and states no other machine, system or way to pass floating-point
     /// arguments. Where two edits give names of another machine too, width, byte order or such a way, nothing is suggested, unless
     /// a name follows another one and a dash.
     ///
@@ -33,13 +33,22 @@ impl Dialect {
     #[must_use]
     #[inline]
     pub fn suggestion(self, name: &str) -> Option<&'static str> {
-        self.name_meant(name, &Stated::of(within_longest(name)?))
+        self.suggestion_of(name, &Stated::of(within_longest(name)?))
     }
 
     #[inline(never)]
+    fn suggestion_of(self, name: &str, stated: &Stated) -> Option<&'static str> {
+        if let Some(known) = self.name_in_other_letters(name) {
+            return Some(known);
+        }
+        let found = self.name_meant(name, stated)?;
+        let triple = self.read(found).ok()?;
+        allows(name, &triple).then_some(found)
+    }
+
+    /// The same, which may have a system, a machine or an ABI that the words don't say.
     fn name_meant(self, name: &str, stated: &Stated) -> Option<&'static str> {
-        let found = self.name_in_other_letters(name);
-        if let Some(known) = found.or_else(|| self.name_inside(name)) {
+        if let Some(known) = self.name_inside(name) {
             return Some(known);
         }
         if let Some(known) = self.name_of_words(name) {
@@ -105,7 +114,7 @@ pub fn suggestions(name: &str) -> impl Iterator<Item = (Dialect, &'static str)> 
     let stated = within_longest(name).map(Stated::of);
     Dialect::ALL
         .iter()
-        .filter_map(move |dialect| Some((*dialect, dialect.name_meant(name, stated.as_ref()?)?)))
+        .filter_map(move |dialect| Some((*dialect, dialect.suggestion_of(name, stated.as_ref()?)?)))
 }
 
 /// The name, if it may be one with a path or another name around it. A longer string gets no suggestion, so that none takes long.
@@ -260,7 +269,7 @@ pub(super) fn words(name: &str) -> impl Iterator<Item = Range<usize>> + '_ {
 }
 
 /// Words for machines that are neither known names nor spellings of parts.
-const WORDS: [(&str, &str); 24] = [
+const WORDS: [(&str, &str); 32] = [
     ("386", "i386"),
     ("x86", "i386"),
     ("ia32", "i386"),
@@ -275,6 +284,14 @@ const WORDS: [(&str, &str); 24] = [
     ("s390_64", "s390x"),
     ("x86_32", "i386"),
     ("armeabi", "armv7"),
+    ("arm32", "arm"),
+    ("aarch32", "arm"),
+    ("aarch32hf", "arm"),
+    ("aarch32sf", "arm"),
+    ("mips32", "mips"),
+    ("mips32el", "mipsel"),
+    ("mips32le", "mipsel"),
+    ("mipsel32", "mipsel"),
     ("arm32v5", "armv5te"),
     ("arm32v6", "armv6"),
     ("arm32v7", "armv7"),

@@ -1,9 +1,10 @@
 //! Strings that are spelled like triples, as GNU's config.sub takes and completes them.
 use crate::buffer::Buffer;
+use crate::hints::system_of;
 use crate::object_format::wasm_or;
 use crate::reading::{is_soft_floats, read};
 use crate::shape::usual_vendor;
-use crate::spelled::{is_like_system, may_be_versioned};
+use crate::spelled::{is_like_system, is_of_machine, may_be_versioned};
 use crate::table::{refusals, KERNELS, MAKERS, NOT_MACHINES, NOT_SYSTEMS, OTHER_MAKERS, SYSTEMS};
 use crate::NameError;
 use core::fmt::Write;
@@ -84,7 +85,10 @@ impl<'a> Parts<'a> {
             refusals::MACHINE
         } else if self.system.map_or(false, is_refused) {
             refusals::SYSTEM
-        } else if is_system(self.maker) || OTHER_MAKERS.iter().any(is_other_maker) {
+        } else if is_system(self.maker)
+            || self.kernel.is_none() && is_word_of_system(self.maker)
+            || OTHER_MAKERS.iter().any(is_other_maker)
+        {
             refusals::MAKER
         } else {
             return Ok(());
@@ -107,9 +111,20 @@ fn is_versioned(part: &str, name: &str) -> bool {
         .map_or(false, |it| is_dropped_version(it.as_bytes()))
 }
 
-/// Whether a part is a system or a kernel, which config.sub takes for a maker.
+/// Whether a part is a system, a kernel, an environment or a word of a machine, which config.sub takes for a maker.
 fn is_system(part: &str) -> bool {
-    is_one_of(KERNELS, part) || is_like_system(part) && !["none", "unknown"].contains(&part)
+    let is_known = || is_like_system(part) || part.parse::<Environment>().is_ok();
+    is_one_of(KERNELS, part)
+        || is_of_machine(part)
+        || is_known() && !["none", "unknown", "softfloat"].contains(&part)
+}
+
+/// Whether a part is a word for a system in names that no tool has here.
+fn is_word_of_system(part: &str) -> bool {
+    let mut lower = Spelled::new();
+    let is_written = lower.write_str(part).is_ok();
+    lower.make_lowercase();
+    is_written && lower.as_str() != "none" && system_of(lower.as_str()).is_some()
 }
 
 fn is_one_of(names: &[&str], part: &str) -> bool {

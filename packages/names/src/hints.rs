@@ -1,9 +1,10 @@
 //! What the words of a name say that no tool has here.
 use crate::buffer::Buffer;
 use crate::dialect_suggestions::{floats_of, MachineWord};
+use crate::shape::unversioned;
 use crate::{read, FloatAbi, LinuxLibc, TargetInfo};
 use core::fmt::{self, Write};
-use target_lexicon::spellings::machine_of;
+use target_lexicon::spellings::{machine_of, Abi};
 use target_lexicon::{
     Architecture, ArmArchitecture, Environment, Field, OperatingSystem, PointerWidth, TripleRef,
     VendorRef, X86_32Architecture,
@@ -97,6 +98,11 @@ pub(crate) fn triple_of_words(text: &str) -> Option<TripleRef<'static>> {
     }
 }
 
+/// Whether a triple has the machine, the system and the ABI that the words of a name say, as far as they are known. A longer name says nothing.
+pub(crate) fn allows(text: &str, triple: &TripleRef<'_>) -> bool {
+    said(text).map_or(true, |said| said.allows(triple))
+}
+
 fn said(text: &str) -> Option<Said> {
     let spaced = spaced(text)?;
     let mut said = Said::default();
@@ -118,8 +124,14 @@ struct Said {
     environment: Option<Environment>,
     floats: Option<FloatAbi>,
     width: Option<PointerWidth>,
+    /// A number after the machine, as in `x86_46`, may be a part of it.
+    is_misspelled: bool,
     /// It says `arm` or `armv8`, which may have 32 bits or 64.
     is_arm: bool,
+    /// It says `x86` or the like, of whatever version.
+    is_any_x86: bool,
+    /// It has a word of an ABI of Android's, which say so where no other word says a system.
+    is_abi_of_android: bool,
     is_simulator: bool,
     is_clang: bool,
     has_several_machines: bool,
@@ -153,7 +165,14 @@ impl Said {
                 return rest;
             }
         }
+        let had_machine = self.machine.is_some();
         self.take_word(word);
+        if next == "32" && !had_machine && self.machine.is_some() {
+            self.width = Some(PointerWidth::U32);
+            return rest;
+        }
+        let is_number = !next.is_empty() && next.bytes().all(|it| it.is_ascii_digit());
+        self.is_misspelled |= !had_machine && self.machine.is_some() && is_number;
         after
     }
 
@@ -170,7 +189,8 @@ impl Said {
         if found.machine.1 != found.architecture.pointer_width().ok() {
             self.width = found.machine.1;
         }
-        self.floats = floats_of(word).or(self.floats);
+        self.floats = found_in(&ARMS, word).or(floats_of(word)).or(self.floats);
+        self.is_any_x86 |= ["x86", "i386", "386", "ia32", "x86_32"].contains(&word);
         true
     }
 
@@ -219,6 +239,8 @@ impl Said {
         self.width = width.or(self.width);
         if AMBIGUOUS.contains(&word) {
             self.is_arm = true;
+        } else if ["v7a", "v8a"].contains(&word) {
+            self.is_abi_of_android = true;
         } else if is_known || self.take_machine(word) {
         } else if environment.is_some() {
             self.has_other_abi |= self.environment.is_some() && self.environment != environment;
@@ -233,15 +255,18 @@ impl Said {
             let is_number = word.bytes().all(|it| it.is_ascii_digit());
             self.has_number |= is_number;
             self.has_other |= !is_number;
-            self.has_other_abi |= OF_ABIS.iter().any(|it| word.contains(it));
+            self.has_other_abi |= is_of_abi(word);
         }
     }
 
     fn hint(&self) -> Option<Hint> {
         let is_32_bit = self.floats.is_some() || self.environment.is_some();
         let arm = (self.is_arm && is_32_bit).then_some(Architecture::Arm(ArmArchitecture::Arm));
-        let has_several = self.has_several_machines;
-        Some(match (self.machine.or(arm), self.system) {
+        let is_other = |it| !matches!(it, Architecture::Arm(_) | Architecture::Aarch64(_));
+        let has_several =
+            self.has_several_machines || self.is_arm && self.machine.map_or(false, is_other);
+        let android = self.is_abi_of_android.then_some("linux-android");
+        Some(match (self.machine.or(arm), self.system.or(android)) {
             (None, None) => return None,
             _ if has_several => Hint::SeveralMachines,
             (Some(_), Some(_)) if self.has_several_systems => Hint::SeveralSystems,
@@ -259,7 +284,7 @@ impl Said {
     /// The triple of all that is said, if there is one.
     fn triple(&self, machine: Architecture, system: &str) -> Option<TripleRef<'static>> {
         let architecture = match machine {
-            Architecture::X86_32(X86_32Architecture::I386) => {
+            Architecture::X86_32(_) if self.is_any_x86 => {
                 Architecture::X86_32(X86_32Architecture::I686)
             }
             other => other,
@@ -286,7 +311,37 @@ impl Said {
         };
         let keeps_floats = self.floats.is_none() || self.floats == FloatAbi::of(&triple);
         let keeps_width = self.width.is_none() || self.width == triple.pointer_width().ok();
-        (keeps_floats && keeps_width).then_some(triple)
+        let mut abi = Buffer::<16>::new();
+        write!(abi, "{environment}").ok()?;
+        let is_possible = Abi::of(abi.as_str()).map_or(true, |it| it.is_on(Some(architecture)));
+        (keeps_floats && keeps_width && is_possible).then_some(triple)
+    }
+
+    fn allows(&self, triple: &TripleRef<'_>) -> bool {
+        use Environment::{Android, Androideabi};
+        let is_android = |it: &TripleRef<'_>| matches!(it.environment, Android | Androideabi);
+        let machine = machine_of(triple.architecture);
+        let width = self
+            .width
+            .or(self.machine.and_then(|it| it.pointer_width().ok()));
+        let has_machine = self.machine.map_or(true, |it| {
+            machine_of(it).0 == machine.0 && machine_of(it).2 == machine.2
+        });
+        let has_width = width.is_none() || width == triple.pointer_width().ok();
+        let has_system = self.system.map_or(true, |system| {
+            let mut text = Buffer::<64>::new();
+            let is_written = write!(text, "x86_64-{system}").is_ok();
+            let own = read(text.as_str()).ok().filter(|_| is_written);
+            let is_same = |own: TripleRef<'_>| {
+                unversioned(own.operating_system) == unversioned(triple.operating_system)
+                    && is_android(&own) == is_android(triple)
+            };
+            own.map_or(false, is_same)
+        });
+        let floats = FloatAbi::of(triple);
+        let has_floats = floats.is_none() || self.floats.is_none() || floats == self.floats;
+        let is_one = !self.has_several_machines && !self.has_several_systems && !self.has_other_abi;
+        (has_machine && has_width || self.is_misspelled) && has_system && has_floats && is_one
     }
 
     /// The environment that is said, with that of the system of a triple, if no word contradicts it.
@@ -386,11 +441,9 @@ fn spaced(text: &str) -> Option<Text> {
 type Text = Buffer<192>;
 
 /// Words for systems that aren't the library's name, or that have a vendor, and how a triple goes on with them.
-const SYSTEMS: [(&str, &str); 64] = [
+const SYSTEMS: [(&str, &str); 62] = [
     ("android", "linux-android"),
     ("androideabi", "linux-android"),
-    ("v7a", "linux-android"),
-    ("v8a", "linux-android"),
     ("ohos", "unknown-linux-ohos"),
     ("openharmony", "unknown-linux-ohos"),
     ("ios", "apple-ios"),
@@ -494,8 +547,9 @@ const ENVIRONMENTS: [&str; 17] = [
 ];
 
 /// Words that say how floating-point arguments are passed.
-const FLOATS: [(&str, FloatAbi); 8] = [
+const FLOATS: [(&str, FloatAbi); 9] = [
     ("hf", FloatAbi::Hard),
+    ("hfp", FloatAbi::Hard),
     ("hardfp", FloatAbi::Hard),
     ("hardfloat", FloatAbi::Hard),
     ("sf", FloatAbi::Soft),
@@ -504,6 +558,9 @@ const FLOATS: [(&str, FloatAbi); 8] = [
     ("softfloat", FloatAbi::Soft),
     ("nofp", FloatAbi::Soft),
 ];
+
+/// Words for an Arm that say it.
+const ARMS: [(&str, FloatAbi); 2] = [("aarch32hf", FloatAbi::Hard), ("aarch32sf", FloatAbi::Soft)];
 
 /// Words that say how wide a pointer is.
 const WIDTHS: [(&str, PointerWidth); 10] = [
@@ -526,10 +583,17 @@ const AMBIGUOUS: [&str; 4] = ["arm", "armv8", "armv8a", "armv9"];
 const SEVERAL: [&str; 4] = ["universal", "universal2", "fat", "multiarch"];
 const SIMULATORS: [&str; 2] = ["sim", "simulator"];
 
-/// What words of ABIs have within that aren't known here.
-const OF_ABIS: [&str; 8] = [
-    "gnu", "musl", "uclibc", "abi", "n32", "x32", "ilp32", "float",
+/// What words of ABIs begin and end with that aren't known here.
+const C_LIBRARIES: [&str; 6] = ["", "gnu", "glibc", "musl", "uclibc", "eabi"];
+const ABIS: [&str; 12] = [
+    "x32", "n32", "o32", "f32", "sf", "ilp32", "abi64", "abin32", "abiv2", "abiv2hf", "spe", "asan",
 ];
+
+fn is_of_abi(word: &str) -> bool {
+    let abi = |library: &&str| word.strip_prefix(*library);
+    let mut abis = C_LIBRARIES.iter().filter_map(|it| abi(&it));
+    abis.any(|it| ABIS.contains(&it))
+}
 
 #[cfg(all(test, feature = "alloc"))]
 mod tests {

@@ -1,6 +1,6 @@
 //! Names with what files and commands have around them.
 use crate::buffer::Buffer;
-use crate::hints::system_of;
+use crate::hints::{allows, system_of};
 use crate::table::OF_CONFIG_SUB;
 use crate::{Dialect, NameError};
 use core::fmt::Write;
@@ -92,7 +92,10 @@ impl Dialect {
             }
             _ => return None,
         };
-        self.read_end(file, ['-', '_', '.'])
+        let found = self.read_end(file, ['-', '_', '.']);
+        // A file of another tool may have a word of a machine that is another one here.
+        let is_archive = matches!(self, Dialect::Go | Dialect::Node | Dialect::Rust);
+        found.filter(|it| !is_archive || it.map_or(true, |triple| allows(file, &triple)))
     }
 
     /// Of a package with a scope, without its version: the longest end that is a platform, after a dash or whole.

@@ -4,7 +4,9 @@ use core::fmt;
 use target_lexicon::spellings::{
     architecture_of, first_part, fit, is_digit_or_dot, Fit, Form, Place, Reading,
 };
-use target_lexicon::{DeploymentTarget, Field, OperatingSystem, Refusal, TextPart, VendorRef};
+use target_lexicon::{
+    Architecture, DeploymentTarget, Field, OperatingSystem, Refusal, TextPart, VendorRef,
+};
 
 /// What the parts before a part say of it.
 #[derive(Clone, Copy, Debug)]
@@ -160,7 +162,8 @@ fn is_other_system(part: &str) -> bool {
 
 /// Whether a part is a machine, or a word for a byte order, a width, a version or how floating-point arguments are passed.
 pub(crate) fn is_of_machine(part: &str) -> bool {
-    NO_VENDORS.contains(&part) || architecture_of(part).is_some()
+    let is_machine = architecture_of(part).map_or(false, |it| it != Architecture::Unknown);
+    NO_VENDORS.contains(&part) || is_machine
 }
 
 /// Whether a part is the name of a system, perhaps with a version.

@@ -2,8 +2,8 @@
 use std::collections::BTreeSet;
 use target_lexicon::TripleRef;
 use target_names::{
-    hint, meanings, Dialect, LinuxLibc, Meaning, NameError, NameOf, TargetInfo, TranslateError,
-    WriteError,
+    hint, meanings, Dialect, Hint, LinuxLibc, Meaning, NameError, NameOf, TargetInfo,
+    TranslateError, WriteError,
 };
 
 /// A line has the dialect, the name, the C library that is said or a dash, where the name is from, and three answers, each
@@ -350,6 +350,50 @@ fn meanings_are_those_of_tools_and_then_the_triple() {
     let half = "half of a platform: containerd adds that of the host".to_string();
     assert!(meant("amd64").contains(&("oci", half)));
 }
+
+/// What the command shows of a name: the triples that it means, or why it has none, or what its words say.
+fn answer(name: &str) -> String {
+    let (mut triples, mut whys) = (Vec::new(), Vec::new());
+    for Meaning { triple, .. } in meanings(name) {
+        let (answers, shown) = match triple {
+            Ok(triple) => (&mut triples, triple.to_string()),
+            Err(why) => (&mut whys, format!("!{why}")),
+        };
+        if !answers.contains(&shown) {
+            answers.push(shown);
+        }
+    }
+    match (triples.is_empty(), whys.is_empty(), hint(name)) {
+        (false, ..) => triples.join(" "),
+        (_, false, _) => whys.join(" "),
+        (.., Some(Hint::Triple(triple))) => format!("?{triple}"),
+        (.., hint) => format!("?{}", hint.map_or(String::new(), |it| it.to_string())),
+    }
+}
+
+#[test]
+fn names_of_releases_mean_what_their_words_say() {
+    let (mut right, mut refused, mut unknown) = (0, 0, 0);
+    for row in rows(include_str!("names_of_releases.tsv")) {
+        let [name, source, expected] = row.as_slice() else {
+            panic!("{row:?}");
+        };
+        assert!(!source.is_empty());
+        assert_eq!(answer(name), *expected, "{name}");
+        match expected
+            .strip_prefix('?')
+            .map(|it| it.contains(' ') || it.is_empty())
+        {
+            Some(true) => unknown += 1,
+            _ if expected.starts_with('!') => refused += 1,
+            _ => right += 1,
+        }
+    }
+    assert_eq!((right, refused, unknown), RELEASES);
+}
+
+/// How many names of releases mean a triple, or their words do; have a reason; and are unknown, with what is known of them.
+const RELEASES: (usize, usize, usize) = (211, 1, 50);
 
 #[test]
 fn words_of_names_that_no_tool_has_are_hints() {

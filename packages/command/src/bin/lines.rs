@@ -48,9 +48,16 @@ fn each(show: fn(&TripleRef) -> String, end: &str) -> io::Result<()> {
 /// The C library, how floating-point arguments are passed, and the size and alignment of `long double` and `wchar_t`; `-`
 /// where there is no answer. Then how the target is linked, its string for LLVM, those of its variants, and versions.
 fn driver(triple: &TripleRef) -> String {
-    let layout = |it: Option<TypeLayout>| it.map_or("- -".to_string(), |it| format!("{} {}", it.size, it.alignment));
-    let string = |it: Option<TripleRef>| it.map_or("-".to_string(), |it| it.llvm_target().to_string());
-    let version = |it: Option<DeploymentTarget>| it.map_or("-".to_string(), |it| format!("{}.{}", it.major, it.minor));
+    let layout = |it: Option<TypeLayout>| {
+        it.map_or("- -".to_string(), |it| {
+            format!("{} {}", it.size, it.alignment)
+        })
+    };
+    let string =
+        |it: Option<TripleRef>| it.map_or("-".to_string(), |it| it.llvm_target().to_string());
+    let version = |it: Option<DeploymentTarget>| {
+        it.map_or("-".to_string(), |it| format!("{}.{}", it.major, it.minor))
+    };
     format!(
         "{} {} {} {} {} program{} {} {} {} {} {} {} {}\n",
         triple.c_library().map_or("-", CLibrary::name),

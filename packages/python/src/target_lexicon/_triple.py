@@ -550,12 +550,9 @@ class Triple:
         return facts
 
     def _vendor_text(self) -> bytes:
-        """The string of the custom vendor, which is within `_owner`."""
-        owner, struct = self._owner, self._struct
-        if owner is None:
-            return b""
-        start = (struct.custom_vendor or 0) - ctypes.addressof(owner)
-        return owner.raw[start:start + struct.custom_vendor_size]
+        """The string of the custom vendor, which is within `_owner`, or is the library's own if a name of another tool means it."""
+        struct = self._struct
+        return b"" if self._owner is None else ctypes.string_at(struct.custom_vendor or 0, struct.custom_vendor_size)
 
     def _ordered(self) -> str:
         """What triples are ordered by, which is kept: the printed string, which has no zero byte, then the numbers of the fields.

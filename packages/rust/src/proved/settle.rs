@@ -52,7 +52,7 @@ impl<'a> TripleRef<'a> {
     /// The normal step of any triple. If the vendor is plain, it is the canonical form.
     #[doc(hidden)]
     #[must_use]
-    #[inline]
+    #[inline(always)]
     pub fn step(mut self) -> TripleRef<'a> {
         match self.family() {
             Some(Family::PrintsAsSpecial) => {

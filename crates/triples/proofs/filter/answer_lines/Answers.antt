@@ -1,7 +1,8 @@
-use Rattle.std.proofs.Common.{◌≡◌, ◌∙◌, ◌+◌, ◌-◌, ◌<◌, ◌≤◌, ◌++◌, ℕ, List, [], ◌∷◌, length, take, drop, refl, sym, ap, subst, arith, rules}
-use Rattle.std.proofs.lemmas.List.{length-drop, drop-drop}
-use Rattle.triples.specs.{Filter.HasNoFeed, FilterSteps.AnswersLines, Output.written_lines, Run.Takes, Run.use_of}
-use Rattle.triples.proofs.FilterLemmas.{answers-none, answers-line, takes-none, takes-then, takes-part, rest-of, line-step, pushed-within}
+use Rattle.std.proofs.Common.{◌∙◌, ◌++◌, ℕ, List, [], length, take, drop, refl, ap, subst, arith, rules}
+use Rattle.std.proofs.lemmas.List.{length-drop}
+use Rattle.triples.specs.{FilterSteps.HasNoFeed}
+use Rattle.triples.proofs.FilterLemmas.{answers-none, rest-of, line-step, pushed-within}
+use Rattle.triples.proofs.UseLemmas.{takes-none, takes-then, takes-part}
 use Rattle.triples.proofs.filter.answer_lines.Goals as goal
 
 pub loop-at-init : goal.loop-at-init
@@ -35,7 +36,7 @@ pub returns-in_default-make_room-clause-lines : goal.returns-in_default-make_roo
 returns-in_default-make_room-clause-lines g c =
     let inv = c.loop-at.invariant in
     let failed = c.in_default-make_room.ensures in
-    let part = takes-part g.W.Write.contents c.args.w.now c.loop-at.w c.make_room.new.w inv.written.0 (take c.loop-at.used c.loop-at.output) failed.2 inv.written.1 failed.3 in
+    let part = takes-part g.W.Write.contents c.args.w.now c.loop-at.w c.make_room.new.w inv.written.0 (take c.loop-at.used c.loop-at.output) inv.written.1 (failed.2, failed.3) in
     (refl, omega (arith, failed.1, inv.unfailed), inv.written.0 ++ take c.loop-at.used c.loop-at.output, c.loop-at.late, drop c.loop-at.start c.args.bytes.now, inv.written.2, part.0, part.1)
 
 pub returns-in-Ok-write_all-clause-lines : goal.returns-in-Ok-write_all-clause-lines
@@ -55,5 +56,5 @@ pub returns-in-Err-clause-lines : goal.returns-in-Err-clause-lines
 returns-in-Err-clause-lines g c =
     let inv = c.loop-at.invariant in
     let failed = c.in-Err.ensures in
-    let part = takes-part g.W.Write.contents c.args.w.now c.loop-at.w c.write_all.new.writer inv.written.0 (take c.loop-at.used c.loop-at.output) failed.part.0 inv.written.1 failed.part.1 in
+    let part = takes-part g.W.Write.contents c.args.w.now c.loop-at.w c.write_all.new.writer inv.written.0 (take c.loop-at.used c.loop-at.output) inv.written.1 failed.begun in
     (refl, omega (arith, failed.failed.1, inv.unfailed), inv.written.0 ++ take c.loop-at.used c.loop-at.output, c.loop-at.late, drop c.loop-at.start c.args.bytes.now, inv.written.2, part.0, part.1)

@@ -1,10 +1,10 @@
-use Rattle.std.proofs.Common.{◌≡◌, ◌∙◌, ◌+◌, ◌-◌, ◌<◌, ◌≤◌, ◌++◌, ℕ, List, [], length, take, drop, Ok, Err, refl, sym, ap, subst, arith, rules}
-use Rattle.std.proofs.lemmas.List.{length-append, length-drop, length-take}
+use Rattle.std.proofs.Common.{◌≡◌, ◌∙◌, ◌+◌, ◌-◌, ◌^◌, ◌<◌, ◌≤◌, ◌++◌, ℕ, List, [], length, take, drop, refl, ap, subst, arith}
+use Rattle.std.proofs.lemmas.List.{length-append, length-take}
 use Rattle.std.proofs.lemmas.Slice.{take-put_mid_below}
 use borrow.Rule.Slice.PartMut.{put_mid}
-use Rattle.triples.specs.Run.{Gives, use_of}
-use Rattle.triples.specs.FilterSteps.{IsKept, LinesAnswered, RestAnswered}
-use Rattle.triples.proofs.FilterLoop.{IsBetweenReads, between-none, between-more, between-kept, ends-read, ends-rest, ends-write, ends-endless, read-piece, gave, length-read, unfailed-read, part-length}
+use Rattle.triples.specs.Run.{use_of}
+use Rattle.triples.specs.FilterSteps.{IsKept, RestAnswered}
+use Rattle.triples.proofs.FilterLoop.{between-none, between-more, between-kept, ends-read, ends-rest, ends-write, ends-endless, read-piece, gave, length-read, none-is-end, part-length, some-is-no-end, unfailed-read}
 use Rattle.triples.proofs.filter.filter.Goals as goal
 
 pub loop-init : goal.loop-init
@@ -32,7 +32,7 @@ loop-preserved g c =
     let whole = length-read c.loop.held c.loop.input c.read.new.buf (omega (arith, inv.held)) given in
     let next =
     between-more g.R.Read.remaining g.W.Write.contents c.args.mode size c.args.r.now c.loop.r c.read.new.self c.args.w.now c.loop.w c.answer_lines.new.w c.loop.is_late held c.loop.counter inv.state
-    more (gave g.R.Read.remaining c.loop.r c.read.new.self more read.moved read.bytes.0) (unfailed-read (use_of g.R.Read.remaining c.loop.r c.read.new.self) read.count) piece is fits
+    more (gave g.R.Read.remaining c.loop.r c.read.new.self more read.moved read.bytes.0) (unfailed-read (use_of g.R.Read.remaining c.loop.r c.read.new.self) read.count) (read.ended ∙ some-is-no-end c.in-Ok.taken c.read.new.buf (λ bad. omega (arith, bad, c.if-taken-eq0.false))) piece is fits
     c.in-Ok-answer_lines.start c.in-Ok-answer_lines.late some c.in-Ok-answer_lines.ensures.lines in
     let keeps =
     subst (λ (n : ℕ). IsKept n c.in-Ok-answer_lines.late (drop c.in-Ok-answer_lines.start piece) c.keep_rest.new.buffer c.keep_rest.result.0 c.keep_rest.result.1) (whole ∙ inv.same_length) kept.kept in
@@ -50,7 +50,7 @@ returns-in_default g c =
     record {
       ends =
           ends-read g.R.Read.remaining g.W.Write.contents c.args.mode (length c.args.input.now) c.args.r.now c.loop.r c.read.new.self c.args.w.now c.loop.w c.loop.w c.loop.is_late
-          (take c.loop.held c.loop.input) c.loop.counter c.loop.invariant.state failed.bytes failed.moved failed.count;
+          (take c.loop.held c.loop.input) c.loop.counter c.loop.invariant.state failed.bytes failed.moved failed.count failed.ended;
     }
 
 pub returns-then-taken-eq0 : goal.returns-then-taken-eq0
@@ -70,6 +70,7 @@ returns-then-taken-eq0 g c =
           ends-rest g.R.Read.remaining g.W.Write.contents c.args.mode (length c.args.input.now) c.args.r.now c.loop.r c.read.new.self c.args.w.now c.loop.w c.finish.new.w c.loop.is_late
           held c.loop.counter inv.state more c.finish.result none (gave g.R.Read.remaining c.loop.r c.read.new.self more read.moved read.bytes.0)
           (unfailed-read (use_of g.R.Read.remaining c.loop.r c.read.new.self) read.count)
+          (read.ended ∙ none-is-end c.in-Ok.taken c.read.new.buf c.if-taken-eq0.true room)
           (read.bytes.1 c.if-taken-eq0.true room) (omega (arith, length-take c.loop.held c.loop.input, inv.held, inv.same_length)) done;
     }
 
@@ -89,6 +90,16 @@ returns-in_default-answer_lines g c =
     record {
       ends =
           ends-write g.R.Read.remaining g.W.Write.contents c.args.mode size c.args.r.now c.loop.r c.read.new.self c.args.w.now c.loop.w c.answer_lines.new.w c.loop.is_late held c.loop.counter inv.state
-          more (gave g.R.Read.remaining c.loop.r c.read.new.self more read.moved read.bytes.0) (unfailed-read (use_of g.R.Read.remaining c.loop.r c.read.new.self) read.count) piece is fits
+          more (gave g.R.Read.remaining c.loop.r c.read.new.self more read.moved read.bytes.0) (unfailed-read (use_of g.R.Read.remaining c.loop.r c.read.new.self) read.count)
+          (read.ended ∙ some-is-no-end c.in-Ok.taken c.read.new.buf (λ bad. omega (arith, bad, c.if-taken-eq0.false))) piece is fits c.every_text_has_one_outcome.ensures
           c.in_default-answer_lines.field-0 c.in_default-answer_lines.ensures.lines;
+    }
+
+pub returns : goal.returns
+returns g c =
+    let all : 2 ^ 64 - 1 ≤ c.loop.counter = omega arith in
+    record {
+      ends =
+          ends-endless g.R.Read.remaining g.W.Write.contents c.args.mode (length c.args.input.now) c.args.r.now c.loop.r c.loop.r c.args.w.now c.loop.w c.loop.w c.loop.is_late
+          (take c.loop.held c.loop.input) c.loop.counter c.loop.invariant.state all;
     }

@@ -1,4 +1,4 @@
-use Rattle.std.proofs.Common.{◌≡◌, ◌∙◌, ℕ, List, ◌+◌, ◌-◌, ◌≤◌, length, take, drop, inl, inr, refl, sym, ap, arith}
+use Rattle.std.proofs.Common.{◌≡◌, ◌∙◌, ℕ, List, ◌+◌, ◌-◌, ◌≤◌, length, take, drop, inr, refl, sym, ap, arith}
 use Rattle.std.proofs.lemmas.List.{drop-take, length-drop}
 use lib.Seq.{take-paste, paste}
 use Rattle.triples.proofs.filter.keep_rest.Goals as goal

@@ -2,7 +2,7 @@
 use Rattle.std.proofs.Common.{◌≡◌, ◌≤◌, length, string_bytes}
 use Rattle.std.specs.Str.Iter.{split_text, split_terminator_parts, split_terminator_pattern}
 use Rattle.triples.specs.Lines.{line_feed, lines_of}
-use Rattle.triples.specs.Private.{shown_text}
+use Rattle.triples.specs.Output.{shown_by}
 use Rattle.triples.proofs.AnswerLemmas.{IsSoFar}
 use Rattle.triples.proofs.LineLemmas.{lines_left}
 use Rattle.triples.proofs.lines.answers.Given as goal
@@ -11,5 +11,5 @@ abbrev pub invariant-loop-line : goal.invariant-loop-line
 invariant-loop-line l = record {
   pattern : split_terminator_pattern l.line-iterator ≡ line_feed;
   shorter : length (split_text (split_terminator_parts l.line-iterator)) ≤ length l.input;
-  so_far : IsSoFar (shown_text l.mode) (lines_of l.input) (lines_left l.line-iterator) (string_bytes l.output);
+  so_far : IsSoFar (shown_by l.mode) (lines_of l.input) (lines_left l.line-iterator) (string_bytes l.output);
 }

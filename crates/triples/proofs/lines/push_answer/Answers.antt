@@ -1,7 +1,7 @@
 -- The answer to a line is what is shown of its triple, which has a plain vendor, or its refusal.
 use Rattle.std.proofs.Common.{◌≡◌, ◌++◌, ◌∙◌, ℕ, List, ap, append_assoc, string_bytes, rules}
 use Rattle.target_lexicon.specs.{Printing.text_of, Values.values_of}
-use Rattle.triples.specs.{Facts.facts_of, Private.shown_text}
+use Rattle.triples.specs.{Facts.facts_of, Output.shown_by}
 use Rattle.triples.proofs.AnswerLemmas.{refusal-adds, shown-adds}
 use Rattle.triples.proofs.lines.push_answer.Goals.{in-Show+in_ok-push_facts-in-Show, in-Print-mode}
 use Rattle.triples.proofs.lines.push_answer.Goals as goal
@@ -14,7 +14,7 @@ returns-after-mode-2 c =
     let t = values_of c.in-Ok.triple in
     let old = string_bytes c.args.output.now in
     let printed : string_bytes c.push_str.new.self ≡ old ++ text_of (values_of c.match-mode.shown) = search rules in
-    let grown : string_bytes c.match-mode-2.output ≡ old ++ shown_text c.args.mode t =
+    let grown : string_bytes c.match-mode-2.output ≡ old ++ shown_by c.args.mode t =
     elim c.match-mode-2.branch [
       | in-Show+in_ok-push_facts-in-Show v ↦
           let facts = facts_of (values_of c.match-mode.shown) in
@@ -23,10 +23,10 @@ returns-after-mode-2 c =
           search rules
       | in-Print-mode v ↦ search rules
     ] in
-    shown-adds c.push.result (shown_text c.args.mode) c.args.line.now old (string_bytes c.match-mode-2.output) (string_bytes c.push.new.self)
+    shown-adds c.push.result (shown_by c.args.mode) c.args.line.now old (string_bytes c.match-mode-2.output) (string_bytes c.push.new.self)
     t c.in-Ok.ensures.ok grown (search rules)
 
 pub returns-in-Err : goal.returns-in-Err
 returns-in-Err c =
-    refusal-adds c.push_refusal.result (shown_text c.args.mode) c.args.line.now (string_bytes c.args.output.now) (string_bytes c.push_refusal.new.output)
+    refusal-adds c.push_refusal.result (shown_by c.args.mode) c.args.line.now (string_bytes c.args.output.now) (string_bytes c.push_refusal.new.output)
     c.in-Err.error c.in-Err.ensures.err c.push_refusal.ensures

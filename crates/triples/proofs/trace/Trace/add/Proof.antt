@@ -1,5 +1,5 @@
 -- An empty body. The borrow is opened, and closed at the longer list.
-use Rattle.std.proofs.Common.{ℕ, List, [], ◌∷◌, ◌++◌, refl, MutBor, ◌<◌, ◌^◌, length}
+use Rattle.std.proofs.Common.{ℕ, false, List, [], ◌∷◌, ◌++◌, refl, MutBor, ◌<◌, ◌^◌, length}
 use seplogic.Ra.Ura.{Ura}
 use mir.Syntax.{named}
 use mir.Val.{Val, vunit, vptr}
@@ -48,7 +48,7 @@ module _ {M : Type 1} {𝓤 : Ura M} (𝓛 : Logic 𝓤) (at_mem : Memory → SP
   x = (record { ref_ptr = (b, o); ghost_name = γ; now = h }, (s, tt))
 
   abbrev h' : Trace
-  h' = record { bytes = h.bytes ++ s.now }
+  h' = record { bytes = h.bytes ++ s.now; is_ended = false }
 
   abbrev at : List Val × (List Val × Unit {0})
   at = (vptr b o ∷ [], (slice_val s.ref_ptr (length s.now) ∷ [], tt))

@@ -1,0 +1,110 @@
+-- What reads gave and writes took, call after call; and which input and output that makes.
+use Rattle.std.proofs.Common.{◌≡◌, ◌∙◌, ℕ, ◌+◌, ◌==◌, Bool, true, false, ◌&&◌, not, if◌then◌else◌, ◌≤◌, inl, inr, List, [], ◌++◌, length, take, drop, Option, Some, None, Result, Ok, Err, refl, sym, ap, subst, append_assoc, arith}
+use Rattle.std.proofs.{lemmas.Bool.eqb-true, lemmas.List.append-nil, lemmas.List.append_cancel_left, lemmas.List.length-append, lemmas.List.take-append-drop}
+use Rattle.std.proofs.{KnownBytes.Appends-nil, KnownBytes.Appends-trans, KnownBytes.Appends-kept, KnownBytes.Consumes-nil, KnownBytes.Consumes-trans, KnownBytes.Consumes-kept}
+use Rattle.std.proofs.Math.Seq.{take-append-add, take-append_seam}
+use Rattle.std.specs.Io.KnownBytes.{Appends, Consumes, IsAtEnd, Keeps, WriteAppends}
+use Rattle.triples.specs.Run.{Use, Gives, Takes, TakesBeginning, IsReadWhole, IsUnfailed, HasFailed, use_of}
+use Rattle.triples.specs.RunLaws.{IsInput, IsWritten}
+use Rattle.triples.specs.Streams.{inner, moved, write_failures_of}
+use Rattle.triples.specs.declared.counted.Counted.{Counted}
+
+-- a call that didn't fail has not failed
+pub not-both : (it : Use) → IsUnfailed it → HasFailed it → ⊥
+not-both it unfailed failed = omega (arith, unfailed, failed)
+
+-- a write that failed took no byte
+took-none : (is_none is_empty : Bool) (count : ℕ) → (is_none ≡ true → count ≡ 0) → ◌≡◌ {A = ℕ} (if is_none && not is_empty then 1 else 0) 1 → count ≡ 0
+took-none true is_empty count none failed = none refl
+took-none false is_empty count none failed = absurd (let bad : ◌≡◌ {A = ℕ} 0 1 = failed in omega (arith, bad))
+
+Keeps-none : (u v : Option (List ℕ)) (bytes : List ℕ) → bytes ≡ [] → Appends u v bytes → Keeps u v
+Keeps-none None v bytes none appends = tt
+Keeps-none (Some xs) None bytes none appends = appends
+Keeps-none (Some xs) (Some ys) bytes none appends = appends ∙ ap (λ (t : List ℕ). xs ++ t) none ∙ append-nil xs
+
+pub Keeps-failed_write : {E : Type 0} (u v : Option (List ℕ)) (answer : Result ℕ E) (piece : List ℕ)
+    → write_failures_of answer piece ≡ 1 → WriteAppends u v answer piece → Keeps u v
+Keeps-failed_write u v (Ok count) piece failed appends =
+    let none = took-none (count == 0) (length piece == 0) count (eqb-true count 0) failed in
+    Keeps-none u v (take count piece) (ap (λ (n : ℕ). take n piece) none) appends
+Keeps-failed_write u v (Err e) piece failed appends = appends
+
+-- one call after the other
+module _ {D : Type 0} (bytes : D → Option (List ℕ)) (a b c : Counted D) where
+  pub takes-then : (x y : List ℕ) → Takes (use_of bytes a b) x → Takes (use_of bytes b c) y → Takes (use_of bytes a c) (x ++ y)
+  takes-then x y first next = record {
+    moved = next.moved ∙ ap (λ (t : List ℕ). t ++ y) first.moved ∙ append_assoc _ x y;
+    known = Appends-trans _ _ _ x y first.known next.known;
+  }
+
+  pub gives-then : (x y : List ℕ) → Gives (use_of bytes a b) x → Gives (use_of bytes b c) y → Gives (use_of bytes a c) (x ++ y)
+  gives-then x y first next = record {
+    moved = next.moved ∙ ap (λ (t : List ℕ). t ++ y) first.moved ∙ append_assoc _ x y;
+    known = Consumes-trans _ _ _ x y first.known next.known;
+  }
+
+  -- a call that moved nothing
+  pub takes-kept : (x : List ℕ) → Takes (use_of bytes a b) x → Keeps (bytes (inner b)) (bytes (inner c)) → moved c ≡ moved b → Takes (use_of bytes a c) x
+  takes-kept x first keeps same = record { moved = same ∙ first.moved; known = Appends-kept _ _ _ x first.known keeps }
+
+  pub gives-kept : (x : List ℕ) → Gives (use_of bytes a b) x → Keeps (bytes (inner b)) (bytes (inner c)) → moved c ≡ moved b ++ [] → Gives (use_of bytes a c) x
+  gives-kept x first keeps same = record { moved = same ∙ append-nil _ ∙ first.moved; known = Consumes-kept _ _ _ x first.known keeps }
+
+  -- what was taken before, and a beginning of more
+  pub takes-part : (x y : List ℕ) → Takes (use_of bytes a b) x → TakesBeginning (use_of bytes b c) y → TakesBeginning (use_of bytes a c) (x ++ y)
+  takes-part x y first next = (length x + next.0, rw (take-append-add x y next.0) (takes-then x (take next.0 y) first next.1))
+
+module _ {D : Type 0} (bytes : D → Option (List ℕ)) (a : Counted D) where
+  pub takes-none : Takes (use_of bytes a a) []
+  takes-none = record { moved = sym (append-nil _); known = Appends-nil _ }
+
+  pub gives-none : Gives (use_of bytes a a) []
+  gives-none = record { moved = sym (append-nil _); known = Consumes-nil _ }
+
+-- what was taken is a beginning of these
+pub takes-beginning : (writer : Use) (a b c : List ℕ) → Takes writer a → c ≡ a ++ b → TakesBeginning writer c
+takes-beginning writer a b c takes e = (length a, rw (e, take-append_seam a b) takes)
+
+pub takes-all : (writer : Use) (a : List ℕ) → Takes writer a → TakesBeginning writer a
+takes-all writer a takes = takes-beginning writer a [] a takes (sym (append-nil a))
+
+pub takes-more : (writer : Use) (a b : List ℕ) → TakesBeginning writer a → TakesBeginning writer (a ++ b)
+takes-more writer a b begun =
+    takes-beginning writer (take begun.0 a) (drop begun.0 a ++ b) (a ++ b) begun.1
+    (ap (λ (t : List ℕ). t ++ b) (sym (take-append-drop begun.0 a)) ∙ append_assoc (take begun.0 a) (drop begun.0 a) b)
+
+-- the bytes that the reads gave are the input
+module _ (reader : Use) (input text : List ℕ) where
+  input-known : (before after : Option (List ℕ)) → before ≡ Some text → Consumes before after input → IsAtEnd after → input ≡ text
+  input-known None after is consumes at_end = let bad : ◌≡◌ {A = Option (List ℕ)} None (Some text) = is in absurd cc
+  input-known (Some xs) None is consumes at_end = absurd consumes
+  input-known (Some xs) (Some ys) is consumes at_end =
+      let same : xs ≡ text = cc in
+      sym (append-nil input) ∙ ap (λ (t : List ℕ). input ++ t) (sym at_end) ∙ sym consumes ∙ same
+
+  input-longer : (before after : Option (List ℕ)) → before ≡ Some text → Consumes before after input → length input ≤ length text
+  input-longer None after is consumes = let bad : ◌≡◌ {A = Option (List ℕ)} None (Some text) = is in absurd cc
+  input-longer (Some xs) None is consumes = absurd consumes
+  input-longer (Some xs) (Some ys) is consumes =
+      let same : xs ≡ text = cc in
+      omega (arith, ap (λ (t : List ℕ). length t) same, ap (λ (t : List ℕ). length t) consumes, length-append input ys)
+
+  given-once : Gives reader input → Gives reader text → input ≡ text
+  given-once a b = append_cancel_left reader.moved_before input text (sym a.moved ∙ b.moved)
+
+  pub input-is : IsInput reader text → Gives reader input → IsReadWhole reader → input ≡ text
+  input-is (inl given) gives whole = given-once gives given
+  input-is (inr known) gives whole = input-known reader.bytes_before reader.bytes_after known gives.known whole.1
+
+  -- without the end, they are no more than it
+  pub input-within : IsInput reader text → Gives reader input → length input ≤ length text
+  input-within (inl given) gives = omega (arith, ap (λ (t : List ℕ). length t) (given-once gives given))
+  input-within (inr known) gives = input-longer reader.bytes_before reader.bytes_after known gives.known
+
+-- what the writes took is the output
+pub output-is : (writer : Use) (output bytes : List ℕ) → IsWritten writer bytes → Takes writer output → output ≡ bytes
+output-is writer output bytes (inl taken) takes = append_cancel_left writer.moved_before output bytes (sym takes.moved ∙ taken.moved)
+output-is writer output bytes (inr known) takes =
+    sym (append_cancel_left known.0 bytes output
+    (subst (λ (new : Option (List ℕ)). Appends (Some known.0) new output) known.2 (subst (λ (old : Option (List ℕ)). Appends old writer.bytes_after output) known.1 takes.known)))

@@ -1,0 +1,216 @@
+//! Names made of a system's, a machine's and an ABI's word in the usual ways: no answer, hint or suggestion has a machine, width, byte order,
+//! way to pass floating-point arguments or system that the words don't say.
+use target_lexicon::{Architecture, Environment, Named, OperatingSystem, PointerWidth, TripleRef};
+use target_names::{hint, meanings, Dialect, FloatAbi, Hint, NameOf, TargetInfo};
+
+/// Words for machines, and an architecture of the same family, width and byte order.
+const MACHINES: [(&str, &str); 26] = [
+    ("amd64", "x86_64"),
+    ("x86_64", "x86_64"),
+    ("x64", "x86_64"),
+    ("x86", "i686"),
+    ("i386", "i686"),
+    ("386", "i686"),
+    ("ia32", "i686"),
+    ("arm64", "aarch64"),
+    ("aarch64", "aarch64"),
+    ("aarch64_be", "aarch64_be"),
+    ("armv6", "armv6"),
+    ("armv7", "armv7"),
+    ("armhf", "arm"),
+    ("armel", "arm"),
+    ("armeb", "armeb"),
+    ("mips", "mips"),
+    ("mipsle", "mipsel"),
+    ("mips64el", "mips64el"),
+    ("mips64-le", "mips64el"),
+    ("ppc64", "powerpc64"),
+    ("ppc64le", "powerpc64le"),
+    ("ppc64-le", "powerpc64le"),
+    ("riscv64", "riscv64"),
+    ("s390x", "s390x"),
+    ("loong64", "loongarch64"),
+    ("sparc64", "sparc64"),
+];
+
+/// Words for systems, and a triple of the same.
+const SYSTEMS: [(&str, &str); 25] = [
+    ("linux", "x86_64-unknown-linux"),
+    ("alpine", "x86_64-unknown-linux"),
+    ("debian", "x86_64-unknown-linux"),
+    ("ubuntu", "x86_64-unknown-linux"),
+    ("android", "x86_64-linux-android"),
+    ("darwin", "x86_64-apple-darwin"),
+    ("macos", "x86_64-apple-darwin"),
+    ("macOS", "x86_64-apple-darwin"),
+    ("osx", "x86_64-apple-darwin"),
+    ("mac", "x86_64-apple-darwin"),
+    ("ios", "x86_64-apple-ios"),
+    ("tvos", "x86_64-apple-tvos"),
+    ("visionos", "x86_64-apple-visionos"),
+    ("windows", "x86_64-pc-windows"),
+    ("win", "x86_64-pc-windows"),
+    ("mingw", "x86_64-pc-windows"),
+    ("freebsd", "x86_64-unknown-freebsd"),
+    ("netbsd", "x86_64-unknown-netbsd"),
+    ("openbsd", "x86_64-unknown-openbsd"),
+    ("dragonfly", "x86_64-unknown-dragonfly"),
+    ("illumos", "x86_64-unknown-illumos"),
+    ("solaris", "x86_64-pc-solaris"),
+    ("fuchsia", "x86_64-unknown-fuchsia"),
+    ("haiku", "x86_64-unknown-haiku"),
+    ("uefi", "x86_64-unknown-uefi"),
+];
+
+/// Words for C libraries and ABIs, and how they pass floating-point arguments.
+const ABIS: [(&str, Option<FloatAbi>); 9] = [
+    ("", None),
+    ("gnu", None),
+    ("musl", None),
+    ("msvc", None),
+    ("hf", Some(FloatAbi::Hard)),
+    ("gnueabihf", Some(FloatAbi::Hard)),
+    ("gnueabi", Some(FloatAbi::Soft)),
+    ("softfloat", Some(FloatAbi::Soft)),
+    ("muslx32", None),
+];
+
+/// Node's machine `ppc64` is little-endian on Linux.
+const LITTLE_ENDIAN: &str = "linux-ppc64";
+
+struct Said {
+    architecture: Architecture,
+    system: TripleRef<'static>,
+    floats: Option<FloatAbi>,
+    width: Option<PointerWidth>,
+}
+
+fn family(architecture: Architecture) -> &'static str {
+    match architecture {
+        Architecture::Arm(_) => "arm",
+        Architecture::X86_32(_) => "x86",
+        Architecture::Riscv64(_) => "riscv64",
+        Architecture::Sparcv9 => "sparc64",
+        other => other.name(),
+    }
+}
+
+impl Said {
+    /// Checks a triple that is an answer. The name of a tool may say more of floating-point arguments and of the C library, and a triple that
+    /// parses is itself.
+    fn check(
+        &self,
+        triple: &TripleRef<'_>,
+        is_own: bool,
+        name: &str,
+        what: &dyn std::fmt::Display,
+    ) {
+        let why = format!("{name}: {what}: {triple}");
+        let (ours, theirs) = (self.architecture, triple.architecture);
+        let is_little = name.starts_with(LITTLE_ENDIAN) && theirs == Architecture::Powerpc64le;
+        assert!(family(ours) == family(theirs) || is_little, "{why}");
+        assert!(
+            ours.endianness() == theirs.endianness() || is_little,
+            "{why}"
+        );
+        assert_eq!(triple.pointer_width().ok(), self.width, "{why}");
+        let floats = triple.float_abi();
+        if !is_own {
+            assert!(
+                floats.is_none() || floats == self.floats || is_always(triple),
+                "{why}"
+            );
+        }
+        let is_android = |it: &TripleRef<'_>| {
+            matches!(
+                it.environment,
+                Environment::Android | Environment::Androideabi
+            )
+        };
+        let is_same = match (self.system.operating_system, triple.operating_system) {
+            (OperatingSystem::Darwin(_), OperatingSystem::MacOSX(_)) => true,
+            (OperatingSystem::Linux, OperatingSystem::Unknown) => is_android(triple),
+            (ours, theirs) => ours == theirs,
+        };
+        assert!(
+            is_same && is_android(&self.system) == is_android(triple),
+            "{why}"
+        );
+    }
+}
+
+/// Systems on which floating-point arguments are passed in one way.
+fn is_always(triple: &TripleRef<'_>) -> bool {
+    use OperatingSystem::{Freebsd, Windows};
+    matches!(triple.operating_system, Freebsd | Windows)
+        || triple.environment == Environment::Androideabi
+}
+
+#[test]
+fn answers_say_what_the_words_say() {
+    let (mut names, mut answers) = (0, 0);
+    let join = |name: [&str; 3], form: &str| {
+        let [system, machine, abi] = name;
+        let dash = if abi.is_empty() { "" } else { "-" };
+        match form {
+            "os-arch" => format!("{system}-{machine}{dash}{abi}"),
+            "os_arch" => format!("{system}_{machine}{}{abi}", dash.replace('-', "_")),
+            "arch-os" => format!("{machine}-{system}{dash}{abi}"),
+            "os/arch" => format!("{system}/{machine}{}{abi}", dash.replace('-', "/")),
+            _ => format!("tool-1.2.3-{system}-{machine}{dash}{abi}{form}"),
+        }
+    };
+    for (system_word, system) in SYSTEMS {
+        for (machine, architecture) in MACHINES {
+            for (abi, floats) in ABIS {
+                let architecture: Architecture = architecture.parse().unwrap();
+                let stated = match machine {
+                    "armhf" => Some(FloatAbi::Hard),
+                    "armel" => Some(FloatAbi::Soft),
+                    _ => None,
+                };
+                let width = match abi {
+                    "muslx32" => Some(PointerWidth::U32),
+                    _ => architecture.pointer_width().ok(),
+                };
+                let said = Said {
+                    architecture,
+                    system: TripleRef::from_str(system).unwrap(),
+                    floats: floats.or(stated),
+                    width,
+                };
+                let forms = [
+                    "os-arch", "os_arch", "arch-os", "os/arch", ".tar.gz", ".zip", ".exe",
+                ];
+                for form in forms {
+                    let name = join([system_word, machine, abi], form);
+                    names += 1;
+                    for meaning in meanings(&name) {
+                        if let (NameOf::Dialect(_), Ok(triple)) = (meaning.of, meaning.triple) {
+                            said.check(&triple, true, &name, &meaning.of);
+                            answers += 1;
+                        }
+                    }
+                    if let Some(Hint::Triple(triple)) = hint(&name) {
+                        said.check(&triple, false, &name, &"hint");
+                        answers += 1;
+                    }
+                    // Suggestions take longer: of each machine and system, with some ABIs.
+                    let is_asked = ["", "gnueabihf", "muslx32"].contains(&abi);
+                    let is_asked = is_asked && ["os-arch", "arch-os", "os/arch"].contains(&form);
+                    for dialect in Dialect::ALL.iter().filter(|_| is_asked) {
+                        let Some(meant) = dialect.suggestion(&name) else {
+                            continue;
+                        };
+                        let Ok(triple) = dialect.read(meant) else {
+                            continue;
+                        };
+                        said.check(&triple, true, &name, &format!("{dialect}'s {meant}"));
+                        answers += 1;
+                    }
+                }
+            }
+        }
+    }
+    assert!(names > 40_000 && answers > 20_000, "{names} {answers}");
+}
