@@ -203,7 +203,7 @@ def refuses_and_suggests(page):
     same([it.strip() for it in page.run(ROWS + ".map((row) => row.querySelector('strong')?.textContent ?? '')")],
          ["windws", "<b>", "\u4e2d\u6587", "(empty)", "linux/amd46", ""])
     same(page.run("document.querySelector('tbody b')"), None)
-    same(page.run("[...document.querySelectorAll('.offer')].map((it) => it.textContent)"), ["windows", "x86_64-linux-gnu", "linux/amd64", "linux"])
+    same(page.run("[...document.querySelectorAll('.offer')].map((it) => it.textContent)"), ["windows", "linux/amd64", "linux"])
     same(rows[4][1], "Unrecognized architecture: linux/amd46Did you mean linux/amd64 of Go and containers?")
     same(rows[5][0], "x86_64- linx -gnu Did you mean linux ? canonical: x86_64-linx-unknown-gnu-elf")
     same(page.run("[...document.querySelectorAll('tbody .odd')].map((it) => it.textContent)"), ["linx", "linx"])
