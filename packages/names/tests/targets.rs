@@ -135,7 +135,7 @@ fn platforms_are_joined_with_architectures() {
     let head = lines.next().unwrap();
     let column = |name: &str| head.iter().position(|it| *it == name).unwrap();
     let (oci, debian, library) = (column("oci"), column("debian"), column("c_library"));
-    let joined: Vec<_> = lines
+    let mut joined: Vec<_> = lines
         .filter(|row| !row[oci].is_empty() && !row[debian].is_empty() && row[library] == "glibc")
         .map(|row| (row[oci], row[debian]))
         .collect();
