@@ -139,6 +139,8 @@ class Comparison(Report):
         words = collections.defaultdict(list)
         for dialect in self.dialects:
             for row in self.rows_of(dialect):
+                if row.note.startswith("+"):
+                    continue  # a level of the machine
                 system, word = words_of(dialect, row.name)
                 own = OWN_WORDS.keys() & {f"{it} of {dialect}" for it in (word, f"{system} {word}", row.name)}
                 words[own.pop() if own else word].append((dialect, row.name, row.triple.split("-")[0]))
@@ -221,14 +223,15 @@ class Comparison(Report):
         lines = output(f"{self.folder}/platforms", input="".join(f"{name}\n" for name in meanings)).splitlines()
         normal = dict(zip(meanings, lines, strict=True))
         self.fact("a name of OCI means what containerd's normal form of it means", (
-            (name, normal[name], self.read(normal[name], "oci"), it) for name, it in meanings.items()), "v8[.]0")
+            (name, normal[name], self.read(normal[name], "oci"), it) for name, it in meanings.items()), "v8[.]")
         self.fact("a name of OCI that is written is containerd's normal form", (
             (row.name, normal[row.name]) for row in self.rows_of("oci", ("rw",))))
 
     def check_rpm(self):
         if not self.has("rpm", shutil.which("rpm")):
             return
-        meanings = self.meanings("rpm")
+        # Levels of x86-64 are newer than Debian's rpm.
+        meanings = {name: it for name, it in self.meanings("rpm").items() if not name.startswith("x86_64_v")}
         asked = {name: output("rpm", f"--target={name}-linux", "--eval", "%{_lib} %{optflags}") for name in meanings}
         known = re.findall(r"^arch_canon:\s*(\w+):", upstream.read("/usr/lib/rpm/rpmrc"), re.M)
         self.fact("rpm has its architectures", ((name, name in known, True) for name in meanings))

@@ -21,7 +21,7 @@ CARGO_FAILED = "the shared library of this package isn't built: cargo ended with
 
 LICENCES = ("LICENSE", "COPYRIGHT")
 # The table of the names that other tools have for targets.
-TABLES = ("names.json", "names.csv", "names.schema.json")
+TABLES = ("names.json", "names.csv", "names.schema.json", "targets.csv")
 # What an sdist has of the repository, below `native`: what cargo builds the library from, what the tests read, and the licence.
 SOURCES = ("Cargo.toml", "Cargo.lock", "packages/names",
            *(f"packages/{package}/{name}" for package in ("c", "rust") for name in ("Cargo.toml", "build.rs", "src")))

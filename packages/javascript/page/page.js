@@ -303,7 +303,7 @@ function refusedRow({ text, error, fields, suggestion }, meant) {
   const head = header(text, text.slice(0, error.start), part, text.slice(error.end));
   const others = [...otherMeanings(meant, text, null)];
   const inside = others.length ? others : [element("p", { class: "message" }, error.message.replace(error.part, () => shown(error.part)))];
-  if (!others.length) inside.push(...(suggestion ? [element("p", {}, ...question(suggestion, text, error))] : nearestNames(text)), ...soFar(fields));
+  if (!others.length) inside.push(...(suggestion ? [element("p", {}, ...question(suggestion, text, error))] : error.start === 0 ? nearestNames(text) : []), ...soFar(fields));
   const answer = element("td", { role: "cell", class: "refused", colspan: 7, "aria-colspan": 7 }, ...inside);
   const row = element("tr", { role: "row", class: "refused" }, head, answer);
   row.kind = "refused";

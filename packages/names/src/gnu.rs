@@ -47,7 +47,10 @@ impl<'a> Parts<'a> {
                 ("", Some(kernel), Some(system))
             }
             (Some(maker), system @ Some(_), None) => (maker, None, system),
-            (Some(maker), None, None) if is_one_of(MAKERS, maker) => (maker, None, None),
+            // A sparc has SunOS, whoever made it.
+            (Some(maker), None, None) if is_one_of(MAKERS, maker) && machine != "sparc" => {
+                (maker, None, None)
+            }
             (system, ..) => ("", None, system),
         };
         Ok(Parts {

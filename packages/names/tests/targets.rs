@@ -63,6 +63,12 @@ fn table() -> String {
             read.push((dialect, name));
         }
     }
+    // What rustc tells apart is a row of its own instead of what it doesn't: `riscv64gc` for `riscv64`.
+    let known: Vec<String> = targets.keys().cloned().collect();
+    targets.retain(|target: &String, (triple, _)| {
+        let shape = Dialect::Rust.shape(triple).to_string();
+        shape == *target || !known.contains(&shape)
+    });
     let mut text =
         String::from("target,machine,pointer_width,byte_order,system,c_library,float_abi");
     Dialect::ALL
@@ -129,10 +135,15 @@ fn platforms_are_joined_with_architectures() {
     let head = lines.next().unwrap();
     let column = |name: &str| head.iter().position(|it| *it == name).unwrap();
     let (oci, debian, library) = (column("oci"), column("debian"), column("c_library"));
-    let joined: Vec<_> = lines
+    let mut joined: Vec<_> = lines
         .filter(|row| !row[oci].is_empty() && !row[debian].is_empty() && row[library] == "glibc")
         .map(|row| (row[oci], row[debian]))
         .collect();
+    // No platform has two.
+    joined.sort_unstable();
+    let mut platforms: Vec<_> = joined.iter().map(|it| it.0).collect();
+    platforms.dedup();
+    assert_eq!(platforms.len(), joined.len(), "{joined:?}");
     for pair in [
         ("linux/amd64", "amd64"),
         ("linux/arm/v7", "armhf"),

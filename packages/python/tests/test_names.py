@@ -311,3 +311,21 @@ class Names(unittest.TestCase):
         for error in self.refusal("js/wasm", "go"), self.refusal("amd63", "debian"):
             for again in pickle.loads(pickle.dumps(error)), copy.deepcopy(error), eval(repr(error), vars(target_lexicon)):
                 self.assertEqual((again.text, again.line, again.reason, str(again)), (error.text, error.line, error.reason, str(error)))
+
+    def test_a_string_whose_class_encodes_wrongly(self):
+        class Wrong(str):
+            def encode(self, *_):
+                return b"\xff"
+
+        with self.assertRaises(target_lexicon.TranslationError) as caught:
+            target_lexicon.translate(Wrong("linux/arm64"), "oci", "debian")
+        self.assertEqual(str(caught.exception), "No name in the other dialect: linux/arm64: it depends on the C library: say glibc or musl")
+
+    def test_messages_escape_what_a_terminal_may_obey(self):
+        hostile = "\x1b]0;a\u0301\u3164\x07"
+        for call in (Triple, Dialect, target_lexicon.Vendor, lambda it: Triple("avr").name_in(it), lambda it: Triple("avr").replace(environment=it),
+                     lambda it: Triple.from_dict({it: ""}), lambda it: ParseError("avr", it), lambda it: target_lexicon.translate(f"@{it}/linux-x64", "node", "debian")):
+            with self.assertRaises(ValueError) as caught:
+                call(hostile)
+            self.assertRegex(str(caught.exception), r"\A[ -~\n]*\Z")
+            self.assertIn(r"\x1b", str(caught.exception))

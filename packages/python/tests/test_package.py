@@ -67,7 +67,7 @@ class Built(Folder):
         with zipfile.ZipFile(built(".whl")) as wheel:
             names = [it for it in wheel.namelist() if it.startswith("target_lexicon/")]
         self.assertIn("target_lexicon/py.typed", names)
-        for name in "names.json", "names.csv", "names.schema.json":
+        for name in "names.json", "names.csv", "names.schema.json", "targets.csv":
             self.assertTrue(filecmp.cmp(os.path.join(package, name), os.path.join(lists.ROOT, "packages/names", name), shallow=False))
         self.assertEqual(lists.other_tools()["version"], target_lexicon.__version__)
         self.assertEqual(sorted(it for it in os.listdir(package) if it != "__pycache__"), sorted(os.path.basename(it) for it in names))

@@ -248,6 +248,24 @@ fn a_borrowed_triple_is_equal_to_the_owned_one_and_hashed_as_it() {
 }
 
 #[test]
+fn each_field_makes_a_borrowed_triple_another_one() {
+    let strings = [
+        "x86_64-pc-linux-gnu",
+        "i686-pc-linux-gnu",
+        "x86_64-acme-linux-gnu",
+        "x86_64-pc-windows-gnu-elf",
+        "x86_64-pc-linux-musl",
+        "x86_64-pc-linux-gnu-coff",
+    ];
+    for one in strings {
+        let borrowed = TripleRef::from_str(one).unwrap();
+        for other in strings {
+            assert_eq!(borrowed == other.parse::<Triple>().unwrap(), one == other);
+        }
+    }
+}
+
+#[test]
 fn what_is_equal_in_a_map_of_borrowed_triples_is_found_with_an_owned_one() {
     let targets = HashMap::from([(TripleRef::from_str("x86_64-acme-linux").unwrap(), 1)]);
     let owned: Triple = "x86_64-acme-linux".parse().unwrap();

@@ -552,7 +552,8 @@ class Triple:
     def _vendor_text(self) -> bytes:
         """The string of the custom vendor, which is within `_owner`, or is the library's own if a name of another tool means it."""
         struct = self._struct
-        return b"" if self._owner is None else ctypes.string_at(struct.custom_vendor or 0, struct.custom_vendor_size)
+        # `ctypes.string_at` would be an ArgumentError if there is no memory.
+        return b"" if self._owner is None else (ctypes.c_char * struct.custom_vendor_size).from_address(struct.custom_vendor or 0).raw
 
     def _ordered(self) -> str:
         """What triples are ordered by, which is kept: the printed string, which has no zero byte, then the numbers of the fields.

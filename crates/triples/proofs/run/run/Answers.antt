@@ -59,7 +59,7 @@ returns-in-Ok-flush g c =
       | in-Json+in_ok-output-in-Json w ↦ search rules
     ] in
     let takes = subst (λ (t : List ℕ). Takes writer t) c.as_bytes.ensures.value
-        (takes-kept g.W.Write.contents c.args.w.now c.write_all.new.writer c.flush.new.self _ c.in_ok-write_all.ensures.whole c.flush.ensures.bytes c.flush.ensures.moved) in
+    (takes-kept g.W.Write.contents c.args.w.now c.write_all.new.writer c.flush.new.self _ c.in_ok-write_all.ensures.whole c.flush.ensures.bytes c.flush.ensures.moved) in
     record {
       ends =
           written-ends c.args.mode reader writer c.in-Ok.input.now gives c.in_ok-bytes.ensures.whole (subst IsUtf8 (sym line.0) line.1) (string_bytes c.match-mode.output) output takes
@@ -81,7 +81,7 @@ returns g c =
       | in-Json+in_ok-output-in-Json w ↦ search rules
     ] in
     let takes = subst (λ (t : List ℕ). Takes writer t) c.as_bytes.ensures.value
-        (takes-kept g.W.Write.contents c.args.w.now c.write_all.new.writer c.flush.new.self _ c.in_ok-write_all.ensures.whole c.flush.ensures.bytes c.flush.ensures.moved) in
+    (takes-kept g.W.Write.contents c.args.w.now c.write_all.new.writer c.flush.new.self _ c.in_ok-write_all.ensures.whole c.flush.ensures.bytes c.flush.ensures.moved) in
     record {
       ends =
           write-ends c.args.mode reader writer c.in-Ok.input.now gives c.in_ok-bytes.ensures.whole (subst IsUtf8 (sym line.0) line.1) (string_bytes c.match-mode.output) output
