@@ -73,6 +73,7 @@ WITHOUT_PROOF = [
     ("what they take from the kit's library, written again, is the kit's", 'checks/specification library "$(dirname "$(rt doc)")/rattle"', "rt cargo"),
     ("the command `target-lexicon`: arguments, output and statuses", "packages/command/test", "cargo"),
     ("it is built for the next steps, and a program to compare with", "cd packages/command && cargo build --quiet --locked --release --all-features", "cargo"),
+    ("a list of misspelled names takes at most ten times as long as one of right names", f"packages/command/tests/cost {COMMANDS}/target-lexicon", "cargo valgrind"),
     ("the library for C is built and installed for the next steps", 'packages/c/install "$BUILT"', "cargo cc"),
     ("the library for C, header, packages and samples, as C and C++ users have them", "packages/c/test", "cargo cc"),
     ("the Python package: each answer, wheels, types, samples", f'packages/python/test "$BUILT/lib/libtarget_lexicon.so" {COMMANDS}/lines',

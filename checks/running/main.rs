@@ -105,7 +105,8 @@ fn run(part: &str, chosen: Chosen, r: &mut Report) {
         }
         #[cfg(feature = "port")]
         "c_strings" => {
-            let all = Strings::parsed();
+            let (special, all) = (inputs::near_special(), Strings::parsed());
+            c::compare(r, "answers", Chosen { step: 1, ..chosen }.of(special.len()), |i| c::string(special[i].clone()));
             c::compare(r, "answers", chosen.of(all.count()), |i| c::string(all.string(i)));
         }
         #[cfg(feature = "port")]

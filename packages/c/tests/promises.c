@@ -433,6 +433,7 @@ static void try_meanings(const char *text, size_t size, uint32_t parsed) {
 
 /* A text as a name of each dialect, and of none, where parsing it gave this status and, if that is LEXICON_OK, this triple. */
 static void try_read(const char *text, size_t size, uint32_t parsed, const struct lexicon_triple *same) {
+  struct lexicon_triple versioned;
   for (uint32_t dialect = LEXICON_DIALECT_NONE; dialect <= LAST_DIALECT + 1; dialect++) {
     struct lexicon_triple triple;
     struct lexicon_error error;
@@ -465,6 +466,12 @@ static void try_read(const char *text, size_t size, uint32_t parsed, const struc
       CHECK(status <= LEXICON_NOT_UTF8);
     }
   }
+  struct lexicon_versions versions;
+  memset(&versions, 0xa5, sizeof versions);
+  enum lexicon_status read_status = lexicon_read(LEXICON_DIALECT_NONE, text, size, &versioned, NULL);
+  CHECK(lexicon_stated_versions(text, size, &versions, NULL) == read_status);
+  if (read_status != LEXICON_OK) CHECK(is_unchanged(&versions, sizeof versions));
+  else CHECK(versions.operating_system.major == versioned.major || !versioned.has_version);
 }
 
 /* Each line of a text is settled as it is by itself. */

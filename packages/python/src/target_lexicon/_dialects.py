@@ -45,7 +45,10 @@ class Dialect(NamedValue):
     @classmethod
     def _missing_(cls, value: object) -> Optional[Dialect]:
         """The dialect of another name, such as `docker`."""
-        return cls(OTHER_NAMES[value]) if isinstance(value, str) and value in OTHER_NAMES else super()._missing_(value)
+        if isinstance(value, str) and value in OTHER_NAMES:
+            return cls(OTHER_NAMES[value])
+        super()._missing_(value)  # which raises the error
+        return None
 
 
 #: The names of the dialects; the other names; and those that are only read, or only written.
