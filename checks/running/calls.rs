@@ -122,7 +122,7 @@ fn parse_triple_error(r: &mut Report, string: &str, refusal: V, error: &ParseTri
     r.holds("the string of an error", error.text() == string && string.get(range.clone()) == Some(error.part()), &string);
     let is_read = |end: usize| matches!(s::reading_of_parts(s::parts_of(v(&string[..end]))), V::C(s::Result__Ok, _));
     r.holds("the place of an error", !is_read(range.end) && (range.start == 0 || is_read(range.start - 1)), &string);
-    let visible = |text: &str| text.chars().map(|c| if "\"'\\".contains(c) { c.to_string() } else { c.escape_debug().to_string() }).collect::<String>();
+    let visible = |text: &str| text.chars().map(|c| if (' '..='~').contains(&c) { c.to_string() } else { c.escape_default().to_string() }).collect::<String>();
     let [before, part, after] = [&string[..range.start], error.part(), &string[range.end..]].map(visible);
     let carets = "^".repeat(part.chars().count().max(1));
     let meant = error.suggestion().map_or(String::new(), |it| format!(" did you mean `{it}`?"));

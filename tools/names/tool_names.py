@@ -348,7 +348,7 @@ def files(tables):
     ]
     for it in dialects:
         lines += [f"    Table {{ rules: {table_rules(it)}, rows: &[", *(f'        ("{name}", "{meaning}", {way}),' for name, meaning, way in it.rows), "    ],"]
-        lines += [f"    notes: &[", *(f'        ("{name}", "{note}"),' for name, note in it.notes), "    ],"]
+        lines += ["    notes: &[", *(f'        ("{name}", "{note}"),' for name, note in it.notes), "    ],"]
         for word, numbers in zip(("by_name", "patterns"), row_orders(it)):
             lines += [f"    {word}: &[", *(filled(numbers, " ", "        ") if numbers else []), "    ],"]
         lines += ["    },"]
