@@ -176,7 +176,7 @@ class Names(unittest.TestCase):
         rows = [it for it in NAMES if it.read and it.tool != "gnu" and "13" not in it.name]
         found = [(self.refusal(it.name[0] + it.name, it.tool).suggestion, it.name) for it in rows]
         self.assertEqual([it for it in found if it[0] not in (it[1], None)], [])
-        self.assertLessEqual(sum(suggested is None for suggested, _ in found), len(rows) // 50)
+        self.assertLessEqual(sum(suggested is None for suggested, _ in found), len(rows) // 30)
 
     def test_what_is_around_names(self):
         for dialect, text, triple in (("npm", "@rollup/rollup-linux-x64-gnu", "x86_64-unknown-linux-gnu"), ("npm", "@esbuild/win32-arm64@0.21.5", "aarch64-pc-windows"),
@@ -192,7 +192,7 @@ class Names(unittest.TestCase):
             return [(it.dialect, str(it.triple) if it.triple else it.reason) for it in target_lexicon.meanings(text)]
         self.assertEqual(meant("armhf"), [(Dialect.DEBIAN, "armv7-unknown-linux-gnueabihf"), (Dialect.APK, "armv6-unknown-linux-musleabihf")])
         self.assertEqual(meant("plan9/amd64"), [(Dialect.GO, "Plan 9 is no known name")])
-        self.assertEqual(meant("x86_64-acme-linux"), [(Dialect.GNU, "x86_64-unknown-linux-gnu"), (None, "x86_64-acme-linux")])
+        self.assertEqual(meant("x86_64-acme-linux"), [(None, "x86_64-acme-linux"), (Dialect.GNU, "x86_64-unknown-linux-gnu")])
         vendor = meant(f"x86_64-{'a' * 500}-linux")
         self.assertEqual(vendor[-1], (None, f"x86_64-{'a' * 500}-linux"))
         for nobody in "", "foo/bar", "linx", "\0", "linux/\u00e9", "x" * 100_000:
