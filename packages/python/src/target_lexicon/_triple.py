@@ -534,12 +534,9 @@ class Triple:
         return facts
 
     def _vendor_text(self) -> bytes:
-        """The string of the custom vendor, which is within `_owner`."""
-        owner, struct = self._owner, self._struct
-        if owner is None:
-            return b""
-        start = (struct.custom_vendor or 0) - ctypes.addressof(owner)
-        return owner.raw[start:start + struct.custom_vendor_size]
+        """The string of the custom vendor, which is within `_owner` or, of a tool's name, in the library."""
+        struct = self._struct
+        return ctypes.string_at(struct.custom_vendor, struct.custom_vendor_size) if struct.custom_vendor_size else b""
 
     def _ordered(self) -> str:
         """What triples are ordered by, which is kept: the printed string, which has no zero byte, then the numbers of the fields.
