@@ -33,10 +33,11 @@ def rows(tables, wrong):
             used |= {*of}
             has_triple = ways not in ("-", "several")
             if ways == "several":
-                note = f"several machines: {triple.replace('+', ' and ')}"
+                note = triple.replace("+", " and ")
             yield {"tool": dialect.name, "name": name, "triple": triple if has_triple else None, "read": ways in ("r", "rw"), "written": "w" in ways,
                    "other_names": others if "w" in ways else [], "states_version_of": ranges[0] if ranges else None,
-                   "reason": None if has_triple else note, "note": note if note and has_triple else None, "sources": of}
+                   "reason": None if has_triple else "several machines" if ways == "several" else note,
+                   "note": note if note and ways != "-" else None, "sources": of}
     wrong += [f"elsewhere.tsv: no row is from the source {it}" for it in tables.sources if it not in used]
 
 

@@ -1325,7 +1325,7 @@ zig|x86_64-unknown-linux-gnu|x86_64-linux-gnu|it is a name of gnu and rust; TRIP
 nix|x86_64-macos|x86_64-darwin|it is a name of gnu and zig
 nix|x86_64-unknown-linux|x86_64-linux|it is a name of gnu; TRIPLE
 gnu|x86_64-linux-gnuu|x86_64-linux-gnu|-
-gnu|alpha-linux-gnu|-|as a triple: Unrecognized architecture: alpha";
+gnu|nios2-linux-gnu|-|as a triple: Unrecognized architecture: nios2";
 
 /// What a name gets as a note that is a triple.
 const TRIPLE: &str = "it is a triple, which `target-lexicon settle` and `target-lexicon what` take";
@@ -1380,7 +1380,7 @@ turbo-darwin-64|darwin-64|another name comes before it
 windows-11-arm|-|it names a system, and no single machine known here
 aarch64_cortex-a53|-|it names a machine, and no system known here
 ios-arm64_x86_64-simulator|-|it names several machines
-alpha-linux-gnu|-|as a triple: Unrecognized architecture: alpha
+nios2-linux-gnu|-|as a triple: Unrecognized architecture: nios2
 java|-|-";
 
 #[test]

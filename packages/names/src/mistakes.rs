@@ -18,7 +18,7 @@ use target_lexicon::Refusal;
 /// assert_eq!(mistake(Dialect::Debian, "linux/arm64").unwrap(), "it is a name of go and oci");
 /// assert_eq!(mistake(Dialect::Uname, "Linux").unwrap(), "it is a part of a name, such as `Linux x86_64`");
 /// assert_eq!(mistake(Dialect::Node, "turbo-linux-x64").unwrap(), "another name comes before it");
-/// assert_eq!(mistake(Dialect::Gnu, "alpha-linux-gnu").unwrap(), "as a triple: Unrecognized architecture: alpha");
+/// assert_eq!(mistake(Dialect::Gnu, "nios2-linux-gnu").unwrap(), "as a triple: Unrecognized architecture: nios2");
 /// assert_eq!(mistake(Dialect::Go, "plan10"), None);
 /// ```
 #[derive(Clone, Copy, Debug, PartialEq, Eq)]

@@ -190,7 +190,7 @@ impl Dialect {
         let triple = c_library.map_or(triple, |it| triple.with_c_library(it));
         match self.write(triple) {
             Some(name) => Ok(name),
-            None => Err(self.why_unnamed(&triple, c_library)),
+            None => Err(self.why_unnamed(&triple)),
         }
     }
 
@@ -273,7 +273,7 @@ impl Dialect {
 
     /// Why a triple without a name has none.
     #[inline]
-    fn why_unnamed(self, triple: &TripleRef<'_>, said: Option<LinuxLibc>) -> WriteError {
+    fn why_unnamed(self, triple: &TripleRef<'_>) -> WriteError {
         if !self.rows().iter().any(is_written) {
             return WriteError::OnlyRead;
         }
@@ -293,7 +293,7 @@ impl Dialect {
         if is_unknown && !has_other_name {
             return why;
         }
-        self.why_c_library(triple, why, said)
+        self.why_c_library(triple, why)
             .or_else(|| self.why_machine(triple))
             .or_else(|| self.why_system(triple))
             .unwrap_or(why)
@@ -301,12 +301,7 @@ impl Dialect {
 
     /// The reason, if with a C library the triple has a name. It is given why without one it has none.
     #[inline]
-    fn why_c_library(
-        self,
-        triple: &TripleRef<'_>,
-        why: WriteError,
-        said: Option<LinuxLibc>,
-    ) -> Option<WriteError> {
+    fn why_c_library(self, triple: &TripleRef<'_>, why: WriteError) -> Option<WriteError> {
         if triple.environment != Environment::Unknown {
             return None;
         }
@@ -323,7 +318,8 @@ impl Dialect {
             _ => return None,
         };
         // An Arm without a version has no environment with a C library.
-        let is_arm = triple.architecture == Architecture::Arm(ArmArchitecture::Arm);
+        let is_arm = triple.architecture == Architecture::Arm(ArmArchitecture::Arm)
+            && triple.operating_system == OperatingSystem::Linux;
         let versioned = match is_arm {
             true => TripleRef {
                 architecture: Architecture::Arm(ArmArchitecture::Armv7),
@@ -332,9 +328,9 @@ impl Dialect {
             false => *triple,
         };
         let is_helped = |libc: &LinuxLibc| self.has_name(versioned.with_c_library(*libc));
-        let reason = match said {
-            Some(libc) if is_arm && is_helped(&libc) => WriteError::NeedsArmVersion,
-            _ => reason,
+        let reason = match is_arm {
+            true => WriteError::NeedsArmVersion,
+            false => reason,
         };
         c_libraries.iter().any(is_helped).then_some(reason)
     }

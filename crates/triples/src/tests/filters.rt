@@ -150,7 +150,7 @@ fn refusals(alloc: Global, size: usize, input: &str) -> Option<String> {
 fn lines_of_any_length_are_answered(rt: HostRuntime) {
     let alloc = rt.alloc();
     for size in SIZES {
-        for length in [0, size - 1, size, size + 1] {
+        for length in [0, size.saturating_sub(1), size, size.saturating_add(1)] {
             let Ok(line) = "a".repeat(alloc, length) else {
                 panic!(rt; "out of memory");
             };
@@ -160,7 +160,7 @@ fn lines_of_any_length_are_answered(rt: HostRuntime) {
             let Some(output) = refusals(alloc, size, &input) else {
                 panic!(rt; "out of memory");
             };
-            for piece in [size.div_ceil(3), usize::MAX] {
+            for piece in [(size / 3).max(1), usize::MAX] {
                 let mut reader = Faulty::sound(alloc, input.as_bytes());
                 reader.most = piece;
                 let writer = Faulty::sound(alloc, b"");
@@ -188,7 +188,10 @@ fn each_read_of_a_filter_fails_in_turn(rt: HostRuntime) {
     let alloc = rt.alloc();
     for kind in [ErrorKind::Interrupted, ErrorKind::BrokenPipe] {
         for (at, _) in LINES.char_indices() {
-            let ended = LINES[..at].trim_end_matches(|c| c != '\n');
+            let Some(beginning) = LINES.get(..at) else {
+                panic!(rt; "{at}");
+            };
+            let ended = beginning.trim_end_matches(|c| c != '\n');
             let Some(output) = refusals(alloc, 64, ended) else {
                 panic!(rt; "out of memory");
             };
@@ -213,7 +216,10 @@ fn each_read_of_a_filter_fails_in_turn(rt: HostRuntime) {
 fn a_read_of_nothing_ends_a_filter(rt: HostRuntime) {
     let alloc = rt.alloc();
     for (at, _) in LINES.char_indices() {
-        let Some(output) = refusals(alloc, 64, &LINES[..at]) else {
+        let Some(beginning) = LINES.get(..at) else {
+            panic!(rt; "{at}");
+        };
+        let Some(output) = refusals(alloc, 64, beginning) else {
             panic!(rt; "out of memory");
         };
         let reader = Faulty::new(alloc, LINES.as_bytes(), at, None);
