@@ -21,9 +21,9 @@ ITEMS = {
 NON_EXHAUSTIVE = set(
     """Architecture ArmArchitecture Aarch64Architecture CleverArchitecture Riscv32Architecture Riscv64Architecture
     X86_32Architecture Mips32Architecture Mips64Architecture Z80Architecture Vendor KnownVendor OperatingSystem Environment BinaryFormat
-    CallingConvention CDataModel Explanation Family Refusal Sources""".split())
+    CallingConvention CDataModel Explanation RoundTripFamily Refusal Sources""".split())
 # The public types that get the derive `Hash` too.
-HASHED = set("Explanation Family Field Refusal Source Sources TextPart".split())
+HASHED = set("Explanation RoundTripFamily Field Refusal Source Sources TextPart".split())
 
 # What only the crates above need, of which documentation doesn't speak.
 HIDDEN = {"Reading", "Reading::start", "Reading::take", "Reading::finish", "Refusal::write_to", "TripleRef::step"}
@@ -32,7 +32,7 @@ HIDDEN = {"Reading", "Reading::start", "Reading::take", "Reading::finish", "Refu
 OF_THE_CRATE = set(
     """Architecture::name BinaryFormat::name CallingConvention::name CDataModel::name Endianness::name Environment::name
     PointerWidth::name OperatingSystem::prefix OperatingSystem::version Vendor::as_vendor_ref Vendor::is_plain Triple::as_triple_ref
-    DeploymentTarget::from_text Triple::comes_back Triple::family Triple::settles_as TripleRef::write_upstream_to""".split())
+    DeploymentTarget::from_text Triple::comes_back Triple::round_trip_family Triple::settles_as TripleRef::write_upstream_to""".split())
 # Calls that the layer has with an error of its own, and the names that the crate has for those with `()`.
 WITHOUT_ERROR = {
     "VendorRef::from_str": "from_text", "TripleRef::endianness": "known_endianness", "TripleRef::pointer_width": "known_pointer_width",

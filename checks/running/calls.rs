@@ -140,8 +140,8 @@ pub fn triple(r: &mut Report, t: V, owned: &Triple) {
         text_of = triple.to_string();
         upstream_text_of = triple.to_upstream_text();
         upstream_text_of = owned.to_upstream_text();
-        family = triple.family();
-        family = owned.family();
+        family = triple.round_trip_family();
+        family = owned.round_trip_family();
         default_binary_format = triple.default_binary_format();
         default_binary_format = target_lexicon::default_binary_format(owned);
         endianness = triple.endianness().ok();

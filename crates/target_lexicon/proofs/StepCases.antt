@@ -4,8 +4,8 @@ use Rattle.std.proofs.Common.{◌≡◌, ◌≢◌, ◌∙◌, ◌⊎◌, ℕ, L
 use Rattle.std.specs.Str.{bytes_eq}
 use Rattle.std.proofs.{lemmas.Slice.Eq.bytes_eq-Decides, lemmas.Bool.false≢true}
 use Rattle.target_lexicon.specs.Values.{Architecture, OperatingSystem, Environment, BinaryFormat, VendorValue, Known, Custom, Values, values}
-use Rattle.target_lexicon.specs.Families.{Family, family, family_by_fields, family_of_vendor}
-use Rattle.target_lexicon.specs.declared.family.Family.TheVariants as families
+use Rattle.target_lexicon.specs.Families.{RoundTripFamily, family, family_by_fields, family_of_vendor}
+use Rattle.target_lexicon.specs.declared.family.RoundTripFamily.TheVariants as families
 use Rattle.target_lexicon.specs.FamilyFacts.{PrintsAsSpecial, HidesNewlib, PrintsTheEspIdfText, ShowsOnlyNone, VendorIsNotPlain, FamiliesAreFactsOfFields}
 use Rattle.target_lexicon.specs.NormalStep.{normal_step, step_of, elf_if_unknown}
 use Rattle.lexicon_fields.specs.{ArchitectureQueries.is_clever, declared.architecture.clever.CleverArchitecture.CleverArchitecture, Vendor.is_plain, Vendor.is_admitted, Vendor.known_vendor_of, Architecture.architecture_of, OperatingSystem.operating_system_of, OperatingSystem.fixed_operating_system_of, Environment.environment_of, BinaryFormat.binary_format_of}
@@ -19,7 +19,7 @@ use Rattle.target_lexicon.specs.Values.binary_format
 
 -- from the family to the facts
 
-abbrev pub FactsOf : Option Family → Values → Type 0
+abbrev pub FactsOf : Option RoundTripFamily → Values → Type 0
 FactsOf (Some families.PrintsAsSpecial) t = PrintsAsSpecial t
 FactsOf (Some families.HidesNewlib) t = HidesNewlib t
 FactsOf (Some families.PrintsTheEspIdfText) t = PrintsTheEspIdfText t
@@ -118,7 +118,7 @@ pub record IsOutside (t : Values) : Type 0 where
   pub none : ¬ ShowsOnlyNone t
 
 -- the family of a triple that is outside
-outside-family : (t : Values) (found : Option Family) → FactsOf found t → IsOutside t → found ≡ cond (is_plain t.vendor) None (Some families.VendorIsNotPlain)
+outside-family : (t : Values) (found : Option RoundTripFamily) → FactsOf found t → IsOutside t → found ≡ cond (is_plain t.vendor) None (Some families.VendorIsNotPlain)
 outside-family t (Some families.PrintsAsSpecial) is outside = absurd (outside.special is)
 outside-family t (Some families.HidesNewlib) is outside = absurd (outside.newlib is)
 outside-family t (Some families.PrintsTheEspIdfText) is outside = absurd (outside.esp is)
@@ -147,8 +147,8 @@ vendor-family t is = outside-family t (family t) (facts t) (record {
   none = is.others;
 }) ∙ rw is.vendor refl
 
-facts_if : (t : Values) (found : Option Family) → family t ≡ found → FactsOf found t
-facts_if t found is = subst (λ (o : Option Family). FactsOf o t) is (facts t)
+facts_if : (t : Values) (found : Option RoundTripFamily) → family t ≡ found → FactsOf found t
+facts_if t found is = subst (λ (o : Option RoundTripFamily). FactsOf o t) is (facts t)
 
 -- a triple of the last family, or of none, is outside
 none-outside : (t : Values) → family t ≡ None → IsOutside t
@@ -191,7 +191,7 @@ pub step_cases : (P : Values → Type 0) (t : Values)
 unfolding normal_step
 step_cases P t special newlib esp none outside = by_family (family t) refl
   where
-    by_family : (found : Option Family) → family t ≡ found → P (step_of found t)
+    by_family : (found : Option RoundTripFamily) → family t ≡ found → P (step_of found t)
     by_family (Some families.PrintsAsSpecial) is = special (facts_if t _ is)
     by_family (Some families.HidesNewlib) is = newlib (facts_if t _ is)
     by_family (Some families.PrintsTheEspIdfText) is = esp (facts_if t _ is)
@@ -203,7 +203,7 @@ step_cases P t special newlib esp none outside = by_family (family t) refl
 
 pub only_none-step : (t : Values) → ShowsOnlyNone t → normal_step t ≡ values t.architecture t.vendor operating_system.None_ environment.Unknown t.binary_format
 unfolding normal_step
-only_none-step t is = ap (λ (o : Option Family). step_of o t) (only_none-family t is)
+only_none-step t is = ap (λ (o : Option RoundTripFamily). step_of o t) (only_none-family t is)
 
 pub outside-fixed : (t : Values) → IsOutside t → normal_step t ≡ t
 outside-fixed t outside = step_cases (λ u. u ≡ t) t
@@ -214,6 +214,6 @@ outside-fixed t outside = step_cases (λ u. u ≡ t) t
 pub is_esp : (t : Values) → PrintsTheEspIdfText t ⊎ ¬ PrintsTheEspIdfText t
 is_esp t = by_family (family t) refl
   where
-    by_family : (found : Option Family) → family t ≡ found → PrintsTheEspIdfText t ⊎ ¬ PrintsTheEspIdfText t
+    by_family : (found : Option RoundTripFamily) → family t ≡ found → PrintsTheEspIdfText t ⊎ ¬ PrintsTheEspIdfText t
     by_family (Some families.PrintsTheEspIdfText) found = inl (facts_if t _ found)
     by_family _ found = inr (λ is. let bad = esp-family t is in cc)

@@ -2,8 +2,8 @@
 use Rattle.std.specs.Prelude.{codes, if◌then◌else◌, Option, Some, None}
 use Rattle.std.specs.Str.{bytes_eq}
 use Rattle.lexicon_fields.specs.{declared.known_vendor.KnownVendor.TheVariants.Nintendo, declared.known_vendor.KnownVendor.TheVariants.Espressif, Vendor.is_plain}
-pub use Rattle.target_lexicon.specs.declared.family.Family.{Family}
-use Rattle.target_lexicon.specs.declared.family.Family.TheVariants.{PrintsAsSpecial, HidesNewlib, PrintsTheEspIdfText, ShowsOnlyNone, VendorIsNotPlain}
+pub use Rattle.target_lexicon.specs.declared.family.RoundTripFamily.{RoundTripFamily}
+use Rattle.target_lexicon.specs.declared.family.RoundTripFamily.TheVariants.{PrintsAsSpecial, HidesNewlib, PrintsTheEspIdfText, ShowsOnlyNone, VendorIsNotPlain}
 use Rattle.target_lexicon.specs.Values.{Architecture, OperatingSystem, Environment, BinaryFormat, VendorValue, Known, Custom, Values}
 use Rattle.target_lexicon.specs.Values.architecture
 use Rattle.target_lexicon.specs.Values.arm
@@ -13,11 +13,11 @@ use Rattle.target_lexicon.specs.Values.environment
 use Rattle.target_lexicon.specs.Values.binary_format
 
 -- the last family: no string parses as the vendor
-abbrev pub family_of_vendor : VendorValue → Option Family
+abbrev pub family_of_vendor : VendorValue → Option RoundTripFamily
 family_of_vendor v = if is_plain v then None else Some VendorIsNotPlain
 
 -- the list of families: the first line that fits decides
-unfoldable pub family_by_fields : Architecture → VendorValue → OperatingSystem → Environment → BinaryFormat → Option Family
+unfoldable pub family_by_fields : Architecture → VendorValue → OperatingSystem → Environment → BinaryFormat → Option RoundTripFamily
 -- the first three fields print as `armv6k-nintendo-3ds`, which doesn't show environment and format
 family_by_fields (architecture.Arm arm.Armv6k) (Known Nintendo) operating_system.Horizon environment.Newlib binary_format.Elf = None
 family_by_fields (architecture.Arm arm.Armv6k) (Known Nintendo) operating_system.Horizon _ _ = Some PrintsAsSpecial
@@ -36,5 +36,5 @@ family_by_fields _ v _ _ _ = family_of_vendor v
 
 -- the first family that the triple is in, if any. Only a triple on Clever can be in two: without a system, with the environment
 -- `None` and a vendor that isn't plain it is in `ShowsOnlyNone`, which comes before `VendorIsNotPlain`
-abbrev pub family : Values → Option Family
+abbrev pub family : Values → Option RoundTripFamily
 family t = family_by_fields t.architecture t.vendor t.operating_system t.environment t.binary_format

@@ -2,7 +2,7 @@
 use Rattle.std.specs.Prelude.{◌≡◌, ◌≢◌, ◌↔◌, ◌⊎◌, true, false, codes, Some}
 use Rattle.lexicon_fields.specs.{ArchitectureQueries.is_clever, declared.known_vendor.KnownVendor.TheVariants.Nintendo, declared.known_vendor.KnownVendor.TheVariants.Espressif, Vendor.is_plain}
 use Rattle.target_lexicon.specs.Families.{family}
-use Rattle.target_lexicon.specs.declared.family.Family.TheVariants as families
+use Rattle.target_lexicon.specs.declared.family.RoundTripFamily.TheVariants as families
 use Rattle.target_lexicon.specs.Values.{Known, Custom, Values, values}
 use Rattle.target_lexicon.specs.Values.architecture
 use Rattle.target_lexicon.specs.Values.arm

@@ -1,8 +1,8 @@
 -- The triple that the printed string of a triple with a plain vendor reads as. The cases are of the five fields: they
 -- know no string and no printer.
 use Rattle.std.specs.Prelude.{Option, Some, None}
-use Rattle.target_lexicon.specs.Families.{Family, family}
-use Rattle.target_lexicon.specs.declared.family.Family.TheVariants as families
+use Rattle.target_lexicon.specs.Families.{RoundTripFamily, family}
+use Rattle.target_lexicon.specs.declared.family.RoundTripFamily.TheVariants as families
 use Rattle.target_lexicon.specs.Values.{BinaryFormat, Known, Values}
 use Rattle.lexicon_fields.specs.declared.known_vendor.KnownVendor.TheVariants.{Espressif}
 use Rattle.target_lexicon.specs.Values.operating_system
@@ -14,7 +14,7 @@ elf_if_unknown binary_format.Unknown = binary_format.Elf
 elf_if_unknown f = f
 
 -- what a triple of the family becomes; one in none, or whose vendor isn't plain, is unchanged
-abbrev pub step_of : Option Family → Values → Values
+abbrev pub step_of : Option RoundTripFamily → Values → Values
 step_of (Some families.PrintsAsSpecial) t = record t { environment = environment.Newlib; binary_format = binary_format.Elf }
 step_of (Some families.HidesNewlib) t = record t { environment = environment.Unknown; binary_format = elf_if_unknown t.binary_format }
 step_of (Some families.PrintsTheEspIdfText) t = record t { vendor = Known Espressif; environment = environment.Newlib; binary_format = binary_format.Elf }

@@ -17,13 +17,13 @@ use lexicon_fields::{
 /// # Examples
 ///
 /// ```
-/// use target_lexicon::{Family, TripleRef};
+/// use target_lexicon::{RoundTripFamily, TripleRef};
 ///
 /// let triple = TripleRef::from_str("riscv32imc-esp-espidf-elf").unwrap();
-/// assert_eq!((triple.comes_back(), triple.family()), (false, Some(Family::PrintsTheEspIdfText)));
+/// assert_eq!((triple.comes_back(), triple.round_trip_family()), (false, Some(RoundTripFamily::PrintsTheEspIdfText)));
 /// ```
 #[derive(Clone, Copy, Debug, PartialEq, Eq)]
-pub enum Family {
+pub enum RoundTripFamily {
     /// The first three fields are those of `armv6k-nintendo-3ds` or `riscv32imc-esp-espidf`, which is printed, and
     /// environment and format aren't `Newlib` and `Elf`.
     PrintsAsSpecial,
@@ -46,44 +46,44 @@ impl Triple {
     /// # Examples
     ///
     /// ```
-    /// use target_lexicon::{Family, triple};
+    /// use target_lexicon::{RoundTripFamily, triple};
     ///
-    /// assert_eq!(triple!("x86_64-unknown-linux-gnu").family(), None);
-    /// assert_eq!(triple!("armv7-nintendo-horizon-newlib").family(), Some(Family::HidesNewlib));
+    /// assert_eq!(triple!("x86_64-unknown-linux-gnu").round_trip_family(), None);
+    /// assert_eq!(triple!("armv7-nintendo-horizon-newlib").round_trip_family(), Some(RoundTripFamily::HidesNewlib));
     /// ```
-    pub fn family(&self) -> Option<Family>
+    pub fn round_trip_family(&self) -> Option<RoundTripFamily>
         ensures { result ≡ spec.family (values_of self.now) }
     {
-        self.as_triple_ref().family()
+        self.as_triple_ref().round_trip_family()
     }
 }
 
 impl TripleRef<'_> {
-    /// The first family that the triple is in, as [`Triple::family`] says.
+    /// The first family that the triple is in, as [`Triple::round_trip_family`] says.
     ///
     /// # Examples
     ///
     /// ```
-    /// use target_lexicon::{Family, TripleRef};
+    /// use target_lexicon::{RoundTripFamily, TripleRef};
     ///
     /// let triple = TripleRef::from_str("armv7-nintendo-horizon-newlib").unwrap();
-    /// assert_eq!(triple.family(), Some(Family::HidesNewlib));
+    /// assert_eq!(triple.round_trip_family(), Some(RoundTripFamily::HidesNewlib));
     /// ```
-    pub fn family(&self) -> Option<Family>
+    pub fn round_trip_family(&self) -> Option<RoundTripFamily>
         ensures { result ≡ spec.family (values_of_ref self.now) }
     {
         if self.prints_as_special() {
-            Some(Family::PrintsAsSpecial)
+            Some(RoundTripFamily::PrintsAsSpecial)
         } else if self.hides_newlib() {
-            Some(Family::HidesNewlib)
+            Some(RoundTripFamily::HidesNewlib)
         } else if self.prints_the_esp_idf_text() {
-            Some(Family::PrintsTheEspIdfText)
+            Some(RoundTripFamily::PrintsTheEspIdfText)
         } else if self.shows_only_none() {
-            Some(Family::ShowsOnlyNone)
+            Some(RoundTripFamily::ShowsOnlyNone)
         } else if self.vendor.is_plain() {
             None
         } else {
-            Some(Family::VendorIsNotPlain)
+            Some(RoundTripFamily::VendorIsNotPlain)
         }
     }
 

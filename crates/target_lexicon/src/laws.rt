@@ -16,7 +16,7 @@ ghost use Rattle.target_lexicon.specs.ValuesRef.{values_of_ref, placed_outcome, 
 ghost use Rattle.target_lexicon.specs.declared.data_model.CDataModel.{CDataModel};
 ghost use Rattle.target_lexicon.specs.Explanation.{part_value, source_value, sources_of};
 ghost use Rattle.target_lexicon.specs.declared.explanation.Explanation.{Explanation};
-ghost use Rattle.target_lexicon.specs.declared.family.Family.{Family};
+ghost use Rattle.target_lexicon.specs.declared.family.RoundTripFamily.{RoundTripFamily};
 ghost use Rattle.target_lexicon.specs.declared.reading.Reading.{Reading};
 ghost use Rattle.target_lexicon.specs.declared.explanation.Source.{Source};
 ghost use Rattle.target_lexicon.specs.declared.explanation.Sources.{Sources};
@@ -34,7 +34,7 @@ use crate::calling_convention::CallingConvention;
 use crate::data_model::{CDataModel, Size};
 use crate::defaults::{DefaultToHost, DefaultToUnknown};
 use crate::explanation::{Explanation, Source, Sources, TextPart};
-use crate::family::Family;
+use crate::family::RoundTripFamily;
 use crate::json_error::JsonError;
 use crate::list_error::ListError;
 use crate::parse_error::ParseError;
@@ -169,7 +169,7 @@ pub fn answers_are_equal_by_variant()
     ensures size { ComparesByValue ⟦<Size as PartialEq>⟧.eq }
     ensures data_model { ComparesByValue ⟦<CDataModel as PartialEq>⟧.eq }
     ensures calling_convention { ComparesByValue ⟦<CallingConvention as PartialEq>⟧.eq }
-    ensures family { ComparesByValue ⟦<Family as PartialEq>⟧.eq }
+    ensures family { ComparesByValue ⟦<RoundTripFamily as PartialEq>⟧.eq }
 {}
 
 /// Two `DefaultToHost`, or two `DefaultToUnknown`, are equal exactly if the triples in them have the same five fields.
@@ -182,7 +182,7 @@ pub fn defaults_are_equal_by_value()
     triples_are_equal_by_value();
 }
 
-/// Each family is the facts of the five fields that its record states. So a reader of [`Triple::family`] need not follow
+/// Each family is the facts of the five fields that its record states. So a reader of [`Triple::round_trip_family`] need not follow
 /// the order of a list of cases.
 pub fn families_are_facts_of_fields()
     ensures { FamiliesAreFactsOfFields }
@@ -288,8 +288,8 @@ pub fn copies_equal_their_sources()
         ⟦<CDataModel as Clone>⟧.is_infallible }
     ensures calling_convention { CopiesEqualTheirSources ⟦<CallingConvention as Clone>⟧.is_clone
         ⟦<CallingConvention as Clone>⟧.is_infallible }
-    ensures family { CopiesEqualTheirSources ⟦<Family as Clone>⟧.is_clone
-        ⟦<Family as Clone>⟧.is_infallible }
+    ensures family { CopiesEqualTheirSources ⟦<RoundTripFamily as Clone>⟧.is_clone
+        ⟦<RoundTripFamily as Clone>⟧.is_infallible }
     ensures reading { CopiesEqualTheirSources ⟦<Reading<'static> as Clone>⟧.is_clone
         ⟦<Reading<'static> as Clone>⟧.is_infallible }
     ensures triple_ref { CopiesEqualTheirSources ⟦<TripleRef<'static> as Clone>⟧.is_clone

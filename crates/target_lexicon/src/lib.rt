@@ -40,7 +40,7 @@ pub use data_model::{CDataModel, Size};
 pub use default_format::default_binary_format;
 pub use defaults::{DefaultToHost, DefaultToUnknown};
 pub use explanation::{Explanation, Source, Sources, TextPart};
-pub use family::Family;
+pub use family::RoundTripFamily;
 pub use json::{list_from_json, list_to_json};
 pub use json_error::JsonError;
 pub use lexicon_fields::{

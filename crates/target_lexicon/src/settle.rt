@@ -13,7 +13,7 @@ ghost use Rattle.target_lexicon.specs.Reading.{ReadsAs};
 ghost use Rattle.target_lexicon.specs.Values.{values_of};
 ghost use Rattle.target_lexicon.specs.ValuesRef.{values_of_ref};
 
-use crate::family::Family;
+use crate::family::RoundTripFamily;
 use crate::laws::{
     fixed_exactly_outside_families, round_is_normal_step, settled_texts_are_keys,
     versions_are_in_range,
@@ -26,7 +26,7 @@ impl Triple {
     /// Whether the triple comes back: printed and parsed again, it is itself. No string is made and nothing is
     /// allocated.
     ///
-    /// A triple comes back unless it is in one of five families, which [`Family`] lists, and [`Triple::family`] names.
+    /// A triple comes back unless it is in one of five families, which [`RoundTripFamily`] lists, and [`Triple::round_trip_family`] names.
     ///
     /// # Examples
     ///
@@ -46,7 +46,7 @@ impl Triple {
     /// of every parsed triple is. Nothing is copied or allocated.
     ///
     /// A triple that comes back is unchanged. Otherwise the first of these cases that holds decides, by the
-    /// [`Family`]:
+    /// [`RoundTripFamily`]:
     /// - `PrintsAsSpecial`: environment and format become `Newlib` and `Elf`.
     /// - `HidesNewlib`: the environment becomes `Unknown`, and an `Unknown` format becomes `Elf`.
     /// - `PrintsTheEspIdfText`: the vendor becomes `Espressif`, environment and format become `Newlib` and `Elf`.
@@ -112,7 +112,7 @@ impl<'a> TripleRef<'a> {
     {
         fixed_exactly_outside_families();
         versions_are_in_range(self.operating_system);
-        self.family().is_none()
+        self.round_trip_family().is_none()
     }
 
     /// The triple that the printed string parses as, as [`Triple::normal`] says. The vendor must be plain.
@@ -150,25 +150,25 @@ impl<'a> TripleRef<'a> {
         ensures vendor { (result.vendor ≡ self.entry.vendor)
             ⊎ (result.vendor ≡ Known known_vendor.Espressif) }
     {
-        match self.family() {
-            Some(Family::PrintsAsSpecial) => {
+        match self.round_trip_family() {
+            Some(RoundTripFamily::PrintsAsSpecial) => {
                 self.environment = Environment::Newlib;
                 self.binary_format = BinaryFormat::Elf;
             }
-            Some(Family::HidesNewlib) => {
+            Some(RoundTripFamily::HidesNewlib) => {
                 self.environment = Environment::Unknown;
                 self.binary_format = elf_if_unknown(self.binary_format);
             }
-            Some(Family::PrintsTheEspIdfText) => {
+            Some(RoundTripFamily::PrintsTheEspIdfText) => {
                 self.vendor = VendorRef::Known(KnownVendor::Espressif);
                 self.environment = Environment::Newlib;
                 self.binary_format = BinaryFormat::Elf;
             }
-            Some(Family::ShowsOnlyNone) => {
+            Some(RoundTripFamily::ShowsOnlyNone) => {
                 self.operating_system = OperatingSystem::None_;
                 self.environment = Environment::Unknown;
             }
-            Some(Family::VendorIsNotPlain) | None => {}
+            Some(RoundTripFamily::VendorIsNotPlain) | None => {}
         }
         self
     }

@@ -4,7 +4,7 @@ use crate::known_triples::KNOWN_TRIPLES;
 use crate::values::{hash_alike, is_answer, prints, writes};
 use std::alloc::Global;
 use std::process::Abort;
-use target_lexicon::{Architecture, CustomVendor, Family, Triple, Vendor, round};
+use target_lexicon::{Architecture, CustomVendor, RoundTripFamily, Triple, Vendor, round};
 
 /// Whether the triple and the borrowed one display this string, and `to_text` returns it.
 fn is_printed(alloc: Global, triple: &Triple, text: &str) -> bool {
@@ -83,7 +83,7 @@ fn is_round_trip(alloc: Global, text: &str, print: &str, last: &str) -> bool {
         (Ok(triple), Ok(same), Ok(back)) => is_printed(alloc, &triple, print)
             && is_printed(alloc, &back, last)
             && triple.comes_back() == (triple == back)
-            && triple.family().is_none() == (triple == back)
+            && triple.round_trip_family().is_none() == (triple == back)
             && is_round(alloc, &triple, &back)
             && triple.normal() == back
             && same.settle() == back,
@@ -135,7 +135,7 @@ fn triples_have_their_families(rt: HostRuntime) {
         let (text, expected) = row.split_once('=').unwrap_or((row, ""));
         match Triple::from_str(rt.alloc(), text) {
             Ok(triple) => assert!(rt;
-                writes(&format_args!("{:?}", triple.family()), expected),
+                writes(&format_args!("{:?}", triple.round_trip_family()), expected),
                 "{row}"
             ),
             Err(_) => panic!(rt; "{row}"),
@@ -168,7 +168,10 @@ fn is_built(alloc: Global, text: &str, vendor: &'static str, print: &str, expect
     let is_back = matches!(&answer, Ok(back) if hash_alike(back, &triple));
     triple.comes_back() == is_back
         && triple.vendor.is_plain() == is_back
-        && matches!(triple.family(), Some(Family::VendorIsNotPlain)) != is_back
+        && matches!(
+            triple.round_trip_family(),
+            Some(RoundTripFamily::VendorIsNotPlain)
+        ) != is_back
         && is_printed(alloc, &triple, print)
         && is_answer(round(alloc, &triple), expected)
         && is_answer(answer, expected)

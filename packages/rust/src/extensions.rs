@@ -2,7 +2,7 @@
 //! method of the type would take precedence over one of the program's own traits.
 use crate::{
     Architecture, BinaryFormat, CDataModel, CallingConvention, DeploymentTarget, Endianness,
-    Environment, Family, OperatingSystem, PointerWidth, Triple, TripleRef,
+    Environment, OperatingSystem, PointerWidth, RoundTripFamily, Triple, TripleRef,
 };
 #[cfg(feature = "alloc")]
 use crate::{Field, NotPlain, ParseError, ParseTripleError, Suggestion};
@@ -65,7 +65,7 @@ pub trait TripleExt: Sealed + Sized {
     fn as_triple_ref(&self) -> TripleRef<'_>;
 
     /// Whether the triple comes back: printed and parsed again, it is itself. It does unless it is in one of the five families of
-    /// [`Family`]. Nothing is allocated.
+    /// [`RoundTripFamily`]. Nothing is allocated.
     ///
     /// # Examples
     ///
@@ -83,13 +83,13 @@ pub trait TripleExt: Sealed + Sized {
     /// # Examples
     ///
     /// ```
-    /// use target_lexicon::{triple, Family, TripleExt};
+    /// use target_lexicon::{triple, RoundTripFamily, TripleExt};
     ///
-    /// assert_eq!(triple!("x86_64-unknown-linux-gnu").family(), None);
-    /// assert_eq!(triple!("armv7-nintendo-horizon-newlib").family(), Some(Family::HidesNewlib));
+    /// assert_eq!(triple!("x86_64-unknown-linux-gnu").round_trip_family(), None);
+    /// assert_eq!(triple!("armv7-nintendo-horizon-newlib").round_trip_family(), Some(RoundTripFamily::HidesNewlib));
     /// ```
     #[must_use]
-    fn family(&self) -> Option<Family>;
+    fn round_trip_family(&self) -> Option<RoundTripFamily>;
 
     /// The canonical form of the triple, which is what its printed string parses as. It comes back, and two canonical triples
     /// with the same string are the same, so the string serves as a key. A triple that [`comes_back`](TripleExt::comes_back)
@@ -178,8 +178,8 @@ impl TripleExt for Triple {
     }
 
     #[inline]
-    fn family(&self) -> Option<Family> {
-        self.family()
+    fn round_trip_family(&self) -> Option<RoundTripFamily> {
+        self.round_trip_family()
     }
 
     #[cfg(feature = "alloc")]

@@ -105,10 +105,10 @@ pub use parse_triple_error::ParseTripleError;
 pub use proved::{
     default_binary_format, Aarch64Architecture, Architecture, ArmArchitecture, BinaryFormat,
     CDataModel, CallingConvention, CleverArchitecture, CustomVendor, DefaultToHost,
-    DefaultToUnknown, DeploymentTarget, Endianness, Environment, Explanation, Family, Field,
-    KnownVendor, Mips32Architecture, Mips64Architecture, OperatingSystem, PointerWidth, Refusal,
-    Riscv32Architecture, Riscv64Architecture, Size, Source, Sources, TextPart, Triple, TripleRef,
-    Vendor, VendorRef, X86_32Architecture, Z80Architecture,
+    DefaultToUnknown, DeploymentTarget, Endianness, Environment, Explanation, Field, KnownVendor,
+    Mips32Architecture, Mips64Architecture, OperatingSystem, PointerWidth, Refusal,
+    Riscv32Architecture, Riscv64Architecture, RoundTripFamily, Size, Source, Sources, TextPart,
+    Triple, TripleRef, Vendor, VendorRef, X86_32Architecture, Z80Architecture,
 };
 pub use queries::NoAnswer;
 pub use suggestions::Suggestion;

@@ -13,14 +13,14 @@ use crate::proved::{
 /// # Examples
 ///
 /// ```
-/// use target_lexicon::{Family, TripleRef};
+/// use target_lexicon::{RoundTripFamily, TripleRef};
 ///
 /// let triple = TripleRef::from_str("riscv32imc-esp-espidf-elf").unwrap();
-/// assert_eq!((triple.comes_back(), triple.family()), (false, Some(Family::PrintsTheEspIdfText)));
+/// assert_eq!((triple.comes_back(), triple.round_trip_family()), (false, Some(RoundTripFamily::PrintsTheEspIdfText)));
 /// ```
 #[non_exhaustive]
 #[derive(Clone, Copy, Debug, PartialEq, Eq, Hash)]
-pub enum Family {
+pub enum RoundTripFamily {
     /// The first three fields are those of `armv6k-nintendo-3ds` or `riscv32imc-esp-espidf`, which is printed, and
     /// environment and format aren't `Newlib` and `Elf`.
     PrintsAsSpecial,
@@ -39,36 +39,36 @@ impl Triple {
     /// The first family that the triple is in. `None` if it comes back. Nothing is allocated.
     ///
     /// Only on Clever can a triple be in two: `ShowsOnlyNone` comes before `VendorIsNotPlain`.
-    pub(crate) fn family(&self) -> Option<Family> {
-        self.as_triple_ref().family()
+    pub(crate) fn round_trip_family(&self) -> Option<RoundTripFamily> {
+        self.as_triple_ref().round_trip_family()
     }
 }
 
 impl TripleRef<'_> {
-    /// The first family that the triple is in, as [`TripleExt::family`](crate::TripleExt::family) says.
+    /// The first family that the triple is in, as [`TripleExt::round_trip_family`](crate::TripleExt::round_trip_family) says.
     ///
     /// # Examples
     ///
     /// ```
-    /// use target_lexicon::{Family, TripleRef};
+    /// use target_lexicon::{RoundTripFamily, TripleRef};
     ///
     /// let triple = TripleRef::from_str("armv7-nintendo-horizon-newlib").unwrap();
-    /// assert_eq!(triple.family(), Some(Family::HidesNewlib));
+    /// assert_eq!(triple.round_trip_family(), Some(RoundTripFamily::HidesNewlib));
     /// ```
     #[must_use]
-    pub fn family(&self) -> Option<Family> {
+    pub fn round_trip_family(&self) -> Option<RoundTripFamily> {
         if self.prints_as_special() {
-            Some(Family::PrintsAsSpecial)
+            Some(RoundTripFamily::PrintsAsSpecial)
         } else if self.hides_newlib() {
-            Some(Family::HidesNewlib)
+            Some(RoundTripFamily::HidesNewlib)
         } else if self.prints_the_esp_idf_text() {
-            Some(Family::PrintsTheEspIdfText)
+            Some(RoundTripFamily::PrintsTheEspIdfText)
         } else if self.shows_only_none() {
-            Some(Family::ShowsOnlyNone)
+            Some(RoundTripFamily::ShowsOnlyNone)
         } else if self.vendor.is_plain() {
             None
         } else {
-            Some(Family::VendorIsNotPlain)
+            Some(RoundTripFamily::VendorIsNotPlain)
         }
     }
 

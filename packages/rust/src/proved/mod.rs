@@ -43,7 +43,7 @@ pub use deployment_target::{version_text, DeploymentTarget, MAX_VERSION_LENGTH};
 pub use endianness::Endianness;
 pub use environment::Environment;
 pub use explanation::{Explanation, Source, Sources, TextPart};
-pub use family::Family;
+pub use family::RoundTripFamily;
 pub use field::Field;
 pub use known_vendor::KnownVendor;
 pub use operating_system::OperatingSystem;

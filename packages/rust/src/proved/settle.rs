@@ -1,7 +1,7 @@
 // @generated: erased from crates/target_lexicon/src/settle.rt by tools/erase. Don't edit it here.
 //! Round trips of a triple: the five families that don't come back, the normal step, and the canonical form.
 
-use crate::proved::family::Family;
+use crate::proved::family::RoundTripFamily;
 use crate::proved::triple::Triple;
 use crate::proved::triple_ref::TripleRef;
 use crate::proved::{BinaryFormat, Environment, KnownVendor, OperatingSystem, Vendor, VendorRef};
@@ -10,7 +10,7 @@ impl Triple {
     /// Whether the triple comes back: printed and parsed again, it is itself. No string is made and nothing is
     /// allocated.
     ///
-    /// A triple comes back unless it is in one of five families, which [`Family`] lists, and [`TripleExt::family`](crate::TripleExt::family) names.
+    /// A triple comes back unless it is in one of five families, which [`RoundTripFamily`] lists, and [`TripleExt::round_trip_family`](crate::TripleExt::round_trip_family) names.
     #[inline]
     pub(crate) fn comes_back(&self) -> bool {
         self.as_triple_ref().comes_back()
@@ -46,7 +46,7 @@ impl<'a> TripleRef<'a> {
     #[must_use]
     #[inline]
     pub fn comes_back(&self) -> bool {
-        self.family().is_none()
+        self.round_trip_family().is_none()
     }
 
     /// The normal step of any triple. If the vendor is plain, it is the canonical form.
@@ -54,25 +54,25 @@ impl<'a> TripleRef<'a> {
     #[must_use]
     #[inline(always)]
     pub fn step(mut self) -> TripleRef<'a> {
-        match self.family() {
-            Some(Family::PrintsAsSpecial) => {
+        match self.round_trip_family() {
+            Some(RoundTripFamily::PrintsAsSpecial) => {
                 self.environment = Environment::Newlib;
                 self.binary_format = BinaryFormat::Elf;
             }
-            Some(Family::HidesNewlib) => {
+            Some(RoundTripFamily::HidesNewlib) => {
                 self.environment = Environment::Unknown;
                 self.binary_format = elf_if_unknown(self.binary_format);
             }
-            Some(Family::PrintsTheEspIdfText) => {
+            Some(RoundTripFamily::PrintsTheEspIdfText) => {
                 self.vendor = VendorRef::Known(KnownVendor::Espressif);
                 self.environment = Environment::Newlib;
                 self.binary_format = BinaryFormat::Elf;
             }
-            Some(Family::ShowsOnlyNone) => {
+            Some(RoundTripFamily::ShowsOnlyNone) => {
                 self.operating_system = OperatingSystem::None_;
                 self.environment = Environment::Unknown;
             }
-            Some(Family::VendorIsNotPlain) | None => {}
+            Some(RoundTripFamily::VendorIsNotPlain) | None => {}
         }
         self
     }

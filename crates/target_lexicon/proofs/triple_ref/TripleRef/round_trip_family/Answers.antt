@@ -1,7 +1,7 @@
 use Rattle.std.proofs.Common.{◌∙◌, sym}
 use Rattle.std.proofs.lemmas.Bool.{false≢true}
 use Rattle.target_lexicon.proofs.StepCases.{special-family, newlib-family, esp-family, only_none-family, plain-family, vendor-family}
-use Rattle.target_lexicon.proofs.triple_ref.TripleRef.family.Goals as goal
+use Rattle.target_lexicon.proofs.triple_ref.TripleRef.round_trip_family.Goals as goal
 
 pub returns-then-prints_as_special : goal.returns-then-prints_as_special
 returns-then-prints_as_special c = sym (special-family _ (c.prints_as_special.ensures.0 c.if-prints_as_special.true))
