@@ -66,7 +66,7 @@ WITHOUT_PROOF = [
     ("the Rust crate, as its users build it: tests, samples of the documentation, public surface, features, a dependent",
      "packages/rust/test", "cargo"),
     ("the crate of other tools' names: each row, shape and rule, laws over generated strings, samples of the documentation",
-     "packages/names/test", "cargo"),
+     "packages/names/test && packages/names/plant 2", "cargo"),
     ("the definitions run, and say what the Rust crate answers; without something to compare that fails",
      "checks/specification quick && checks/running/test", "cargo"),
     ("they say what upstream's own crate answers", 'if [ "$UPSTREAM" ]; then checks/specification against "$UPSTREAM"; else echo "left out: upstream\'s crate (UPSTREAM isn\'t set)"; fi', "cargo"),
