@@ -164,7 +164,8 @@ pub fn queries_kept()
     ensures { QueriesKept }
 {}
 
-/// Two sizes, two data models, two calling conventions or two families are equal exactly if they are the same variant.
+/// Two sizes, two data models, two calling conventions or two reasons why a triple doesn't round-trip are equal exactly if they are the
+/// same variant.
 pub fn answers_are_equal_by_variant()
     ensures size { ComparesByValue ⟦<Size as PartialEq>⟧.eq }
     ensures data_model { ComparesByValue ⟦<CDataModel as PartialEq>⟧.eq }
