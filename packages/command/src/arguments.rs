@@ -112,7 +112,14 @@ fn of_targets(name: &'static str, about: &'static str, example: &'static str) ->
             .value_name("N")
             .value_parser(value_parser!(NonZeroUsize))
             .help("End after N targets were refused, at least one"),
-        flag("strict", "Refuse custom vendors, which may be any lower-case word").hide(name == "read"),
+        flag("strict", "Refuse custom vendors, which may be any lower-case word, except rustc's").hide(name == "read"),
+        Arg::new("vendors")
+            .long("vendors")
+            .value_name("LIST")
+            .action(ArgAction::Append)
+            .value_delimiter(',')
+            .hide(name == "read")
+            .help("Custom vendors that are meant, such as `sony,acme`: neither a warning nor `--strict` is about them"),
         flag("json", "Write one JSON array on one line").conflicts_with("json-lines"),
         flag("json-lines", "Write one JSON object per line"),
         Arg::new("color")
@@ -230,6 +237,7 @@ pub fn command() -> Command {
             )
             .mut_arg("target", |names| names.value_name("NAME"))
             .mut_arg("strict", |strict| strict.hide(true))
+            .mut_arg("vendors", |vendors| vendors.hide(true))
             .arg(libc()),
             Command::new("host")
                 .about("Write the target that the command was built for")

@@ -77,7 +77,8 @@ pub enum From {
 
 /// What was found out about a target.
 enum Found<'a> {
-    Parsed(refusal::Parsed<'a>),
+    /// What a target parses as, and what is said of its vendor.
+    Parsed(refusal::Parsed<'a>, Option<Refusal<'a>>),
     Read(TripleRef<'a>),
     /// Which dialects have the name, and what it means in each.
     Meanings(Vec<(&'static str, TripleRef<'a>)>),
@@ -95,6 +96,8 @@ struct Run {
     /// Of which a name that is written states the first that fits.
     versions: Vec<Version>,
     is_strict: bool,
+    /// The custom vendors that are meant.
+    vendors: Vec<String>,
     is_quiet: bool,
     skips_comments: bool,
     end_of_line: u8,
@@ -135,20 +138,49 @@ impl Run {
         match self.find(target.text) {
             Ok(_) if self.is_quiet => Ok(()),
             Err(_) if self.is_quiet => Err(Fault::Refused),
-            Ok(Found::Parsed(explanation)) if self.call == Call::Matrix => {
+            Ok(Found::Parsed(explanation, Some(warning)))
+                if matches!(self.call, Call::Check | Call::Matrix | Call::Settle) =>
+            {
+                let help = self.help(target, &warning);
+                self.outputs
+                    .refuse(|out, has_color| warning.write(out, target, has_color, &help))?;
+                self.write_found(target, Found::Parsed(explanation, None))
+            }
+            Ok(found) => self.write_found(target, found),
+            Err(refusal) => {
+                self.progress.refused += 1;
+                let help = self.help(target, &refusal);
+                if self.has_json && self.call != Call::Matrix {
+                    self.outputs
+                        .object([answers::head(target), refusal.members(&help)].concat())?;
+                } else {
+                    self.outputs
+                        .refuse(|out, has_color| refusal.write(out, target, has_color, &help))?;
+                }
+                match self.max_errors {
+                    Some(count) if self.progress.refused >= count.get() => Err(Fault::Refused),
+                    _ => Ok(()),
+                }
+            }
+        }
+    }
+
+    fn write_found(&mut self, target: Target<'_>, found: Found<'_>) -> Result<(), Fault> {
+        match found {
+            Found::Parsed(explanation, _) if self.call == Call::Matrix => {
                 self.matrix.add(target, explanation.triple);
                 Ok(())
             }
-            Ok(_) if self.call == Call::Check => Ok(()),
-            Ok(found) if self.has_json => {
+            _ if self.call == Call::Check => Ok(()),
+            found if self.has_json => {
                 let members = self.members(target.text, &found);
                 self.outputs
                     .object([answers::head(target), members].concat())
             }
-            Ok(found) => {
+            found => {
                 let (call, shows_changes) = (self.call, self.shows_changes);
                 self.outputs.answer(self.end_of_line, |out| match found {
-                    Found::Parsed(explanation) => match call {
+                    Found::Parsed(explanation, _) => match call {
                         Call::Explain => answers::write_explained(out, target, &explanation),
                         Call::Facts => answers::write_facts(
                             out,
@@ -174,21 +206,6 @@ impl Run {
                     Found::Name(name) => writeln!(out, "{name}"),
                     Found::What(what) => what.write(out, target.text),
                 })
-            }
-            Err(refusal) => {
-                self.progress.refused += 1;
-                let help = self.help(target, &refusal);
-                if self.has_json && self.call != Call::Matrix {
-                    self.outputs
-                        .object([answers::head(target), refusal.members(&help)].concat())?;
-                } else {
-                    self.outputs
-                        .refuse(|out, has_color| refusal.write(out, target, has_color, &help))?;
-                }
-                match self.max_errors {
-                    Some(count) if self.progress.refused >= count.get() => Err(Fault::Refused),
-                    _ => Ok(()),
-                }
             }
         }
     }
@@ -259,7 +276,8 @@ impl Run {
             }
             _ => {}
         }
-        let explanation = refusal::explanation(text, self.is_strict)?;
+        let explanation = refusal::explanation(text)?;
+        let warning = refusal::of_vendor(&explanation, self.is_strict, &self.vendors)?;
         match self.call {
             Call::Write(dialect) if self.versions.is_empty() => {
                 let triple = explanation.triple;
@@ -271,7 +289,7 @@ impl Run {
                 let triple = self.completed(explanation.triple);
                 refusal::versioned_name_in(dialect, text, &self.versions, &triple).map(Found::Name)
             }
-            _ => Ok(Found::Parsed(explanation)),
+            _ => Ok(Found::Parsed(explanation, warning)),
         }
     }
 
@@ -310,7 +328,7 @@ impl Run {
     fn members(&self, text: &str, found: &Found<'_>) -> Object {
         let canonical = |triple| vec![("canonical", answers::canonical(triple).to_string().into())];
         match found {
-            Found::Parsed(explanation) => match self.call {
+            Found::Parsed(explanation, _) => match self.call {
                 Call::Explain => answers::explained(explanation),
                 Call::Facts => answers::facts(&explanation.triple),
                 Call::Cfg => answers::cfg(&explanation.triple),
@@ -342,6 +360,9 @@ impl Run {
             needs_libc: Cell::new(false),
             versions: versions(call, arguments),
             is_strict: arguments.get_flag("strict"),
+            vendors: arguments
+                .get_many("vendors")
+                .map_or(Vec::new(), |it| it.cloned().collect()),
             is_quiet: arguments.get_flag("quiet"),
             skips_comments: arguments.get_flag("comments"),
             end_of_line: end_of_line(arguments),

@@ -8,11 +8,13 @@ pub use target_lexicon::spellings::visible;
 use target_lexicon::spellings::SHOWN;
 use target_lexicon::{Field, Source, Sources, TextPart, TripleRef, VendorRef};
 use target_names::{
-    hint, suggestions, Dialect, Hint, LinuxLibc, Mistake, Name, NameError, TranslateError,
-    WriteError,
+    hint, is_vendor_of_rustc, suggestions, Dialect, Hint, LinuxLibc, Mistake, Name, NameError,
+    TranslateError, WriteError,
 };
 
 pub struct Refusal<'a> {
+    /// The word before it: a warning isn't refused.
+    kind: Kind,
     error: String,
     /// The field that the part isn't a name of.
     field: Option<Field>,
@@ -20,6 +22,12 @@ pub struct Refusal<'a> {
     names: Names<'a>,
     /// Why the name of a tool has no triple.
     reason: Option<&'static str>,
+}
+
+#[derive(Clone, Copy, PartialEq, Eq)]
+enum Kind {
+    Error,
+    Warning,
 }
 
 /// Among which names one is suggested. To find it takes longer than all else, so it is found only where it is shown.
@@ -46,22 +54,43 @@ pub struct Parsed<'a> {
 }
 
 /// What a target parses as, and from where; or why it is refused.
-pub fn explanation(text: &str, is_strict: bool) -> Result<Parsed<'_>, Refusal<'_>> {
+pub fn explanation(text: &str) -> Result<Parsed<'_>, Refusal<'_>> {
     let explanation = TripleRef::explain(text);
     let (triple, sources) = (
         explanation.triple.map_err(Refusal::of_part)?,
         explanation.sources,
     );
-    match (triple.vendor, sources.vendor) {
-        (VendorRef::Custom(_), Source::Part(part)) if is_strict => Err(Refusal {
-            error: "custom vendor".into(),
-            field: Some(Field::Vendor),
-            part,
-            names: Names::OfVendors(triple),
-            reason: None,
-        }),
-        _ => Ok(Parsed { triple, sources }),
+    Ok(Parsed { triple, sources })
+}
+
+/// What is said of a custom vendor that is neither among those that are meant nor rustc's: it is refused if that is asked, and otherwise
+/// a warning if it resembles a known name.
+pub fn of_vendor<'a>(
+    parsed: &Parsed<'a>,
+    is_strict: bool,
+    meant: &[String],
+) -> Result<Option<Refusal<'a>>, Refusal<'a>> {
+    let (VendorRef::Custom(vendor), Source::Part(part)) =
+        (parsed.triple.vendor, parsed.sources.vendor)
+    else {
+        return Ok(None);
+    };
+    if meant.iter().any(|it| it == vendor) || is_vendor_of_rustc(vendor) {
+        return Ok(None);
     }
+    let refusal = |kind| Refusal {
+        kind,
+        error: "custom vendor".into(),
+        field: Some(Field::Vendor),
+        part,
+        names: Names::OfVendors(parsed.triple),
+        reason: None,
+    };
+    if is_strict {
+        return Err(refusal(Kind::Error));
+    }
+    let resembles = parsed.triple.vendor_suggestion().is_some();
+    Ok(resembles.then(|| refusal(Kind::Warning)))
 }
 
 /// The triple that a name of another tool means, or a string that is spelled like a triple.
@@ -167,6 +196,7 @@ impl<'a> Refusal<'a> {
     fn of_part(refusal: target_lexicon::Refusal<'a>) -> Self {
         let name = refusal.expected.and_then(key_of).unwrap_or("field");
         Refusal {
+            kind: Kind::Error,
             error: format!("unrecognized {}", name.replace('_', " ")),
             field: refusal.expected,
             part: refusal.part,
@@ -210,6 +240,7 @@ impl<'a> Refusal<'a> {
 
     fn of_all(error: String, text: &'a str) -> Self {
         Refusal {
+            kind: Kind::Error,
             error,
             field: None,
             part: TextPart { text, start: 0 },
@@ -328,14 +359,18 @@ impl Refusal<'_> {
                 color("1", &format!("{}:{number}:{column}: ", visible(file)))
             )?;
         }
-        writeln!(out, "{} {} `{part}`", color("1;31", "error:"), self.error)?;
+        let (code, kind) = match self.kind {
+            Kind::Error => ("1;31", "error:"),
+            Kind::Warning => ("1;35", "warning:"),
+        };
+        writeln!(out, "{} {} `{part}`", color(code, kind), self.error)?;
         writeln!(out, "  {before}{part}{after}")?;
         let carets = "^".repeat(part.chars().count().max(1));
         write!(
             out,
             "  {}{}",
             " ".repeat(before.chars().count()),
-            color("1;31", &carets)
+            color(code, &carets)
         )?;
         match (&help.suggestion, self.reason) {
             (Some(name), _) => {

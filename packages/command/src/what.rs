@@ -104,7 +104,7 @@ impl<'a> What<'a> {
             _ => None,
         };
         let VendorRef::Custom(vendor) = triple.vendor else {
-            let hint = hint.filter(|_| !has_system(triple));
+            let hint = hint.filter(|it| !has_system(triple) && it != triple);
             return hint.map(|it| format!("it has no system; did you mean `{it}`?"));
         };
         let vendor_meant = triple.vendor_suggestion().map(|it| it.to_string());

@@ -727,6 +727,34 @@ fn custom_vendors_are_refused_if_asked() {
 }
 
 #[test]
+fn a_vendor_that_resembles_a_name_is_a_warning() {
+    let warning =
+        "warning: custom vendor `linx`\n  x86_64-linx\n         ^^^^ did you mean `linux`?\n";
+    for call in ["settle", "check", "matrix"] {
+        let said = answers(&[call, "x86_64-linx"]);
+        assert_eq!((said.1.as_str(), said.2), (warning, 0), "{call}");
+        for quiet in [
+            &[call, "x86_64-linx", "--vendors", "acme,linx"] as &[&str],
+            &[call, "x86_64-linx", "--vendors", "linx", "--strict"],
+            &[call, "-q", "x86_64-linx"],
+            &[
+                call,
+                "x86_64-win7-windows-msvc",
+                "riscv32imac-esp-espidf",
+                "--strict",
+            ],
+        ] {
+            let said = answers(quiet);
+            assert_eq!((said.1.as_str(), said.2), ("", 0), "{quiet:?}");
+        }
+        assert_eq!(
+            answers(&[call, "x86_64-linx", "--vendors", "lin", "--strict"]).2,
+            1
+        );
+    }
+}
+
+#[test]
 fn the_status_says_what_went_wrong() {
     for words in [
         &[] as &[&str],

@@ -78,7 +78,7 @@ pub use name::Name;
 #[cfg(feature = "alloc")]
 pub use parse_name_error::{ParseNameError, UnknownWord};
 pub use reading::{changes, read, Change, ChangedParts};
-pub use rustc_cfg::RustcCfg;
+pub use rustc_cfg::{is_vendor_of_rustc, RustcCfg};
 pub use spelled::Spelling;
 pub use stated_versions::{stated_versions, StatedVersion, StatedVersions};
 pub use table::Dialect;

@@ -1,5 +1,7 @@
 //! The values of rustc's cfg options for a triple. `checks/compare elsewhere` asks rustc for those of each of its targets.
 
+use crate::dialect::Way;
+use crate::Dialect;
 use core::fmt;
 use target_lexicon::{
     Architecture, Endianness, Environment, KnownVendor, Mips32Architecture, Mips64Architecture,
@@ -313,4 +315,24 @@ fn target_vendor<'a>(triple: &TripleRef<'a>) -> &'a str {
         VendorRef::Custom(text) => text,
         VendorRef::Known(known) => known.name(),
     }
+}
+
+/// Whether a target of rustc has this custom vendor, such as `win7` or `openwrt`.
+///
+/// # Examples
+///
+/// ```
+/// use target_names::is_vendor_of_rustc;
+///
+/// assert!(is_vendor_of_rustc("win7") && !is_vendor_of_rustc("linx"));
+/// ```
+#[must_use]
+pub fn is_vendor_of_rustc(vendor: &str) -> bool {
+    let mut rows = Dialect::Rust
+        .rows()
+        .iter()
+        .filter(|row| row.2 != Way::NoTriple);
+    rows.any(|row| {
+        TripleRef::from_str(row.1).map_or(false, |it| it.vendor == VendorRef::Custom(vendor))
+    })
 }
