@@ -68,8 +68,8 @@ pub enum FloatAbi {
 /// # Examples
 ///
 /// ```
-/// use target_lexicon::{tool_names::Signedness, triple};
-/// use target_names::TargetInfo;
+/// use target_lexicon::triple;
+/// use target_names::{Signedness, TargetInfo};
 ///
 /// assert_eq!(triple!("aarch64-unknown-linux-gnu").char_signedness(), Some(Signedness::Unsigned));
 /// ```

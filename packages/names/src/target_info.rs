@@ -323,8 +323,8 @@ pub trait TargetInfo<'a>: Copy + Into<TripleRef<'a>> {
     /// # Examples
     ///
     /// ```
-    /// use target_lexicon::{tool_names::Signedness, triple};
-    /// use target_names::TargetInfo;
+    /// use target_lexicon::triple;
+    /// use target_names::{Signedness, TargetInfo};
     ///
     /// let signedness = |string| triple!(string).char_signedness();
     /// assert_eq!(signedness("aarch64-apple-darwin"), Some(Signedness::Signed));
