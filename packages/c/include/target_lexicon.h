@@ -730,9 +730,10 @@ LEXICON_CHECKED LEXICON_NONNULL(4)
 enum lexicon_status lexicon_changes(const char *text, size_t text_size, size_t number, struct lexicon_change *change, char *out,
                                     size_t out_size, size_t *length);
 
-/* What a string means to those who have it as a name: the meaning with this number, from 0. The dialects come first, in the order of their
-   numbers; then, with LEXICON_DIALECT_NONE as the dialect, the string as one that is spelled like a triple, unless it is a single word and
-   some dialect has it. The triple is canonical. Where the dialect has the name and no triple means the same, the status is
+/* What a string means to those who have it as a name: the meaning with this number, from 0. If it parses, its triple comes first, with
+   LEXICON_DIALECT_NONE as the dialect; then the dialects, in the order of their numbers, where a name of several machines has a meaning for each;
+   otherwise, last and without a dialect, the string as one that is spelled like a triple. A single word that some dialect has has no meaning
+   without a dialect. The triple is canonical. Where the dialect has the name and no triple means the same, the status is
    LEXICON_NAME_WITHOUT_TRIPLE, only the dialect is written, and lexicon_reason says why. After the last meaning the status is
    LEXICON_NO_SUCH_MEANING, and nothing is written. */
 LEXICON_CHECKED LEXICON_NONNULL(4, 5)

@@ -521,8 +521,8 @@ mod tests {
     fn every_name_that_is_suggested_has_a_zero_byte_after_it() {
         let mut count = 0;
         for row in rows().filter(|row| matches!(row.get(3), Some(ways) if ways.contains('r'))) {
-            if row[0].parse::<Dialect>().is_err() || row[1].contains('*') {
-                continue; // no name of a dialect; or one with a version, which isn't suggested
+            if row[0].parse::<Dialect>().is_err() || row[1].contains('*') || row[2].contains('+') {
+                continue; // no name of a dialect; or one with a version or of several machines, which isn't suggested
             }
             let found = c_name(row[1]);
             assert!(!found.is_null(), "{}", row[1]);

@@ -932,8 +932,8 @@ static const struct { const char *text; size_t number; uint32_t dialect; enum le
     {"armhf", 0, LEXICON_DIALECT_DEBIAN, LEXICON_OK, "armv7-unknown-linux-gnueabihf"},
     {"armhf", 1, LEXICON_DIALECT_APK, LEXICON_OK, "armv6-unknown-linux-musleabihf"},
     {"amd64", 1, LEXICON_DIALECT_GO, LEXICON_NAME_WITHOUT_TRIPLE, "a machine without a system"},
-    {"x86_64-acme-linux", 0, LEXICON_DIALECT_GNU, LEXICON_OK, "x86_64-unknown-linux-gnu"},
-    {"x86_64-acme-linux", 1, LEXICON_DIALECT_NONE, LEXICON_OK, "x86_64-acme-linux"},
+    {"x86_64-acme-linux", 0, LEXICON_DIALECT_NONE, LEXICON_OK, "x86_64-acme-linux"},
+    {"x86_64-acme-linux", 1, LEXICON_DIALECT_GNU, LEXICON_OK, "x86_64-unknown-linux-gnu"},
     {"@esbuild/linux-x64", 0, LEXICON_DIALECT_NODE, LEXICON_OK, "x86_64-unknown-linux"},
     {"avr", 0, LEXICON_DIALECT_GNU, LEXICON_OK, "avr-unknown-none-elf"},
 };

@@ -319,7 +319,7 @@ static void try_translation() {
   auto armhf = Triple::meanings("armhf"), plan9 = Triple::meanings("plan9/amd64"), avr = Triple::meanings("avr-none");
   EXPECT(armhf.size() == 2 && armhf[0].dialect == Dialect::Debian && armhf[1].triple->printed() == "armv6-unknown-linux-musleabihf");
   EXPECT(plan9.size() == 1 && !plan9[0].triple && plan9[0].dialect == Dialect::Go && plan9[0].reason == "Plan 9 is no known name");
-  EXPECT(!avr.back().dialect && avr.back().triple == Triple::parse("avr-none") && avr.back().reason.empty() && Triple::meanings("foo/bar").empty());
+  EXPECT(!avr.front().dialect && avr.front().triple == Triple::parse("avr-none") && avr.front().reason.empty() && Triple::meanings("foo/bar").empty());
   auto android = parsed("armv7-linux-androideabi"), i686 = parsed("i686-linux-gnu");
   EXPECT(android.c_library() == CLibrary::Bionic && android.float_abi() == FloatAbi::Soft && android.is_unix() && shown(CLibrary::Bionic) == "bionic");
   EXPECT(i686.long_double() == (TypeLayout{12, 4}) && i686.wchar() == (TypeLayout{4, 4}) && shown(FloatAbi::Hard) == "hard");

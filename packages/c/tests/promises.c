@@ -410,7 +410,8 @@ static void try_changes(const char *text, size_t size, uint32_t parsed, const st
   CHECK(number == 0 || parsed != LEXICON_OK || triple->vendor == LEXICON_VENDOR_CUSTOM);
 }
 
-/* The meanings of a text are those that the dialects read, in their order, and then at most one without a dialect. */
+/* The meanings of a text are that of the triple that it parses as, then those that the dialects read, in their order, a name of several machines once
+   for each, and otherwise at the end at most one without a dialect. */
 static void try_meanings(const char *text, size_t size, uint32_t parsed) {
   struct lexicon_triple triple, read;
   uint32_t dialect, last = 0, status;
@@ -420,12 +421,15 @@ static void try_meanings(const char *text, size_t size, uint32_t parsed) {
     memset(&dialect, 0xa5, sizeof dialect);
     status = lexicon_meaning(text, size, number, &dialect, &triple);
     if (status != LEXICON_OK && status != LEXICON_NAME_WITHOUT_TRIPLE) break;
-    CHECK(!is_last && (dialect == LEXICON_DIALECT_NONE || (dialect > last && dialect <= LAST_DIALECT)));
-    is_last = dialect == LEXICON_DIALECT_NONE;
-    last = dialect;
-    CHECK(lexicon_read(dialect, text, size, &read, NULL) == status || (is_last && parsed == LEXICON_OK));
-    if (status == LEXICON_OK) CHECK(expected_status(&triple) == LEXICON_OK && has_zeros(&triple) && (is_last || are_equal(&triple, &read)));
-    else CHECK(is_unchanged(&triple, sizeof triple) && !is_last);
+    const bool is_own = dialect == LEXICON_DIALECT_NONE;
+    const uint32_t said = lexicon_read(dialect, text, size, &read, NULL);
+    const bool is_of_several = !is_own && status == LEXICON_OK && said == LEXICON_NAME_WITHOUT_TRIPLE;
+    CHECK(!is_last && (is_own || ((dialect > last || (is_of_several && dialect == last)) && dialect <= LAST_DIALECT)));
+    is_last = is_own && !(number == 0 && parsed == LEXICON_OK);
+    if (!is_own) last = dialect;
+    CHECK(said == status || is_of_several || (is_own && parsed == LEXICON_OK));
+    if (status == LEXICON_OK) CHECK(expected_status(&triple) == LEXICON_OK && has_zeros(&triple) && (is_own || is_of_several || are_equal(&triple, &read)));
+    else CHECK(is_unchanged(&triple, sizeof triple) && !is_own);
   }
   CHECK(status == LEXICON_NO_SUCH_MEANING || (status == LEXICON_NOT_UTF8 && number == 0));
   CHECK(is_unchanged(&triple, sizeof triple) && is_unchanged(&dialect, sizeof dialect) && (parsed == LEXICON_NOT_UTF8) == (status == LEXICON_NOT_UTF8));
@@ -451,8 +455,9 @@ static void try_read(const char *text, size_t size, uint32_t parsed, const struc
     if (status == LEXICON_OK) {
       CHECK(is_unchanged(&error, sizeof error) && expected_status(&triple) == LEXICON_OK && has_zeros(&triple));
       bool is_custom = triple.vendor == LEXICON_VENDOR_CUSTOM;
-      CHECK(!is_custom || dialect == LEXICON_DIALECT_NONE);
-      CHECK(!is_custom || (triple.custom_vendor >= text && triple.custom_vendor + triple.custom_vendor_size <= text + size));
+      /* The vendor of a target of rustc is the library's own string. */
+      CHECK(!is_custom || dialect == LEXICON_DIALECT_NONE || dialect == LEXICON_DIALECT_RUST);
+      CHECK(!is_custom || dialect != LEXICON_DIALECT_NONE || (triple.custom_vendor >= text && triple.custom_vendor + triple.custom_vendor_size <= text + size));
       if (dialect != LEXICON_DIALECT_NONE) try_triple(&triple);
     } else {
       CHECK(is_unchanged(&triple, sizeof triple) && error.status == status && error.start <= error.end && error.end <= size);

@@ -2,7 +2,8 @@
 use target_lexicon::{DeploymentTarget, Endianness, Field, PointerWidth, Triple, TripleRef};
 use target_lexicon::{Named as _, TripleExt as _};
 use target_names::{
-    suggestion, suggestions, CLibrary, Dialect, FloatAbi, LinuxLibc, TargetInfo, TypeLayout,
+    suggestion, suggestions, CLibrary, Dialect, FloatAbi, LinuxLibc, NameError, TargetInfo,
+    TypeLayout,
 };
 
 /// A triple, and after `=` its C library, how floating-point arguments are passed, whether it is like Unix, and the size
@@ -755,5 +756,38 @@ fn suggestions_are_those_of_each_dialect() {
         assert!(suggestions(name).eq(of_each), "{name}");
         let long = format!("{}/{name}", "a".repeat(256));
         assert_eq!(suggestions(&long).next(), None);
+    }
+}
+
+#[test]
+fn a_second_part_that_is_an_unknown_system_is_no_vendor() {
+    for part in [
+        "macos.11.0",
+        "linux5.10",
+        "nuttx",
+        "rtems6",
+        "wasip3",
+        "windows.win10",
+    ] {
+        let text = format!("x86_64-{part}");
+        let refusal = target_names::read(&text).unwrap_err();
+        let expected = Some(Field::OperatingSystem);
+        assert_eq!((refusal.part.text, refusal.expected), (part, expected));
+    }
+}
+
+#[test]
+fn a_star_is_a_number_in_decimal() {
+    for name in [
+        "manylinux_2_1a_x86_64",
+        "macosx_a_0_arm64",
+        "musllinux_1__aarch64",
+        "macosx_01_0_arm64",
+    ] {
+        assert_eq!(
+            Dialect::Python.read(name),
+            Err(NameError::Unknown),
+            "{name}"
+        );
     }
 }
