@@ -1,6 +1,8 @@
 """The tests of the page: each opens it in Chromium, and types, presses and reads as a user does."""
+import csv
 import functools
 import json
+import pathlib
 import re
 import subprocess
 import time
@@ -9,6 +11,7 @@ import urllib.request
 
 from browser import Keys, Page
 
+TABLE = pathlib.Path(__file__).parents[2] / "names/names.csv"
 ROWS = "[...document.querySelectorAll('tbody tr')]"
 STATUS = "document.getElementById('status').textContent"
 # The text of each cell. The rows that are out of sight have none for `innerText`.
@@ -615,7 +618,8 @@ def unfolds_what_is_left(page):
 
 def takes_targets_of_rustc(page):
     """None is suspicious or has a suggestion, and each that is refused has one sentence of reason."""
-    targets = subprocess.run(["rustc", "--print", "target-list"], capture_output=True, text=True, check=True).stdout
+    with open(TABLE, newline="", encoding="utf-8") as table:
+        targets = "\n".join(it["name"] for it in csv.DictReader(table) if it["tool"] == "rust" and "*" not in it["name"])
     typed(page, targets)
     shown = page.run(ROWS + ".map((row) => [row.target, row.className, row.querySelectorAll('.offer').length,"
                      " [...row.querySelectorAll('.refused p, .others p')].map((it) => it.textContent)])")

@@ -74,7 +74,7 @@ class Names(unittest.TestCase):
         """Those that no triple means, with the table's reason."""
         rows = [it for it in NAMES if it.triple is None]
         for row in rows:
-            error, reason = self.refusal(row.name, row.tool), re.sub("^(several machines): .*", r"\1", row.reason)
+            error, reason = self.refusal(row.name, row.tool), row.reason
             self.assertEqual((error.line, error.reason), (WITHOUT + row.name, reason))
             self.assertEqual((error.field, error.suggestion, error.text, error.part, error.start, error.end),
                              (None, None, row.name, row.name, 0, len(row.name)))
