@@ -216,22 +216,9 @@ pub fn facts(triple: &TripleRef<'_>) -> Object {
     let sizes = triple.type_sizes();
     members.extend([
         // written by tools/names/write: the facts for the command
-        (
-            "endianness",
-            triple.endianness().ok().map(|it| it.name()).into(),
-        ),
-        (
-            "pointer_width",
-            triple.pointer_width().ok().map(PointerWidth::bits).into(),
-        ),
-        (
-            "default_calling_convention",
-            triple
-                .default_calling_convention()
-                .ok()
-                .map(|it| it.name())
-                .into(),
-        ),
+        ("endianness", triple.endianness().ok().map(|it| it.name()).into()),
+        ("pointer_width", triple.pointer_width().ok().map(PointerWidth::bits).into()),
+        ("default_calling_convention", triple.default_calling_convention().ok().map(|it| it.name()).into()),
         ("data_model", data_model.map(|it| it.name()).into()),
         ("short_size", sizes.map(|it| it.short).into()),
         ("int_size", sizes.map(|it| it.int).into()),
@@ -239,40 +226,22 @@ pub fn facts(triple: &TripleRef<'_>) -> Object {
         ("long_long_size", sizes.map(|it| it.long_long).into()),
         ("float_size", sizes.map(|it| it.float).into()),
         ("double_size", sizes.map(|it| it.double).into()),
-        (
-            "implied_format",
-            triple.default_binary_format().to_string().into(),
-        ),
+        ("implied_format", triple.default_binary_format().to_string().into()),
         ("object_format", triple.object_format().to_string().into()),
         ("family", family(triple.architecture).into()),
-        (
-            "is_thumb",
-            matches!(triple.architecture, Architecture::Arm(arm) if arm.is_thumb()).into(),
-        ),
-        (
-            "is_like_darwin",
-            triple.operating_system.is_like_darwin().into(),
-        ),
+        ("is_thumb", matches!(triple.architecture, Architecture::Arm(arm) if arm.is_thumb()).into()),
+        ("is_like_darwin", triple.operating_system.is_like_darwin().into()),
         ("has_custom_vendor", triple.vendor.is_custom().into()),
         ("c_library", triple.c_library().map(|it| it.name()).into()),
         ("float_abi", triple.float_abi().map(|it| it.name()).into()),
         ("is_unix", triple.is_unix().into()),
         ("long_double_size", long_double.map(|it| it.size).into()),
-        (
-            "long_double_alignment",
-            long_double.map(|it| it.alignment).into(),
-        ),
+        ("long_double_alignment", long_double.map(|it| it.alignment).into()),
         ("wchar_size", wchar.map(|it| it.size).into()),
         ("wchar_alignment", wchar.map(|it| it.alignment).into()),
         ("arm_version", triple.arm_version().into()),
-        (
-            "arm_profile",
-            triple.arm_profile().map(|it| it.name()).into(),
-        ),
-        (
-            "char_signedness",
-            triple.char_signedness().map(|it| it.name()).into(),
-        ),
+        ("arm_profile", triple.arm_profile().map(|it| it.name()).into()),
+        ("char_signedness", triple.char_signedness().map(|it| it.name()).into()),
         ("has_emulated_tls", triple.has_emulated_tls().into()),
         ("has_comdat", triple.has_comdat().into()),
         // end of what is written
@@ -295,13 +264,10 @@ fn why_none(key: &str) -> &'static str {
         "endianness" | "pointer_width" => "the architecture doesn't say it",
         "default_calling_convention" => "none is usual on the system",
         "data_model" => "none is known for the machine and the system",
-        "short_size" | "int_size" | "long_size" | "long_long_size" | "float_size"
-        | "double_size" => "no source says it of the machine and the system",
+        "short_size" | "int_size" | "long_size" | "long_long_size" | "float_size" | "double_size" => "no source says it of the machine and the system",
         "c_library" => "neither the environment nor the system says it",
         "float_abi" => "neither an environment of 32-bit Arm nor softfloat says it",
-        "long_double_size" | "long_double_alignment" | "wchar_size" | "wchar_alignment" => {
-            "no source says it of the system and the C library"
-        }
+        "long_double_size" | "long_double_alignment" | "wchar_size" | "wchar_alignment" => "no source says it of the system and the C library",
         "arm_version" | "arm_profile" => "the architecture is no 32-bit Arm that states it",
         "char_signedness" => "clang doesn't know the architecture, or it isn't sure on the system",
         "multiarch_tuple" => "Debian has no architecture for it, or it depends on the C library",

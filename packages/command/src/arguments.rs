@@ -21,6 +21,9 @@ fn is_only_read(dialect: Dialect) -> bool {
 }
 // end of what is written
 
+/// What `names` lists them by.
+pub const DIALECTS: &str = "dialects";
+
 /// The dialects whose names are written.
 pub fn written() -> impl Iterator<Item = Dialect> {
     Dialect::ALL.iter().copied().filter(|it| !is_only_read(*it))
@@ -29,9 +32,6 @@ pub fn written() -> impl Iterator<Item = Dialect> {
 // written by tools/names/write: the other names of dialects for the command
 const OTHER_NAMES: [(&str, Dialect); 2] = [("docker", Dialect::Oci), ("npm", Dialect::Node)];
 // end of what is written
-
-/// The value of `--from` for all dialects.
-pub const ANY: &str = "any";
 
 /// An option for the C library of a triple that states none.
 fn libc() -> Arg {
@@ -75,6 +75,20 @@ fn dialect(
         .value_name("DIALECT")
         .value_parser(PossibleValuesParser::new(words))
         .help(help)
+}
+
+/// The names that all dialects have in arguments.
+pub fn dialects() -> impl Iterator<Item = &'static str> {
+    words(Dialect::ALL.iter().copied())
+}
+
+/// An option for the dialect whose names are read.
+fn from() -> Arg {
+    dialect(
+        "from",
+        dialects(),
+        "The tool whose names are read, instead of triples",
+    )
 }
 
 fn flag(name: &'static str, help: &'static str) -> Arg {
@@ -132,7 +146,6 @@ fn of_targets(name: &'static str, about: &'static str, example: &'static str) ->
 }
 
 pub fn command() -> Command {
-    let all = || words(Dialect::ALL.iter().copied());
     Command::new("target-lexicon")
         .version(env!("CARGO_PKG_VERSION"))
         .about("Answers questions about target triples such as x86_64-unknown-linux-gnu")
@@ -140,7 +153,7 @@ pub fn command() -> Command {
             "Examples:\n  \
              $ target-lexicon explain x86_64-pc-linux-gnuu\n  \
              $ target-lexicon check --comments -f targets.txt\n  \
-             $ target-lexicon read --from oci linux/arm64\n\n\
+             $ target-lexicon settle --from oci linux/arm64\n\n\
              Status: 0 if all targets were parsed, 1 if one was refused, 2 for wrong arguments,\n\
              3 if something couldn't be read or written. `target-lexicon manual` writes the manual page.",
         )
@@ -157,17 +170,20 @@ pub fn command() -> Command {
                 "facts",
                 "Show the fields of a target, and what a compiler asks",
                 "Example:\n  $ target-lexicon facts --json x86_64-unknown-linux-gnu | jq '.[].pointer_width'",
-            ),
+            )
+            .args([from(), libc()]),
             of_targets(
                 "settle",
                 "Write the canonical form of each target: one string for all its spellings",
                 "Example:\n  $ target-lexicon settle x86_64-linux arm64-linux-gnu",
-            ),
+            )
+            .args([from(), libc()]),
             of_targets(
                 "check",
                 "Write only what is refused: nothing, if all targets parse",
                 "Example:\n  $ target-lexicon check --strict --comments -f targets.txt",
-            ),
+            )
+            .arg(from()),
             of_targets(
                 "matrix",
                 "Write each canonical target once, with the places that it came from",
@@ -177,7 +193,8 @@ pub fn command() -> Command {
                  Example:\n  $ target-lexicon matrix --json -f targets.txt | jq -c 'map(.canonical)'",
             )
             .arg(flag("ignore-vendor", "Merge targets that differ only in their vendors"))
-            .arg(flag("places", "Write all places, instead of the first")),
+            .arg(flag("places", "Write all places, instead of the first"))
+            .args([from(), libc()]),
             of_targets(
                 "read",
                 "Write the canonical form of the target that another tool's name means",
@@ -185,27 +202,23 @@ pub fn command() -> Command {
                  Examples:\n  $ target-lexicon read --from oci linux/arm/v7\n  $ target-lexicon read --from gnu \"$(cc -dumpmachine)\"",
             )
             .mut_arg("target", |names| names.value_name("NAME"))
-            .arg(
-                dialect(
-                    "from",
-                    all().chain([ANY]),
-                    "The tool whose names are read; `any` writes a line for each that has the name",
-                ),
-            )
-            .arg(libc())
+            .args([from(), libc()])
             .arg(
                 flag("changes", "Show which parts of a name are read as others, such as amd64 as x86_64")
                     .conflicts_with("from"),
             ),
             of_targets(
-                "write",
-                "Write the name that another tool has for each target",
-                "Examples:\n  $ target-lexicon write --to debian aarch64-unknown-linux-gnu\n  \
-                 $ target-lexicon write --to python --with-version 2.17 aarch64-unknown-linux-gnu",
+                "translate",
+                "Write the name that a tool has for a target, or for what a name of another tool means",
+                "Names that are read --from a tool may be written as lists have them: with commas, quotes, brackets or a dash before each.\n\n\
+                 Examples:\n  $ target-lexicon translate --to debian aarch64-unknown-linux-gnu\n  \
+                 $ target-lexicon translate --from oci --to debian --libc glibc linux/amd64,linux/arm64\n  \
+                 $ target-lexicon translate --to python --with-version 2.17 aarch64-unknown-linux-gnu",
             )
-            .arg(dialect("to", words(written()), "The tool whose names are written").required(true))
-            .arg(libc())
-            .arg(
+            .args([
+                from(),
+                dialect("to", words(written()), "The tool whose names are written").required(true),
+                libc(),
                 Arg::new("with-version")
                     .long("with-version")
                     .value_name("VERSION")
@@ -213,17 +226,7 @@ pub fn command() -> Command {
                     .action(ArgAction::Append)
                     .value_parser(version)
                     .help("The version that names state, of glibc, musl, macOS or Android; of several with commas, the first that fits"),
-            ),
-            of_targets(
-                "translate",
-                "Write the name that one tool has for what a name of another means",
-                "Names may be written as lists have them: with commas, quotes, brackets or a dash before each.\n\n\
-                 Example:\n  $ target-lexicon translate --from oci --to debian --libc glibc linux/amd64,linux/arm64",
-            )
-            .mut_arg("target", |names| names.value_name("NAME"))
-            .arg(dialect("from", all(), "The tool whose names are read").required(true))
-            .arg(dialect("to", words(written()), "The tool whose names are written").required(true))
-            .arg(libc()),
+            ]),
             of_targets(
                 "cfg",
                 "Write the values of rustc's cfg options for a target",
@@ -239,16 +242,15 @@ pub fn command() -> Command {
             .mut_arg("strict", |strict| strict.hide(true))
             .mut_arg("vendors", |vendors| vendors.hide(true))
             .arg(libc()),
-            Command::new("host")
-                .about("Write the target that the command was built for")
-                .after_help("Example:\n  $ target-lexicon host"),
             Command::new("names")
-                .about("List the known names of a field, or of all fields")
-                .after_help("Example:\n  $ target-lexicon names environment")
+                .about("List the known names of a field or of a tool, or of all fields; or the dialects")
+                .after_help("Examples:\n  $ target-lexicon names environment\n  $ target-lexicon names debian")
                 .arg(
-                    Arg::new("field")
-                        .value_name("FIELD")
-                        .value_parser(PossibleValuesParser::new(FIELDS.map(|(name, _)| name))),
+                    Arg::new("of")
+                        .value_name("FIELD|DIALECT")
+                        .value_parser(PossibleValuesParser::new(
+                            FIELDS.map(|(name, _)| name).into_iter().chain([DIALECTS]).chain(dialects()),
+                        )),
                 ),
             Command::new("completions")
                 .about("Write a completion script for a shell")

@@ -1,5 +1,6 @@
 //! The targets: arguments, or the lines of files and of standard input as they come.
 use crate::blocks::{each_block, Stop};
+use crate::output::say_what_is_read;
 use crate::refusal::visible;
 use crate::{streams, Fault};
 use clap::ArgMatches;
@@ -54,6 +55,9 @@ pub fn each_target(arguments: &ArgMatches, answers: &mut impl Answers) -> Result
     let targets = arguments.get_many::<String>("target").unwrap_or_default();
     let files = arguments.get_many::<PathBuf>("file").unwrap_or_default();
     if targets.len() + files.len() == 0 {
+        if !arguments.get_flag("quiet") {
+            say_what_is_read();
+        }
         return each_line(Path::new("-"), lines, answers);
     }
     for (text, number) in targets.zip(1..) {

@@ -13,7 +13,7 @@ mod refusal;
 mod streams;
 mod what;
 
-use arguments::{Version, ANY, FIELDS};
+use arguments::{Version, DIALECTS, FIELDS};
 use clap::error::{ContextKind, ContextValue, ErrorKind};
 use clap::ArgMatches;
 use clap_complete::Shell;
@@ -29,7 +29,7 @@ use std::io::{self, Write};
 use std::num::NonZeroUsize;
 use std::path::Path;
 use std::process;
-use target_lexicon::{TripleRef, HOST};
+use target_lexicon::TripleRef;
 use target_names::{Dialect, LinuxLibc, Name, TargetInfo};
 use what::What;
 
@@ -58,21 +58,11 @@ enum Call {
     Settle,
     Check,
     Matrix,
-    Read(From),
-    Write(Dialect),
-    Translate(Dialect, Dialect),
+    Read,
+    /// To the names of a dialect.
+    Translate(Dialect),
     Cfg,
     What,
-}
-
-/// Whose names are read.
-#[derive(Clone, Copy, PartialEq, Eq)]
-pub enum From {
-    /// Strings that are spelled like triples.
-    Triples,
-    Dialect(Dialect),
-    /// Each of them that has the name.
-    Any,
 }
 
 /// What was found out about a target.
@@ -80,8 +70,6 @@ enum Found<'a> {
     /// What a target parses as, and what is said of its vendor.
     Parsed(refusal::Parsed<'a>, Option<Refusal<'a>>),
     Read(TripleRef<'a>),
-    /// Which dialects have the name, and what it means in each.
-    Meanings(Vec<(&'static str, TripleRef<'a>)>),
     What(What<'a>),
     Name(Name),
 }
@@ -89,6 +77,8 @@ enum Found<'a> {
 /// A call that answers for targets.
 struct Run {
     call: Call,
+    /// The dialect whose names are read instead of triples.
+    from: Option<Dialect>,
     /// The C library that the user says, for a triple of Linux or Windows that states none.
     libc: Option<LinuxLibc>,
     /// Whether an answer differs from that without it.
@@ -118,11 +108,10 @@ const REMEMBERED_LENGTH: usize = 100;
 
 impl Answers for Run {
     fn answer(&mut self, target: Target<'_>) -> Result<(), Fault> {
-        match self.call {
-            Call::What | Call::Translate(..) | Call::Read(From::Dialect(_) | From::Any) => {
-                what::names_in(target).try_for_each(|name| self.answer_one(name))
-            }
-            _ => self.answer_one(target),
+        if self.takes_names() {
+            what::names_in(target).try_for_each(|name| self.answer_one(name))
+        } else {
+            self.answer_one(target)
         }
     }
 
@@ -133,6 +122,11 @@ impl Answers for Run {
 }
 
 impl Run {
+    /// Whether the targets are names of other tools.
+    fn takes_names(&self) -> bool {
+        self.call == Call::What || self.from.is_some()
+    }
+
     fn answer_one(&mut self, target: Target<'_>) -> Result<(), Fault> {
         self.progress.targets += 1;
         match self.find(target.text) {
@@ -171,6 +165,10 @@ impl Run {
                 self.matrix.add(target, explanation.triple);
                 Ok(())
             }
+            Found::Read(triple) if self.call == Call::Matrix => {
+                self.matrix.add(target, triple);
+                Ok(())
+            }
             _ if self.call == Call::Check => Ok(()),
             found if self.has_json => {
                 let members = self.members(target.text, &found);
@@ -179,6 +177,7 @@ impl Run {
             }
             found => {
                 let (call, shows_changes) = (self.call, self.shows_changes);
+                let is_first = self.progress.targets - self.progress.refused == 1;
                 self.outputs.answer(self.end_of_line, |out| match found {
                     Found::Parsed(explanation, _) => match call {
                         Call::Explain => answers::write_explained(out, target, &explanation),
@@ -187,9 +186,15 @@ impl Run {
                             target.text,
                             answers::facts(&explanation.triple),
                         ),
-                        Call::Cfg => write!(out, "{}", explanation.triple.rustc_cfg()),
+                        Call::Cfg => {
+                            let separator = if is_first { "" } else { "\n" };
+                            write!(out, "{separator}{}", explanation.triple.rustc_cfg())
+                        }
                         _ => writeln!(out, "{}", answers::canonical(explanation.triple)),
                     },
+                    Found::Read(triple) if call == Call::Facts => {
+                        answers::write_facts(out, target.text, answers::facts(&triple))
+                    }
                     Found::Read(triple) => {
                         writeln!(out, "{}", answers::canonical(triple))?;
                         if shows_changes {
@@ -197,11 +202,6 @@ impl Run {
                         } else {
                             Ok(())
                         }
-                    }
-                    Found::Meanings(meanings) => {
-                        meanings.into_iter().try_for_each(|(name, triple)| {
-                            writeln!(out, "{name}\t{}", answers::canonical(triple))
-                        })
                     }
                     Found::Name(name) => writeln!(out, "{name}"),
                     Found::What(what) => what.write(out, target.text),
@@ -237,10 +237,14 @@ impl Run {
         refusal: &Refusal<'_>,
         note: Option<String>,
     ) -> Option<String> {
+        if self.from.is_none() {
+            return note;
+        }
         let command = match self.call {
-            Call::Translate(_, to) => format!("target-lexicon write --to {to}"),
-            Call::Read(From::Dialect(_)) => "target-lexicon settle".to_string(),
-            _ => return note,
+            Call::Translate(to) => format!("target-lexicon translate --to {to}"),
+            Call::Facts => "target-lexicon facts".to_string(),
+            Call::Matrix => "target-lexicon matrix".to_string(),
+            _ => "target-lexicon settle".to_string(),
         };
         let is_triple = TripleRef::from_str(text).map_or(false, |it| !it.vendor.is_custom());
         if !refusal.is_unknown_name() || !is_triple || !text.contains('-') {
@@ -253,44 +257,53 @@ impl Run {
     }
 
     fn find<'a>(&self, text: &'a str) -> Result<Found<'a>, Refusal<'a>> {
-        match self.call {
-            Call::What => {
+        match (self.call, self.from) {
+            (Call::What, _) => {
                 let what = What::of(text, self.libc)?;
                 self.needs_libc_if(|| what.is_completed);
                 return Ok(Found::What(what));
             }
-            Call::Read(From::Any) => {
-                let meanings = refusal::meanings(text)?;
-                let complete = |(name, triple)| (name, self.completed(triple));
-                return Ok(Found::Meanings(
-                    meanings.into_iter().map(complete).collect(),
-                ));
-            }
-            Call::Read(from) => {
-                return refusal::read(text, from).map(|it| Found::Read(self.completed(it)));
-            }
-            Call::Translate(from, to) => {
+            (Call::Translate(to), Some(from)) if self.versions.is_empty() => {
                 let name = refusal::translate(text, from, self.libc, to)?;
                 self.needs_libc_if(|| from.translate(text, None, to) != Ok(name));
                 return Ok(Found::Name(name));
             }
+            (Call::Translate(to), Some(_)) => {
+                let triple = self.completed(refusal::read(text, self.from)?);
+                return self.versioned(text, to, triple);
+            }
+            (Call::Read, _) | (_, Some(_)) => {
+                return refusal::read(text, self.from).map(|it| Found::Read(self.completed(it)));
+            }
             _ => {}
         }
-        let explanation = refusal::explanation(text)?;
+        let mut explanation = refusal::explanation(text)?;
         let warning = refusal::of_vendor(&explanation, self.is_strict, &self.vendors)?;
         match self.call {
-            Call::Write(dialect) if self.versions.is_empty() => {
+            Call::Translate(dialect) if self.versions.is_empty() => {
                 let triple = explanation.triple;
                 let name = refusal::name_in(dialect, text, self.libc, &triple)?;
-                self.needs_libc_if(|| dialect.write(&triple) != Some(name));
+                self.needs_libc_if(|| dialect.write(triple) != Some(name));
                 Ok(Found::Name(name))
             }
-            Call::Write(dialect) => {
-                let triple = self.completed(explanation.triple);
-                refusal::versioned_name_in(dialect, text, &self.versions, &triple).map(Found::Name)
+            Call::Translate(dialect) => {
+                self.versioned(text, dialect, self.completed(explanation.triple))
             }
-            _ => Ok(Found::Parsed(explanation, warning)),
+            _ => {
+                explanation.triple = self.completed(explanation.triple);
+                Ok(Found::Parsed(explanation, warning))
+            }
         }
+    }
+
+    /// The name in a dialect that states the first of the versions that fits.
+    fn versioned<'a>(
+        &self,
+        text: &'a str,
+        dialect: Dialect,
+        triple: TripleRef<'_>,
+    ) -> Result<Found<'a>, Refusal<'a>> {
+        refusal::versioned_name_in(dialect, text, &self.versions, &triple).map(Found::Name)
     }
 
     /// The triple with the C library that the user says.
@@ -334,20 +347,17 @@ impl Run {
                 Call::Cfg => answers::cfg(&explanation.triple),
                 _ => canonical(explanation.triple),
             },
-            Found::Read(triple) => {
-                let changes = match self.call {
-                    Call::Read(From::Triples) => answers::changed_parts(text),
-                    _ => Json::Null,
-                };
-                [canonical(*triple), vec![("changes", changes)]].concat()
-            }
-            Found::Meanings(meanings) => {
-                let meaning = |(name, triple): &(&'static str, TripleRef<'_>)| {
-                    (*name, answers::canonical(*triple).to_string().into())
-                };
-                let meanings = Json::Object(meanings.iter().map(meaning).collect());
-                vec![("meanings", meanings)]
-            }
+            Found::Read(triple) => match (self.call, self.from) {
+                (Call::Facts, _) => answers::facts(triple),
+                (Call::Read, None) => {
+                    let changes = answers::changed_parts(text);
+                    [canonical(*triple), vec![("changes", changes)]].concat()
+                }
+                (Call::Read, Some(_)) => {
+                    [canonical(*triple), vec![("changes", Json::Null)]].concat()
+                }
+                _ => canonical(*triple),
+            },
             Found::Name(name) => vec![("name", name.as_str().into())],
             Found::What(what) => what.members(text),
         }
@@ -356,7 +366,8 @@ impl Run {
     fn new(call: Call, arguments: &ArgMatches) -> Self {
         Run {
             call,
-            libc: libc(call, arguments),
+            from: dialect(arguments, "from"),
+            libc: libc(arguments),
             needs_libc: Cell::new(false),
             versions: versions(call, arguments),
             is_strict: arguments.get_flag("strict"),
@@ -366,7 +377,7 @@ impl Run {
             is_quiet: arguments.get_flag("quiet"),
             skips_comments: arguments.get_flag("comments"),
             end_of_line: end_of_line(arguments),
-            shows_changes: matches!(call, Call::Read(_)) && arguments.get_flag("changes"),
+            shows_changes: call == Call::Read && arguments.get_flag("changes"),
             has_json: arguments.get_flag("json") || arguments.get_flag("json-lines"),
             matrix: Matrix::new(
                 call == Call::Matrix && arguments.get_flag("ignore-vendor"),
@@ -382,7 +393,7 @@ impl Run {
     /// What the user may have meant by a target that is refused.
     fn note(&self, target: Target<'_>) -> Option<String> {
         let text = target.text.trim();
-        let is_name = matches!(self.call, Call::Read(_) | Call::Translate(..) | Call::What);
+        let is_name = self.takes_names() || self.call == Call::Read;
         let parses = TripleRef::from_str(text).is_ok();
         if !is_name && !parses {
             if let Some(meant) = answers::meaning_elsewhere(text) {
@@ -392,8 +403,8 @@ impl Run {
             }
         }
         let command = match self.call {
-            Call::Read(From::Triples) => Some(""),
-            Call::Read(_) | Call::Translate(..) | Call::What => None,
+            _ if self.takes_names() => None,
+            Call::Read => Some(""),
             _ if parses => None,
             _ => Some("target-lexicon read "),
         };
@@ -412,7 +423,7 @@ impl Run {
                 "there is a file of that name: `-f {}` answers for its lines",
                 visible(text).shortened()
             )),
-            _ if self.call == Call::Read(From::Triples) && text.contains('/') => {
+            _ if self.call == Call::Read && self.from.is_none() && text.contains('/') => {
                 Some("a name of another tool needs `--from`".to_string())
             }
             Place::Line { .. } if self.end_of_line == 0 => None,
@@ -475,9 +486,15 @@ impl Run {
     }
 }
 
-/// The names of the requested field, or of each field below its own name.
+/// The names of the requested field or dialect, those of the dialects, or of each field below its own name.
 fn write_names(out: &mut dyn Write, arguments: &ArgMatches) -> io::Result<()> {
-    let requested = arguments.get_one::<String>("field");
+    let requested = arguments.get_one::<String>("of");
+    if let Some(dialect) = dialect(arguments, "of") {
+        return dialect.names().try_for_each(|name| writeln!(out, "{name}"));
+    }
+    if requested.map_or(false, |it| it == DIALECTS) {
+        return arguments::dialects().try_for_each(|name| writeln!(out, "{name}"));
+    }
     for (key, field) in FIELDS {
         let indent = match requested {
             None => {
@@ -518,31 +535,20 @@ fn completion_script(arguments: &ArgMatches) -> String {
     }
 }
 
+/// The dialect of an option, which some calls don't have.
 fn dialect(arguments: &ArgMatches, option: &str) -> Option<Dialect> {
-    arguments.get_one::<String>(option)?.parse().ok()
+    let word = arguments.try_get_one::<String>(option).ok()??;
+    word.parse().ok()
 }
 
-/// Whose names are read.
-fn from(arguments: &ArgMatches) -> From {
-    match arguments.get_one::<String>("from").map(String::as_str) {
-        None => From::Triples,
-        Some(ANY) => From::Any,
-        Some(_) => From::Dialect(dialect(arguments, "from").expect("it is a dialect")),
-    }
-}
-
-fn libc(call: Call, arguments: &ArgMatches) -> Option<LinuxLibc> {
-    let has_option = matches!(
-        call,
-        Call::Read(_) | Call::Write(..) | Call::Translate(..) | Call::What
-    );
-    let requested = has_option.then(|| arguments.get_one::<String>("libc"))??;
-    requested.parse().ok()
+fn libc(arguments: &ArgMatches) -> Option<LinuxLibc> {
+    let word = arguments.try_get_one::<String>("libc").ok()??;
+    word.parse().ok()
 }
 
 fn versions(call: Call, arguments: &ArgMatches) -> Vec<Version> {
     match call {
-        Call::Write(_) => {
+        Call::Translate(_) => {
             let versions = arguments.get_many("with-version").unwrap_or_default();
             versions.copied().collect()
         }
@@ -558,19 +564,14 @@ fn run(arguments: &ArgMatches) -> Result<i32, Fault> {
         "settle" => Call::Settle,
         "check" => Call::Check,
         "matrix" => Call::Matrix,
-        "read" => Call::Read(from(arguments)),
-        "translate" => Call::Translate(
-            dialect(arguments, "from").expect("a dialect is required"),
-            dialect(arguments, "to").expect("a dialect is required"),
-        ),
+        "read" => Call::Read,
+        "translate" => Call::Translate(dialect(arguments, "to").expect("a dialect is required")),
         "cfg" => Call::Cfg,
-        "write" => Call::Write(dialect(arguments, "to").expect("a dialect is required")),
         "what" => Call::What,
         _ => {
             let mut outputs = Outputs::plain();
             outputs.write(|out| match name {
                 "names" => write_names(out, arguments),
-                "host" => writeln!(out, "{HOST}"),
                 "completions" => out.write_all(completion_script(arguments).as_bytes()),
                 "manual" => out.write_all(include_bytes!("../man/target-lexicon.1")),
                 other => unreachable!("{other} is no subcommand"),
@@ -607,11 +608,20 @@ fn usage(error: &clap::Error) -> Result<i32, Fault> {
     Ok(if is_wrong { 2 } else { 0 })
 }
 
-/// What the user may have meant by a subcommand that is none.
+/// What does now what a word did that was a subcommand before, or what else the user may have meant by one that is none.
 fn target_note(error: &clap::Error) -> String {
     if let (ErrorKind::InvalidSubcommand, Some(ContextValue::String(word))) =
         (error.kind(), error.get(ContextKind::InvalidSubcommand))
     {
+        let now = match word.as_str() {
+            "write" => "translate --to DIALECT",
+            "elsewhere" => "what",
+            "host" => "read --from gnu \"$(cc -dumpmachine)\"",
+            _ => "",
+        };
+        if !now.is_empty() {
+            return format!("\n`{word}` is `target-lexicon {now}` now\n");
+        }
         if TripleRef::from_str(word).is_ok() {
             return format!("\nA target follows a command: target-lexicon explain {word}\n");
         }

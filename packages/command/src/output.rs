@@ -42,6 +42,16 @@ fn is_terminal() -> bool {
     return false;
 }
 
+/// Says that standard input is read, where a person would wonder why nothing happens: if it and the messages are of a terminal.
+#[allow(clippy::incompatible_msrv)] // as above
+pub fn say_what_is_read() {
+    #[cfg(is_terminal)]
+    if io::IsTerminal::is_terminal(&io::stdin()) && is_terminal() {
+        let said = "target-lexicon: reading targets from standard input, one per line\n";
+        let _ = io::stderr().write_all(said.as_bytes());
+    }
+}
+
 /// Whether that terminal takes escape sequences, and the user wants them.
 fn takes_escapes() -> bool {
     let is_unset = |name| env::var_os(name).map_or(true, |it| it.is_empty());

@@ -2,7 +2,6 @@
 use crate::arguments::{Version, FIELDS};
 use crate::input::{Place, Target};
 use crate::json::{Json, Object};
-use crate::From;
 use std::io::{self, Write};
 pub use target_lexicon::spellings::visible;
 use target_lexicon::spellings::SHOWN;
@@ -94,25 +93,13 @@ pub fn of_vendor<'a>(
 }
 
 /// The triple that a name of another tool means, or a string that is spelled like a triple.
-pub fn read(text: &str, from: From) -> Result<TripleRef<'_>, Refusal<'_>> {
+pub fn read(text: &str, from: Option<Dialect>) -> Result<TripleRef<'_>, Refusal<'_>> {
     match from {
-        From::Dialect(dialect) => dialect
+        Some(dialect) => dialect
             .read_loosely(text)
             .map_err(|error| Refusal::of_name(text, dialect, error)),
-        _ => target_names::read(text).map_err(Refusal::of_part),
+        None => target_names::read(text).map_err(Refusal::of_part),
     }
-}
-
-/// The triple that a name means to each tool that has it.
-pub fn meanings(text: &str) -> Result<Vec<(&'static str, TripleRef<'_>)>, Refusal<'_>> {
-    let found = target_names::meanings(text);
-    let meanings: Vec<_> = found
-        .filter_map(|it| Some((it.of.name(), it.triple.ok()?)))
-        .collect();
-    if meanings.is_empty() {
-        return Err(Refusal::unknown_to_all(text));
-    }
-    Ok(meanings)
 }
 
 /// The name in one dialect of what a name in another means.

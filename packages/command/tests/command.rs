@@ -173,7 +173,7 @@ fn a_quiet_run_has_only_a_status() {
         ("".into(), "".into(), 1)
     );
     assert_eq!(
-        answers(&["write", "-q", "--to", "go", "avr-none"]),
+        answers(&["translate", "-q", "--to", "go", "avr-none"]),
         ("".into(), "".into(), 1)
     );
 }
@@ -272,7 +272,7 @@ fn hostile_arguments_do_not_reach_the_terminal() {
         &["check", "z80", &option, "z80"],
         &["check", &value],
         &["settle", "--color", hostile],
-        &["write", "--to", hostile],
+        &["translate", "--to", hostile],
         &["names", hostile],
         &["completions", hostile],
         &["manual", hostile],
@@ -580,25 +580,25 @@ fn names_of_other_tools_are_read_and_written() {
         (&json!("foo"), &json!(9))
     );
     assert_eq!(
-        answers(&["write", "--to", "debian", "aarch64-linux-gnu"]).0,
+        answers(&["translate", "--to", "debian", "aarch64-linux-gnu"]).0,
         "arm64\n"
     );
     // A dialect may have another name, and one that is only read isn't written.
     assert_eq!(
-        answers(&["write", "--to", "docker", "aarch64-linux-gnu"]).0,
+        answers(&["translate", "--to", "docker", "aarch64-linux-gnu"]).0,
         "linux/arm64\n"
     );
     assert_eq!(
         answers(&["read", "--from", "uname", "Linux x86_64"]).0,
         "x86_64-unknown-linux\n"
     );
-    assert_eq!(answers(&["write", "--to", "uname", "x86_64"]).2, 2);
+    assert_eq!(answers(&["translate", "--to", "uname", "x86_64"]).2, 2);
     assert_eq!(
-        json_of(&["write", "--to", "go", "--json", "x86_64-apple-darwin"])[0]["name"],
+        json_of(&["translate", "--to", "go", "--json", "x86_64-apple-darwin"])[0]["name"],
         "darwin/amd64"
     );
     assert_eq!(
-        answers(&["write", "--to", "python", "arm64-apple-macosx11"]).0,
+        answers(&["translate", "--to", "python", "arm64-apple-macosx11"]).0,
         "macosx_11_0_arm64\n"
     );
     assert_eq!(
@@ -606,7 +606,7 @@ fn names_of_other_tools_are_read_and_written() {
         "x86_64-unknown-linux-gnu\n"
     );
     let of_version = |version, libc: &[&str], target| {
-        let options = ["write", "--to", "python", "--with-version", version];
+        let options = ["translate", "--to", "python", "--with-version", version];
         answers(&[&options, libc, &[target]].concat())
     };
     let (name, _, _) = of_version("2.17", &["--libc", "glibc"], "aarch64-linux");
@@ -621,7 +621,10 @@ fn names_of_other_tools_are_read_and_written() {
     assert!(answers(&["read", "--from", "python", "linux_x86_46"])
         .1
         .contains(" did you mean `linux_x86_64`?\n"));
-    assert_eq!(answers(&["write", "--to", "debian", "wasm32-wasip1"]).2, 1);
+    assert_eq!(
+        answers(&["translate", "--to", "debian", "wasm32-wasip1"]).2,
+        1
+    );
 }
 
 #[test]
@@ -704,13 +707,121 @@ fn names_come_as_lists_have_them() {
     assert_eq!(status, 1);
 }
 
+const LINUX: &str = "x86_64-unknown-linux-gnu";
+
 #[test]
-fn the_host_is_a_target() {
-    let (host, _, status) = answers(&["host"]);
+fn old_words_are_answered_with_the_new() {
+    for (old, new) in [
+        ("write", "translate --to DIALECT"),
+        ("elsewhere", "what"),
+        ("host", "read --from gnu \"$(cc -dumpmachine)\""),
+    ] {
+        let (out, errors, status) = answers(&[old, "avr"]);
+        assert_eq!((out.as_str(), status), ("", 2));
+        let now = format!("\n`{old}` is `target-lexicon {new}` now\n");
+        assert!(errors.ends_with(&now), "{errors}");
+    }
+    assert_eq!(answers(&["read", "--from", "any", "avr"]).2, 2);
+}
+
+#[test]
+fn names_of_a_tool_are_taken_where_triples_are() {
+    let docker = [
+        "--from",
+        "docker",
+        "--libc",
+        "musl",
+        "[linux/amd64, linux/arm64]",
+    ];
+    let of = |call: &[&str]| answers(&[call, &docker].concat());
+    let (x86_64, aarch64) = ("x86_64-unknown-linux-musl", "aarch64-unknown-linux-musl");
+    let both = format!("{x86_64}\n{aarch64}\n");
+    assert_eq!(of(&["settle"]), (both.clone(), String::new(), 0));
+    assert_eq!(of(&["read"]), (both, String::new(), 0));
+    let matrix =
+        format!("{x86_64}\tlinux/amd64\t1\targument:1\n{aarch64}\tlinux/arm64\t1\targument:1\n");
+    assert_eq!(of(&["matrix"]), (matrix, String::new(), 0));
+    let facts = |words: &[&str]| json_of(&[&["facts", "--json"], words].concat());
+    assert_eq!(of(&["facts"]).0.matches("\n  environment").count(), 2);
+    for (of_name, of_triple) in facts(&docker)
+        .as_array()
+        .unwrap()
+        .iter()
+        .zip(facts(&[x86_64, aarch64]).as_array().unwrap())
+    {
+        assert_eq!(of_name["environment"], "musl");
+        let members = of_triple.as_object().unwrap();
+        for (key, value) in members.iter().filter(|(key, _)| *key != "target") {
+            assert_eq!(&of_name[key], value, "{key}");
+        }
+    }
+    assert_eq!(
+        facts(&["--libc", "musl", "x86_64-linux"])[0]["environment"],
+        "musl"
+    );
+    let check = ["check", "--from", "docker"];
+    assert_eq!(
+        answers(&[&check[..], &["linux/arm64"]].concat()),
+        Default::default()
+    );
+    for call in ["check", "facts", "matrix", "settle"] {
+        let (out, errors, status) = answers(&[call, "--from", "docker", "linux/amd46"]);
+        assert_eq!((out.as_str(), status), ("", 1), "{call}");
+        assert!(
+            errors.contains("did you mean `linux/amd64`?"),
+            "{call}: {errors}"
+        );
+        let (_, errors, _) = answers(&[call, "--from", "docker", LINUX]);
+        let takes = if call == "check" { "settle" } else { call };
+        assert!(
+            errors.contains(&format!(
+                "it is a triple, which `target-lexicon {takes}` and"
+            )),
+            "{errors}"
+        );
+    }
+    // A version goes with a name of another tool too.
+    let versioned = [
+        "translate",
+        "--from",
+        "rust",
+        "--to",
+        "python",
+        "--with-version",
+        "2.17",
+        LINUX,
+    ];
+    assert_eq!(answers(&versioned).0, "manylinux_2_17_x86_64\n");
+}
+
+#[test]
+fn names_of_a_dialect_are_listed() {
+    let (dialects, _, status) = answers(&["names", "dialects"]);
     assert_eq!(status, 0);
-    assert_eq!(answers(&["check", host.trim_end()]).2, 0);
-    let width = format!("  pointer_width               {}\n", usize::BITS);
-    assert!(answers(&["facts", host.trim_end()]).0.contains(&width));
+    let dialects: Vec<&str> = dialects.lines().collect();
+    assert!(["oci", "docker", "node", "npm", "uname"]
+        .iter()
+        .all(|it| dialects.contains(it)));
+    for dialect in dialects {
+        let (names, _, status) = answers(&["names", dialect]);
+        assert_eq!(status, 0);
+        let (_, errors, status) = answers_on(
+            &["check", "-0", "--from", dialect],
+            &names.replace('\n', "\0"),
+        );
+        assert_eq!((errors.as_str(), status), ("", 0), "{dialect}");
+    }
+    assert!(answers(&["names", "docker"]).0.contains("linux/arm64\n"));
+}
+
+#[test]
+fn a_blank_line_is_between_the_options_of_targets() {
+    let one = |target| answers(&["cfg", target]).0;
+    let (out, _, status) = answers(&["cfg", "avr", "foo", LINUX]);
+    assert_eq!(
+        (out, status),
+        (format!("{}\n{}", one("avr"), one(LINUX)), 1)
+    );
 }
 
 #[test]
@@ -930,7 +1041,7 @@ fn the_manual_and_the_completions_have_all_of_the_help() {
         .map_while(|line| line.strip_prefix("  ")?.split(' ').next())
         .filter(|call| *call != "help")
         .collect();
-    assert_eq!(calls.len(), 14);
+    assert_eq!(calls.len(), 12);
     for call in calls {
         assert!(
             page.contains(&format!(".B target-lexicon {call}\n")),
@@ -992,7 +1103,7 @@ fn shells_take_the_completions() {
 fn mistakes_in_options_are_explained() {
     let write = |version| {
         answers(&[
-            "write",
+            "translate",
             "--to",
             "python",
             "--with-version",
@@ -1009,11 +1120,11 @@ fn mistakes_in_options_are_explained() {
         assert_eq!(status, 2);
     }
     // The other names of dialects are listed with them.
-    let (help, _, _) = answers(&["write", "--help"]);
+    let (help, _, _) = answers(&["translate", "--help"]);
     assert!(help.contains("oci, docker, node, npm"), "{help}");
     let (manual, _, _) = answers(&["manual"]);
     assert!(manual.contains("docker is oci and npm is node"), "{manual}");
-    let write = ["write", "--to", "docker", "aarch64-unknown-linux"];
+    let write = ["translate", "--to", "docker", "aarch64-unknown-linux"];
     assert_eq!(answers(&write).0, "linux/arm64\n");
 }
 
@@ -1094,7 +1205,7 @@ fn names_are_translated_with_a_c_library() {
         .1
         .contains("unknown name of oci"));
     let written = [
-        "write",
+        "translate",
         "--to",
         "rust",
         "--libc",
@@ -1104,33 +1215,6 @@ fn names_are_translated_with_a_c_library() {
     assert_eq!(answers(&written).0, "armv7-unknown-linux-musleabihf\n");
     let read = ["read", "--from", "go", "--libc", "musl", "linux/arm64"];
     assert_eq!(answers(&read).0, "aarch64-unknown-linux-musl\n");
-}
-
-#[test]
-fn any_tool_may_have_a_name() {
-    let (out, _, status) = answers(&["read", "--from", "any", "linux/arm64"]);
-    assert_eq!(status, 0);
-    for line in [
-        "go\taarch64-unknown-linux\n",
-        "oci\taarch64-unknown-linux\n",
-    ] {
-        assert!(out.contains(line), "{out}");
-    }
-    assert_eq!(
-        json_of(&["read", "--from", "any", "--json", "linux/arm64"])[0]["meanings"]["oci"],
-        "aarch64-unknown-linux"
-    );
-    // A string may be spelled like a triple too, and a single word that a tool has isn't taken for one.
-    let (out, _, _) = answers(&["read", "--from", "any", "x86_64-linux"]);
-    assert!(out.starts_with("triple\tx86_64-unknown-linux\n"), "{out}");
-    let (out, _, _) = answers(&["read", "--from", "any", "armhf"]);
-    assert_eq!(out.lines().count(), 2, "{out}");
-    let (_, errors, status) = answers(&["read", "--from", "any", "foo/bar"]);
-    assert!(
-        errors.starts_with("error: no tool has the name `foo/bar`\n"),
-        "{errors}"
-    );
-    assert_eq!(status, 1);
 }
 
 #[test]
@@ -1206,7 +1290,7 @@ const WAYS: [(&[&str], &str, &str); 8] = [
         "linux-x64-gnu\nlinux-x64-musl\nwin32-x64-msvc\ndarwin-arm64\n",
     ),
     (
-        &["write", "--to", "python", "--with-version", "2.17,1.2,11.0"],
+        &["translate", "--to", "python", "--with-version", "2.17,1.2,11.0"],
         "x86_64-unknown-linux-gnu\naarch64-unknown-linux-gnu\nx86_64-unknown-linux-musl\naarch64-unknown-linux-musl\n\
          armv7-unknown-linux-gnueabihf\nx86_64-apple-darwin\naarch64-apple-darwin\nx86_64-pc-windows-msvc\n\
          aarch64-pc-windows-msvc\ni686-pc-windows-msvc\n",
@@ -1277,7 +1361,7 @@ fn a_c_library_that_changes_nothing_is_noted() {
             "linux/amd64",
         ],
         &[
-            "write",
+            "translate",
             "--to",
             "debian",
             "--libc",
@@ -1304,7 +1388,14 @@ fn a_c_library_that_changes_nothing_is_noted() {
             "darwin/arm64",
             "linux/amd64",
         ] as &[&str],
-        &["write", "--to", "node", "--libc", "musl", "x86_64-linux"],
+        &[
+            "translate",
+            "--to",
+            "node",
+            "--libc",
+            "musl",
+            "x86_64-linux",
+        ],
         &["read", "--from", "go", "--libc", "msvc", "windows/amd64"],
         &["what", "--libc", "musl", "linux/amd64"],
         &["read", "--quiet", "--libc", "glibc", "x86_64-linux-gnu"],
@@ -1385,10 +1476,10 @@ fn mistakes_in_names_are_explained() {
         "debian",
         "x86_64-linux-gnu",
     ]);
-    let note = "; it is a triple, which `target-lexicon write --to debian` and `target-lexicon what` take\n";
+    let note = "; it is a triple, which `target-lexicon translate --to debian` and `target-lexicon what` take\n";
     assert!(errors.ends_with(note), "{errors}");
     assert_eq!(
-        answers(&["write", "--to", "debian", "x86_64-linux-gnu"]).0,
+        answers(&["translate", "--to", "debian", "x86_64-linux-gnu"]).0,
         "amd64\n"
     );
     // The note is in JSON too.
@@ -1459,7 +1550,7 @@ fn names_that_no_tool_has_are_explained() {
     let note = |name| json_of(&["what", "--json", name])[0]["meanings"][0]["note"].clone();
     assert_eq!(note("x86_64-unknown-none"), Value::Null);
     // The machine is said where the tool has it on no system.
-    let (_, errors, _) = answers(&["write", "--to", "debian", "wasm32-unknown-unknown"]);
+    let (_, errors, _) = answers(&["translate", "--to", "debian", "wasm32-unknown-unknown"]);
     assert!(
         errors.ends_with("^ the tool has no name for this machine on any system\n"),
         "{errors}"

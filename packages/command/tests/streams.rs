@@ -175,3 +175,23 @@ fn progress_is_shown_where_escapes_are_taken() {
         assert_eq!(out.contains('\u{1b}'), is_shown, "{variables}: {out:?}");
     }
 }
+
+#[test]
+fn a_call_at_a_terminal_says_that_it_waits() {
+    let command = env!("CARGO_BIN_EXE_target-lexicon");
+    let said = "target-lexicon: reading targets from standard input, one per line";
+    for (words, is_said) in [
+        ("settle", true),
+        ("settle -q", false),
+        ("settle -", false),
+        ("settle avr", false),
+    ] {
+        let (out, _, _) = shell(&format!(
+            "script -qec '{command} {words}' /dev/null < /dev/null"
+        ));
+        assert_eq!(out.contains(said), is_said, "{words}: {out}");
+    }
+    // What isn't a terminal needs no word.
+    let (_, errors, _) = shell("target-lexicon settle < /dev/null");
+    assert_eq!(errors, "");
+}

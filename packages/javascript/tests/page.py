@@ -619,7 +619,7 @@ def unfolds_what_is_left(page):
 def takes_targets_of_rustc(page):
     """None is suspicious or has a suggestion, and each that is refused has one sentence of reason."""
     with open(TABLE, newline="", encoding="utf-8") as table:
-        targets = "\n".join(it["name"] for it in csv.DictReader(table) if it["tool"] == "rust" and "*" not in it["name"])
+        targets = "\n".join(it["name"] for it in csv.DictReader(table) if it["tool"] == "rust" and it["asked"] == "true")
     typed(page, targets)
     shown = page.run(ROWS + ".map((row) => [row.target, row.className, row.querySelectorAll('.offer').length,"
                      " [...row.querySelectorAll('.refused p, .others p')].map((it) => it.textContent)])")

@@ -128,7 +128,7 @@ impl Dialect {
     /// A name that begins or ends with a word: one of Linux without Android, if there is one.
     #[inline]
     fn name_with_part(self, word: &str) -> Option<&'static str> {
-        let names = self.names_read().filter(|name| is_part(word, name));
+        let names = self.names().filter(|name| is_part(word, name));
         names.min_by_key(|name| (!name.contains("inux"), name.contains("android")))
     }
 
@@ -138,15 +138,22 @@ impl Dialect {
         matches!(self, Dialect::Go | Dialect::Oci)
     }
 
+    /// The names without a version that the tool is known to have and that mean one triple. Others are read too, by rules: those with
+    /// a version, and other spellings.
+    ///
+    /// ```
+    /// # use target_names::Dialect;
+    /// assert!(Dialect::Debian.names().any(|name| name == "arm64"));
+    /// ```
     #[inline]
-    fn names_read(self) -> impl Iterator<Item = &'static str> {
+    pub fn names(self) -> impl Iterator<Item = &'static str> {
         self.rows_read().map(|row| row.0)
     }
 
     /// The name that is the same without upper and lower case.
     #[inline]
     pub(super) fn name_in_other_letters(self, name: &str) -> Option<&'static str> {
-        self.names_read().find(|it| it.eq_ignore_ascii_case(name))
+        self.names().find(|it| it.eq_ignore_ascii_case(name))
     }
 
     /// The name with a dash in it that ends a text, after a dash.
@@ -156,7 +163,7 @@ impl Dialect {
             let before = text.strip_suffix(*name);
             name.contains('-') && before.map_or(false, |it| it.ends_with('-'))
         };
-        self.names_read().filter(is_end).max_by_key(|it| it.len())
+        self.names().filter(is_end).max_by_key(|it| it.len())
     }
 
     /// The name that is in a path or has white space around it. If names have slashes, it ends the path: what follows may be a
@@ -170,7 +177,7 @@ impl Dialect {
         let slashes = text.match_indices(['/', '\\']).map(|(at, _)| at + 1);
         let ends = core::iter::once(0).chain(slashes).map(|at| &text[at..]);
         let found = ends.flat_map(|end| {
-            self.names_read().filter(move |name| {
+            self.names().filter(move |name| {
                 let after = end.strip_prefix(*name);
                 after.map_or(false, |it| {
                     it.is_empty() || it.starts_with(['/', '\\']) && !self.has_slashes()

@@ -404,10 +404,8 @@ class Samples(Folder):
         for words, given in calls:
             lines = "".join(f"{it}\r\n" for it in given).encode()
             for arguments, line in (given, b""), (["--json", "-", "avr"], lines):
-                # The command translates a triple by the word `write`.
-                theirs = ["write", *words[1:]] if words[0] == "translate" and "--from" not in words else words
                 ran = [subprocess.run([*command, *arguments], input=line, capture_output=True, check=False)
-                       for command in ([sys.executable, "-I", "-m", "target_lexicon", *words], [COMMAND, *theirs])]
+                       for command in ([sys.executable, "-I", "-m", "target_lexicon", *words], [COMMAND, *words])]
                 said = [re.sub(r',"(?:changes|note' + '|suggestion' * (words[0] == "what") + r')":(?:null|\[.*?\]|"(?:[^"\\]|\\.)*")|^    note .*\n', "", it.stdout.decode(), flags=re.M) for it in ran]
                 self.assertEqual(*((lines.splitlines(), it.returncode) for lines, it in zip(said, ran)), (words, arguments))
 
