@@ -591,7 +591,7 @@ const ABIS: [&str; 12] = [
 
 fn is_of_abi(word: &str) -> bool {
     let abi = |library: &&str| word.strip_prefix(*library);
-    let mut abis = C_LIBRARIES.iter().filter_map(|it| abi(&it));
+    let mut abis = C_LIBRARIES.iter().filter_map(abi);
     abis.any(|it| ABIS.contains(&it))
 }
 

@@ -177,7 +177,7 @@ impl Dialect {
             _ => file,
         };
         let before = |tool: &&str| file.strip_suffix(*tool)?.strip_suffix('-');
-        let prefix = TOOLS.iter().find_map(|tool| before(&tool))?;
+        let prefix = TOOLS.iter().find_map(before)?;
         prefix.contains('-').then(|| self.read(prefix))
     }
 
