@@ -7,7 +7,7 @@ use core::ops::Range;
 use target_lexicon::spellings::meant;
 use target_lexicon::spellings::{architecture_of, machine_of, Abi, Machine};
 use target_lexicon::{
-    Architecture, PointerWidth, Riscv32Architecture, Riscv64Architecture, TripleRef,
+    Architecture, Environment, PointerWidth, Riscv32Architecture, Riscv64Architecture, TripleRef,
 };
 
 impl Dialect {
@@ -84,7 +84,12 @@ impl Dialect {
         )
         .or_else(|| self.name_at_end(name))
         .or_else(|| match hint(name)? {
-            Hint::Triple(triple) => self.row_written(&triple),
+            // A part that isn't known may be the ABI, which a name without an environment doesn't say.
+            Hint::Triple(triple) => self.row_written(&triple).filter(|found| {
+                let rest = name.strip_prefix(*found);
+                triple.environment != Environment::Unknown
+                    || !rest.map_or(false, |it| it.starts_with('-'))
+            }),
             _ => None,
         })
     }
