@@ -7,7 +7,7 @@ use core::ops::Range;
 use target_lexicon::spellings::meant;
 use target_lexicon::spellings::{architecture_of, machine_of, Abi, Machine};
 use target_lexicon::{
-    Architecture, Environment, PointerWidth, Riscv32Architecture, Riscv64Architecture, TripleRef,
+    Architecture, PointerWidth, Riscv32Architecture, Riscv64Architecture, TripleRef,
 };
 
 impl Dialect {
@@ -84,12 +84,8 @@ impl Dialect {
         )
         .or_else(|| self.name_at_end(name))
         .or_else(|| match hint(name)? {
-            // A part that isn't known may be the ABI, which a name without an environment doesn't say.
-            Hint::Triple(triple) => self.row_written(&triple).filter(|found| {
-                let rest = name.strip_prefix(*found);
-                triple.environment != Environment::Unknown
-                    || !rest.map_or(false, |it| it.starts_with('-'))
-            }),
+            // Elsewhere a part that isn't known may be the ABI.
+            Hint::Triple(triple) if self.has_slashes() => self.row_written(&triple),
             _ => None,
         })
     }

@@ -134,7 +134,7 @@ impl Dialect {
 
     /// Whether slashes stand in its names.
     #[inline]
-    fn has_slashes(self) -> bool {
+    pub(super) fn has_slashes(self) -> bool {
         matches!(self, Dialect::Go | Dialect::Oci)
     }
 
