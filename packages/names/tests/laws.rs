@@ -152,23 +152,22 @@ proptest! {
         }
     }
 
-    /// The part that is refused is the first one up to which the names that the parts spell have no place, or a custom vendor that may be
-    /// meant as something else.
+    /// The part that is refused is the first one up to which the names that the parts spell have no place, or the second, which may be meant
+    /// as something else than a custom vendor.
     #[test]
     fn a_refusal_is_at_the_first_such_part(text in spelled()) {
         let (mut start, mut names) = (0, String::new());
-        let (mut expected, mut vendor) = (None, None);
+        let mut expected = None;
         for part in text.split('-') {
             let change = changes(&text).find(|it| it.part.start == start);
             let spelled = change.map_or(part.to_string(), |it| it.names.to_string());
             names = if start == 0 { spelled } else { format!("{names}-{spelled}") };
             expected = expected.or(triple(&names).is_none().then_some(start));
-            let has_vendor = triple(&names).map_or(false, |it| it.vendor.is_custom());
-            vendor = vendor.or(has_vendor.then_some(start));
             start += part.len() + 1;
         }
         let found = read(&text).err().map(|it| it.part.start);
-        prop_assert!(found == expected || found.is_some() && found == vendor);
+        let second = text.find('-').map(|at| at + 1);
+        prop_assert!(found == expected || found.is_some() && found == second);
     }
 
     #[test]
