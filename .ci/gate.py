@@ -34,7 +34,7 @@ PACKAGES = {it: it for it in "git clang valgrind cmake meson cbindgen jq pkg-con
     "/usr/share/gocode/src/github.com/containerd/containerd/platforms": "golang-github-containerd-containerd-dev",
     "/usr/share/misc/config.sub": "autotools-dev", "/usr/share/doc/nodejs/api/process.md*": "nodejs-doc",
     **{f"/usr/share/cargo/registry/{crate}": f"librust-{package}-dev" for crate, package in (
-        ("clap-4.0.32", "clap-4"), ("clap_complete-4.0.7", "clap-complete"), ("serde_json-1.0.87", "serde-json"), ("cfg-expr-0.10.3", "cfg-expr"), ("cc-1*", "cc"))},
+        ("clap-4.0.32", "clap-4"), ("clap_complete-4.0.7", "clap-complete"), ("serde_json-1.0.87", "serde-json"), ("cfg-expr-0.10.3", "cfg-expr"), ("cc-1*", "cc"), ("proptest-1*", "proptest"))},
 }
 # The oldest versions that will do, also of what is in /usr/bin, where Debian's packages are built. An older tool is a missing one.
 OLDEST = {"rustc": "1.68", "cargo": "1.68", "cmake": "3.19", "node": "18.0", "clang": "14.0"}
