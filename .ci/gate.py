@@ -59,7 +59,6 @@ FIRST = [
     ("lists of names and the Rust source are what they are made from; what was reviewed of it, and of the statement, is as it was", "tools/write --check", "rustfmt"),
     ("the published table of names is what its schema says", "checks/names", "jsonschema"),
     ("no script has a warning", "checks/scripts", "shellcheck pyflakes3"),
-    ("the crate's copies of the licence are the repository's", "cmp LICENSE packages/rust/LICENSE && cmp COPYRIGHT packages/rust/COPYRIGHT", ""),
 ]
 PROOFS = ("all proofs, must-fail edits, tests and proved programs", "rt ci", "rt")
 WITHOUT_PROOF = [
