@@ -1,6 +1,6 @@
-"""The command `target-lexicon COMMAND TARGET..`, or `python -m target_lexicon`: some words of that of the same repository, with its answers.
+"""The command `target-lexicon COMMAND TARGET..`, or `python -m target_lexicon`: words of the command in Rust, with its answers.
 
-A target `-` stands for the lines of standard input, which is also read if there is no target. The other command does more, in less time:
+A target `-` stands for the lines of standard input, which is also read if there is no target. The command in Rust does more, in less time:
 `cargo install --path packages/command --locked`.
 """
 from __future__ import annotations
@@ -13,27 +13,31 @@ import sys
 from contextlib import suppress
 from typing import Any, Dict, Iterator, List, NoReturn, Optional, Tuple, Union
 
-from . import LIBRARY_VERSION, Dialect, LinuxLibc, OperatingSystem, ParseError, Triple, explain, meanings
+from . import LIBRARY_VERSION, Dialect, LinuxLibc, OperatingSystem, ParseError, Triple, explain, meanings, settle_all
 from ._dialects import OTHER_NAMES, READ, WRITTEN
 from ._errors import other_calls
 from ._facts import NO_ANSWER
-from ._named import members, shown
+from ._named import shown
 from ._triple import _version_text
 
 # What is answered for a target, with the keys of JSON. Of one that is refused there is an `error`.
 Answer = Dict[str, Any]
 
+# What each writes for a target, and its options.
 _COMMANDS = {
-    "explain": "each field, and where its value comes from",
-    "facts": "the fields, and what a compiler asks",
-    "settle": "the canonical form",
-    "check": "nothing, unless it is refused",
-    "read": "the canonical form of the target that another tool's name means",
-    "translate": "the name that a tool has for it, or for what another tool's name means",
-    "what": "what it means as a name of any tool, and what every tool calls that",
+    "explain": ("each field, and where its value comes from", ()),
+    "facts": ("the fields, and what a compiler asks", ("from", "libc")),
+    "settle": ("the canonical form", ("from", "libc")),
+    "check": ("nothing, unless it is refused", ("from",)),
+    "read": ("the canonical form of the target that another tool's name means", ("from", "libc")),
+    "translate": ("the name that a tool has for it, or for what another tool's name means", ("from", "to", "libc")),
+    "what": ("what it means as a name of any tool, and what every tool calls that", ("libc",)),
 }
-# The commands that were there before, and those that do the same.
-_OLD = {"write": "translate", "elsewhere": "what"}
+# What is said of a command that isn't one, or isn't one any more.
+_OTHERS = {
+    "write": "`write` is `translate` now", "elsewhere": "`elsewhere` is `what` now",
+    **{it: f"only the command in Rust has `{it}`: cargo install --path packages/command --locked" for it in ("matrix", "cfg", "names")},
+}
 # What a reason says would help, as an option.
 _OPTIONS = {"say glibc or musl": "use `--libc glibc` or `--libc musl`", "say msvc, mingw or gnullvm": "use `--libc msvc`, `mingw` or `gnullvm`"}
 
@@ -65,11 +69,12 @@ def _meant(target: str, libc: Optional[LinuxLibc]) -> Answer:
     """Each triple that the target means as a name, with the tools that mean it, and what every tool calls it."""
     found: Dict[Triple, List[str]] = {}
     without: Answer = {}
+    way = "triple" if settle_all([target])[0] else "spelling"
     for dialect, triple, reason in meanings(target):
         if triple is None:
             without[str(dialect)] = reason
         else:
-            found.setdefault(_completed(triple, libc).settle(), []).append(str(dialect or _way_of(target)))
+            found.setdefault(_completed(triple, libc).settle(), []).append(str(dialect or way))
     if not found and not without:
         return _refused("no tool has the name", target)
     entries = []
@@ -78,14 +83,6 @@ def _meant(target: str, libc: Optional[LinuxLibc]) -> Answer:
         reasons = {it: triple.reason_without_name(Dialect(it)) for it, name in names.items() if name is None}
         entries.append({"canonical": str(triple), "tools": tools, "names": names, "reasons": reasons})
     return {"meanings": entries, "without_triple": without}
-
-
-def _way_of(target: str) -> str:
-    """How a string without a dialect means a triple: by itself, or as one that is spelled like a triple."""
-    with suppress(ParseError):
-        Triple(target)
-        return "triple"
-    return "spelling"
 
 
 def _answer(options: argparse.Namespace, target: str) -> Answer:
@@ -189,11 +186,6 @@ def _answered(options: argparse.Namespace, target: str) -> Tuple[Answer, str]:
         return _refusal(error), error.report + (f"\n  note: {note}" if note else "")
 
 
-def _words(dialects: List[Dialect]) -> List[str]:
-    """The names of dialects, and their other names."""
-    return [*map(str, dialects), *(name for name, it in OTHER_NAMES.items() if Dialect(it) in dialects)]
-
-
 class _Parser(argparse.ArgumentParser):
     def error(self, message: str) -> NoReturn:
         """What is wrong with the arguments, which anybody may have written."""
@@ -205,25 +197,27 @@ def _parser() -> argparse.ArgumentParser:
     parser = _Parser(name, description=__doc__, formatter_class=argparse.RawDescriptionHelpFormatter)
     parser.add_argument("--version", action="version", version=f"target_lexicon {LIBRARY_VERSION}")
     commands = parser.add_subparsers(dest="command", required=True, metavar="COMMAND")
-    for word, about in _COMMANDS.items():
+    reads, writes = ([*map(str, of), *(name for name, it in OTHER_NAMES.items() if Dialect(it) in of)] for of in (READ, WRITTEN))
+    options: Dict[str, Dict[str, Any]] = {
+        "from": {"dest": "source", "choices": reads, "help": "the tool whose names are read"},
+        "to": {"choices": writes, "required": True, "help": "the tool whose names are written"},
+        "libc": {"choices": list(map(str, LinuxLibc)), "help": "the C library of targets on Linux or Windows that state none"},
+    }
+    for word, (about, names) in _COMMANDS.items():
         command = commands.add_parser(word, help=about, description=f"Writes for each target {about}.")
         command.add_argument("targets", nargs="*", metavar="TARGET", help="`-` is standard input, one target a line")
         command.add_argument("--json", action="store_true", help="write one JSON array on one line")
         command.set_defaults(source=None, to=None, libc=None)
-        if word in ("read", "translate"):
-            command.add_argument("--from", dest="source", choices=_words(READ), help="the tool whose names are read")
-        if word == "translate":
-            command.add_argument("--to", choices=_words(WRITTEN), required=True, help="the tool whose names are written")
-        if word in ("read", "translate", "what"):
-            command.add_argument("--libc", choices=list(map(str, members(LinuxLibc))), help="the C library of targets on Linux or Windows that state none")
+        for name in names:
+            command.add_argument(f"--{name}", **options[name])
     return parser
 
 
 def main(arguments: Optional[List[str]] = None) -> int:
     """Runs the command. Returns 1 if a target is refused."""
     words, parser = sys.argv[1:] if arguments is None else arguments, _parser()
-    if words and words[0] in _OLD:
-        parser.error(f"`{words[0]}` is `{_OLD[words[0]]}` now")
+    if words and words[0] in _OTHERS:
+        parser.error(_OTHERS[words[0]])
     options = parser.parse_args(words)
     options.to = options.to and Dialect(options.to)
     objects: List[Answer] = []
