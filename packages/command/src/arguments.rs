@@ -105,7 +105,7 @@ fn of_targets(name: &'static str, about: &'static str, example: &'static str) ->
             .value_name("TARGET")
             .action(ArgAction::Append)
             .value_hint(ValueHint::Other)
-            .help("Targets; `-` is standard input, with one target per line. Without a TARGET or FILE it is read"),
+            .help("Targets, also with commas between, or as lists in YAML and JSON have them; `-` is the lines of standard input, which are read without a TARGET or FILE too"),
         Arg::new("file")
             .short('f')
             .long("file")
@@ -155,11 +155,12 @@ pub fn command() -> Command {
              $ target-lexicon check --comments -f targets.txt\n  \
              $ target-lexicon settle --from oci linux/arm64\n\n\
              Status: 0 if all targets were parsed, 1 if one was refused, 2 for wrong arguments,\n\
-             3 if something couldn't be read or written. `target-lexicon manual` writes the manual page.",
+             3 if something couldn't be read or written. `target-lexicon --manual` writes the manual page.",
         )
         .args_override_self(true)
-        .subcommand_required(true)
         .arg_required_else_help(true)
+        .args_conflicts_with_subcommands(true)
+        .arg(flag("manual", "Write the manual page"))
         .subcommands([
             of_targets(
                 "explain",
@@ -210,8 +211,7 @@ pub fn command() -> Command {
             of_targets(
                 "translate",
                 "Write the name that a tool has for a target, or for what a name of another tool means",
-                "Names that are read --from a tool may be written as lists have them: with commas, quotes, brackets or a dash before each.\n\n\
-                 Examples:\n  $ target-lexicon translate --to debian aarch64-unknown-linux-gnu\n  \
+                "Examples:\n  $ target-lexicon translate --to debian aarch64-unknown-linux-gnu\n  \
                  $ target-lexicon translate --from oci --to debian --libc glibc linux/amd64,linux/arm64\n  \
                  $ target-lexicon translate --to python --with-version 2.17 aarch64-unknown-linux-gnu",
             )
@@ -235,8 +235,7 @@ pub fn command() -> Command {
             of_targets(
                 "what",
                 "Show what a name of any tool means, and what every tool calls it",
-                "Names may be written as lists have them: with commas, quotes, brackets or a dash before each.\n\n\
-                 Example:\n  $ target-lexicon what linux/amd64,linux/arm64 --libc glibc",
+                "Example:\n  $ target-lexicon what linux/amd64,linux/arm64 --libc glibc",
             )
             .mut_arg("target", |names| names.value_name("NAME"))
             .mut_arg("strict", |strict| strict.hide(true))
@@ -256,8 +255,5 @@ pub fn command() -> Command {
                 .about("Write a completion script for a shell")
                 .after_help("Example:\n  $ target-lexicon completions bash > ~/.local/share/bash-completion/completions/target-lexicon")
                 .arg(Arg::new("shell").required(true).value_name("SHELL").value_parser(value_parser!(clap_complete::Shell))),
-            Command::new("manual")
-                .about("Write the manual page")
-                .after_help("Example:\n  $ target-lexicon manual | man -l -"),
         ])
 }

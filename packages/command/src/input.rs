@@ -38,6 +38,43 @@ pub struct Target<'a> {
     pub place: Place<'a>,
 }
 
+/// What surrounds the targets of a list in YAML or JSON, or of a line with commas. No triple has one of these.
+const AROUND: &[char] = &[' ', '\t', ',', '"', '\'', '[', ']'];
+
+/// Answers each target of a list: between commas, and without what surrounds it. A text without a target is one.
+fn each_of_list(list: Target<'_>, answers: &mut impl Answers) -> Result<(), Fault> {
+    let (mut has_target, mut at, mut before) = (false, 0, 0);
+    for part in list.text.split(',') {
+        let part = part.trim_matches(AROUND);
+        let text = part.strip_prefix("- ").unwrap_or(part).trim_matches(AROUND);
+        if text.is_empty() {
+            continue;
+        }
+        has_target = true;
+        let start = text.as_ptr() as usize - list.text.as_ptr() as usize;
+        before += list.text[at..start].chars().count();
+        at = start;
+        let place = match list.place {
+            Place::Line {
+                file,
+                number,
+                indent,
+            } => Place::Line {
+                file,
+                number,
+                indent: indent + before,
+            },
+            place => place,
+        };
+        answers.answer(Target { text, place })?;
+    }
+    if has_target {
+        Ok(())
+    } else {
+        answers.answer(list)
+    }
+}
+
 /// What is done with the targets.
 pub trait Answers {
     fn answer(&mut self, target: Target<'_>) -> Result<(), Fault>;
@@ -63,10 +100,10 @@ pub fn each_target(arguments: &ArgMatches, answers: &mut impl Answers) -> Result
     for (text, number) in targets.zip(1..) {
         match text.as_str() {
             "-" => each_line(Path::new("-"), lines, answers)?,
-            text => answers.answer(Target {
-                text,
-                place: Place::Argument(number),
-            })?,
+            text => {
+                let place = Place::Argument(number);
+                each_of_list(Target { text, place }, answers)?;
+            }
         }
     }
     for file in files {
@@ -127,14 +164,12 @@ fn each_line(path: &Path, lines: Lines, answers: &mut impl Answers) -> Result<()
                     continue;
                 }
             }
-            answers.answer(Target {
-                text,
-                place: Place::Line {
-                    file: &name,
-                    number,
-                    indent,
-                },
-            })?;
+            let place = Place::Line {
+                file: &name,
+                number,
+                indent,
+            };
+            each_of_list(Target { text, place }, answers)?;
         }
         answers.pause()
     });

@@ -108,11 +108,7 @@ const REMEMBERED_LENGTH: usize = 100;
 
 impl Answers for Run {
     fn answer(&mut self, target: Target<'_>) -> Result<(), Fault> {
-        if self.takes_names() {
-            what::names_in(target).try_for_each(|name| self.answer_one(name))
-        } else {
-            self.answer_one(target)
-        }
+        self.answer_one(target)
     }
 
     fn pause(&mut self) -> Result<(), Fault> {
@@ -557,7 +553,17 @@ fn versions(call: Call, arguments: &ArgMatches) -> Vec<Version> {
 }
 
 fn run(arguments: &ArgMatches) -> Result<i32, Fault> {
-    let (name, arguments) = arguments.subcommand().expect("a subcommand is required");
+    let mut outputs = Outputs::plain();
+    if arguments.get_flag("manual") {
+        outputs.write(|out| out.write_all(include_bytes!("../man/target-lexicon.1")))?;
+        outputs.flush()?;
+        return Ok(0);
+    }
+    let Some((name, arguments)) = arguments.subcommand() else {
+        return usage(
+            &arguments::command().error(ErrorKind::MissingSubcommand, "a command is missing"),
+        );
+    };
     let call = match name {
         "explain" => Call::Explain,
         "facts" => Call::Facts,
@@ -569,11 +575,9 @@ fn run(arguments: &ArgMatches) -> Result<i32, Fault> {
         "cfg" => Call::Cfg,
         "what" => Call::What,
         _ => {
-            let mut outputs = Outputs::plain();
             outputs.write(|out| match name {
                 "names" => write_names(out, arguments),
                 "completions" => out.write_all(completion_script(arguments).as_bytes()),
-                "manual" => out.write_all(include_bytes!("../man/target-lexicon.1")),
                 other => unreachable!("{other} is no subcommand"),
             })?;
             outputs.end(false)?;
@@ -610,23 +614,30 @@ fn usage(error: &clap::Error) -> Result<i32, Fault> {
 
 /// What does now what a word did that was a subcommand before, or what else the user may have meant by one that is none.
 fn target_note(error: &clap::Error) -> String {
-    if let (ErrorKind::InvalidSubcommand, Some(ContextValue::String(word))) =
-        (error.kind(), error.get(ContextKind::InvalidSubcommand))
-    {
-        let now = match word.as_str() {
-            "write" => "translate --to DIALECT",
-            "elsewhere" => "what",
-            "host" => "read --from gnu \"$(cc -dumpmachine)\"",
-            _ => "",
-        };
-        if !now.is_empty() {
-            return format!("\n`{word}` is `target-lexicon {now}` now\n");
-        }
-        if TripleRef::from_str(word).is_ok() {
+    let of_option = match error.get(ContextKind::InvalidArg) {
+        Some(ContextValue::String(option)) => option.as_str(),
+        _ => "",
+    };
+    let (kind, word) = match error.kind() {
+        ErrorKind::InvalidSubcommand => ("", error.get(ContextKind::InvalidSubcommand)),
+        ErrorKind::InvalidValue => (of_option, error.get(ContextKind::InvalidValue)),
+        _ => return String::new(),
+    };
+    let Some(ContextValue::String(word)) = word else {
+        return String::new();
+    };
+    let now = match (kind, word.as_str()) {
+        ("", "write") => "translate --to DIALECT",
+        ("", "elsewhere") => "what",
+        ("", "host") => "read --from gnu \"$(cc -dumpmachine)\"",
+        ("", "manual") => "--manual",
+        ("--from <DIALECT>", "any") => "what",
+        ("", word) if TripleRef::from_str(word).is_ok() => {
             return format!("\nA target follows a command: target-lexicon explain {word}\n");
         }
-    }
-    String::new()
+        _ => return String::new(),
+    };
+    format!("\n`{word}` is `target-lexicon {now}` now\n")
 }
 
 fn main() {

@@ -1,7 +1,6 @@
 //! What a name of any tool means, by which tools, and what every tool calls it.
 use crate::answers::canonical;
 use crate::arguments::written;
-use crate::input::{Place, Target};
 use crate::json::{Json, Object};
 use crate::refusal::{reason, visible, Refusal};
 use std::io::{self, Write};
@@ -9,41 +8,6 @@ use target_lexicon::{OperatingSystem, TripleRef, VendorRef};
 use target_names::{
     hint, meanings, Dialect, Hint, LinuxLibc, Meaning, Name, TargetInfo, WriteError,
 };
-
-/// What stands around the names of a list: in YAML, JSON, or a line of words with commas.
-const AROUND: &[char] = &[' ', '\t', ',', '"', '\'', '[', ']'];
-
-/// The names that a text has: between commas, and without what stands around the names of a list. A text without a name is one.
-pub fn names_in(target: Target<'_>) -> impl Iterator<Item = Target<'_>> {
-    let whole = target.text;
-    let names = whole.split(',').map(|part| {
-        let part = part.trim_matches(AROUND);
-        part.strip_prefix("- ").unwrap_or(part).trim_matches(AROUND)
-    });
-    let mut names: Vec<&str> = names.filter(|name| !name.is_empty()).collect();
-    if names.is_empty() {
-        names.push(whole);
-    }
-    let (mut at, mut column) = (0, 0);
-    names.into_iter().map(move |text| {
-        let start = text.as_ptr() as usize - whole.as_ptr() as usize;
-        column += whole[at..start].chars().count();
-        at = start;
-        let place = match target.place {
-            Place::Line {
-                file,
-                number,
-                indent,
-            } => Place::Line {
-                file,
-                number,
-                indent: indent + column,
-            },
-            place => place,
-        };
-        Target { text, place }
-    })
-}
 
 /// What a name means: each triple, with the tools that mean it; and the reason of each tool that has the name for no triple.
 pub struct What<'a> {

@@ -267,6 +267,7 @@ fn hostile_arguments_do_not_reach_the_terminal() {
     let shown = r"\u{1b}]0;x\u{7}\n\u{202e}\u{9b}";
     let option = format!("--{hostile}");
     let value = format!("--json={hostile}");
+    let manual = format!("--manual={hostile}");
     for words in [
         &["check", &option] as &[&str],
         &["check", "z80", &option, "z80"],
@@ -275,7 +276,7 @@ fn hostile_arguments_do_not_reach_the_terminal() {
         &["translate", "--to", hostile],
         &["names", hostile],
         &["completions", hostile],
-        &["manual", hostile],
+        &[&manual],
         &["names", "vendor", hostile],
         &[hostile],
         &[&option],
@@ -707,6 +708,60 @@ fn names_come_as_lists_have_them() {
     assert_eq!(status, 1);
 }
 
+#[test]
+fn each_call_takes_the_same_lists() {
+    for call in [
+        "explain",
+        "facts",
+        "settle",
+        "check",
+        "matrix",
+        "read",
+        "translate --to gnu",
+        "cfg",
+        "what",
+    ] {
+        let call: Vec<&str> = call.split(' ').collect();
+        let of = |targets: &[&str], input: &str| {
+            let (out, errors, status) = answers_on(&[&call[..], targets].concat(), input);
+            let places = ["argument:1", "argument:2", "<stdin>:1", "<stdin>:2"];
+            let out = places
+                .iter()
+                .fold(out, |out, place| out.replace(place, "PLACE"));
+            (out, errors, status)
+        };
+        let expected = of(&["x86_64-linux-gnu", "arm64-linux-gnu"], "");
+        assert_eq!((expected.1.as_str(), expected.2), ("", 0), "{call:?}");
+        for list in [
+            "x86_64-linux-gnu,arm64-linux-gnu",
+            "[\"x86_64-linux-gnu\", 'arm64-linux-gnu']",
+            " x86_64-linux-gnu ,, arm64-linux-gnu, ",
+        ] {
+            assert_eq!(of(&[list], ""), expected, "{call:?} {list}");
+            assert_eq!(of(&[], list), expected, "{call:?} {list}");
+        }
+        for lines in [
+            "x86_64-linux-gnu\narm64-linux-gnu\n",
+            "- x86_64-linux-gnu\n- 'arm64-linux-gnu'\n",
+            "  \"x86_64-linux-gnu\",\r\n\t\"arm64-linux-gnu\"\r\n",
+        ] {
+            assert_eq!(of(&[], lines), expected, "{call:?} {lines}");
+        }
+    }
+    let (_, errors, _) = answers_on(
+        &["check", "--comments"],
+        " - avr # z80, foo\n - \u{e9}, avr,foo\n",
+    );
+    let places: Vec<_> = errors
+        .lines()
+        .filter_map(|it| it.split_once(": error"))
+        .collect();
+    assert_eq!(
+        places.iter().map(|it| it.0).collect::<Vec<_>>(),
+        ["<stdin>:2:4", "<stdin>:2:11"]
+    );
+}
+
 const LINUX: &str = "x86_64-unknown-linux-gnu";
 
 #[test]
@@ -715,13 +770,30 @@ fn old_words_are_answered_with_the_new() {
         ("write", "translate --to DIALECT"),
         ("elsewhere", "what"),
         ("host", "read --from gnu \"$(cc -dumpmachine)\""),
+        ("manual", "--manual"),
     ] {
         let (out, errors, status) = answers(&[old, "avr"]);
         assert_eq!((out.as_str(), status), ("", 2));
         let now = format!("\n`{old}` is `target-lexicon {new}` now\n");
         assert!(errors.ends_with(&now), "{errors}");
     }
-    assert_eq!(answers(&["read", "--from", "any", "avr"]).2, 2);
+    let (_, errors, status) = answers(&["read", "--from", "any", "avr"]);
+    assert!(errors.ends_with("\n`any` is `target-lexicon what` now\n"));
+    assert_eq!(status, 2);
+    // Of other wrong words nothing is said that isn't so.
+    assert!(!answers(&["read", "--from", "manual", "avr"])
+        .1
+        .contains("now"));
+    assert!(!answers(&["names", "any"]).1.contains("now"));
+    // What is an option now goes with no command, and none may be missing.
+    for words in [
+        &["--manual", "settle"] as &[&str],
+        &["settle", "--manual"],
+        &["--"],
+    ] {
+        let (out, _, status) = answers(words);
+        assert_eq!((out.as_str(), status), ("", 2), "{words:?}");
+    }
 }
 
 #[test]
@@ -976,7 +1048,7 @@ fn outputs_that_fail_end_the_run() {
             &["settle", "z80"] as &[&str],
             &["names"],
             &["--help"],
-            &["manual"],
+            &["--manual"],
             &["completions", "bash"],
         ] {
             let output = target_lexicon(words).stdout(full()).output().unwrap();
@@ -1028,7 +1100,7 @@ fn words_of(help: &str) -> Vec<String> {
 
 #[test]
 fn the_manual_and_the_completions_have_all_of_the_help() {
-    let (page, _, _) = answers(&["manual"]);
+    let (page, _, _) = answers(&["--manual"]);
     let page = page.replace("\\-", "-");
     assert!(page.contains(&format!("\"target-lexicon {}\"", env!("CARGO_PKG_VERSION"))));
     let shells = ["bash", "zsh", "fish"].map(|shell| answers(&["completions", shell]).0);
@@ -1041,7 +1113,7 @@ fn the_manual_and_the_completions_have_all_of_the_help() {
         .map_while(|line| line.strip_prefix("  ")?.split(' ').next())
         .filter(|call| *call != "help")
         .collect();
-    assert_eq!(calls.len(), 12);
+    assert_eq!(calls.len(), 11);
     for call in calls {
         assert!(
             page.contains(&format!(".B target-lexicon {call}\n")),
@@ -1070,7 +1142,7 @@ fn the_manual_and_the_completions_have_all_of_the_help() {
 
 #[test]
 fn the_manual_has_the_name_of_the_command() {
-    let (page, _, _) = answers(&["manual"]);
+    let (page, _, _) = answers(&["--manual"]);
     assert!(page.starts_with(".TH TARGET\\-LEXICON 1 "), "{page}");
 }
 
@@ -1122,7 +1194,7 @@ fn mistakes_in_options_are_explained() {
     // The other names of dialects are listed with them.
     let (help, _, _) = answers(&["translate", "--help"]);
     assert!(help.contains("oci, docker, node, npm"), "{help}");
-    let (manual, _, _) = answers(&["manual"]);
+    let (manual, _, _) = answers(&["--manual"]);
     assert!(manual.contains("docker is oci and npm is node"), "{manual}");
     let write = ["translate", "--to", "docker", "aarch64-unknown-linux"];
     assert_eq!(answers(&write).0, "linux/arm64\n");

@@ -44,7 +44,7 @@ fn an_output_that_is_closed_or_only_for_reading_is_reported() {
                 "{words} {redirection}"
             );
         }
-        for words in ["--help", "--version", "manual", "completions bash"] {
+        for words in ["--help", "--version", "--manual", "completions bash"] {
             let (_, errors, status) = shell(&format!("target-lexicon {words} {redirection}"));
             assert_eq!(
                 (errors.as_str(), status),
