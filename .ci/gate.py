@@ -32,9 +32,10 @@ PACKAGES = {it: it for it in "git clang valgrind cmake meson cbindgen jq pkg-con
     "man": "man-db", "cram3": "python3-cram", "chromedriver": "chromium-driver", "node": "nodejs", "tsc": "node-typescript", "dpkg-buildpackage": "dpkg-dev",
     "dh": "debhelper", "dh_python3": "dh-python", "llvm-config": "llvm-dev", "go": "golang-go", "nix-instantiate": "nix-bin",
     "/usr/share/gocode/src/github.com/containerd/containerd/platforms": "golang-github-containerd-containerd-dev",
+    "/usr/share/doc/librust-proptest+std-dev": "librust-proptest+std-dev",
     "/usr/share/misc/config.sub": "autotools-dev", "/usr/share/doc/nodejs/api/process.md*": "nodejs-doc",
     **{f"/usr/share/cargo/registry/{crate}": f"librust-{package}-dev" for crate, package in (
-        ("clap-4.0.32", "clap-4"), ("clap_complete-4.0.7", "clap-complete"), ("serde_json-1.0.87", "serde-json"), ("cfg-expr-0.10.3", "cfg-expr"), ("cc-1*", "cc"), ("proptest-1*", "proptest"))},
+        ("clap-4.0.32", "clap-4"), ("clap_complete-4.0.7", "clap-complete"), ("serde_json-1.0.87", "serde-json"), ("cfg-expr-0.10.3", "cfg-expr"), ("cc-1*", "cc"))},
 }
 # The oldest versions that will do, also of what is in /usr/bin, where Debian's packages are built. An older tool is a missing one.
 OLDEST = {"rustc": "1.68", "cargo": "1.68", "cmake": "3.19", "node": "18.0", "clang": "14.0"}
