@@ -124,7 +124,7 @@ def difference(who, ours, theirs):
     return wrong
 
 
-def main(options, folder):
+def main(options, _folder):
     if options.write:
         words = [*MORE_WORDS, *upstream.quoted_texts(options.upstream, lines.WORD)]
         upstream.write(PATH, HEAD + "".join(f"{line}\n" for line in file_lines(options.upstream, names_asked(words))))
@@ -138,8 +138,8 @@ def main(options, folder):
     inputs = dict.fromkeys(outputs, "".join(f"{row[0]}\n" for row in rows)) | {"json": json_list(row[0] for row in parsed)}
     outputs["json"] = [json_list(row[1] for row in parsed)]
     options.of = options.of or ["proved"]
-    for program in upstream.programs(options, folder):
-        for mode in program.modes:
+    for program in upstream.programs(options):
+        for mode in (*upstream.LINE_MODES, "json"):
             said = upstream.answers([*program.command, mode], inputs[mode].encode()).decode().splitlines()
             wrong += difference(f"{program.name}, mode {mode}", said, outputs[mode])
     for line in wrong[:None if options.all else 20]:

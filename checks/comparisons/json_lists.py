@@ -61,9 +61,9 @@ def add_arguments(parser):
 
 def main(options, folder):
     options.of = options.of or ["proved", "cargo"]
-    compared = [program for program in upstream.programs(options, folder) if "json" in program.modes]
+    compared = upstream.programs(options)
     if len(compared) < 2:
-        raise RuntimeError("two programs with the mode json are needed")
+        raise RuntimeError("two programs are needed")
     kinds = collections.Counter()
 
     def compare(given):

@@ -1,10 +1,9 @@
-/* The modes `print`, `show` and `settle` of the program `triples`, over the library for C; and two modes that write all that the
-   library answers of a triple: of the one that a line parses as, or of the one with the five names that the line has, with tabs
-   between them, of which a custom vendor's has `=` before it.
+/* Writes all that the library for C answers of a triple: of the one that a line parses as, or of the one with the five names that
+   the line has, with tabs between them, of which a custom vendor's has `=` before it.
 
-   usage: lines_c print | show | settle | answers | fields [END] < LINES
+   usage: lines_c answers | fields END < LINES   A line and an answer end with the byte of this number.
 
-   A line and an answer end with a line feed, or with the byte of this number. */
+   What isn't as expected is the answer to its line. */
 #include <target_lexicon.h>
 #include <setjmp.h>
 #include <stdio.h>
@@ -12,37 +11,27 @@
 #include <string.h>
 
 static char out[1 << 16];
-static bool is_asked; /* in the modes answers and fields, what isn't as expected is the answer to its line */
 static jmp_buf next_line;
 
 static void expect(int is_so, const char *what) {
   if (is_so) return;
-  fprintf(is_asked ? stdout : stderr, "lines_c: expected: %s", what);
-  if (is_asked) longjmp(next_line, 1);
-  exit(2);
+  printf("lines_c: expected: %s", what);
+  longjmp(next_line, 1);
 }
 
-static void write_word(char before, const char *name) { printf("%c%s", before, name ? name : "-"); }
+static void write_word(const char *name) { printf("\t%s", name ? name : "-"); }
 
-static void write_number(char before, unsigned number) {
+static void write_number(unsigned number) {
   if (number)
-    printf("%c%u", before, number);
+    printf("\t%u", number);
   else
-    write_word(before, NULL);
-}
-
-/* The byte order, pointer width, calling convention and data model, each after this character. */
-static void write_queries(char before, const struct lexicon_triple_facts *facts) {
-  write_word(before, lexicon_endianness_name(facts->endianness));
-  write_number(before, facts->pointer_width);
-  write_word(before, lexicon_calling_convention_name(facts->default_calling_convention));
-  write_word(before, lexicon_data_model_name(facts->data_model));
+    write_word(NULL);
 }
 
 static void write_name(uint32_t field, uint32_t number) {
   const char *name = lexicon_name(field, number);
   expect(name != NULL, "the name of a value");
-  write_word('\t', name);
+  write_word(name);
 }
 
 /* A buffer of this many bytes, and one past it, which must stay. */
@@ -116,9 +105,12 @@ static void write_answers(const struct lexicon_triple *triple, const char *line,
   if (triple->has_version) printf("%u.%u.%u", (unsigned)triple->major, (unsigned)triple->minor, (unsigned)triple->patch);
   write_name(LEXICON_FIELD_ENVIRONMENT, triple->environment);
   write_name(LEXICON_FIELD_BINARY_FORMAT, triple->binary_format);
-  write_queries('\t', &facts);
+  write_word(lexicon_endianness_name(facts.endianness));
+  write_number(facts.pointer_width);
+  write_word(lexicon_calling_convention_name(facts.default_calling_convention));
+  write_word(lexicon_data_model_name(facts.data_model));
   const unsigned sizes[] = {facts.short_size, facts.int_size, facts.long_size, facts.long_long_size, facts.float_size, facts.double_size};
-  for (size_t i = 0; i < sizeof sizes / sizeof *sizes; i++) write_number('\t', facts.data_model ? sizes[i] : 0);
+  for (size_t i = 0; i < sizeof sizes / sizeof *sizes; i++) write_number(facts.data_model ? sizes[i] : 0);
   write_name(LEXICON_FIELD_BINARY_FORMAT, facts.implied_format);
   printf("\t%d\t%d\t%d", facts.is_thumb, facts.is_like_darwin, facts.has_custom_vendor);
 }
@@ -193,46 +185,21 @@ static void write_parsed(const char *line, size_t size) {
   free(text);
 }
 
-static void answer(char *line, size_t size, const char *mode) {
-  size_t length;
-  struct lexicon_triple triple;
-  struct lexicon_error error;
-  if (strcmp(mode, "fields") == 0) {
-    triple = triple_of(line);
-    write_answers(&triple, NULL, 0);
-    return;
-  }
-  if (strcmp(mode, "answers") == 0) {
-    write_parsed(line, size);
-    return;
-  }
-  if (lexicon_parse(line, size, &triple, &error) != LEXICON_OK) {
-    expect(lexicon_error_line(line, size, &error, out, sizeof out, &length) == LEXICON_OK, "the line of a refusal");
-    fputs("error: ", stdout);
-    fwrite(out, 1, length, stdout);
-    return;
-  }
-  if (strcmp(mode, "settle") == 0) expect(lexicon_settle(&triple) == LEXICON_OK, "a canonical form");
-  expect(lexicon_print(&triple, out, sizeof out, &length) == LEXICON_OK, "a printed triple");
-  fwrite(out, 1, length, stdout);
-  if (strcmp(mode, "show") == 0) {
-    struct lexicon_triple_facts facts;
-    expect(lexicon_facts(&triple, &facts, sizeof facts) == LEXICON_OK, "facts of a parsed triple");
-    write_queries(' ', &facts);
-  }
-}
-
 int main(int count, char **words) {
   char *line = NULL;
   size_t room = 0;
-  expect(count == 2 || count == 3, "a mode");
-  int end = count == 3 ? atoi(words[2]) : '\n';
-  is_asked = strcmp(words[1], "answers") == 0 || strcmp(words[1], "fields") == 0;
+  if (count != 3) return 2;
+  int end = atoi(words[2]);
   for (ssize_t size; (size = getdelim(&line, &room, end, stdin)) > 0;) {
     if (setjmp(next_line) == 0) {
       expect(line[size - 1] == end, "the end of a line");
       line[size - 1] = 0;
-      answer(line, (size_t)size - 1, words[1]);
+      if (strcmp(words[1], "fields") == 0) {
+        struct lexicon_triple triple = triple_of(line);
+        write_answers(&triple, NULL, 0);
+      } else {
+        write_parsed(line, (size_t)size - 1);
+      }
     }
     putchar(end);
   }

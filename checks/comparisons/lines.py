@@ -1,20 +1,20 @@
 """Compares programs with upstream in each line mode.
 
 The lines are made from a seed, by checks/target_lines.py: the names and triples in upstream's sources, the targets of
-`rustc --print target-list`, every architecture with every system and every environment, and generated lines. If there
-are more than a million, each block of a million has a seed of its own.
+`rustc --print target-list`, every architecture with every system and every environment, and generated lines.
 """
+import concurrent.futures
+import itertools
 import subprocess
 
 import target_lines
 import upstream
 
-BLOCK = 1000000
 WORD = "[a-z0-9_.]+"
 
 
 def add_arguments(parser):
-    parser.add_argument("--lines", type=int, default=BLOCK)
+    parser.add_argument("--lines", type=int, default=1000000)
     parser.add_argument("--seed", type=int, default=1)
 
 
@@ -26,13 +26,29 @@ def names_in(crate):
     return names._replace(foreign=sorted(foreign), known=sorted({*listed, *upstream.quoted_texts(crate, f"{WORD}(?:-{WORD})+")}))
 
 
-def blocks(options):
-    """What makes the lines, and its arguments, for each block."""
-    names = names_in(options.upstream)
-    return [(target_lines.lines, names, min(BLOCK, options.lines - begin), options.seed + begin // BLOCK)
-            for begin in range(0, options.lines, BLOCK)]
+def compare(theirs, program, mode, given):
+    """How many answers upstream has in a mode, and those of a program that are others: what was asked, its answer, and upstream's."""
+    their, our = (upstream.answers([*command, mode], given).decode().split("\n") for command in ([theirs], program.command))
+    if mode != "matrix" and len(their) - 1 != given.count(b"\n"):
+        raise RuntimeError(f"upstream has {len(their) - 1} answers to {given.count(bytes([10]))} lines")
+    rows = itertools.zip_longest(given.decode().split("\n"), our, their)
+    found = [row for row in rows if row[1] != row[2]]
+    # A matrix has fewer entries than there are lines, and one that is wrong moves the others.
+    return len(their) - 1, found[:1] if mode == "matrix" else found
 
 
-def main(options, folder):
+def main(options, _folder):
     print(f"{options.lines} lines of seed {options.seed}", flush=True)
-    return upstream.compare_all(options, folder, [("", upstream.LINE_MODES, blocks(options))])
+    given = "".join(f"{line}\n" for line in target_lines.lines(names_in(options.upstream), options.lines, options.seed)).encode()
+    theirs, programs = upstream.rust_program(options.upstream, "lines_upstream"), upstream.programs(options)
+    compared = differ = 0
+    with concurrent.futures.ThreadPoolExecutor() as pool:
+        runs = [(program.name, mode, pool.submit(compare, theirs, program, mode, given)) for program in programs for mode in upstream.LINE_MODES]
+        for name, mode, run in runs:
+            count, found = run.result()
+            print(f"{name}, {mode + ':':7} {count:9,} answers compared, {len(found):,} differ", flush=True)
+            for line, our, their in found[:None if options.all else 3]:
+                print(f"    {line!r:.200}\n        {name}: {our!r:.200}\n        upstream: {their!r:.200}", flush=True)
+            compared, differ = compared + count, differ + len(found)
+    print(f"all: {compared:,} answers compared, {differ:,} differ")
+    return 1 if differ else 0

@@ -1,102 +1,85 @@
-"""Counts with valgrind the instructions a line of programs with the line modes, and of upstream in two programs: one that
-writes into its output, and one that makes a String of each triple; and those of a query and of parsing a single field, in the Rust crate and in
-upstream's. Beside them are the branches that valgrind's model of a processor mispredicts.
+"""Counts with valgrind the instructions and the mispredicted branches of each row of docs/speed.tsv, here and in upstream's crate.
 
-The lines are 20,000 of rustc's targets in turn, and the same with an `x` at the end, of which 99 % are refused. With
-`--store` the figures of docs/speed.tsv are written anew, except for those of the library for C, which its own test of
-speed counts; then run tools/pictures/speed.
+Lines are 20,000 of rustc's targets in turn, or the same with an `x` at the end; upstream's program writes straight into its output.
+The calls are those of speed.rs, with these targets. With `--store` the figures are written into the file; then run tools/pictures/speed. The
+status is 1 if a query takes more instructions than upstream's.
 """
 import os
 import re
-import shutil
 import subprocess
-import tempfile
 
 import built
 import upstream
 
 LINES = 20000
 FIGURES = f"{built.ROOT}/docs/speed.tsv"
-# The lines, as docs/speed.tsv calls them, their ends, and the modes that are counted on them.
-ROWS = {"targets": ("", ("parse", "print", "show", "settle", "matrix")), "with an `x`": ("x", ("parse", "print"))}
-# The calls that packages/rust/tests/queries counts, and what it calls to count the program itself.
-QUERIES = f"{built.ROOT}/packages/rust/tests/queries"
-CALLS = {"query": ("none", ("endianness", "pointer_width", "default_calling_convention", "data_model")),
-         "field": ("no_field", ("architecture", "vendor", "operating_system", "environment", "binary_format"))}
-# The part and the column of a program's figures.
-COLUMNS = {"the proved program": ("program", "kit"), "the Rust crate": ("Rust", "cargo")}
 
 
 def add_arguments(parser):
+    parser.add_argument("parts", nargs="*", metavar="PART", help="the parts that are counted, such as `query`, if not all")
     parser.add_argument("--store", action="store_true")
 
 
-def counted(command, path="/dev/null", calls=LINES):
-    """The instructions and the mispredicted branches of a line, or of a call, where the program prints how many there were."""
+def counted(command, path):
+    """The instructions and the mispredicted branches of a program, and what it prints."""
     with open(path, "rb") as given:
         ran = subprocess.run(["valgrind", "--tool=callgrind", "--branch-sim=yes", "--callgrind-out-file=/dev/null", *command], stdin=given, capture_output=True)
-    count = re.search(rb"Collected : (\d+)", ran.stderr)
-    missed = re.search(rb"Mispredicts: +([\d,]+)", ran.stderr)
+    count, missed = (re.search(pattern, ran.stderr) for pattern in (rb"Collected : (\d+)", rb"Mispredicts: +([\d,]+)"))
     if ran.returncode or not count or not missed:
-        raise RuntimeError(f"valgrind doesn't run {command}")
-    calls = calls or int(ran.stdout)
-    return int(count[1]) / calls, int(missed[1].replace(b",", b"")) / calls
+        raise RuntimeError(f"valgrind doesn't run {command}: {ran.stderr[-300:]}")
+    return int(count[1]), int(missed[1].replace(b",", b"")), ran.stdout
 
 
-def calls_of(crate, targets):
-    """The same of each call of packages/rust/tests/queries over a crate, without what the program itself takes."""
-    with tempfile.TemporaryDirectory() as target:
-        flags = ["--offline", f'--config=patch.crates-io.target-lexicon.path="{crate}"', "--quiet", "--release", f"--target-dir={target}"]
-        folder = shutil.copytree(QUERIES, f"{target}/queries")
-        subprocess.run(["cargo", "build", *flags, f"--manifest-path={folder}/Cargo.toml"], check=True, env={**os.environ, "RUSTFLAGS": "--cap-lints allow"})
-        for part, (without, names) in CALLS.items():
-            fixed = counted([f"{target}/release/queries", without, *targets], calls=None)
-            for name in names:
-                found = counted([f"{target}/release/queries", name, *targets], calls=None)
-                yield part, name, [one - other for one, other in zip(found, fixed)]
+def of_line(command, path):
+    return [number / LINES for number in counted(command, path)[:2]]
 
 
-def store(figures):
-    """Writes figures into docs/speed.tsv, each by the part, the lines, the mode and the column."""
-    lines, columns = upstream.read(FIGURES).splitlines(), []
-    for number, line in enumerate(lines):
-        row = line.split("\t")
-        columns = row if row[0] == "part" else columns
-        if row[0] in ("program", "Rust", *CALLS):
-            key = (*row[:2], row[2].strip("`"))
-            lines[number] = "\t".join(figures.get((*key, column), old) for column, old in zip(columns, row))
-    upstream.write(FIGURES, "\n".join(lines) + "\n")
+def of_call(program, who, call, path):
+    """The same of a call, without what the program itself takes."""
+    *own, _ = counted([program, who, "none"], path)
+    *numbers, calls = counted([program, who, call], path)
+    return [(number - other) / int(calls) for number, other in zip(numbers, own)]
+
+
+def program_with_calls(options, folder):
+    """The program speed.rs."""
+    tree = options.tree
+    if not os.path.exists(f"{tree}/lib/libtarget_lexicon.a"):
+        tree = f"{folder}/tree"
+        subprocess.run([f"{built.ROOT}/packages/c/install", tree], check=True, stdout=subprocess.DEVNULL)
+    return upstream.rust_program(options.upstream, "speed", flags=f"-L native={os.path.realpath(tree)}/lib -l static=target_lexicon")
 
 
 def main(options, folder):
+    head, *rows = [line.split("\t") for line in upstream.read(FIGURES).splitlines() if not line.startswith("#")]
+    rows = [dict(zip(head, row, strict=True)) for row in rows]
     targets = subprocess.run(["rustc", "--print", "target-list"], check=True, capture_output=True, text=True).stdout.splitlines()
     lines = (targets * (LINES // len(targets) + 1))[:LINES]
-    driver, programs, figures = upstream.rust_program(options.upstream, "lines_upstream"), upstream.programs(options, folder), {}
-    for which, (end, modes) in ROWS.items():
-        path = f"{folder}/lines{end}"
-        upstream.write(path, "".join(f"{line}{end}\n" for line in lines))
-        for mode in modes:
-            (writing, missed), (to_string, _) = (counted([driver, mode, how], path) for how in ("own", "to_string"))
-            print(f"{which}, {mode}: upstream {writing:.0f}, with to_string {to_string:.0f}, mispredicted branches {missed:.1f}", flush=True)
-            for program in programs:
-                if mode not in program.modes:
-                    continue
-                count, ours_missed = counted([*program.command, mode], path)
-                print(f"    {program.name}: {count:.0f}, ratio {count / writing:.3f}, mispredicted branches {ours_missed:.1f}", flush=True)
-                part, column = COLUMNS.get(program.name, ("", ""))
-                figures[part, which, mode, column] = f"{count:.0f}"
-                figures[part, which, mode, "missed"] = f"{ours_missed:.1f}"
-                # Upstream has no canonical forms: what its program does for them is no figure of upstream's.
-                if mode in ("parse", "print", "show"):
-                    figures[part, which, mode, "upstream"] = f"{writing:.0f}"
-                    figures[part, which, mode, "upstream_missed"] = f"{missed:.1f}"
-                    figures[part, which, mode, "to_string"] = "-" if mode == "parse" else f"{to_string:.0f}"
-    # Upstream's crate must be in a folder, since cargo patches a package with one from another place.
-    crates = {"cargo": (f"{built.ROOT}/packages/rust/patch", "missed"), **({"upstream": (options.upstream, "upstream_missed")} if options.upstream else {})}
-    for column, (crate, missed_column) in crates.items():
-        for part, name, (count, missed) in calls_of(os.path.realpath(crate), targets):
-            print(f"{part} {name}: {column} {count:.0f}, mispredicted branches {missed:.1f}", flush=True)
-            figures[part, "targets", name, column], figures[part, "targets", name, missed_column] = f"{count:.0f}", f"{missed:.1f}"
+    for end in "", "x":
+        upstream.write(f"{folder}/lines{end}", "".join(f"{line}{end}\n" for line in lines))
+    upstream.write(f"{folder}/targets", "".join(f"{line}\n" for line in targets))
+    with_calls, lines_of, status = program_with_calls(options, folder), upstream.rust_program(options.upstream, "lines_upstream"), 0
+    for row in rows:
+        part, call = row["part"], row["call"].replace("`", "")
+        if options.parts and part not in options.parts:
+            continue
+        ours = "kit" if part == "program" else "cargo"
+        if part in ("program", "Rust"):
+            path = f"{folder}/lines{'x' if 'x' in row['lines'] else ''}"
+            program = built.program("compare", "triples", 2) if part == "program" else upstream.rust_program(options.upstream, "lines_ours")
+            numbers = of_line([program, call], path)
+            theirs = row["upstream"] != "-" and of_line([lines_of, call, "own"], path)
+        else:
+            numbers = of_call(with_calls, "c" if part == "C" else "ours", call, f"{folder}/targets")
+            theirs = row["upstream"] != "-" and of_call(with_calls, "upstream", call, f"{folder}/targets")
+        row[ours] = f"{numbers[0]:.0f}"
+        found = {"missed": numbers[1]} | ({"upstream_missed": theirs[1]} if theirs else {})
+        row.update({column: f"{number:.1f}" for column, number in found.items() if row[column] != "-"})
+        if theirs:
+            row["upstream"] = f"{theirs[0]:.0f}"
+            status |= part == "query" and round(numbers[0]) > round(theirs[0])
+        print(*row.values(), sep="\t", flush=True)
     if options.store:
-        store(figures)
-    return 0
+        comments = [line for line in upstream.read(FIGURES).splitlines() if line.startswith("#")]
+        upstream.write(FIGURES, "".join(f"{line}\n" for line in [*comments, "\t".join(head), *("\t".join(row.values()) for row in rows)]))
+    return int(status)

@@ -335,13 +335,18 @@ class Samples(Folder):
         self.assertEqual(ran.stdout, "set()\n", ran.stderr)
 
     @unittest.skipUnless(HAS_DASK, "no pandas and distributed")
-    def test_two_processes_count_as_one(self):
+    def test_two_processes_count_the_targets(self):
         """No process binds a port."""
         with open(os.path.join(self.folder, "sitecustomize.py"), "w", encoding="utf-8") as it:
             it.write("import os, socket, sys\n"
                      "sys.addaudithook(lambda event, words: event == 'socket.bind' and words[0].family != socket.AF_UNIX and os._exit(9))\n")
-        ran = run(DEBIAN_PYTHON, os.path.join(SOURCE, "speed_many"), "50000", PYTHONPATH=f"{self.folder}:{PACKAGES}")
-        self.assertEqual((ran.stdout.count("   50000 lines: "), ran.returncode), (2, 0), ran.stdout + ran.stderr)
+        file = os.path.join(self.folder, "lines")
+        lines = ["x86_64-foo-bar", "3com", *lists.known_triples()] * 50
+        with open(file, "w", encoding="utf-8") as it:
+            it.writelines(f"{line}\n" for line in lines)
+        keys = target_lexicon.settle_all(lines)
+        ran = run(DEBIAN_PYTHON, os.path.join(SOURCE, "count.py"), file, "2", PYTHONPATH=f"{self.folder}:{PACKAGES}")
+        self.assertEqual(ran.stdout, f"{len(lines)} lines: {len({*keys} - {None})} targets, {keys.count(None)} lines are refused\n", ran.stderr)
         ran = run(DEBIAN_PYTHON, os.path.join(SOURCE, "count.py"), os.path.join(SOURCE, "README.md"), "tcp://127.0.0.1:1", PYTHONPATH=PACKAGES)
         self.assertRegex(ran.stderr, "encryption required")
 
