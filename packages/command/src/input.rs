@@ -1,8 +1,10 @@
 //! The targets: arguments, or the lines of files and of standard input as they come.
 use crate::blocks::{each_block, Stop};
+use crate::fault::Fault;
+use crate::json::Object;
 use crate::output::say_what_is_read;
 use crate::refusal::visible;
-use crate::{streams, Fault};
+use crate::streams;
 use clap::ArgMatches;
 use std::fmt;
 use std::io::{self, ErrorKind};
@@ -36,6 +38,21 @@ impl fmt::Display for Place<'_> {
 pub struct Target<'a> {
     pub text: &'a str,
     pub place: Place<'a>,
+}
+
+impl Target<'_> {
+    /// The members with which each object begins.
+    pub fn members(&self) -> Object {
+        let (file, line) = match self.place {
+            Place::Argument(_) => (None, None),
+            Place::Line { file, number, .. } => (Some(file), Some(number)),
+        };
+        vec![
+            ("target", self.text.into()),
+            ("file", file.into()),
+            ("line", line.into()),
+        ]
+    }
 }
 
 /// What surrounds the targets of a list in YAML or JSON, or of a line with commas. No triple has one of these.

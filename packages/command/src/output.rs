@@ -1,22 +1,10 @@
 //! The two outputs. What is written to one appears before what is written to the other later.
+use crate::fault::Fault;
 use crate::json::{Json, Object};
-use crate::{streams, Fault};
+use crate::streams;
 use clap::ArgMatches;
 use std::env;
-use std::io::{self, BufWriter, ErrorKind, Write};
-use std::time::{Duration, Instant};
-
-impl Fault {
-    pub fn of_output(name: &str, why: io::Error) -> Self {
-        match why.kind() {
-            ErrorKind::BrokenPipe => Fault::Closed,
-            _ => Fault::Stream {
-                name: name.into(),
-                why,
-            },
-        }
-    }
-}
+use std::io::{self, BufWriter, Write};
 
 /// How objects are written.
 #[derive(Clone, Copy, PartialEq, Eq)]
@@ -53,7 +41,7 @@ pub fn say_what_is_read() {
 }
 
 /// Whether that terminal takes escape sequences, and the user wants them.
-fn takes_escapes() -> bool {
+pub fn takes_escapes() -> bool {
     let is_unset = |name| env::var_os(name).map_or(true, |it| it.is_empty());
     is_terminal()
         && is_unset("NO_COLOR")
@@ -99,6 +87,11 @@ impl Outputs {
         self.errors
             .flush()
             .map_err(|why| Fault::of_output("standard error", why))
+    }
+
+    /// Whether answers are objects in JSON.
+    pub fn has_objects(&self) -> bool {
+        self.layout.is_some()
     }
 
     pub fn flush(&mut self) -> Result<(), Fault> {
@@ -164,60 +157,4 @@ impl Outputs {
         }
         self.flush()
     }
-}
-
-/// How far a long run is. On a terminal that takes escape sequences it is shown each second, in a line that the next one covers.
-pub struct Progress {
-    pub targets: usize,
-    pub refused: usize,
-    is_shown: bool,
-    next: Option<Instant>,
-}
-
-impl Progress {
-    pub fn new() -> Self {
-        Progress {
-            targets: 0,
-            refused: 0,
-            is_shown: false,
-            next: takes_escapes().then(|| Instant::now() + Duration::from_secs(2)),
-        }
-    }
-
-    pub fn show(&mut self) -> Result<(), Fault> {
-        if self.next.map_or(true, |next| Instant::now() < next) {
-            return Ok(());
-        }
-        self.next = Some(Instant::now() + Duration::from_secs(1));
-        self.is_shown = true;
-        let (targets, refused) = (with_commas(self.targets), with_commas(self.refused));
-        Self::line(&format!("{targets} targets, {refused} refused"))
-    }
-
-    /// Clears the line.
-    pub fn end(&mut self) -> Result<(), Fault> {
-        if std::mem::take(&mut self.is_shown) {
-            Self::line("")
-        } else {
-            Ok(())
-        }
-    }
-
-    fn line(text: &str) -> Result<(), Fault> {
-        io::stderr()
-            .write_all(format!("\r\x1b[K{text}").as_bytes())
-            .map_err(|why| Fault::of_output("standard error", why))
-    }
-}
-
-/// A number with commas between thousands.
-pub fn with_commas(number: usize) -> String {
-    let digits = number.to_string();
-    let groups: Vec<&str> = digits
-        .as_bytes()
-        .rchunks(3)
-        .rev()
-        .map(|group| std::str::from_utf8(group).expect("digits are ASCII"))
-        .collect();
-    groups.join(",")
 }

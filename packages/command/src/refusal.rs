@@ -1,15 +1,13 @@
 //! Why a target is refused.
-use crate::arguments::{Version, FIELDS};
+use crate::fields::key_of;
+use crate::help::Help;
 use crate::input::{Place, Target};
 use crate::json::{Json, Object};
 use std::io::{self, Write};
 pub use target_lexicon::spellings::visible;
 use target_lexicon::spellings::SHOWN;
-use target_lexicon::{Field, Source, Sources, TextPart, TripleRef, VendorRef};
-use target_names::{
-    hint, is_vendor_of_rustc, suggestions, Dialect, Hint, LinuxLibc, Mistake, Name, NameError,
-    TranslateError, WriteError,
-};
+use target_lexicon::{Field, TextPart, TripleRef};
+use target_names::{Dialect, NameError, WriteError};
 
 pub struct Refusal<'a> {
     /// The word before it: a warning isn't refused.
@@ -18,7 +16,7 @@ pub struct Refusal<'a> {
     /// The field that the part isn't a name of.
     field: Option<Field>,
     part: TextPart<'a>,
-    names: Names<'a>,
+    pub names: Names<'a>,
     /// Why the name of a tool has no triple.
     reason: Option<&'static str>,
 }
@@ -30,140 +28,13 @@ enum Kind {
 }
 
 /// Among which names one is suggested. To find it takes longer than all else, so it is found only where it is shown.
-enum Names<'a> {
+pub enum Names<'a> {
     /// Those of every dialect, and of triples.
     OfAll(&'a str),
     OfParts(target_lexicon::Refusal<'a>),
     OfVendors(TripleRef<'a>),
     OfDialect(Dialect, &'a str),
     No,
-}
-
-/// What the user may have meant by a target that is refused.
-#[derive(Clone)]
-pub struct Help {
-    pub suggestion: Option<String>,
-    pub note: Option<String>,
-}
-
-/// What a target parses as, and from where.
-pub struct Parsed<'a> {
-    pub triple: TripleRef<'a>,
-    pub sources: Sources<'a>,
-}
-
-/// What a target parses as, and from where; or why it is refused.
-pub fn explanation(text: &str) -> Result<Parsed<'_>, Refusal<'_>> {
-    let explanation = TripleRef::explain(text);
-    let (triple, sources) = (
-        explanation.triple.map_err(Refusal::of_part)?,
-        explanation.sources,
-    );
-    Ok(Parsed { triple, sources })
-}
-
-/// What is said of a custom vendor that is neither among those that are meant nor rustc's: it is refused if that is asked, and otherwise
-/// a warning if it resembles a known name.
-pub fn of_vendor<'a>(
-    parsed: &Parsed<'a>,
-    is_strict: bool,
-    meant: &[String],
-) -> Result<Option<Refusal<'a>>, Refusal<'a>> {
-    let (VendorRef::Custom(vendor), Source::Part(part)) =
-        (parsed.triple.vendor, parsed.sources.vendor)
-    else {
-        return Ok(None);
-    };
-    if meant.iter().any(|it| it == vendor) || is_vendor_of_rustc(vendor) {
-        return Ok(None);
-    }
-    let refusal = |kind| Refusal {
-        kind,
-        error: "custom vendor".into(),
-        field: Some(Field::Vendor),
-        part,
-        names: Names::OfVendors(parsed.triple),
-        reason: None,
-    };
-    if is_strict {
-        return Err(refusal(Kind::Error));
-    }
-    let resembles = parsed.triple.vendor_suggestion().is_some();
-    Ok(resembles.then(|| refusal(Kind::Warning)))
-}
-
-/// The triple that a name of another tool means, or a string that is spelled like a triple.
-pub fn read(text: &str, from: Option<Dialect>) -> Result<TripleRef<'_>, Refusal<'_>> {
-    match from {
-        Some(dialect) => dialect
-            .read_loosely(text)
-            .map_err(|error| Refusal::of_name(text, dialect, error)),
-        None => target_names::read(text).map_err(Refusal::of_part),
-    }
-}
-
-/// The name in one dialect of what a name in another means.
-pub fn translate(
-    text: &str,
-    from: Dialect,
-    libc: Option<LinuxLibc>,
-    to: Dialect,
-) -> Result<Name, Refusal<'_>> {
-    from.translate(text, libc, to).map_err(|error| match error {
-        TranslateError::Read(error) => Refusal::of_name(text, from, error),
-        TranslateError::Write(error) => Refusal::of_written(text, to, error),
-    })
-}
-/// How a name is read that isn't spelled like a triple, if it is one of another tool; or why that tool's name has no triple.
-/// `command` comes before the option.
-pub fn dialects_note(command: &str, name: &str) -> Option<String> {
-    // GNU's names are spelled like triples.
-    let dialects = || Dialect::ALL.iter().filter(|it| **it != Dialect::Gnu);
-    let options: Vec<_> = dialects()
-        .filter(|dialect| dialect.read_loosely(name).is_ok())
-        .map(|dialect| format!("`{command}--from {dialect}`"))
-        .collect();
-    if options.is_empty() {
-        return dialects().find_map(|dialect| match dialect.read_loosely(name) {
-            Err(NameError::WithoutTriple(why)) => {
-                Some(format!("it is a name of {dialect} without a triple: {why}"))
-            }
-            _ => None,
-        });
-    }
-    Some(format!(
-        "it is a name of another tool: use {}",
-        options.join(" or ")
-    ))
-}
-
-/// The name that another tool has for the triple of a target.
-pub fn name_in<'a>(
-    dialect: Dialect,
-    text: &'a str,
-    libc: Option<LinuxLibc>,
-    triple: &TripleRef<'_>,
-) -> Result<Name, Refusal<'a>> {
-    dialect
-        .write_with(triple, libc)
-        .map_err(|error| Refusal::of_written(text, dialect, error))
-}
-
-/// The name that another tool has for a triple, with the first of these versions that fits.
-pub fn versioned_name_in<'a>(
-    dialect: Dialect,
-    text: &'a str,
-    versions: &[Version],
-    triple: &TripleRef<'_>,
-) -> Result<Name, Refusal<'a>> {
-    let named = |(major, minor): &Version| dialect.write_with_version(triple, *major, *minor);
-    let found = versions
-        .iter()
-        .map(named)
-        .find(|it| *it != Err(WriteError::OtherVersion));
-    found
-        .unwrap_or(Err(WriteError::OtherVersion))
-        .map_err(|error| Refusal::of_written(text, dialect, error))
 }
 
 /// Why a tool has no name for a triple, with the option that would help.
@@ -180,7 +51,7 @@ pub fn reason(error: WriteError) -> &'static str {
 }
 
 impl<'a> Refusal<'a> {
-    fn of_part(refusal: target_lexicon::Refusal<'a>) -> Self {
+    pub fn of_part(refusal: target_lexicon::Refusal<'a>) -> Self {
         let name = refusal.expected.and_then(key_of).unwrap_or("field");
         Refusal {
             kind: Kind::Error,
@@ -192,8 +63,26 @@ impl<'a> Refusal<'a> {
         }
     }
 
+    pub fn of_vendor(triple: TripleRef<'a>, part: TextPart<'a>) -> Self {
+        Refusal {
+            kind: Kind::Error,
+            error: "custom vendor".into(),
+            field: Some(Field::Vendor),
+            part,
+            names: Names::OfVendors(triple),
+            reason: None,
+        }
+    }
+
+    pub fn into_warning(self) -> Self {
+        Refusal {
+            kind: Kind::Warning,
+            ..self
+        }
+    }
+
     /// A name that a dialect doesn't have, or that has no triple.
-    fn of_name(text: &'a str, dialect: Dialect, error: NameError) -> Self {
+    pub fn of_name(text: &'a str, dialect: Dialect, error: NameError) -> Self {
         match error {
             NameError::Unknown => Refusal {
                 names: Names::OfDialect(dialect, text),
@@ -210,7 +99,7 @@ impl<'a> Refusal<'a> {
     }
 
     /// A target that has no name in a dialect.
-    fn of_written(text: &'a str, dialect: Dialect, error: WriteError) -> Self {
+    pub fn of_written(text: &'a str, dialect: Dialect, error: WriteError) -> Self {
         Refusal {
             reason: Some(reason(error)),
             ..Refusal::of_all(format!("no name of {dialect} for"), text)
@@ -237,76 +126,10 @@ impl<'a> Refusal<'a> {
     }
 }
 
-/// The name that the first dialect suggests that suggests one, and what is wrong with the unknown one, as far as it says more. A name after
-/// another is none if all the words together name a triple.
-fn nearest(name: &str, hint: Option<Hint>) -> Option<(&'static str, Option<Mistake<'_>>)> {
-    let of_words = match hint {
-        Some(Hint::Triple(triple)) => Some(triple),
-        _ => None,
-    };
-    let has_triple = of_words.is_some();
-    let mut found = suggestions(name).filter_map(|(dialect, suggestion)| {
-        // What all words say is a triple.
-        let named = dialect.write(of_words.unwrap_or_else(TripleRef::unknown));
-        if named.map_or(false, |it| it == suggestion) {
-            return None;
-        }
-        match dialect.mistake(name) {
-            Some(Mistake::Prefix) if has_triple => None,
-            Some(Mistake::NoTriple(_)) => Some((suggestion, None)),
-            mistake => Some((suggestion, mistake)),
-        }
-    });
-    found.next()
-}
-
-/// Whether a name has parts, of which the first is no known word.
-fn may_be_triple(name: &str) -> bool {
-    let (first, _) = name.split_once('-').unwrap_or_default();
-    !first.is_empty() && hint(first).is_none()
-}
-
-fn key_of(field: Field) -> Option<&'static str> {
-    FIELDS
-        .iter()
-        .find(|(_, it)| *it == field)
-        .map(|(key, _)| *key)
-}
-
 impl Refusal<'_> {
     /// Whether it is a name that a dialect doesn't have.
     pub fn is_unknown_name(&self) -> bool {
         matches!(self.names, Names::OfDialect(..))
-    }
-
-    /// What is suggested for a part of this target, and what is wrong with a name that a dialect doesn't have.
-    pub fn help(&self, target: &str) -> Help {
-        let (suggestion, note) = match &self.names {
-            Names::OfParts(refusal) => (shown(refusal.suggestion_in(target)), None),
-            Names::OfVendors(triple) => (shown(triple.vendor_suggestion()), None),
-            Names::OfAll(name) => {
-                let hint = hint(name);
-                match (nearest(name, hint), hint) {
-                    (Some((name, mistake)), _) => (shown(Some(name)), shown(mistake)),
-                    (None, Some(Hint::NoMachine) | None) if may_be_triple(name) => {
-                        (None, shown(Dialect::Gnu.mistake(name)))
-                    }
-                    (None, Some(Hint::Triple(triple))) => (shown(Some(triple)), shown(hint)),
-                    (None, hint) => (None, shown(hint)),
-                }
-            }
-            Names::OfDialect(dialect, name) => {
-                let suggestion = dialect.suggestion(name);
-                let note = match dialect.mistake(name) {
-                    None | Some(Mistake::NoTriple(_)) if suggestion.is_some() => None,
-                    None => shown(hint(name)),
-                    mistake => shown(mistake),
-                };
-                (shown(suggestion), note)
-            }
-            Names::No => (None, None),
-        };
-        Help { suggestion, note }
     }
 
     /// The place, what is wrong, the target, and carets below the part.
@@ -393,10 +216,6 @@ impl Refusal<'_> {
             ("note", help.note.clone().into()),
         ]
     }
-}
-
-fn shown<T: ToString>(value: Option<T>) -> Option<String> {
-    value.map(|it| it.to_string())
 }
 
 /// The end of a text, as it is shown before a part.

@@ -1,14 +1,12 @@
 //! The modes of the program `triples` over the Rust crate, for tests that compare with it; the mode `cfg`, which writes
 //! rustc's options for each line, the mode `driver`, which writes what a compiler's driver asks, and the mode `edits`, which asks what
-//! is suggested for edits of names. It isn't installed.
+//! is suggested for edits of names. It is the program `lines` of packages/command, which has what it needs, and isn't installed.
 #![forbid(unsafe_code)]
 
-#[path = "../../../../checks/comparisons/edits.rs"]
 mod edits;
-#[path = "../../../../checks/comparisons/lines.rs"]
 mod lines;
 #[allow(dead_code)] // its main
-#[path = "../../../names/examples/linkers.rs"]
+#[path = "../../packages/names/examples/linkers.rs"]
 mod linkers;
 
 use serde_json::Value;

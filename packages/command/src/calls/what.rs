@@ -1,26 +1,50 @@
-//! What a name of any tool means, by which tools, and what every tool calls it.
-use crate::answers::canonical;
+//! `what`: what a name of any tool means, by which tools, and what every tool calls it.
+use super::*;
 use crate::arguments::written;
-use crate::json::{Json, Object};
-use crate::refusal::{reason, visible, Refusal};
-use std::io::{self, Write};
-use target_lexicon::{OperatingSystem, TripleRef, VendorRef};
-use target_names::{
-    hint, meanings, Dialect, Hint, LinuxLibc, Meaning, Name, TargetInfo, WriteError,
-};
+use crate::refusal::reason;
+use target_lexicon::{OperatingSystem, VendorRef};
+use target_names::{hint, meanings, Dialect, Hint, LinuxLibc, Meaning, Name, WriteError};
+
+pub fn command() -> Command {
+    of_targets(
+        "what",
+        "Show what a name of any tool means, and what every tool calls it",
+        "Example:\n  $ target-lexicon what linux/amd64,linux/arm64 --libc glibc",
+    )
+    .mut_arg("target", |names| names.value_name("NAME"))
+    .mut_arg("strict", |strict| strict.hide(true))
+    .mut_arg("vendors", |vendors| vendors.hide(true))
+    .arg(libc())
+}
+
+pub struct What;
+
+impl Call for What {
+    fn answer<'a>(&mut self, target: Target<'a>, reader: &Reader) -> Outcome<'a> {
+        let meanings = Meanings::of(target.text, reader.libc)?;
+        reader.needs_libc_if(|| meanings.is_completed);
+        Ok(meanings.into())
+    }
+
+    fn takes(&self) -> Takes {
+        Takes::Names
+    }
+}
 
 /// What a name means: each triple, with the tools that mean it; and the reason of each tool that has the name for no triple.
-pub struct What<'a> {
+struct Meanings<'a> {
+    text: &'a str,
     meanings: Vec<(TripleRef<'a>, Vec<&'static str>)>,
     without_triple: Vec<(&'static str, &'static str)>,
     libc: Option<LinuxLibc>,
     /// Whether a meaning states no C library, and has that of `libc` here.
-    pub is_completed: bool,
+    is_completed: bool,
 }
 
-impl<'a> What<'a> {
-    pub fn of(text: &'a str, libc: Option<LinuxLibc>) -> Result<Self, Refusal<'a>> {
-        let mut what = What {
+impl<'a> Meanings<'a> {
+    fn of(text: &'a str, libc: Option<LinuxLibc>) -> Result<Self, Refusal<'a>> {
+        let mut what = Meanings {
+            text,
             meanings: Vec::new(),
             without_triple: Vec::new(),
             libc,
@@ -52,18 +76,18 @@ impl<'a> What<'a> {
     }
 
     /// What tools mean by the name that its triple doesn't say.
-    fn notes(text: &'a str, tools: &'a [&'static str]) -> impl Iterator<Item = String> + 'a {
+    fn notes<'b>(&'b self, tools: &'b [&'static str]) -> impl Iterator<Item = String> + 'b {
         let dialects = tools.iter().filter_map(|it| it.parse::<Dialect>().ok());
-        dialects.filter_map(move |it| Some(format!("{it}: {}", it.note(text)?)))
+        dialects.filter_map(|it| Some(format!("{it}: {}", it.note(self.text)?)))
     }
 
     /// That the vendor of a meaning is custom, which may be a misspelling, or that it has no system; and the triple that the words of the name
     /// mean, if to no tool it is of a known vendor and a system.
-    fn note(&self, text: &str, triple: &TripleRef<'_>) -> Option<String> {
+    fn note(&self, triple: &TripleRef<'_>) -> Option<String> {
         use OperatingSystem::{None_, Unknown};
         let has_system = |it: &TripleRef<'_>| !matches!(it.operating_system, None_ | Unknown);
         let is_known = |it: &TripleRef<'_>| !it.vendor.is_custom() && has_system(it);
-        let hint = match hint(text) {
+        let hint = match hint(self.text) {
             Some(Hint::Triple(it)) if !self.meanings.iter().any(|(it, _)| is_known(it)) => Some(it),
             _ => None,
         };
@@ -76,15 +100,17 @@ impl<'a> What<'a> {
         let meant = meant.map_or(String::new(), |it| format!("; did you mean `{it}`?"));
         Some(format!("`{vendor}` is a custom vendor{meant}"))
     }
+}
 
+impl Answer for Meanings<'_> {
     /// For each meaning a line with the tools that mean it, a note about its vendor, a line for each tool that has a name for it, and a line
     /// for each reason why others have none.
-    pub fn write(&self, out: &mut dyn Write, text: &str) -> io::Result<()> {
-        writeln!(out, "{}", visible(text))?;
+    fn write(&self, out: &mut dyn Write) -> io::Result<()> {
+        writeln!(out, "{}", visible(self.text))?;
         for (triple, tools) in &self.meanings {
             writeln!(out, "  is {triple}, as {}", tools.join(", "))?;
-            let own = self.note(text, triple).into_iter();
-            for note in own.chain(What::notes(text, tools)) {
+            let own = self.note(triple).into_iter();
+            for note in own.chain(self.notes(tools)) {
                 writeln!(out, "    note    {note}")?;
             }
             let mut unnamed: Vec<(&str, Vec<&str>)> = Vec::new();
@@ -109,7 +135,7 @@ impl<'a> What<'a> {
         })
     }
 
-    pub fn members(&self, text: &str) -> Object {
+    fn members(&self) -> Object {
         let strings =
             |tools: &[&'static str]| Json::List(tools.iter().map(|it| Json::from(*it)).collect());
         let meaning = |(triple, tools): &(TripleRef<'_>, Vec<&'static str>)| {
@@ -122,8 +148,8 @@ impl<'a> What<'a> {
             let why = |(tool, found): &(&'static str, Result<Name, WriteError>)| {
                 Some((*tool, found.as_ref().err()?.reason().into()))
             };
-            let own = self.note(text, triple).into_iter();
-            let notes: Vec<String> = own.chain(What::notes(text, tools)).collect();
+            let own = self.note(triple).into_iter();
+            let notes: Vec<String> = own.chain(self.notes(tools)).collect();
             let note = (!notes.is_empty()).then(|| notes.join("; "));
             Json::Object(vec![
                 ("canonical", triple.to_string().into()),

@@ -1,0 +1,40 @@
+//! `completions`: a completion script for a shell.
+use super::*;
+use crate::arguments;
+use clap::{value_parser, Arg};
+use clap_complete::Shell;
+
+pub fn command() -> Command {
+    Command::new("completions")
+        .about("Write a completion script for a shell")
+        .after_help("Example:\n  $ target-lexicon completions bash > ~/.local/share/bash-completion/completions/target-lexicon")
+        .arg(Arg::new("shell").required(true).value_name("SHELL").value_parser(value_parser!(Shell)))
+}
+
+pub fn run(arguments: &ArgMatches) -> Result<i32, Fault> {
+    let shell = *arguments.get_one("shell").expect("a shell is required");
+    let mut outputs = Outputs::plain();
+    outputs.write(|out| out.write_all(script(shell).as_bytes()))?;
+    outputs.flush()?;
+    Ok(0)
+}
+
+fn script(shell: Shell) -> String {
+    let mut script = Vec::new();
+    clap_complete::generate(
+        shell,
+        &mut arguments::command(),
+        "target-lexicon",
+        &mut script,
+    );
+    let script = String::from_utf8_lossy(&script);
+    match shell {
+        // Before clap_complete 4.1 the script only works as a file that zsh loads itself, and fails if it is sourced.
+        Shell::Zsh => script.replace(
+            "\n_target-lexicon \"$@\"",
+            "\nif [ \"$funcstack[1]\" = \"_target-lexicon\" ]; then\n    _target-lexicon \"$@\"\nelse\n    compdef _target-lexicon target-lexicon\nfi",
+        ),
+        // For bash the names of arguments are among the words that it offers.
+        _ => script.replace(" [TARGET]...", ""),
+    }
+}

@@ -1,0 +1,123 @@
+//! `explain`: each field, its value, and where that comes from.
+use super::*;
+use crate::fields::{name_of, version};
+use crate::reader::{meaning_elsewhere, Parsed};
+use target_lexicon::{Field, Source};
+
+pub fn command() -> Command {
+    of_targets(
+        "explain",
+        "Show each field of a target, and where its value comes from",
+        "Example:\n  $ target-lexicon explain arm64-apple-ios17",
+    )
+}
+
+pub struct Explain;
+
+impl Call for Explain {
+    fn answer<'a>(&mut self, target: Target<'a>, reader: &Reader) -> Outcome<'a> {
+        let text = target.text;
+        let parsed = reader.parse(text)?;
+        Ok(Explained { text, parsed }.into())
+    }
+}
+
+struct Explained<'a> {
+    text: &'a str,
+    parsed: Parsed<'a>,
+}
+
+impl Explained<'_> {
+    /// How the value of a field came: a word for it, and the part that gave it.
+    fn origin(&self, field: Field) -> (&'static str, Option<&str>) {
+        let (triple, sources) = (&self.parsed.triple, &self.parsed.sources);
+        let (source, own) = match field {
+            Field::Architecture => (sources.architecture, triple.architecture.to_string()),
+            Field::Vendor => (sources.vendor, triple.vendor.to_string()),
+            Field::OperatingSystem => (
+                sources.operating_system,
+                triple.operating_system.to_string(),
+            ),
+            Field::Environment => (sources.environment, triple.environment.to_string()),
+            Field::BinaryFormat => (sources.binary_format, triple.binary_format.to_string()),
+        };
+        match source {
+            Source::Part(part) if part.text == own => ("given", Some(part.text)),
+            Source::Part(part) => ("alias", Some(part.text)),
+            Source::NotGiven => ("not given", None),
+            Source::Implied => ("implied", None),
+        }
+    }
+}
+
+impl Answer for Explained<'_> {
+    fn write(&self, out: &mut dyn Write) -> io::Result<()> {
+        let triple = &self.parsed.triple;
+        let value = |field| match (field, version(triple)) {
+            (Field::OperatingSystem, Some(version)) => {
+                format!("{} {version}", name_of(triple, field))
+            }
+            _ => name_of(triple, field),
+        };
+        // A long custom vendor moves no other line. A width over 65,535 would end the program.
+        let width = FIELDS
+            .iter()
+            .map(|(_, field)| value(*field).len())
+            .filter(|it| *it <= 40)
+            .max()
+            .unwrap_or(0);
+        writeln!(out, "{}", self.text)?;
+        for (key, field) in FIELDS {
+            let custom = if field == Field::Vendor && triple.vendor.is_custom() {
+                "custom, "
+            } else {
+                ""
+            };
+            write!(out, "  {key:17} {:width$}  {custom}", value(field))?;
+            match self.origin(field) {
+                ("given", Some(part)) => writeln!(out, "given as `{part}`")?,
+                (word, Some(part)) => writeln!(out, "{word} `{part}`")?,
+                (word, None) => writeln!(out, "{word}")?,
+            }
+        }
+        if let Some(name) = triple.vendor_suggestion() {
+            let vendor = triple.vendor;
+            writeln!(
+                out,
+                "  {:17} `{vendor}` is a custom vendor; did you mean `{name}`?",
+                "note"
+            )?;
+        }
+        match meaning_elsewhere(self.text) {
+            Some(meant) if triple.vendor.is_custom() => {
+                writeln!(
+                    out,
+                    "  {:17} other tools mean `{meant}`, which `target-lexicon read` gives",
+                    "note"
+                )
+            }
+            _ => Ok(()),
+        }
+    }
+
+    fn members(&self) -> Object {
+        let triple = &self.parsed.triple;
+        let mut members: Object = Vec::new();
+        for (key, field) in FIELDS {
+            let (origin, part) = self.origin(field);
+            let source = vec![
+                ("value", name_of(triple, field).into()),
+                ("origin", origin.into()),
+                ("part", part.into()),
+            ];
+            members.push((key, Json::Object(source)));
+            if field == Field::OperatingSystem {
+                members.push(("version", version(triple).into()));
+            }
+        }
+        members.push(("has_custom_vendor", triple.vendor.is_custom().into()));
+        let suggestion = triple.vendor_suggestion().map(|it| it.to_string());
+        members.push(("suggestion", suggestion.into()));
+        members
+    }
+}

@@ -1,0 +1,113 @@
+//! The subcommands, each in a file.
+mod cfg;
+mod check;
+mod completions;
+mod explain;
+mod facts;
+mod matrix;
+mod names;
+mod read;
+mod settle;
+mod translate;
+mod what;
+
+// Each file takes these by `use super::*`.
+use crate::arguments::{flag, from, libc, of_targets};
+use crate::fault::Fault;
+use crate::fields::{canonical, FIELDS};
+use crate::input::Target;
+use crate::json::{Json, Object};
+use crate::output::Outputs;
+use crate::reader::{Reader, Takes};
+use crate::refusal::{visible, Refusal};
+use crate::run::Run;
+use clap::{ArgMatches, Command};
+use std::io::{self, Write};
+use target_lexicon::TripleRef;
+use target_names::TargetInfo;
+
+/// A subcommand that answers for targets.
+pub trait Call {
+    fn answer<'a>(&mut self, target: Target<'a>, reader: &Reader) -> Outcome<'a>;
+
+    /// How targets are given, without `--from`.
+    fn takes(&self) -> Takes {
+        Takes::Triples
+    }
+
+    /// The command that takes triples, where this one reads names of a tool.
+    fn for_triples(&self) -> String {
+        "settle".into()
+    }
+
+    /// Whether JSON has an object for a target that is refused.
+    fn has_refused_objects(&self) -> bool {
+        true
+    }
+
+    /// Ends what is written. `is_whole` says that no target was refused.
+    fn end(&mut self, outputs: &mut Outputs, _is_whole: bool) -> Result<(), Fault> {
+        outputs.end(true)
+    }
+}
+
+type Outcome<'a> = Result<Answered<'a>, Refusal<'a>>;
+
+/// What is written for a target, if anything, and a warning before it.
+#[derive(Default)]
+pub struct Answered<'a> {
+    pub answer: Option<Box<dyn Answer + 'a>>,
+    pub warning: Option<Refusal<'a>>,
+}
+
+pub trait Answer {
+    /// Writes the lines of the answer.
+    fn write(&self, out: &mut dyn Write) -> io::Result<()>;
+
+    /// What an object has after the members of the target.
+    fn members(&self) -> Object;
+}
+
+impl<'a, T: Answer + 'a> From<T> for Answered<'a> {
+    fn from(answer: T) -> Self {
+        Answered {
+            answer: Some(Box::new(answer)),
+            warning: None,
+        }
+    }
+}
+
+pub fn commands() -> [Command; 11] {
+    [
+        explain::command(),
+        facts::command(),
+        settle::command(),
+        check::command(),
+        matrix::command(),
+        read::command(),
+        translate::command(),
+        cfg::command(),
+        what::command(),
+        names::command(),
+        completions::command(),
+    ]
+}
+
+/// Runs the subcommand of this name. Returns the status.
+pub fn run(name: &str, arguments: &ArgMatches) -> Result<i32, Fault> {
+    let mut call: Box<dyn Call> = match name {
+        "explain" => Box::new(explain::Explain),
+        "facts" => Box::new(facts::Facts),
+        "settle" => Box::new(settle::Settle),
+        "check" => Box::new(check::Check),
+        "matrix" => Box::new(matrix::Matrix::new(arguments)),
+        "read" => Box::new(read::Read::new(arguments)),
+        "translate" => Box::new(translate::Translate::new(arguments)),
+        "cfg" => Box::new(cfg::Cfg::default()),
+        "what" => Box::new(what::What),
+        "names" => return names::run(arguments),
+        "completions" => return completions::run(arguments),
+        other => unreachable!("{other} is no subcommand"),
+    };
+    Run::new(&mut *call, arguments).finish(arguments)
+}

@@ -1,0 +1,56 @@
+//! `names`: the known names of a field or of a tool.
+use super::*;
+use crate::arguments::{dialect_of, dialects};
+use clap::builder::PossibleValuesParser;
+use clap::Arg;
+
+/// The word for the names of the dialects.
+const DIALECTS: &str = "dialects";
+
+pub fn command() -> Command {
+    let fields = FIELDS.iter().map(|(name, _)| *name);
+    let words = fields.chain([DIALECTS]).chain(dialects());
+    Command::new("names")
+        .about("List the known names of a field or of a tool, or of all fields; or the dialects")
+        .after_help(
+            "Examples:\n  $ target-lexicon names environment\n  $ target-lexicon names debian",
+        )
+        .arg(
+            Arg::new("of")
+                .value_name("FIELD|DIALECT")
+                .value_parser(PossibleValuesParser::new(words)),
+        )
+}
+
+pub fn run(arguments: &ArgMatches) -> Result<i32, Fault> {
+    let mut outputs = Outputs::plain();
+    outputs.write(|out| write_names(out, arguments))?;
+    outputs.flush()?;
+    Ok(0)
+}
+
+/// The names of the requested field or dialect, those of the dialects, or of each field below its own name.
+fn write_names(out: &mut dyn Write, arguments: &ArgMatches) -> io::Result<()> {
+    let requested = arguments.get_one::<String>("of");
+    if let Some(dialect) = dialect_of(arguments, "of") {
+        return dialect.names().try_for_each(|name| writeln!(out, "{name}"));
+    }
+    if requested.map_or(false, |it| it == DIALECTS) {
+        return dialects().try_for_each(|name| writeln!(out, "{name}"));
+    }
+    for (key, field) in FIELDS {
+        let indent = match requested {
+            None => {
+                writeln!(out, "{key}")?;
+                "  "
+            }
+            Some(requested) if requested == key => "",
+            Some(_) => continue,
+        };
+        field
+            .names()
+            .iter()
+            .try_for_each(|name| writeln!(out, "{indent}{name}"))?;
+    }
+    Ok(())
+}

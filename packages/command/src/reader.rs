@@ -1,0 +1,129 @@
+//! What a target means, by the options of the call.
+use crate::arguments::{dialect_of, libc_of};
+use crate::fields::canonical;
+use crate::refusal::Refusal;
+use clap::ArgMatches;
+use std::cell::Cell;
+use target_lexicon::{OperatingSystem, Source, Sources, TripleRef, VendorRef};
+use target_names::{is_vendor_of_rustc, read, Dialect, LinuxLibc, TargetInfo};
+
+/// How targets are given.
+#[derive(Clone, Copy, PartialEq, Eq)]
+pub enum Takes {
+    Triples,
+    /// Strings that are spelled like triples, as GNU and LLVM tools print them.
+    Spellings,
+    /// Names of other tools.
+    Names,
+}
+
+pub struct Reader {
+    /// The dialect whose names are read instead of triples.
+    pub from: Option<Dialect>,
+    /// The C library that the user says, for a triple of Linux or Windows that states none.
+    pub libc: Option<LinuxLibc>,
+    /// Whether an answer differs from that without it.
+    needs_libc: Cell<bool>,
+    is_strict: bool,
+    /// The custom vendors that are meant.
+    vendors: Vec<String>,
+}
+
+/// What a target parses as, and from where.
+pub struct Parsed<'a> {
+    pub triple: TripleRef<'a>,
+    pub sources: Sources<'a>,
+    /// That its custom vendor may be a misspelling.
+    pub warning: Option<Refusal<'a>>,
+}
+
+impl Reader {
+    pub fn new(arguments: &ArgMatches) -> Self {
+        let vendors = arguments.get_many("vendors").unwrap_or_default();
+        Reader {
+            from: dialect_of(arguments, "from"),
+            libc: libc_of(arguments),
+            needs_libc: Cell::new(false),
+            is_strict: arguments.get_flag("strict"),
+            vendors: vendors.cloned().collect(),
+        }
+    }
+
+    /// What a triple parses as. A custom vendor that is neither among those that are meant nor rustc's is refused if that is asked.
+    pub fn parse<'a>(&self, text: &'a str) -> Result<Parsed<'a>, Refusal<'a>> {
+        let explanation = TripleRef::explain(text);
+        let triple = explanation.triple.map_err(Refusal::of_part)?;
+        let sources = explanation.sources;
+        let warning = match (triple.vendor, sources.vendor) {
+            (VendorRef::Custom(vendor), Source::Part(_))
+                if is_vendor_of_rustc(vendor) || self.vendors.iter().any(|it| it == vendor) =>
+            {
+                None
+            }
+            (VendorRef::Custom(_), Source::Part(part)) if self.is_strict => {
+                return Err(Refusal::of_vendor(triple, part));
+            }
+            (VendorRef::Custom(_), Source::Part(part)) if triple.vendor_suggestion().is_some() => {
+                Some(Refusal::of_vendor(triple, part).into_warning())
+            }
+            _ => None,
+        };
+        Ok(Parsed {
+            triple,
+            sources,
+            warning,
+        })
+    }
+
+    /// The triple that a target means, with the C library that the user says; and a warning.
+    pub fn meaning<'a>(
+        &self,
+        text: &'a str,
+    ) -> Result<(TripleRef<'a>, Option<Refusal<'a>>), Refusal<'a>> {
+        let (triple, warning) = match self.from {
+            None => {
+                let parsed = self.parse(text)?;
+                (parsed.triple, parsed.warning)
+            }
+            Some(dialect) => match dialect.read_loosely(text) {
+                Ok(triple) => (triple, None),
+                Err(error) => return Err(Refusal::of_name(text, dialect, error)),
+            },
+        };
+        Ok((self.completed(triple), warning))
+    }
+
+    /// The triple that a string means that is spelled like one.
+    pub fn spelled<'a>(&self, text: &'a str) -> Result<TripleRef<'a>, Refusal<'a>> {
+        read(text)
+            .map(|triple| self.completed(triple))
+            .map_err(Refusal::of_part)
+    }
+
+    /// The triple with the C library that the user says.
+    fn completed<'a>(&self, triple: TripleRef<'a>) -> TripleRef<'a> {
+        let completed = self.libc.map_or(triple, |libc| triple.with_c_library(libc));
+        self.needs_libc_if(|| completed != triple);
+        completed
+    }
+
+    /// Remembers that the C library is needed, which is only asked as long as it wasn't.
+    pub fn needs_libc_if(&self, differs: impl FnOnce() -> bool) {
+        if self.libc.is_some() && !self.needs_libc.get() {
+            self.needs_libc.set(differs());
+        }
+    }
+
+    /// The C library that the user says, if each answer is the same without it.
+    pub fn needless_libc(&self) -> Option<LinuxLibc> {
+        self.libc.filter(|_| !self.needs_libc.get())
+    }
+}
+
+/// The canonical form of what a string means that GNU and LLVM tools print, if that has a known vendor and a system.
+pub fn meaning_elsewhere(text: &str) -> Option<String> {
+    let triple = read(text).ok()?;
+    let is_target =
+        !triple.vendor.is_custom() && triple.operating_system != OperatingSystem::Unknown;
+    is_target.then(|| canonical(triple).to_string())
+}
