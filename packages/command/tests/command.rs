@@ -1627,6 +1627,11 @@ fn names_that_no_tool_has_are_explained() {
         errors.ends_with("^ the tool has no name for this machine on any system\n"),
         "{errors}"
     );
+    // Targets of rustc are meant as they are.
+    for target in ["riscv32imac-esp-espidf", "x86_64-unknown-none"] {
+        let (output, ..) = answers(&["what", target]);
+        assert!(!output.contains("did you mean"), "{output}");
+    }
 }
 
 #[test]

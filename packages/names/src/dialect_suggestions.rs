@@ -2,12 +2,14 @@
 use crate::dialect::{Row, Way};
 use crate::hints::{allows, triple_of_words};
 use crate::mistakes::LONGEST_PATH;
-use crate::{hint, read, Dialect, FloatAbi, Hint};
+use crate::spelled::may_be_versioned;
+use crate::table::SYSTEMS;
+use crate::{hint, read, Dialect, FloatAbi, Hint, NameError};
 use core::ops::Range;
 use target_lexicon::spellings::meant;
 use target_lexicon::spellings::{architecture_of, machine_of, Abi, Machine};
 use target_lexicon::{
-    Architecture, PointerWidth, Riscv32Architecture, Riscv64Architecture, TripleRef,
+    Architecture, PointerWidth, Riscv32Architecture, Riscv64Architecture, TripleRef, VendorRef,
 };
 
 impl Dialect {
@@ -41,6 +43,11 @@ impl Dialect {
         if let Some(known) = self.name_in_other_letters(name) {
             return Some(known);
         }
+        // A target of rustc without a triple is meant as it is.
+        let has_reason = || matches!(self.read(name), Err(NameError::WithoutTriple(_)));
+        if self == Dialect::Rust && has_reason() {
+            return None;
+        }
         let found = self.name_meant(name, stated)?;
         let triple = self.read(found).ok()?;
         allows(name, &triple).then_some(found)
@@ -71,23 +78,30 @@ impl Dialect {
                 return Some(row.0);
             }
         }
+        // A triple of known parts isn't misspelled.
+        let is_known =
+            TripleRef::from_str(name).map_or(false, |it| matches!(it.vendor, VendorRef::Known(_)));
         // the lengths first: all others are farther than a misspelling
         let is_near = |row: &&Row| row.0.len().abs_diff(name.len()) <= 2;
         let only_written = self.rows().iter().filter(|row| row.2 == Way::Written);
-        meant(
-            name.as_bytes(),
-            name.as_bytes(),
-            read.filter(is_near).map(|row| (row.0, row)),
-            only_written.filter(is_near).map(|row| (row.0, row)),
-            Said::of,
-            |row| stated.allows(row),
-        )
-        .or_else(|| self.name_at_end(name))
-        .or_else(|| match hint(name)? {
-            // Elsewhere a part that isn't known may be the ABI.
-            Hint::Triple(triple) if self.has_slashes() => self.row_written(&triple),
-            _ => None,
-        })
+        let nearest = || {
+            meant(
+                name.as_bytes(),
+                name.as_bytes(),
+                read.filter(is_near).map(|row| (row.0, row)),
+                only_written.filter(is_near).map(|row| (row.0, row)),
+                Said::of,
+                |row| stated.allows(row) && keeps_systems(name, row.0),
+            )
+        };
+        let nearest = if is_known { None } else { nearest() };
+        nearest
+            .or_else(|| self.name_at_end(name))
+            .or_else(|| match hint(name)? {
+                // Elsewhere a part that isn't known may be the ABI.
+                Hint::Triple(triple) if self.has_slashes() => self.row_written(&triple),
+                _ => None,
+            })
     }
 }
 
@@ -116,6 +130,15 @@ pub fn suggestions(name: &str) -> impl Iterator<Item = (Dialect, &'static str)> 
     Dialect::ALL
         .iter()
         .filter_map(move |dialect| Some((*dialect, dialect.suggestion_of(name, stated.as_ref()?)?)))
+}
+
+/// Whether each word of a name for a system that no triple has, such as `lynx`, is one of another name too.
+fn keeps_systems(name: &str, other: &str) -> bool {
+    let words = |text| str::split(text, |it: char| !it.is_ascii_alphanumeric());
+    let is_system = |word: &&str| SYSTEMS.iter().any(|it| may_be_versioned(word, it.0));
+    words(name)
+        .filter(is_system)
+        .all(|word| words(other).any(|it| it == word))
 }
 
 /// The name, if it may be one with a path or another name around it. A longer string gets no suggestion, so that none takes long.
@@ -223,7 +246,8 @@ impl MachineWord {
         let Some(word) = rest.and_then(|rest| rest.strip_suffix(after)) else {
             return false;
         };
-        let is_word = word.bytes().all(|byte| byte.is_ascii_alphanumeric());
+        // Without other words the name says no system, nor does another one that is only the machine.
+        let is_word = word.bytes().all(|byte| byte.is_ascii_alphanumeric()) && word != row.0;
         if !is_word && MachineWord::at(0..word.len(), word).is_none() {
             return false;
         }

@@ -102,10 +102,11 @@ impl<'a> Parts<'a> {
 
 /// Whether config.sub takes two parts after a machine for a kernel and what runs on it, instead of a maker and a system.
 fn is_kernel_of(kernel: &str, system: &str) -> bool {
-    let takes_abi = ["netbsd", "cloudabi"]
-        .iter()
-        .any(|it| kernel.starts_with(it));
-    kernel == "linux" || takes_abi && system.starts_with("eabi")
+    let is_one = |kernels: &[&str]| kernels.iter().any(|it| kernel.starts_with(it));
+    kernel == "linux"
+        || is_one(&["netbsd", "cloudabi"]) && system.starts_with("eabi")
+        || is_one(&["kfreebsd", "knetbsd", "kopensolaris"]) && system.starts_with("gnu")
+        || kernel == "uclinux" && (system.starts_with("gnu") || system.starts_with("uclibc"))
 }
 
 /// Whether a part is this name and a version of digits and dots.

@@ -104,7 +104,8 @@ pub(crate) fn allows(text: &str, triple: &TripleRef<'_>) -> bool {
 }
 
 fn said(text: &str) -> Option<Said> {
-    let spaced = spaced(text)?;
+    // GDB's `i386:x86-64` is one machine of a family.
+    let spaced = spaced(text.strip_prefix("i386:").unwrap_or(text))?;
     let mut said = Said::default();
     let mut rest = spaced.as_str();
     while !rest.is_empty() {
@@ -441,7 +442,7 @@ fn spaced(text: &str) -> Option<Text> {
 type Text = Buffer<192>;
 
 /// Words for systems that aren't the library's name, or that have a vendor, and how a triple goes on with them.
-const SYSTEMS: [(&str, &str); 62] = [
+const SYSTEMS: [(&str, &str); 66] = [
     ("android", "linux-android"),
     ("androideabi", "linux-android"),
     ("ohos", "unknown-linux-ohos"),
@@ -493,6 +494,10 @@ const SYSTEMS: [(&str, &str); 62] = [
     ("freestanding", "unknown-none"),
     ("baremetal", "unknown-none"),
     ("none", "unknown-none"),
+    ("vx6", "unknown-vxworks"),
+    ("vx653", "unknown-vxworks"),
+    ("vx7", "unknown-vxworks"),
+    ("vx7r2", "unknown-vxworks"),
     ("linux", "unknown-linux"),
     ("manylinux", "unknown-linux"),
     ("musllinux", "unknown-linux"),

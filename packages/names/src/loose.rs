@@ -1,8 +1,9 @@
 //! Names with what files and commands have around them.
 use crate::buffer::Buffer;
+use crate::dialect_suggestions::floats_of;
 use crate::hints::{allows, system_of};
 use crate::table::OF_CONFIG_SUB;
-use crate::{Dialect, NameError};
+use crate::{hint, Dialect, FloatAbi, Hint, NameError};
 use core::fmt::Write;
 use target_lexicon::{Environment, TripleRef};
 
@@ -93,9 +94,19 @@ impl Dialect {
             _ => return None,
         };
         let found = self.read_end(file, ['-', '_', '.']);
-        // A file of another tool may have a word of a machine that is another one here.
+        // A file of another tool may have a word of a machine that is another one here, and says nothing of a C library without a word for it.
         let is_archive = matches!(self, Dialect::Go | Dialect::Node | Dialect::Rust);
-        found.filter(|it| !is_archive || it.map_or(true, |triple| allows(file, &triple)))
+        let is_said = |triple: &TripleRef<'_>| match hint(file) {
+            _ if self == Dialect::Rust => true,
+            Some(Hint::Triple(said)) => {
+                let is_same = triple.environment == said.environment;
+                let has_floats = FloatAbi::of(&said).is_some();
+                is_same || !has_floats && triple.environment == Environment::Unknown
+            }
+            _ => triple.environment == Environment::Unknown,
+        };
+        let may_be = |triple: &TripleRef<'_>| allows(file, triple) && is_said(triple);
+        found.filter(|it| !is_archive || it.as_ref().map_or(true, may_be))
     }
 
     /// Of a package with a scope, without its version: the longest end that is a platform, after a dash or whole.
@@ -139,6 +150,13 @@ impl Dialect {
             Some((name, _)) if USUAL_MACHINES.contains(&machine) => name,
             _ => machine,
         };
+        // The `armhf` of container images is Armv7, and that of others isn't.
+        if machine
+            .split(['_', '-'])
+            .any(|word| floats_of(word).is_some())
+        {
+            return None;
+        }
         let has_capital = system.starts_with(|it: char| it.is_ascii_uppercase());
         let dialect = if has_capital { Dialect::Oci } else { self };
         let mut name = Text::new();

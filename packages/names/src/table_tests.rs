@@ -634,7 +634,17 @@ fn words_of_config_sub_are_makers_kernels_and_systems() {
     }
     for kernel in KERNELS {
         assert!(read(format!("x86_64-{kernel}")).is_err(), "{kernel}");
-        assert!(read(format!("x86_64-{kernel}-gnu")).is_err(), "{kernel}");
+        let why = SYSTEMS.iter().find(|it| it.0 == *kernel).unwrap().1;
+        let why = if *kernel == "symbian" {
+            refusals::MAKER
+        } else {
+            why
+        };
+        assert_eq!(
+            read(format!("x86_64-{kernel}-gnu")),
+            Err(NameError::WithoutTriple(why)),
+            "{kernel}"
+        );
     }
     // `sim` is an environment too.
     for (system, why) in SYSTEMS.iter().filter(|it| it.0 != "sim") {

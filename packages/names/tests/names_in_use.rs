@@ -393,7 +393,7 @@ fn names_of_releases_mean_what_their_words_say() {
 }
 
 /// How many names of releases mean a triple, or their words do; have a reason; and are unknown, with what is known of them.
-const RELEASES: (usize, usize, usize) = (211, 1, 50);
+const RELEASES: (usize, usize, usize) = (304, 15, 152);
 
 #[test]
 fn words_of_names_that_no_tool_has_are_hints() {
@@ -417,4 +417,19 @@ fn words_of_names_that_no_tool_has_are_hints() {
         Some("musl-linux-amd64")
     );
     assert_eq!(Dialect::Debian.mistake("mmusl-linux-amd64"), None);
+}
+
+#[test]
+fn what_is_known_is_no_misspelling() {
+    for (dialect, name) in [
+        (Dialect::Zig, "x86-lynx"),
+        (Dialect::Apk, "arm-vx7"),
+        (Dialect::Debian, "arm-elf"),
+        (Dialect::Node, "x86-64"),
+        (Dialect::Gnu, "x86-64"),
+        (Dialect::Rust, "mipsel-sony-psx"),
+    ] {
+        assert_eq!(dialect.suggestion(name), None, "{dialect} {name}");
+    }
+    assert_eq!(Dialect::Debian.suggestion("x86-64"), Some("amd64"));
 }

@@ -82,9 +82,13 @@ impl<'a> Meanings<'a> {
     }
 
     /// That the vendor of a meaning is custom, which may be a misspelling, or that it has no system; and the triple that the words of the name
-    /// mean, if to no tool it is of a known vendor and a system.
+    /// mean, if to no tool it is of a known vendor and a system. Nothing of a target of rustc, which is meant as it is.
     fn note(&self, triple: &TripleRef<'_>) -> Option<String> {
         use OperatingSystem::{None_, Unknown};
+        let is_rustc = |tools: &[&str]| tools.contains(&Dialect::Rust.name());
+        if self.meanings.iter().any(|(_, tools)| is_rustc(tools)) {
+            return None;
+        }
         let has_system = |it: &TripleRef<'_>| !matches!(it.operating_system, None_ | Unknown);
         let is_known = |it: &TripleRef<'_>| !it.vendor.is_custom() && has_system(it);
         let hint = match hint(self.text) {
@@ -92,7 +96,7 @@ impl<'a> Meanings<'a> {
             _ => None,
         };
         let VendorRef::Custom(vendor) = triple.vendor else {
-            let hint = hint.filter(|it| !has_system(triple) && it != triple);
+            let hint = hint.filter(|it| !has_system(triple) && has_system(it));
             return hint.map(|it| format!("it has no system; did you mean `{it}`?"));
         };
         let vendor_meant = triple.vendor_suggestion().map(|it| it.to_string());
