@@ -3,8 +3,8 @@
 
 usage: .ci/run [--without NAME]..   NAME is a tool or Debian's package of it, as PACKAGES has them, or `kit`, `browser`, `wasm32`
 
-While `rt ci` proves, what needs no proof is built with cargo and tested; what the two built is tested after both. Each step
-runs by itself too, as it is printed, with WORK as any folder, and BUILT as WORK/built. As root, Debian's packages of missing tools
+While `rt ci` proves, what needs no proof is built with cargo and tested, in two rows of steps; what all these built is tested after them, each
+step at the same time as the others. Each step runs by itself too, as it is printed, with WORK as any folder, and BUILT as WORK/built. As root, Debian's packages of missing tools
 are installed; then every step runs as the user `nobody`, in a copy of the tree. If a tool is still missing, or too old, that no --without
 names, no step runs, and the gate fails. A step that needs a named tool isn't run; a step without a part that needs one fails,
 unless that is named in WITHOUT, where the steps get all names. A step fails that listens where other machines reach it. With
@@ -12,9 +12,11 @@ UPSTREAM, the folder of upstream's crate, upstream's tests, public surface and d
 long each step took, what was left out, and which step failed.
 """
 import argparse
+import concurrent.futures
 import contextlib
 import glob
 import ipaddress
+import itertools
 import os
 import re
 import shutil
@@ -24,6 +26,7 @@ import sys
 import tempfile
 import threading
 import time
+import traceback
 
 # Debian's packages of the tools: commands, modules of Debian's Python, and paths.
 MODULES = {it: f"python3-{it}" for it in "hypothesis pip venv hatchling build installer pandas distributed packaging selenium jsonschema markdown".split()} | {"ensurepip": "python3-venv"}
@@ -62,36 +65,38 @@ FIRST = [
     ("no script has a warning", "checks/scripts", "shellcheck pyflakes3"),
 ]
 PROOFS = ("all proofs, must-fail edits, tests and proved programs", "rt ci", "rt")
-WITHOUT_PROOF = [
+# Two rows of steps: those that need nothing which the gate builds, and those that build something, or need what is built before them.
+WITHOUT_PROOF = [[
     ("the Rust crate, as its users build it: tests, samples of the documentation, public surface, features, a dependent",
      "packages/rust/test", "cargo"),
     ("the crate of other tools' names: each row, shape and rule, laws over generated strings, samples of the documentation",
      "packages/names/test && packages/names/plant 2", "cargo"),
-    ("the definitions run, and say what the Rust crate answers; without something to compare that fails",
-     "checks/specification quick && checks/running/test", "cargo"),
+    ("the definitions run, and say what the Rust crate answers; what they take from the kit's library, written again, is the kit's; without something to compare that fails",
+     'checks/specification quick ${KIT:+--kit "$KIT"} && checks/running/test', "cargo"),
     ("they say what upstream's own crate answers", 'if [ "$UPSTREAM" ]; then checks/specification against "$UPSTREAM"; else echo "left out: upstream\'s crate (UPSTREAM isn\'t set)"; fi', "cargo"),
-    ("what they take from the kit's library, written again, is the kit's", 'checks/specification library "$(dirname "$(rt doc)")/rattle"', "rt cargo"),
-    ("the command `target-lexicon`: arguments, output and statuses", "packages/command/test", "cargo"),
-    ("it is built for the next steps, and a program to compare with", "cd packages/command && cargo build --quiet --locked --release --all-features", "cargo"),
-    ("a list of misspelled names takes at most ten times as long as one of right names", f"packages/command/tests/cost {COMMANDS}/target-lexicon", "cargo valgrind"),
+    ("the module, the package and the page for JavaScript are built", 'packages/javascript/build --out "$WORK/web"', "cargo wasm32"),
+], [
+    ("the command `target-lexicon`, and a program to compare with, are built for the next steps",
+     f'cd packages/command && cargo build --quiet --locked --release --all-features && cp ../../{COMMANDS}/lines ../../{COMMANDS}/target-lexicon "$BUILT/bin"', "cargo"),
     ("the library for C is built and installed for the next steps", 'packages/c/install "$BUILT"', "cargo cc"),
-    ("the library for C, header, packages and samples, as C and C++ users have them", "packages/c/test", "cargo cc"),
+    ("what other tools say of names and targets; suggestions keep the machine", "checks/compare elsewhere && checks/compare llvm && checks/compare edits", "cargo cc"),
     ("the Python package: each answer, wheels, types, samples", f'packages/python/test "$BUILT/lib/libtarget_lexicon.so" {COMMANDS}/lines',
      "cargo cc hatchling"),
+    ("the command `target-lexicon`: arguments, output and statuses", "packages/command/test", "cargo"),
+    ("a list of misspelled names takes at most ten times as long as one of right names", f"packages/command/tests/cost {COMMANDS}/target-lexicon", "cargo valgrind"),
+    ("the library for C, header, packages and samples, as C and C++ users have them", "packages/c/test", "cargo cc"),
     ("Debian's packages are built, and lintian finds no error", 'packages/debian/build "$WORK/debian" -d', "cargo cc dpkg-buildpackage"),
     ("what is released is made, and works in clean folders", 'tools/release "$WORK/release"', "cargo cc"),
-    ("the module, the package and the page for JavaScript are built", 'packages/javascript/build --out "$WORK/web"', "cargo wasm32"),
-    ("they answer as the program does, in Node and in a browser", f'packages/javascript/test "$WORK/web" --program {COMMANDS}/lines', "cargo wasm32"),
-]
+]]
 LAST = [
     ("links, names, samples, counts and versions of the pages, and the pictures", "checks/pages", "cargo cc"),
     ("the program `triples` and the command `target-lexicon`: stored rows, unusual streams, large inputs, samples of the pages", "checks/rows/run", "cargo cram3"),
     ("no message and no output has what isn't printable ASCII of a hostile string", "checks/visible", "cargo cc"),
     ("each allocation fails in turn", "checks/fail_allocations", "rt cc"),
-    ("names, rules and tables are upstream's, by its kept answers; what other tools say of names and targets; suggestions keep the machine",
-     "checks/compare answers && checks/compare elsewhere && checks/compare llvm && checks/compare edits", "cargo cc"),
+    ("names, rules and tables are upstream's, by its kept answers", "checks/compare answers", "cargo"),
     ("the mode json: the proved program answers as Rust's serde_json does", "/usr/bin/python3 checks/compare json --inputs 200 --of proved cargo",
      "rt cargo hypothesis"),
+    ("the page and the package for JavaScript answer as the program does, in Node and in a browser", f'packages/javascript/test "$WORK/web" --program {COMMANDS}/lines', "cargo wasm32"),
 ]
 
 running, passed, left_out, failed = set(), [], [], []
@@ -100,7 +105,7 @@ lock = threading.Lock()
 
 def missing():
     """The tools that aren't there, and that aren't named."""
-    tools = dict.fromkeys([*PACKAGES, *(tool for step in [*FIRST, PROOFS, *WITHOUT_PROOF, *LAST] for tool in step[2].split())])
+    tools = dict.fromkeys([*PACKAGES, *(tool for step in [*FIRST, PROOFS, *itertools.chain(*WITHOUT_PROOF), *LAST] for tool in step[2].split())])
     return [tool for tool in tools if tool not in WITHOUT and (not has(tool) or too_old(tool))]
 
 
@@ -137,8 +142,8 @@ def start(command, environment):
     return process
 
 
-def run(step, environment, is_beside=False):
-    """Runs a step. Returns whether it passed or was left out."""
+def run(step, environment, is_beside=True):
+    """Runs a step, and prints its output, at the end if others are beside it. Returns whether it passed or was left out."""
     purpose, command, tools = step
     absent = sorted(WITHOUT.intersection(tools.split()))
     if absent:
@@ -147,7 +152,9 @@ def run(step, environment, is_beside=False):
     if failed:
         return False
     begun = time.monotonic()
-    say(f"step: {command}{' (beside the proofs)' if is_beside else ''}   # {purpose}")
+    if "wasm32" in tools:
+        environment = {**environment, "PATH": f"{WASM}/bin:{environment['PATH']}"}
+    say(f"step: {command}   # {purpose}")
     process, lines = start(command, environment), []
 
     def read_lines():
@@ -167,7 +174,7 @@ def run(step, environment, is_beside=False):
     reader.join(timeout=10)  # what the step left running may keep its output open
     running.discard(process)
     if is_beside:
-        say(f"beside the proofs, {command}:", *lines)
+        say(f"{command}, after {(time.monotonic() - begun) / 60:.0f} min:", *lines)
     left_out.extend(f"within {command}: {line}" for line in lines if re.search("left out[:,] ", line))
     if status == 0:
         passed.append((command, time.monotonic() - begun))
@@ -207,10 +214,9 @@ def install(environment):
         failed.append((f"missing: {' '.join(tools)}{old}. Install these, or name what may be left out, as with --without {tools[0]}", 2))
 
 
-def beside(environment):
-    for step in WITHOUT_PROOF:
-        path = f"{WASM}/bin:{environment['PATH']}" if "wasm32" in step[2] else environment["PATH"]
-        if not run(step, {**environment, "PATH": path}, is_beside="rt" not in WITHOUT):
+def in_turn(steps, environment):
+    for step in steps:
+        if not run(step, environment):
             return
 
 
@@ -227,7 +233,7 @@ def listeners():
                     addresses[f"socket:[{number}]"] = f"{address}, port {int(port, 16)}"
     for folder in glob.glob("/proc/[0-9]*") if addresses else []:
         with contextlib.suppress(OSError):  # it has ended, or is another user's
-            if os.getsid(int(os.path.basename(folder))) in {it.pid for it in running}:
+            if os.getsid(int(os.path.basename(folder))) in {it.pid for it in list(running)}:
                 for number in addresses.keys() & {os.readlink(it) for it in glob.glob(f"{folder}/fd/*")}:
                     with open(f"{folder}/cmdline", encoding="utf-8", errors="replace") as file:
                         yield f"{file.read(200).replace(chr(0), ' ')} listens on {addresses[number]}"
@@ -301,12 +307,17 @@ def main():
     # With Debian's crates cargo needs no network.
     if not failed and has("/usr/share/cargo/registry/clap-4.0.32") and subprocess.run(["tools/debian_crates", CARGO_HOME], cwd=TOP).returncode == 0:
         environment["CARGO_HOME"] = CARGO_HOME
-    if failed or not all(run(step, environment) for step in FIRST):
+    if "rt" not in WITHOUT and not failed:
+        first_page = subprocess.run(["rt", "doc"], capture_output=True, text=True).stdout.strip()
+        environment["KIT"] = f"{os.path.dirname(first_page)}/rattle"
+    if failed or not all(run(step, environment, is_beside=False) for step in FIRST):
         return
-    thread = threading.Thread(target=beside, args=(environment,))
-    thread.start()
-    run(PROOFS, environment)
-    thread.join()
+    rows = [threading.Thread(target=in_turn, args=(steps, environment)) for steps in WITHOUT_PROOF]
+    for row in rows:
+        row.start()
+    run(PROOFS, environment, is_beside=False)
+    for row in rows:
+        row.join()
     if "rt" in WITHOUT and not failed and "cargo" not in WITHOUT:
         shutil.copy(f"{TOP}/{COMMANDS}/lines", f"{BUILT}/bin/triples")
         left_out.append("all proofs; the pages were tried with the Rust crate's program instead of the proved `triples`")
@@ -315,9 +326,8 @@ def main():
         # Where this run of `rt ci` left none, the checks ask `rt run`.
         if os.path.exists(program) and os.path.getmtime(program) >= STARTED:
             shutil.copy(program, f"{BUILT}/bin")
-    for step in LAST:
-        if failed or not run(step, environment):
-            return
+    with concurrent.futures.ThreadPoolExecutor(os.cpu_count()) as pool:
+        list(pool.map(lambda step: run(step, environment), LAST))
 
 
 def interrupted(number, _frame):
@@ -339,6 +349,9 @@ try:
 except SystemExit as end:
     failed.append(("a signal", end.code))
     status = end.code
+except Exception:
+    traceback.print_exc()
+    failed.append(("the gate itself", status))
 finally:
     for _ in range(3):  # the thread may just have started one more
         stop()

@@ -31,6 +31,8 @@ def made(check, command, folder, status, **environment):
 
 def cargo_program(check, name, status=1):
     """The path of a program of packages/command, which has a workspace of its own: `target-lexicon`, or `lines` for comparisons."""
+    if BUILT and os.path.exists(f"{BUILT}/bin/{name}"):
+        return f"{BUILT}/bin/{name}"
     environment = {}
     if os.path.isdir("/usr/share/cargo/registry/clap-4.0.32"):
         environment["CARGO_HOME"] = f"{COMMANDS_TARGET}/debian"

@@ -56,7 +56,7 @@ fn run(part: &str, chosen: Chosen, r: &mut Report) {
         }
     }
     match part {
-        "values" if chosen.shard > 0 => {}
+        "values" | "library" if chosen.shard > 0 => {}
         "values" => calls::values(r),
         "words" => words(chosen, inputs::edited_words(40), r, calls::word),
         "source" => words(chosen, inputs::quoted(), r, |r, word| {

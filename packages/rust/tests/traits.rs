@@ -1,97 +1,9 @@
-//! The traits that the layer implements: orders, conversions, `Display`, and the error that owns its string.
+//! The traits that the layer implements: conversions, `Display`, and the error that owns its string. `checks/specification` tries orders and hashes.
 use std::collections::hash_map::DefaultHasher;
-use std::collections::{BTreeMap, HashMap, HashSet};
+use std::collections::HashMap;
 use std::error::Error;
 use std::hash::{Hash, Hasher};
 use target_lexicon::*;
-
-/// The values of the known names of a field.
-fn values<T: std::str::FromStr>(field: Field) -> Vec<T> {
-    let values: Vec<T> = field
-        .names()
-        .iter()
-        .filter_map(|it| it.parse().ok())
-        .collect();
-    assert_eq!(values.len(), field.names().len());
-    values
-}
-
-/// The values are strictly in the order of their strings, once sorted, and equal values only are in one place.
-fn has_the_order_of_strings<T: Ord + ToString>(mut values: Vec<T>) {
-    values.sort();
-    let strings: Vec<String> = values.iter().map(T::to_string).collect();
-    assert!(strings.windows(2).all(|it| it[0] < it[1]), "{strings:?}");
-    assert!(values.windows(2).all(|it| it[0] < it[1]));
-}
-
-#[test]
-fn fields_are_in_the_order_of_their_names() {
-    has_the_order_of_strings(values::<Architecture>(Field::Architecture));
-    has_the_order_of_strings(values::<Vendor>(Field::Vendor));
-    has_the_order_of_strings(values::<OperatingSystem>(Field::OperatingSystem));
-    has_the_order_of_strings(values::<Environment>(Field::Environment));
-    has_the_order_of_strings(values::<BinaryFormat>(Field::BinaryFormat));
-}
-
-#[test]
-fn versions_are_numbers_and_custom_vendors_follow() {
-    let system = |name: &str| name.parse::<OperatingSystem>().unwrap();
-    assert!(system("ios") < system("ios9") && system("ios9") < system("ios17"));
-    assert!(system("ios17") < system("linux"));
-    let custom = |text| Vendor::Custom(CustomVendor::Static(text));
-    assert!(Vendor::Pc < custom("pc") && custom("pc") < custom("pcx"));
-    assert!(custom("acme") < Vendor::Amd);
-    assert!(PointerWidth::U16 < PointerWidth::U32 && PointerWidth::U32 < PointerWidth::U64);
-}
-
-#[test]
-fn triples_are_in_the_order_of_their_fields() {
-    let strings = [
-        "aarch64-apple-ios9",
-        "aarch64-apple-ios17",
-        "aarch64-unknown-linux-gnu",
-        "aarch64-unknown-linux-musl",
-        "x86_64-acme-linux",
-        "x86_64-pc-windows-gnu",
-        "x86_64-pc-windows-msvc",
-        "x86_64h-apple-darwin",
-    ];
-    let map: BTreeMap<Triple, usize> = strings
-        .iter()
-        .rev()
-        .map(|it| (it.parse().unwrap(), it.len()))
-        .collect();
-    let borrowed: Vec<TripleRef> = map.keys().map(TripleRef::from).collect();
-    assert_eq!(borrowed, strings.map(|it| TripleRef::from_str(it).unwrap()));
-    assert!(borrowed.windows(2).all(|it| it[0] < it[1]));
-}
-
-const FIELDS: [Field; 5] = [
-    Field::Architecture,
-    Field::Vendor,
-    Field::OperatingSystem,
-    Field::Environment,
-    Field::BinaryFormat,
-];
-
-#[test]
-fn fields_have_the_order_of_a_triple_and_the_words_of_errors() {
-    assert!(FIELDS.windows(2).all(|it| it[0] < it[1]));
-    assert_eq!(HashSet::from(FIELDS).len(), 5);
-    for (field, string) in FIELDS.iter().zip([
-        "a",
-        "x86_64-A",
-        "x86_64-pc-a",
-        "x86_64-pc-linux-a",
-        "x86_64-pc-linux-gnu-a",
-    ]) {
-        let error = string.parse::<Triple>().unwrap_err();
-        assert_eq!(error.expected(), Some(*field));
-        assert!(error
-            .to_string()
-            .starts_with(&format!("Unrecognized {field}: ")));
-    }
-}
 
 #[test]
 fn a_suggestion_has_the_width_that_is_asked_for() {
@@ -104,16 +16,6 @@ fn a_suggestion_has_the_width_that_is_asked_for() {
         format!("{one:>7}|{versioned:<7}|{versioned:.3}"),
         "  linux|ios17  |ios"
     );
-}
-
-#[test]
-fn small_values_have_an_order_and_a_hash() {
-    assert!(ArmArchitecture::Armv6 < ArmArchitecture::Armv7);
-    assert!(Riscv64Architecture::Riscv64 < Riscv64Architecture::Riscv64gc);
-    assert!(Endianness::Big < Endianness::Little && Size::U8 < Size::U16);
-    assert!(CDataModel::ILP32 < CDataModel::LP64);
-    let explained = ["x86_64-linux", "x86_64-foo-bar", "x86_64-linux"].map(TripleRef::explain);
-    assert_eq!(HashSet::from(explained).len(), 2);
 }
 
 #[test]
@@ -220,9 +122,12 @@ fn hash(value: impl Hash) -> u64 {
 
 #[test]
 fn a_borrowed_triple_is_equal_to_the_owned_one_and_hashed_as_it() {
-    let known = values::<Vendor>(Field::Vendor);
+    let known = Field::Vendor
+        .names()
+        .iter()
+        .map(|it| it.parse::<Vendor>().unwrap());
     let custom = ["", "pc", "acme"].map(|it| Vendor::Custom(CustomVendor::Static(it)));
-    let vendors: Vec<Vendor> = known.into_iter().chain(custom).collect();
+    let vendors: Vec<Vendor> = known.chain(custom).collect();
     let mut values = HashMap::new();
     for vendor in &vendors {
         let mut triple: Triple = "aarch64-apple-ios17.1".parse().unwrap();
@@ -244,24 +149,6 @@ fn a_borrowed_triple_is_equal_to_the_owned_one_and_hashed_as_it() {
             values.get(&hash(asked)).map_or(false, |it| asked == *it),
             is_there
         );
-    }
-}
-
-#[test]
-fn each_field_makes_a_borrowed_triple_another_one() {
-    let strings = [
-        "x86_64-pc-linux-gnu",
-        "i686-pc-linux-gnu",
-        "x86_64-acme-linux-gnu",
-        "x86_64-pc-windows-gnu-elf",
-        "x86_64-pc-linux-musl",
-        "x86_64-pc-linux-gnu-coff",
-    ];
-    for one in strings {
-        let borrowed = TripleRef::from_str(one).unwrap();
-        for other in strings {
-            assert_eq!(borrowed == other.parse::<Triple>().unwrap(), one == other);
-        }
     }
 }
 
@@ -321,33 +208,4 @@ fn each_error_leaves_a_function() {
         said,
         expected.map(|it| format!("The {it} of the target is unknown"))
     );
-}
-
-#[test]
-fn an_error_shows_any_string_in_three_lines() {
-    for (string, shown) in [
-        ("", "Unrecognized architecture: \n  \n  ^"),
-        ("x86_64--linux", "Unrecognized vendor: \n  x86_64--linux\n         ^"),
-        ("x86_64-pc-a\n\u{202e}b", "Unrecognized operating system: a\\n\\u{202e}b\n  x86_64-pc-a\\n\\u{202e}b\n            ^^^^^^^^^^^^"),
-        ("x86_64-linux-gnu-elf-a-b", "Unrecognized field: a\n  x86_64-linux-gnu-elf-a-b\n                       ^"),
-    ] {
-        assert_eq!(Triple::parse(string).unwrap_err().to_string(), shown);
-    }
-    let long = format!("x86_64-{}", "A".repeat(100_000));
-    assert_eq!(
-        Triple::parse(&long)
-            .unwrap_err()
-            .to_string()
-            .lines()
-            .count(),
-        3
-    );
-}
-
-#[test]
-fn a_refusal_of_another_string_is_about_its_part() {
-    let refusal = TripleRef::from_str("x86_64-pc-linxu").unwrap_err();
-    let error = refusal.in_text("x86_64");
-    assert_eq!((error.text(), error.range()), ("linxu", 0..5));
-    assert_eq!(error.suggestion().unwrap(), "linux");
 }
