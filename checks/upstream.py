@@ -44,13 +44,17 @@ def rust_program(crate, name, flags=""):
     return f"{os.environ.get('CARGO_TARGET_DIR', f'{SOURCES}/target')}/release/{name}"
 
 
-def quoted_texts(crate, form):
-    """The texts of a form that the files of upstream's crate have in quotes."""
+def sources(crate):
+    """The text of the files of upstream's crate."""
     packages = [] if crate else json.loads(cargo(crate, "metadata", "--format-version=1"))["packages"]
     upstreams = (os.path.dirname(it["manifest_path"]) for it in packages if (it["name"], it["version"]) == ("target-lexicon", "0.13.5"))
     folder = crate or next(upstreams)
-    files = glob.glob(f"{folder}/**/*.rs", recursive=True)
-    return sorted({text for path in files for text in re.findall(f'"({form})"', read(path))})
+    return "\n".join(map(read, sorted(glob.glob(f"{folder}/**/*.rs", recursive=True))))
+
+
+def quoted_texts(crate, form):
+    """The texts of a form that upstream's crate has in quotes."""
+    return sorted(set(re.findall(f'"({form})"', sources(crate))))
 
 
 def program_of(name):

@@ -1,4 +1,5 @@
-"""Compares with upstream's answers, which checks/upstream.tsv keeps. Upstream's crate is needed only to write that file, with --write.
+"""Compares with upstream's answers, which checks/upstream.tsv keeps. Upstream's crate is needed only to write that file and known_triples.txt, the
+list of upstream's own test, with --write.
 
 Each line of the file has words with tabs between them: what was asked, and the answer.
 
@@ -19,6 +20,7 @@ asked for the strings of `triple`, in each mode. A name of the table that upstre
 """
 import collections
 import os
+import re
 import subprocess
 
 import built
@@ -27,6 +29,7 @@ import upstream
 from comparisons import lines
 
 PATH, PACKAGE, OURS = (f"{built.ROOT}/{path}" for path in ("checks/upstream.tsv", "checks/answers", "packages/rust/patch"))
+KNOWN = f"{built.ROOT}/checks/known_triples.txt"
 HEAD = """# @generated: answers of upstream's crate, target-lexicon 0.13.5. checks/comparisons/answers.py says what each line is.
 # `checks/compare answers --write` writes them, and `checks/compare answers` compares them with the answers of this repository.
 """
@@ -88,6 +91,12 @@ def file_lines(crate, asked):
     return found
 
 
+def known_triples(crate):
+    """The triples of upstream's own test, of which each is what it prints."""
+    targets = re.search(r"fn roundtrip_known_triples\(\) \{.*?let targets = \[(.*?)\];", upstream.sources(crate), re.S)[1]
+    return re.findall(r'"(\w[\w.]*-[\w.-]+)"', re.sub(r"//.*", "", targets))
+
+
 def names_asked(more_words=()):
     """The names of the table and more words; known triples and more strings."""
     names = target_lines.table_names()
@@ -126,6 +135,7 @@ def difference(who, ours, theirs):
 
 def main(options, _folder):
     if options.write:
+        upstream.write(KNOWN, "".join(f"{text}\n" for text in known_triples(options.upstream)))
         words = [*MORE_WORDS, *upstream.quoted_texts(options.upstream, lines.WORD)]
         upstream.write(PATH, HEAD + "".join(f"{line}\n" for line in file_lines(options.upstream, names_asked(words))))
         return 0
