@@ -13,13 +13,8 @@ FIELDS = {"architecture": ["{}-unknown-none"], "alias": ["{}-unknown-none"], "op
 # What an environment says that only some machines have.
 ONLY = {"eabi": "armv7 powerpc", "hf": "armv7", "abi64": "mips64", "x32": "x86_64", "ilp32": "aarch64", "spe": "powerpc"}
 
-
-# How many suggestions are known to be wrong, which is a fault: they leave out how floating-point arguments are passed, or the width that an
-# ABI says. With --exhaustive there are more.
-KNOWN = {"gnu": 9, "node": 35, "oci": 1, "python": 160, "rust": 2, "zig": 17}
-
 # More words for machines.
-WORDS = {"386": "i386", "x86": "i386", "ia32": "i386", "mipsle": "mipsel", "mips64le": "mips64el", "loong64": "loongarch64", "aarch64be": "aarch64_be"}
+WORDS = {"386": "i386", "x86": "i386", "ia32": "i386", "mipsle": "mipsel", "mips64le": "mips64el", "loong64": "loongarch64", "aarch64be": "aarch64_be", "armv7b": "armeb"}
 
 
 def add_arguments(parser):
@@ -57,5 +52,5 @@ def main(options, _folder):
     lines = [f"{kind}\t{name}\t{triple}\n" for (kind, name, triple), it in zip(names(), known) if not it.startswith("error: ")]
     ran = subprocess.run([program, "edits", "1" if options.exhaustive else "31"], input="".join(lines), text=True, capture_output=True, check=True)
     print(ran.stdout, end="")
-    found = {line.split(":")[0]: int(line.split()[-2]) for line in ran.stdout.splitlines() if line.endswith(" wrong")}
-    return 0 if found and all(count <= KNOWN.get(kind, 0) for kind, count in found.items()) else 1
+    found = sum(int(line.split()[-2]) for line in ran.stdout.splitlines() if line.endswith(" wrong"))
+    return 1 if found or not ran.stdout else 0

@@ -91,19 +91,19 @@ fn machine_in(words: &HashMap<&str, Said>, text: &str) -> Option<(String, Option
     })
 }
 
-/// What is wrong with what is suggested for a string, of which this name with this meaning is near.
-fn wrong(
+/// What is suggested for a string, of which this name with this meaning is near, and whether it is wrong.
+fn suggested(
     words: &HashMap<&str, Said>,
     kind: &str,
     name: &str,
     text: &str,
     means: &Said,
-) -> Option<String> {
-    let keeps = |suggested: String, triple: &TripleRef| {
+) -> Option<(String, bool)> {
+    let is_wrong = |triple: &TripleRef| {
         let says = said(triple);
         let states = machine_in(words, text)
             .is_some_and(|it| it != (means.0.clone(), means.2) && it == (says.0.clone(), says.2));
-        (says != *means && !states).then_some(suggested)
+        says != *means && !states
     };
     match kind.parse::<Dialect>() {
         Ok(dialect) => {
@@ -111,10 +111,8 @@ fn wrong(
                 return None;
             }
             let suggested = dialect.suggestion(text)?.to_string();
-            match dialect.read(&suggested) {
-                Ok(triple) => keeps(suggested, &triple),
-                Err(_) => Some(suggested),
-            }
+            let is_wrong = dialect.read(&suggested).map_or(true, |it| is_wrong(&it));
+            Some((suggested, is_wrong))
         }
         Err(_) => {
             let refusal = TripleRef::from_str(text).err()?;
@@ -124,16 +122,16 @@ fn wrong(
             // What another edit made of another part is no matter of this one.
             let is_edited_elsewhere =
                 !name.starts_with(&text[..range.start]) || !name.ends_with(&text[range.end..]);
-            match TripleRef::from_str(&whole) {
-                Ok(_) if is_edited_elsewhere => None,
-                Ok(triple) => keeps(whole.clone(), &triple),
-                Err(later) => (later.range().start <= range.start).then_some(whole),
-            }
+            let is_wrong = match TripleRef::from_str(&whole) {
+                Ok(triple) => !is_edited_elsewhere && is_wrong(&triple),
+                Err(later) => later.range().start <= range.start,
+            };
+            Some((whole, is_wrong))
         }
     }
 }
 
-/// Prints how many edits were made and asked of, and the suggestions that are wrong.
+/// Prints how many edits were made and asked of, of how many the name is suggested, and the suggestions that are wrong.
 pub fn check(input: &str, step: usize) {
     let mut words = HashMap::new();
     let mut groups: HashMap<&str, Vec<(Vec<char>, Said)>> = HashMap::new();
@@ -167,7 +165,7 @@ pub fn check(input: &str, step: usize) {
             .collect();
         letters.sort_unstable();
         letters.dedup();
-        let (mut made, mut asked, mut found) = (0_u64, 0_u64, 0_u64);
+        let (mut made, mut asked, mut right, mut found) = (0_u64, 0_u64, 0_u64, 0_u64);
         for (name, means) in &names {
             let others: Vec<_> = names
                 .iter()
@@ -177,7 +175,13 @@ pub fn check(input: &str, step: usize) {
             let mut ask = |edited: &[char]| {
                 let text: String = edited.iter().collect();
                 asked += 1;
-                if let Some(suggested) = wrong(&words, kind, &text_of_name, &text, means) {
+                let Some((suggested, is_wrong)) =
+                    suggested(&words, kind, &text_of_name, &text, means)
+                else {
+                    return;
+                };
+                right += u64::from(suggested == text_of_name);
+                if is_wrong {
                     found += 1;
                     if found <= 20 {
                         println!("wrong: {kind}: {text_of_name} -> {text} -> {suggested}");
@@ -204,7 +208,7 @@ pub fn check(input: &str, step: usize) {
             });
         }
         println!(
-            "{kind}: {} names, {made} edits, {asked} asked, {found} wrong",
+            "{kind}: {} names, {made} edits, {asked} asked, {right} right, {found} wrong",
             names.len()
         );
     }

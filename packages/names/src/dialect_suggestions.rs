@@ -4,7 +4,7 @@ use crate::hints::{allows, triple_of_words};
 use crate::mistakes::LONGEST_PATH;
 use crate::spelled::may_be_versioned;
 use crate::table::SYSTEMS;
-use crate::{hint, read, Dialect, FloatAbi, Hint, NameError};
+use crate::{changes, read, Dialect, FloatAbi, NameError};
 use core::ops::Range;
 use target_lexicon::spellings::meant;
 use target_lexicon::spellings::{architecture_of, machine_of, Abi, Machine};
@@ -58,7 +58,9 @@ impl Dialect {
         if let Some(known) = self.name_inside(name) {
             return Some(known);
         }
-        if let Some(known) = self.name_of_words(name) {
+        let spelled = read(name).ok().filter(|_| !has_number_of_abi(name));
+        let triple = spelled.or_else(|| triple_of_words(name, true));
+        if let Some(known) = triple.and_then(|it| self.name_with_floats_of(&it)) {
             return Some(known);
         }
         let read = self.rows_read();
@@ -95,22 +97,26 @@ impl Dialect {
             )
         };
         let nearest = if is_known { None } else { nearest() };
-        nearest
-            .or_else(|| self.name_at_end(name))
-            .or_else(|| match hint(name)? {
-                // Elsewhere a part that isn't known may be the ABI.
-                Hint::Triple(triple) if self.has_slashes() => self.row_written(&triple),
-                _ => None,
-            })
+        nearest.or_else(|| self.name_at_end(name)).or_else(|| {
+            // Elsewhere a part that isn't known may be the ABI.
+            let triple = triple_of_words(name, false).filter(|_| self.has_slashes());
+            self.row_written(&triple?)
+        })
+    }
+
+    /// The name that is written for a triple, if it says as much of how floating-point arguments are passed, or no name of the dialect does.
+    fn name_with_floats_of(self, triple: &TripleRef<'_>) -> Option<&'static str> {
+        let found = self.row_written(triple)?;
+        let floats = FloatAbi::of(&self.read(found).ok()?);
+        let has_none = self.has_slashes() || self == Dialect::Nix;
+        (has_none || floats == FloatAbi::of(triple)).then_some(found)
     }
 }
 
-impl Dialect {
-    /// The name of what is spelled like a triple or, if that isn't known, of what all words say.
-    fn name_of_words(self, name: &str) -> Option<&'static str> {
-        let triple = read(name).ok().or_else(|| triple_of_words(name))?;
-        self.row_written(&triple)
-    }
+/// Whether a string has digits after `gnu` that may be those of an ABI: `gnu.32` may be `gnux32`. A version of glibc is such as `.2.17`.
+fn has_number_of_abi(name: &str) -> bool {
+    let mut versioned = changes(name).filter(|it| it.dropped_version().is_some());
+    versioned.any(|it| it.part.text.starts_with("gnu") && !it.part.text.contains(".2."))
 }
 
 /// The name that each dialect suggests for an unknown one, as [`Dialect::suggestion`] does, in the order of [`Dialect::ALL`]. Asking for the

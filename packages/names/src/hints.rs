@@ -89,13 +89,18 @@ pub fn hint(text: &str) -> Option<Hint> {
     said(text)?.hint()
 }
 
-/// The triple that the words of a name say, if no word or number is left over.
-pub(crate) fn triple_of_words(text: &str) -> Option<TripleRef<'static>> {
+/// The triple that the words of a name say, if no word or number is left over that may be a part of the machine. Where names have ABIs,
+/// none is left over at all, and the triple says how floating-point arguments are passed if that of the C library depends on it.
+pub(crate) fn triple_of_words(text: &str, has_abi: bool) -> Option<TripleRef<'static>> {
     let said = said(text)?;
-    match said.hint()? {
-        Hint::Triple(triple) if !said.has_other && !said.has_number => Some(triple),
-        _ => None,
-    }
+    let Hint::Triple(triple) = said.hint()? else {
+        return None;
+    };
+    let is_arm = matches!(triple.architecture, Architecture::Arm(_));
+    let has_floats = !is_arm || said.library.is_none() || FloatAbi::of(&triple).is_some();
+    let is_whole = !said.has_other && !said.has_number && has_floats;
+    let is_meant = if has_abi { is_whole } else { !said.has_end };
+    is_meant.then_some(triple)
 }
 
 /// Whether a triple has the machine, the system and the ABI that the words of a name say, as far as they are known. A longer name says nothing.
@@ -137,9 +142,10 @@ struct Said {
     is_clang: bool,
     has_several_machines: bool,
     has_several_systems: bool,
-    /// A word is left over, or a number.
+    /// A word is left over, or a number, or after the machine a number with letters, such as `64le`.
     has_other: bool,
     has_number: bool,
+    has_end: bool,
     /// A word is of an ABI that isn't known, or two contradict each other.
     has_other_abi: bool,
 }
@@ -222,7 +228,8 @@ impl Said {
 
     fn take_word(&mut self, word: &str) {
         let system = system_of(word);
-        let library = found_in(&LIBRARIES, word.trim_end_matches(is_digit));
+        let name = word.trim_end_matches(is_digit);
+        let library = found_in(&LIBRARIES, name);
         let floats = found_in(&FLOATS, word);
         let environment = ENVIRONMENTS
             .contains(&word)
@@ -235,6 +242,8 @@ impl Said {
         }
         if let Some(library) = library {
             self.take_library(library);
+            // `gnu32` may be `gnux32`.
+            self.has_number |= library == Library::Gnu && name != word;
         }
         self.floats = floats.or(self.floats);
         self.width = width.or(self.width);
@@ -256,6 +265,7 @@ impl Said {
             let is_number = word.bytes().all(|it| it.is_ascii_digit());
             self.has_number |= is_number;
             self.has_other |= !is_number;
+            self.has_end |= !is_number && self.machine.is_some() && word.starts_with(is_digit);
             self.has_other_abi |= is_of_abi(word);
         }
     }

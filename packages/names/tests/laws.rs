@@ -7,7 +7,7 @@ use std::str::FromStr;
 use target_lexicon::spellings::{FIRST_RULES, LATER_RULES};
 use target_lexicon::{BinaryFormat, Field, Triple, TripleRef};
 use target_names::{
-    changes, hint, meanings, read, suggestion, Dialect, LinuxLibc, NameError, TargetInfo,
+    changes, hint, meanings, read, suggestion, Dialect, FloatAbi, LinuxLibc, NameError, TargetInfo,
 };
 
 const FIELDS: [Field; 5] = [
@@ -152,8 +152,8 @@ proptest! {
         }
     }
 
-    /// The part that is refused is the first one up to which the names that the parts spell have no place, or the second, which may be meant
-    /// as something else than a custom vendor.
+    /// The part that is refused is the first one up to which the names that the parts spell have no place. If there is none, it is the second,
+    /// if that is `softfloat` and the triple of these names states no such thing.
     #[test]
     fn a_refusal_is_at_the_first_such_part(text in spelled()) {
         let (mut start, mut names) = (0, String::new());
@@ -165,9 +165,11 @@ proptest! {
             expected = expected.or(triple(&names).is_none().then_some(start));
             start += part.len() + 1;
         }
+        let says_soft = text.split('-').nth(1) == Some("softfloat");
+        let is_soft = triple(&names).map_or(false, |it| it.float_abi() == Some(FloatAbi::Soft));
+        let second = text.find('-').filter(|_| says_soft && !is_soft).map(|at| at + 1);
         let found = read(&text).err().map(|it| it.part.start);
-        let second = text.find('-').map(|at| at + 1);
-        prop_assert!(found == expected || found.is_some() && found == second);
+        prop_assert_eq!(found, expected.or(second));
     }
 
     #[test]
