@@ -51,6 +51,8 @@ impl<'a> Parts<'a> {
             (Some(maker), None, None) if is_one_of(MAKERS, maker) && machine != "sparc" => {
                 (maker, None, None)
             }
+            // The prefix of a compiler for a machine without a system.
+            (Some(""), None, None) => ("", None, None),
             (system, ..) => ("", None, system),
         };
         Ok(Parts {

@@ -344,7 +344,10 @@ impl Said {
             let is_written = write!(text, "x86_64-{system}").is_ok();
             let own = read(text.as_str()).ok().filter(|_| is_written);
             let is_same = |own: TripleRef<'_>| {
-                unversioned(own.operating_system) == unversioned(triple.operating_system)
+                let systems = (own.operating_system, triple.operating_system);
+                // Tools say `wasi` of its first preview.
+                let is_wasi = systems == (OperatingSystem::Wasi, OperatingSystem::WasiP1);
+                (is_wasi || unversioned(systems.0) == unversioned(systems.1))
                     && is_android(&own) == is_android(triple)
             };
             own.map_or(false, is_same)

@@ -393,7 +393,7 @@ fn names_of_releases_mean_what_their_words_say() {
 }
 
 /// How many names of releases mean a triple, or their words do; have a reason; and are unknown, with what is known of them.
-const RELEASES: (usize, usize, usize) = (304, 15, 152);
+const RELEASES: (usize, usize, usize) = (305, 15, 152);
 
 #[test]
 fn words_of_names_that_no_tool_has_are_hints() {
@@ -432,4 +432,5 @@ fn what_is_known_is_no_misspelling() {
         assert_eq!(dialect.suggestion(name), None, "{dialect} {name}");
     }
     assert_eq!(Dialect::Debian.suggestion("x86-64"), Some("amd64"));
+    assert_eq!(Dialect::Oci.suggestion("wasi-wasm"), Some("wasi/wasm"));
 }
