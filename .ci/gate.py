@@ -89,7 +89,7 @@ WITHOUT_PROOF = [[
     ("what is released is made, and works in clean folders", 'tools/release "$WORK/release"', "cargo cc"),
 ]]
 LAST = [
-    ("links, names, samples, counts and versions of the pages, and the pictures", "checks/pages", "cargo cc"),
+    ("links, names, samples, counts and versions of the pages, and the pictures", "checks/pages", "cargo"),
     ("the program `triples` and the command `target-lexicon`: stored rows, unusual streams, large inputs, samples of the pages", "checks/rows/run", "cargo cram3"),
     ("no message and no output has what isn't printable ASCII of a hostile string", "checks/visible", "cargo cc"),
     ("each allocation fails in turn", "checks/fail_allocations", "rt cc"),
