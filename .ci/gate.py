@@ -82,7 +82,7 @@ WITHOUT_PROOF = [[
     ("what other tools say of names and targets; suggestions keep the machine", "checks/compare elsewhere && checks/compare llvm && checks/compare edits", "cargo cc"),
     ("the Python package: each answer, wheels, types, samples", f'packages/python/test "$BUILT/lib/libtarget_lexicon.so" {COMMANDS}/lines',
      "cargo cc hatchling"),
-    ("the command `target-lexicon`: arguments, output and statuses", "packages/command/test", "cargo"),
+    ("the command `target-lexicon`: arguments, output and statuses", "packages/command/test", "cargo cram3 jq"),
     ("a list of misspelled names takes at most ten times as long as one of right names", f"packages/command/tests/cost {COMMANDS}/target-lexicon", "cargo valgrind"),
     ("the library for C, header, packages and samples, as C and C++ users have them", "packages/c/test", "cargo cc"),
     ("Debian's packages are built, and lintian finds no error", 'packages/debian/build "$WORK/debian" -d', "cargo cc dpkg-buildpackage"),

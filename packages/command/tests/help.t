@@ -1,0 +1,63 @@
+# Help and arguments
+
+  $ . "$TESTDIR/rows.sh"
+
+Arguments that are wrong have the status 2, and say what is right:
+
+  $ while read -r words; do
+  >   command target-lexicon $words 2> said; echo "status $?"
+  >   grep -q 'Usage: \|possible values' said || echo "$words"
+  > done << 'END' | uniq -c
+  > 
+  > explains
+  > x86_64-linux
+  > names field
+  > settle -x
+  > settle --ignore-vendor
+  > completions sh
+  > --manual settle
+  > settle --manual
+  > END
+        9 status 2
+  $ target-lexicon x86_64-linux | tail -n 1
+  ! A target follows a command: target-lexicon explain x86_64-linux
+  $ target-lexicon -- > /dev/null
+  [2]
+
+An old word is answered with the new one:
+
+  $ for word in write elsewhere host manual; do target-lexicon $word avr | tail -n 1; done
+  ! `write` is `target-lexicon translate --to DIALECT` now
+  ! `elsewhere` is `target-lexicon what` now
+  ! `host` is `target-lexicon read --from gnu "$(cc -dumpmachine)"` now
+  ! `manual` is `target-lexicon --manual` now
+  $ target-lexicon read --from any avr | tail -n 1
+  ! `any` is `target-lexicon what` now
+  $ target-lexicon names any | grep -c now
+  0
+  [1]
+
+## Each command has its options in the manual and the completions, and an example
+
+  $ target-lexicon --version | grep -xc "target-lexicon $(sed -n 's/^version = "\(.*\)"/\1/p' "$TESTDIR/../Cargo.toml")"
+  1
+  $ target-lexicon --manual | sed 's/\\-/-/g' > manual
+  $ for shell in bash zsh fish elvish powershell; do target-lexicon completions $shell > $shell; done
+  $ calls=$(target-lexicon --help | sed -n '/^Commands:/,/^$/s/^  \([a-z]*\) .*/\1/p' | grep -vx help); echo $calls
+  explain facts settle check matrix read translate cfg what names completions
+  $ for call in $calls; do
+  >   target-lexicon $call --help > help
+  >   grep -q '^  \$ target-lexicon ' help || echo "$call: no example"
+  >   grep -qxF ".B target-lexicon $call" manual && grep -qxF ".B $call" manual || echo "$call: not in the manual"
+  >   for option in $(sed '/^Example/,$d' help | grep -oE -- '--?[a-z0-9][a-z-]*'); do
+  >     grep -qF -- "$option" manual || echo "$call $option: not in the manual"
+  >     for shell in bash zsh fish; do grep -qw -- "$(sed 's/^-*//' <<< "$option")" $shell || echo "$call $option: not in $shell"; done
+  >   done
+  >   for value in $(grep -oP '(?<=possible values: )[^]]*' help | tr -d ,); do grep -qw -- "$value" manual || echo "$call $value: not in the manual"; done
+  > done
+
+## Shells take the completions
+
+  $ in_shell() { [[ " ${WITHOUT-} " == *" $1 "* ]] || [[ $("$1" -c "$2" "$(type -P target-lexicon)" 2>&1) == $3 ]] || echo "$1 doesn't"; }
+  $ in_shell zsh 'autoload -U compinit && compinit -u -D && source <($0 completions zsh) && echo $_comps[target-lexicon]' _target-lexicon
+  $ in_shell fish '$argv[1] completions fish | source; complete -C "target-lexicon mat"' $'matrix\t*'

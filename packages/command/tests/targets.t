@@ -1,0 +1,233 @@
+# How targets are given, and what is refused
+
+  $ . "$TESTDIR/rows.sh"
+
+A refused target is shown, with its place if it is a line. A byte order mark and carriage returns are dropped, and columns count characters:
+
+  $ printf '\xef\xbb\xbfz80\r\nx86_64-pc-linx\r\nx86_64-éé-a\r\n' | target-lexicon settle
+  z80-unknown-unknown-elf
+  ! <stdin>:2:11: error: unrecognized operating system `linx`
+  !   x86_64-pc-linx
+  !             ^^^^ did you mean `linux`?
+  ! <stdin>:3:8: error: unrecognized vendor `\u{e9}\u{e9}`
+  !   x86_64-\u{e9}\u{e9}-a
+  !          ^^^^^^^^^^^^
+  ! 2 of 3 targets refused
+  [1]
+  $ printf foo > order
+  $ target-lexicon settle z80 nowhere -f order
+  z80-unknown-unknown-elf
+  ! error: unrecognized architecture `nowhere`
+  !   nowhere
+  !   ^^^^^^^
+  ! order:1:1: error: unrecognized architecture `foo`
+  !   foo
+  !   ^^^
+  ! 2 of 3 targets refused
+  [1]
+  $ target-lexicon check foo
+  ! error: unrecognized architecture `foo`
+  !   foo
+  !   ^^^
+  [1]
+
+A file may be taken for an argument. What was answered stays if another file isn't there:
+
+  $ echo z80 > list
+  $ target-lexicon check list
+  ! error: unrecognized architecture `list`
+  !   list
+  !   ^^^^
+  !   note: there is a file of that name: `-f list` answers for its lines
+  [1]
+  $ target-lexicon check -f list
+  $ target-lexicon settle -f list -f nowhere
+  z80-unknown-unknown-elf
+  ! target-lexicon: nowhere: No such file or directory (os error 2)
+  [3]
+  $ target-lexicon settle -- -x
+  ! error: unrecognized architecture ``
+  !   -x
+  !   ^
+  [1]
+
+## Lists
+
+Each call takes targets as arguments, as lines, with commas between, and as lists have them:
+
+  $ lists() {
+  >   of() { "$@" | sed -E 's/(argument|<stdin>):[12]/PLACE/'; }
+  >   local one=x86_64-linux-gnu other=arm64-linux-gnu
+  >   local expected=$(of "$@" $one $other)
+  >   for list in "$one,$other" "[\"$one\", '$other']" " $one ,, $other, "; do
+  >     [[ $(of "$@" "$list") == "$expected" && $(of "$@" <<< "$list") == "$expected" ]] || echo "$list"
+  >   done
+  >   for list in "$one"$'\n'"$other" "- $one"$'\n'"- '$other'" "  \"$one\","$'\r\n\t'"\"$other\""$'\r'; do
+  >     [[ $(of "$@" <<< "$list") == "$expected" ]] || echo "$list"
+  >   done
+  >   echo "$*: $(grep -c . <<< "$expected")"
+  > }
+  $ for call in explain facts settle check matrix read 'translate --to gnu' cfg what; do lists target-lexicon $call; done
+  target-lexicon explain: 12
+  target-lexicon facts: 78
+  target-lexicon settle: 2
+  target-lexicon check: 0
+  target-lexicon matrix: 2
+  target-lexicon read: 2
+  target-lexicon translate --to gnu: 2
+  target-lexicon cfg: 18
+  target-lexicon what: 32
+  $ printf -- '- é, linux/amd64,foo/bar\n' | target-lexicon what | grep '^!.*error'
+  ! <stdin>:1:3: error: no tool has the name `\u{e9}`
+  ! <stdin>:1:18: error: no tool has the name `foo/bar`
+  $ target-lexicon settle ' , '
+  ! error: unrecognized architecture ` , `
+  !    , 
+  !   ^^^
+  [1]
+
+## Comments
+
+  $ printf '# all of them\n\n \t\n  x86_64-linux # the first\n\tfoo#x\n - avr, foo # z80\n' > lines
+  $ target-lexicon settle --comments < lines
+  x86_64-unknown-linux
+  avr-unknown-unknown
+  ! <stdin>:5:2: error: unrecognized architecture `foo`
+  !   foo
+  !   ^^^
+  ! <stdin>:6:9: error: unrecognized architecture `foo`
+  !   foo
+  !   ^^^
+  ! 2 of 4 targets refused
+  [1]
+  $ target-lexicon settle < lines | grep -c -- '--comments'
+  6
+
+## Zero bytes
+
+A zero byte ends a target and an answer; of an answer of more than one line it comes instead of the last line feed, and JSON has none:
+
+  $ printf 'z80\0x86_64-\nlinux\0arm64-linux\r\0\0x86_64-linux' | target-lexicon settle -0 | tr '\0' '|'
+  z80-unknown-unknown-elf|x86_64-unknown-linux|! <stdin>:2:8: error: unrecognized vendor `\nlinux`
+  !   x86_64-\nlinux
+  !          ^^^^^^^
+  ! <stdin>:3:7: error: unrecognized vendor `linux\r`
+  !   arm64-linux\r
+  !         ^^^^^^^ did you mean `linux`?
+  ! <stdin>:4:1: error: unrecognized architecture ``
+  !   
+  !   ^
+  ! 3 of 5 targets refused
+  $ printf 'z80\0avr' > zero
+  $ command target-lexicon facts --null -f zero | tr '\0' '\n' | cmp - <(command target-lexicon facts z80 avr)
+  $ printf 'amd64-linux\0z80' | target-lexicon read --changes -0 | tr '\0' '|'
+  x86_64-unknown-linux
+    `amd64` is read as `x86_64`|z80-unknown-unknown-elf| (no-eol)
+  $ target-lexicon matrix -0 -f zero | tr '\0' '|'
+  z80-unknown-unknown-elf\tz80\t1\tzero:1|avr-unknown-unknown\tavr\t1\tzero:2| (no-eol) (esc)
+  $ target-lexicon settle -0 --json -f zero
+  [{"target":"z80","file":"zero","line":1,"canonical":"z80-unknown-unknown-elf"},{"target":"avr","file":"zero","line":2,"canonical":"avr-unknown-unknown"}]
+  $ target-lexicon settle -0 --comments > /dev/null
+  [2]
+  $ printf 'z80\0x\xc3\0z80' | target-lexicon settle -0 | tr '\0' '|'
+  z80-unknown-unknown-elf|! target-lexicon: <stdin>:2:2: not UTF-8
+
+## Lines that aren't UTF-8
+
+The lines before one are answered:
+
+  $ printf 'z80\nx\xc3\nz80\n' | target-lexicon settle
+  z80-unknown-unknown-elf
+  ! target-lexicon: <stdin>:2:2: not UTF-8
+  [3]
+  $ printf '\xff\xfez\08\0000\0\n\0' | target-lexicon check
+  ! target-lexicon: <stdin>:1:1: UTF-16, not UTF-8
+  [3]
+  $ printf 'z\08\0000\0' | target-lexicon check
+  ! <stdin>:1:1: error: unrecognized architecture `z\u{0}8\u{0}0\u{0}`
+  !   z\u{0}8\u{0}0\u{0}
+  !   ^^^^^^^^^^^^^^^^^^
+  !   note: it has zero bytes: a file in UTF-16 has them, which must be UTF-8 here
+  [1]
+
+## A quiet run
+
+It has only a status, and the first target that is refused ends it:
+
+  $ for call in explain facts settle check matrix 'read --from node' 'translate --to node' cfg what; do
+  >   target-lexicon $call -q linux-x64 nowhere -f missing; echo "$?"
+  > done | uniq -c
+        9 1
+  $ for call in explain facts settle check matrix cfg; do
+  >   target-lexicon $call --quiet z80 x86_64-linx; target-lexicon $call -q --strict z80 x86_64-linx; echo "$?"
+  > done | uniq -c
+        6 1
+  $ target-lexicon check -q z80 -f missing
+  ! target-lexicon: missing: No such file or directory (os error 2)
+  [3]
+  $ target-lexicon check -q --json z80 > /dev/null
+  [2]
+
+## Mistakes are counted, and limited
+
+  $ printf 'z80\nx86_64-unknown-linux-gnuu\nfoo\nx86_64-unknown-linux-gnuu\n' > lines
+  $ target-lexicon check -f lines
+  ! lines:2:22: error: unrecognized environment `gnuu`
+  !   x86_64-unknown-linux-gnuu
+  !                        ^^^^ did you mean `gnu`?
+  ! lines:3:1: error: unrecognized architecture `foo`
+  !   foo
+  !   ^^^
+  ! lines:4:22: error: unrecognized environment `gnuu`
+  !   x86_64-unknown-linux-gnuu
+  !                        ^^^^ did you mean `gnu`?
+  ! 3 of 4 targets refused
+  [1]
+  $ target-lexicon check --max-errors 1 -f lines
+  ! lines:2:22: error: unrecognized environment `gnuu`
+  !   x86_64-unknown-linux-gnuu
+  !                        ^^^^ did you mean `gnu`?
+  ! 1 of 2 targets refused; ended there, as --max-errors says
+  [1]
+  $ target-lexicon check --max-errors 2 --json -f lines
+  [{"target":"x86_64-unknown-linux-gnuu","file":"lines","line":2,"error":"unrecognized environment","part":"gnuu","start":21,"end":25,"field":"environment","suggestion":"gnu","note":null},{"target":"foo","file":"lines","line":3,"error":"unrecognized architecture","part":"foo","start":0,"end":3,"field":"architecture","suggestion":null,"note":null}]
+  ! 2 of 3 targets refused; ended there, as --max-errors says
+  [1]
+  $ target-lexicon check --max-errors 0 -f lines | grep -o "'--max-errors <N>'"
+  '--max-errors <N>'
+  $ { yes foo 2> /dev/null | head -n 1234; } | target-lexicon check | tail -n 1
+  ! 1,234 of 1,234 targets refused
+
+## Custom vendors
+
+One that resembles a name is a warning of three calls, and refused if that is asked, except rustc's and those that are meant:
+
+  $ for call in explain facts settle check matrix cfg; do echo "$call: $(target-lexicon $call x86_64-linx | grep '^!')"; done
+  explain: 
+  facts: 
+  settle: ! warning: custom vendor `linx`
+  !   x86_64-linx
+  !          ^^^^ did you mean `linux`?
+  check: ! warning: custom vendor `linx`
+  !   x86_64-linx
+  !          ^^^^ did you mean `linux`?
+  matrix: ! warning: custom vendor `linx`
+  !   x86_64-linx
+  !          ^^^^ did you mean `linux`?
+  cfg: 
+  $ for call in explain facts settle check matrix cfg; do target-lexicon $call x86_64-linx --strict; done | sort | uniq -c
+        6 !          ^^^^ did you mean `linux`?
+        6 !   x86_64-linx
+        6 ! error: custom vendor `linx`
+  $ for call in settle check matrix; do
+  >   target-lexicon $call x86_64-linx --vendors acme,linx
+  >   target-lexicon $call x86_64-linx --vendors linx --strict
+  >   target-lexicon $call -q x86_64-linx
+  >   target-lexicon $call x86_64-win7-windows-msvc riscv32imac-esp-espidf --strict
+  > done | grep '^!'
+  [1]
+  $ target-lexicon check x86_64-linx --vendors lin --strict
+  ! error: custom vendor `linx`
+  !   x86_64-linx
+  !          ^^^^ did you mean `linux`?
+  [1]
