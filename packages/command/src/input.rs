@@ -1,5 +1,4 @@
 //! The targets: arguments, or the lines of files and of standard input as they come.
-use crate::blocks::{each_block, Stop};
 use crate::fault::Fault;
 use crate::json::Object;
 use crate::output::say_what_is_read;
@@ -7,8 +6,9 @@ use crate::refusal::visible;
 use crate::streams;
 use clap::ArgMatches;
 use std::fmt;
-use std::io::{self, ErrorKind};
+use std::io::{self, BufRead, BufReader, ErrorKind};
 use std::path::{Path, PathBuf};
+use std::str;
 
 pub const STANDARD_INPUT: &str = "<stdin>";
 
@@ -151,52 +151,78 @@ fn each_line(path: &Path, lines: Lines, answers: &mut impl Answers) -> Result<()
     } else {
         (path.display().to_string(), streams::file(path))
     };
-    let input = match opened {
-        Ok(input) if input.is_output => {
-            // What is written would be read, for ever.
-            let why = io::Error::new(ErrorKind::Other, "input file is also the output");
-            return Err(Fault::Stream { name, why });
-        }
-        Ok(input) => input.reader,
-        Err(why) => return Err(Fault::Stream { name, why }),
+    let fault = |why| Fault::Stream {
+        name: name.clone(),
+        why,
     };
-    let mut number = 0;
-    let read = each_block(input, lines.end, |block| {
-        for line in block.split_terminator(char::from(lines.end)) {
-            number += 1;
-            let line = match lines.end {
-                b'\n' => line.strip_suffix('\r').unwrap_or(line),
-                _ => line,
-            };
-            let line = if number == 1 {
-                line.strip_prefix('\u{feff}').unwrap_or(line)
-            } else {
-                line
-            };
-            let (mut text, mut indent) = (line, 0);
-            if lines.skips_comments {
-                text = line.split('#').next().unwrap_or("").trim();
-                indent = line.chars().take_while(|c| c.is_whitespace()).count();
-                if text.is_empty() {
-                    continue;
-                }
+    let input = opened.map_err(fault)?;
+    if input.is_output {
+        // What is written would be read, for ever.
+        let why = io::Error::new(ErrorKind::Other, "input file is also the output");
+        return Err(fault(why));
+    }
+    let mut reader = BufReader::with_capacity(1 << 16, input.reader);
+    let mut bytes = Vec::new();
+    for number in 1.. {
+        bytes.clear();
+        while bytes.last() != Some(&lines.end) {
+            if reader.buffer().is_empty() {
+                answers.pause()?;
             }
-            let place = Place::Line {
-                file: &name,
-                number,
-                indent,
+            let read = match reader.fill_buf() {
+                Err(why) if why.kind() == ErrorKind::Interrupted => continue,
+                read => read.map_err(fault)?,
             };
-            each_of_list(Target { text, place }, answers)?;
+            let end = read.iter().position(|it| *it == lines.end);
+            let count = end.map_or(read.len(), |at| at + 1);
+            if count == 0 {
+                break;
+            }
+            bytes
+                .try_reserve(count)
+                .map_err(|_| fault(ErrorKind::OutOfMemory.into()))?;
+            bytes.extend_from_slice(&read[..count]);
+            reader.consume(count);
         }
-        answers.pause()
-    });
-    match read {
-        Ok(()) => Ok(()),
-        Err(Stop::Answer(fault)) => Err(fault),
-        Err(Stop::Read(why)) => Err(Fault::Stream { name, why }),
-        Err(Stop::NotUtf8 { column, is_utf16 }) => Err(Fault::NotUtf8 {
-            place: format!("{name}:{}:{column}", number + 1),
-            is_utf16,
-        }),
+        if bytes.is_empty() {
+            break;
+        }
+        let line = str::from_utf8(&bytes).map_err(|error| {
+            let valid = String::from_utf8_lossy(&bytes[..error.valid_up_to()]);
+            let column = valid.chars().count() + 1;
+            Fault::NotUtf8 {
+                place: format!("{name}:{number}:{column}"),
+                is_utf16: number == 1 && matches!(bytes[..], [0xff, 0xfe, ..] | [0xfe, 0xff, ..]),
+            }
+        })?;
+        let (text, indent) = lines.target(line, number == 1);
+        if text.is_empty() && lines.skips_comments {
+            continue;
+        }
+        let place = Place::Line {
+            file: &name,
+            number,
+            indent,
+        };
+        each_of_list(Target { text, place }, answers)?;
+    }
+    Ok(())
+}
+
+impl Lines {
+    /// What a line has for a target, and how many of its characters come before that.
+    fn target<'a>(&self, line: &'a str, is_first: bool) -> (&'a str, usize) {
+        let mut text = line.strip_suffix(char::from(self.end)).unwrap_or(line);
+        if self.end == b'\n' {
+            text = text.strip_suffix('\r').unwrap_or(text);
+        }
+        if is_first {
+            text = text.strip_prefix('\u{feff}').unwrap_or(text);
+        }
+        if !self.skips_comments {
+            return (text, 0);
+        }
+        let indent = text.chars().take_while(|c| c.is_whitespace()).count();
+        (text.split('#').next().unwrap_or("").trim(), indent)
     }
 }

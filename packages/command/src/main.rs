@@ -3,7 +3,6 @@
 #![deny(unsafe_code)] // except where `streams` looks before the runtime starts
 
 mod arguments;
-mod blocks;
 mod calls;
 mod fault;
 mod fields;

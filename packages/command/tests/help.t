@@ -37,7 +37,7 @@ An old word is answered with the new one:
   0
   [1]
 
-## Each command has its options in the manual and the completions, and an example
+## The manual and the completions have the commands and their options, and the help of each has an example
 
   $ target-lexicon --version | grep -xc "target-lexicon $(sed -n 's/^version = "\(.*\)"/\1/p' "$TESTDIR/../Cargo.toml")"
   1
@@ -48,12 +48,18 @@ An old word is answered with the new one:
   $ for call in $calls; do
   >   target-lexicon $call --help > help
   >   grep -q '^  \$ target-lexicon ' help || echo "$call: no example"
-  >   grep -qxF ".B target-lexicon $call" manual && grep -qxF ".B $call" manual || echo "$call: not in the manual"
+  >   grep -qxF ".B $call" manual || echo "$call: not in the manual"
   >   for option in $(sed '/^Example/,$d' help | grep -oE -- '--?[a-z0-9][a-z-]*'); do
   >     grep -qF -- "$option" manual || echo "$call $option: not in the manual"
   >     for shell in bash zsh fish; do grep -qw -- "$(sed 's/^-*//' <<< "$option")" $shell || echo "$call $option: not in $shell"; done
   >   done
   >   for value in $(grep -oP '(?<=possible values: )[^]]*' help | tr -d ,); do grep -qw -- "$value" manual || echo "$call $value: not in the manual"; done
+  > done
+
+The manual has each key of JSON:
+
+  $ for call in explain facts settle read 'translate --to gnu' what matrix 'check foo'; do
+  >   for key in $(command target-lexicon $call --json x86_64-linux-gnu | jq -r '.[] | keys[]'); do grep -qw "$key" manual || echo "$call: $key"; done
   > done
 
 ## Shells take the completions
