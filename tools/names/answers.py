@@ -62,16 +62,18 @@ def lists(answers):
             f"the answers of {kind} for C++": [f"{it.variant} = {prefix}{it.constant}," for it in answers[kind]],
         }
         if kind != "linux_libc":
-            about = [[f"#: {it.about}"] * bool(it.about) for it in answers[kind]]
-            found[f"the answers of {kind} for Python"] = [line for it, lines in zip(answers[kind], about) for line in (*lines, f'{it.constant} = "{it.name}"')]
             found[f"the answers of {kind} for TypeScript"] = [f"export type {of} = {' | '.join(quoted(kind, answers))};"]
     return found
 
 
-def lists_of_facts(text, wrong):
+def facts_of(text, wrong):
+    """The facts, and why they have no answer."""
     numbered = [*enumerate(text.splitlines(), 1)]
     found = facts.facts_of([it for it in numbered if it[1].startswith("fact\t")], ENUMS, JAVASCRIPT, wrong)
-    reasons = facts.reasons_of([it for it in numbered if it[1].startswith("none\t")], found, wrong)
+    return found, facts.reasons_of([it for it in numbered if it[1].startswith("none\t")], found, wrong)
+
+
+def lists_of_facts(found, reasons):
     return facts.lists(found) | facts.lists_of_reasons(reasons)
 
 

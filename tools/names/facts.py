@@ -2,7 +2,7 @@
 import re
 from dataclasses import dataclass
 
-from names_table import Mistake, columns
+from names_table import Mistake, columns, filled
 
 GROUPS = {"queries": "queries()", "formats": "formats()", "driver": "facts()"}
 # The variables of which an answer may be a member: their types in the library for C.
@@ -41,10 +41,6 @@ class Fact:
     def camel(self):
         return re.sub("_(.)", lambda it: it[1].upper(), self.name)
 
-    def of_words(self, form, family, format_):
-        """A number's name from a list."""
-        return family if self.type == "family" else format_ if self.type == "format" else form
-
     @property
     def c_about(self):
         enum = {"format": "enum lexicon_binary_format", "family": "enum lexicon_family", "bool": "", "bytes": "", "number": ""}.get(self.type, f"enum lexicon_{self.type}")
@@ -74,16 +70,12 @@ class Fact:
         of = self.words or "unsigned"
         return f"bool {self.name}() const {{ return {facts}; }}" if self.type == "bool" else f"std::optional<{of}> {self.name}() const {{ return detail::answer<{of}>({facts}); }}"
 
-    @property
-    def python_type(self):
-        of = self.words or ("bool" if self.type == "bool" else "int")
-        return f"Optional[{of}]" if self.is_optional else of
-
-    def from_number(self, number, name_of, or_none, is_true="{}"):
-        """The answer from a number: the name from a list, whether it is true, or none where it is 0."""
+    def javascript(self, number):
+        """The answer from a number of C: the name from a list, whether it is true, or none where it is 0."""
         if self.words:
-            return f"{name_of}[{number}]"
-        return (is_true if self.type == "bool" else or_none).format(number)
+            names = {"family": "FAMILIES", "format": "it.names[4]"}.get(self.type) or self.constants[self.type]
+            return f"{names}[{number}]"
+        return f"{number} === 1" if self.type == "bool" else f"{number} || null"
 
     @property
     def typescript(self):
@@ -121,20 +113,9 @@ def lists(facts):
         "the size of the facts": [f"const FACT_COUNT: usize = {len(facts)};"],
         "the facts for C++": [line for it in facts if it.name != KNOWN for line in (f"// {it.about.replace('`', '')}", it.cpp)],
         "the facts for the command": [f'("{it.name}", {it.json}),' for it in facts],
-        "the members of facts for Python": [
-            *(f"{it.name}: {'bool' if it.type == 'bool' else 'int'}" for it in by_groups), "_fields_ = [",
-            *(f'    ("{it.name}", {"c_bool" if it.type == "bool" else "c_uint8"}),' for it in by_groups), "]"],
-        "the facts for Python": [line for it in facts if it.name != KNOWN for line in (
-            "@property", f"def {it.name}(self) -> {it.python_type}:", f'    """{it.about}{" None if it isn" + chr(39) + "t known." if it.is_optional else ""}"""',
-            "    return " + it.from_number(f"(self._facts or self._ask()).{it.name}", python_list(it), "{} or None"), "")][:-1],
-        "the answers of columns": [f"{it.name}: Optional[{'str' if it.words else 'bool' if it.type == 'bool' else 'int'}] = None" for it in facts],
-        "the facts of columns": [
-            f'_FACTS = "{"".join("?" if it.type == "bool" else "B" for it in by_groups)}"', "", "",
-            "def _answers(numbers: Sequence[Any]) -> Tuple[Any, ...]:", '    """The facts of the numbers in C."""', "    (", *(f"        {it.name}," for it in by_groups), "    ) = numbers",
-            "    return (", *(f"        {it.from_number(it.name, python_list(it), '{} or None')}," for it in facts), "    )"],
+        "the names of facts for Python": filled([f'"{it.name}",' for it in by_groups], " "),
         "the size of the facts for JavaScript": [f"const FACTS_SIZE = {len(facts)};"],
-        "the facts for JavaScript": [
-            f"{it.camel}: {it.from_number(numbers[it.name], it.of_words(it.constants.get(it.type), 'FAMILIES', 'it.names[4]'), '{} || null', '{} === 1')}," for it in facts],
+        "the facts for JavaScript": [f"{it.camel}: {it.javascript(numbers[it.name])}," for it in facts],
         "the facts for TypeScript": [line for it in facts for line in (f"/** {it.about} */", it.typescript)],
     }
     for group in GROUPS:
@@ -167,7 +148,6 @@ def reasons_of(lines, facts, wrong):
 def lists_of_reasons(reasons):
     return {
         "the reasons for the command": [f"""{' | '.join(f'"{name}"' for name in names)} => "{reason}",""" for names, reason in reasons],
-        "the reasons for Python": [f'"{name}": "{reason}",' for names, reason in reasons for name in names],
     }
 
 
@@ -178,7 +158,3 @@ def members(facts):
         name, of = (it.part[0], PARTS[it.part[0]]) if it.part else (it.name, "bool" if it.type == "bool" else "u8")
         lines.setdefault(name, [f"/// {it.about}", f"pub {name}: {of},"])
     return [line for member in lines.values() for line in member]
-
-
-def python_list(fact):
-    return fact.of_words(f"_{fact.constants.get(fact.type)}", "_FAMILIES", "_FORMATS")

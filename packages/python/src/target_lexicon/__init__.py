@@ -9,11 +9,11 @@ wasm32-wasi 32 wasm
 field. `Triple.read` and `Triple.name_in` know the names of other tools, `translate` leads from one to another, and `meanings` says
 whose name a string is. `settle_all` and `facts_all` answer for a column of targets.
 """
-from ._columns import Facts, facts_all, settle_all
+from ._columns import facts_all, settle_all
 from ._dialects import Dialect, LinuxLibc
 from ._errors import ParseError
 from ._explain import Explanation, Origin, Source, explain
-from ._facts import ArmProfile, CallingConvention, CLibrary, DataModel, Endianness, FloatAbi, Signedness
+from ._facts import ArmProfile, CallingConvention, CLibrary, DataModel, Endianness, Facts, FloatAbi, Signedness
 from ._fields import CustomVendor
 from ._library import LIBRARY_PATH, LIBRARY_VERSION, LibraryError
 from ._library import VERSION as __version__

@@ -5,11 +5,12 @@ import reprlib
 import struct
 from ctypes import byref, c_size_t, c_void_p
 from itertools import islice
-from typing import Any, Callable, Dict, Iterable, List, Literal, NamedTuple, Optional, Sequence, Tuple, TypeVar
+from operator import getitem, itemgetter
+from typing import Any, Callable, Dict, Iterable, List, Literal, Optional, Sequence, Tuple, Type, TypeVar, Union
 
 from . import _library
-from ._facts import ArmProfile, CallingConvention, CLibrary, DataModel, Endianness, FloatAbi, Signedness
-from ._named import members
+from ._facts import FACTS, Facts
+from ._named import NamedValue, members
 from ._triple import Triple
 from ._values import Architecture, BinaryFormat, Environment, Family, OperatingSystem, Vendor
 
@@ -20,59 +21,23 @@ Errors = Literal["raise", "coerce"]
 # How many targets are answered at once, and how many different ones are remembered within a call.
 _AT_ONCE, _REMEMBERED = 1 << 12, 1 << 16
 
-# The names of values by number; those of facts begin with None, for no answer.
-_ARCHITECTURES, _VENDORS, _SYSTEMS, _ENVIRONMENTS, _FORMATS, _FAMILIES = (
-    [it.value for it in members(of)] for of in (Architecture, Vendor, OperatingSystem, Environment, BinaryFormat, Family))
-_ENDIANNESS, _CONVENTIONS, _MODELS, _C_LIBRARIES, _FLOAT_ABIS, _ARM_PROFILES, _SIGNEDNESS = (
-    [None, *(it.value for it in members(of))] for of in (Endianness, CallingConvention, DataModel, CLibrary, FloatAbi, ArmProfile, Signedness))
+# The names of values by number.
+_ARCHITECTURES, _VENDORS, _SYSTEMS, _ENVIRONMENTS, _FORMATS = (
+    [it.value for it in members(of)] for of in (Architecture, Vendor, OperatingSystem, Environment, BinaryFormat))
 
 
-class Facts(NamedTuple):
-    """All answers about a target, in the order and with the names of `target-lexicon facts --json`.
+def _by_number(of: Type[Union[int, NamedValue]]) -> Sequence[Any]:
+    """The plain values of a fact by their numbers. A number is itself, or None if it is 0, except for a truth."""
+    if not issubclass(of, NamedValue):
+        return (False, True) if of is bool else (None, *range(1, 256))
+    names: List[Optional[str]] = [it.value for it in members(of)]
+    return names if of in (BinaryFormat, Family) else [None, *names]
 
-    Names are `str`, a width is in bits, and a size in bytes. None is no answer; a refused target has no answer at all.
-    """
 
-    architecture: Optional[str] = None
-    vendor: Optional[str] = None
-    operating_system: Optional[str] = None
-    version: Optional[str] = None
-    environment: Optional[str] = None
-    binary_format: Optional[str] = None
-    # written by tools/names/write: the answers of columns
-    endianness: Optional[str] = None
-    pointer_width: Optional[int] = None
-    default_calling_convention: Optional[str] = None
-    data_model: Optional[str] = None
-    short_size: Optional[int] = None
-    int_size: Optional[int] = None
-    long_size: Optional[int] = None
-    long_long_size: Optional[int] = None
-    float_size: Optional[int] = None
-    double_size: Optional[int] = None
-    implied_format: Optional[str] = None
-    object_format: Optional[str] = None
-    family: Optional[str] = None
-    is_thumb: Optional[bool] = None
-    is_like_darwin: Optional[bool] = None
-    has_custom_vendor: Optional[bool] = None
-    c_library: Optional[str] = None
-    float_abi: Optional[str] = None
-    is_unix: Optional[bool] = None
-    long_double_size: Optional[int] = None
-    long_double_alignment: Optional[int] = None
-    wchar_size: Optional[int] = None
-    wchar_alignment: Optional[int] = None
-    arm_version: Optional[int] = None
-    arm_profile: Optional[str] = None
-    char_signedness: Optional[str] = None
-    has_emulated_tls: Optional[bool] = None
-    has_comdat: Optional[bool] = None
-    # end of what is written
-    llvm_target: Optional[str] = None
-    multiarch_tuple: Optional[str] = None
-    printed: Optional[str] = None
-    canonical: Optional[str] = None
+# The plain values of each fact, in the order of the answers; and what gives the numbers of C in this order.
+_VALUES = tuple(map(_by_number, FACTS.values()))
+_in_order = itemgetter(*map(_library.FACT_NAMES.index, FACTS))
+_value_of: Callable[[Sequence[Any], int], Any] = getitem
 
 
 def settle_all(targets: Iterable[str], errors: Errors = "raise") -> List[Optional[str]]:
@@ -151,77 +116,8 @@ class _Answered(ctypes.Structure):
     _fields_ = [("triple", _library.TripleStruct), ("facts", _library.FactsStruct)]
 
 
-# written by tools/names/write: the facts of columns
-_FACTS = "BBBBBBBBBB???BBBBB?BBBBBBB??"
-
-
-def _answers(numbers: Sequence[Any]) -> Tuple[Any, ...]:
-    """The facts of the numbers in C."""
-    (
-        endianness,
-        pointer_width,
-        default_calling_convention,
-        data_model,
-        short_size,
-        int_size,
-        long_size,
-        long_long_size,
-        float_size,
-        double_size,
-        is_thumb,
-        is_like_darwin,
-        has_custom_vendor,
-        implied_format,
-        object_format,
-        family,
-        c_library,
-        float_abi,
-        is_unix,
-        long_double_size,
-        long_double_alignment,
-        wchar_size,
-        wchar_alignment,
-        arm_version,
-        arm_profile,
-        char_signedness,
-        has_emulated_tls,
-        has_comdat,
-    ) = numbers
-    return (
-        _ENDIANNESS[endianness],
-        pointer_width or None,
-        _CONVENTIONS[default_calling_convention],
-        _MODELS[data_model],
-        short_size or None,
-        int_size or None,
-        long_size or None,
-        long_long_size or None,
-        float_size or None,
-        double_size or None,
-        _FORMATS[implied_format],
-        _FORMATS[object_format],
-        _FAMILIES[family],
-        is_thumb,
-        is_like_darwin,
-        has_custom_vendor,
-        _C_LIBRARIES[c_library],
-        _FLOAT_ABIS[float_abi],
-        is_unix,
-        long_double_size or None,
-        long_double_alignment or None,
-        wchar_size or None,
-        wchar_alignment or None,
-        arm_version or None,
-        _ARM_PROFILES[arm_profile],
-        _SIGNEDNESS[char_signedness],
-        has_emulated_tls,
-        has_comdat,
-    )
-# end of what is written
-
-
 # The numbers that are in it: those of the triple, its custom vendor's pointer and size, and those of the facts.
-_NUMBERS = struct.Struct(f"@HBBBBBBBHPN{_FACTS}")
+_NUMBERS = struct.Struct(f"@HBBBBBBBHPN{len(FACTS)}B")
 
 # Calls whose arguments are values of `ctypes`, which takes half the time.
 _parse, _facts, _print, _llvm_target, _multiarch_tuple = map(
@@ -265,5 +161,5 @@ def _facts_from(numbers: Tuple[Any, ...], vendor: Optional[str], *strings: Optio
     architecture, known, system, environment, form, has_version, minor, patch, major, _, _, *facts = numbers
     return Facts._make((
         _ARCHITECTURES[architecture], vendor or _VENDORS[known], _SYSTEMS[system],
-        f"{major}.{minor}.{patch}" if has_version else None, _ENVIRONMENTS[environment], _FORMATS[form], *_answers(facts), *strings,
+        f"{major}.{minor}.{patch}" if has_version else None, _ENVIRONMENTS[environment], _FORMATS[form], *map(_value_of, _VALUES, _in_order(facts)), *strings,
     ))

@@ -10,7 +10,7 @@ import ctypes
 import itertools
 import os
 from ctypes import POINTER, Structure, c_bool, c_char, c_char_p, c_size_t, c_uint8, c_uint16, c_uint32, c_void_p
-from typing import Any, Callable, Iterator, List, Optional, Sequence, Tuple
+from typing import TYPE_CHECKING, Any, Callable, Iterator, List, Optional, Sequence, Tuple
 
 #: The version of this package.
 VERSION = "0.5.0"
@@ -90,69 +90,26 @@ class SourcesStruct(Structure):
     _fields_ = [(name, SourceStruct) for name in ("architecture", "vendor", "operating_system", "environment", "binary_format")]
 
 
-class FactsStruct(Structure):
-    """`struct lexicon_triple_facts`."""
-
-    # written by tools/names/write: the members of facts for Python
-    endianness: int
-    pointer_width: int
-    default_calling_convention: int
-    data_model: int
-    short_size: int
-    int_size: int
-    long_size: int
-    long_long_size: int
-    float_size: int
-    double_size: int
-    is_thumb: bool
-    is_like_darwin: bool
-    has_custom_vendor: bool
-    implied_format: int
-    object_format: int
-    family: int
-    c_library: int
-    float_abi: int
-    is_unix: bool
-    long_double_size: int
-    long_double_alignment: int
-    wchar_size: int
-    wchar_alignment: int
-    arm_version: int
-    arm_profile: int
-    char_signedness: int
-    has_emulated_tls: bool
-    has_comdat: bool
-    _fields_ = [
-        ("endianness", c_uint8),
-        ("pointer_width", c_uint8),
-        ("default_calling_convention", c_uint8),
-        ("data_model", c_uint8),
-        ("short_size", c_uint8),
-        ("int_size", c_uint8),
-        ("long_size", c_uint8),
-        ("long_long_size", c_uint8),
-        ("float_size", c_uint8),
-        ("double_size", c_uint8),
-        ("is_thumb", c_bool),
-        ("is_like_darwin", c_bool),
-        ("has_custom_vendor", c_bool),
-        ("implied_format", c_uint8),
-        ("object_format", c_uint8),
-        ("family", c_uint8),
-        ("c_library", c_uint8),
-        ("float_abi", c_uint8),
-        ("is_unix", c_bool),
-        ("long_double_size", c_uint8),
-        ("long_double_alignment", c_uint8),
-        ("wchar_size", c_uint8),
-        ("wchar_alignment", c_uint8),
-        ("arm_version", c_uint8),
-        ("arm_profile", c_uint8),
-        ("char_signedness", c_uint8),
-        ("has_emulated_tls", c_bool),
-        ("has_comdat", c_bool),
-    ]
+#: The names of the facts, in the order of C.
+FACT_NAMES = (
+    # written by tools/names/write: the names of facts for Python
+    "endianness", "pointer_width", "default_calling_convention", "data_model", "short_size", "int_size", "long_size",
+    "long_long_size", "float_size", "double_size", "is_thumb", "is_like_darwin", "has_custom_vendor", "implied_format",
+    "object_format", "family", "c_library", "float_abi", "is_unix", "long_double_size", "long_double_alignment",
+    "wchar_size", "wchar_alignment", "arm_version", "arm_profile", "char_signedness", "has_emulated_tls", "has_comdat",
     # end of what is written
+)
+
+
+class FactsStruct(Structure):
+    """`struct lexicon_triple_facts`, all of whose members are bytes."""
+
+    _fields_ = [(name, c_uint8) for name in FACT_NAMES]
+
+    if TYPE_CHECKING:
+
+        def __getattr__(self, name: str) -> int:
+            ...
 
 
 class ChangeStruct(Structure):
@@ -219,6 +176,16 @@ def _or_memory_error(call: Callable[..., Any]) -> Callable[..., Any]:
     return checked
 
 
+def _declare_string(name: str, *arguments: Any) -> Callable[..., Optional[str]]:
+    """A call that returns a string or none. Where C takes a string and its size, it takes the string."""
+    call = _declare(name, *arguments, result=c_char_p)
+
+    def decoded(*values: Any) -> Optional[str]:
+        found = call(*(part for it in values for part in ((it, len(it)) if isinstance(it, bytes) else (it,))))
+        return None if found is None else found.decode()
+    return decoded
+
+
 def undeclared(name: str) -> Callable[..., int]:
     """A call that takes its arguments as they are: each must be a value of `ctypes`."""
     return _or_memory_error(_load_file(LIBRARY_PATH)[name])
@@ -246,16 +213,21 @@ complete = _declare("lexicon_complete", _TRIPLE, c_uint32)
 _translate = _declare("lexicon_translate", c_uint32, c_char_p, c_size_t, c_uint32, c_uint32, c_void_p, c_size_t, _SIZE, _ERROR)
 _changes = _declare("lexicon_changes", c_char_p, c_size_t, c_size_t, POINTER(ChangeStruct), c_void_p, c_size_t, _SIZE)
 _meaning = _declare("lexicon_meaning", c_char_p, c_size_t, c_size_t, POINTER(c_uint32), _TRIPLE)
-_reason = _declare("lexicon_reason", c_uint32, c_char_p, c_size_t, result=c_char_p)
-_write_reason = _declare("lexicon_write_reason", c_uint32, _TRIPLE, result=c_char_p)
-_write_versioned_reason = _declare("lexicon_write_versioned_reason", c_uint32, _TRIPLE, c_uint32, c_uint32, result=c_char_p)
-_translate_reason = _declare("lexicon_translate_reason", c_uint32, c_char_p, c_size_t, c_uint32, c_uint32, result=c_char_p)
-_name_suggestion = _declare("lexicon_name_suggestion", c_uint32, c_char_p, c_size_t, result=c_char_p)
 _number = _declare("lexicon_number", c_uint32, c_char_p, c_size_t, POINTER(c_uint32))
 _error_line = _declare("lexicon_error_line", c_char_p, c_size_t, _ERROR, c_void_p, c_size_t, _SIZE)
 _suggestion = _declare("lexicon_suggestion", c_char_p, c_size_t, _ERROR, c_void_p, c_size_t, _SIZE)
 _vendor_suggestion = _declare("lexicon_vendor_suggestion", _TRIPLE, c_void_p, c_size_t, _SIZE)
-_name = _declare("lexicon_name", c_uint32, c_uint32, result=c_char_p)
+
+# Why a name of a dialect has no triple, or None if it has one, or if it is no name.
+reason = _declare_string("lexicon_reason", c_uint32, c_char_p, c_size_t)
+_write_reason = _declare_string("lexicon_write_reason", c_uint32, _TRIPLE)
+_write_versioned_reason = _declare_string("lexicon_write_versioned_reason", c_uint32, _TRIPLE, c_uint32, c_uint32)
+# Why `translate` has no name, and what would help; None if it has one, or if the text isn't read.
+translate_reason = _declare_string("lexicon_translate_reason", c_uint32, c_char_p, c_size_t, c_uint32, c_uint32)
+# The nearest of the names that a dialect reads, if it doesn't know this one; None if it does, or if none is near.
+name_suggestion = _declare_string("lexicon_name_suggestion", c_uint32, c_char_p, c_size_t)
+# The name of the value of a field with this number, or None if there is none.
+name = _declare_string("lexicon_name", c_uint32, c_uint32)
 
 #: The version of the library, and the commit that it was built from if that is known.
 LIBRARY_VERSION = _version().decode()
@@ -343,17 +315,17 @@ def _suggestion_of(call: Callable[..., int], *arguments: object) -> Optional[str
     return text_of(call, *arguments).decode()
 
 
-def write(dialect: int, triple: TripleStruct, version: Optional[Tuple[int, int]] = None) -> Tuple[int, Optional[str]]:
-    """The status, and the name of a triple in a dialect, which has at most 36 bytes. If it is None, the status says why."""
+def write(dialect: int, triple: TripleStruct, version: Optional[Tuple[int, int]] = None) -> Optional[str]:
+    """The name of a triple in a dialect, which has at most 36 bytes. If it is None, `write_reason` says why."""
     out = TextBuffer()
     if version is None:
         status = _write(dialect, triple, out, FIRST_SIZE, None)
     else:
         status = _write_versioned(dialect, triple, *version, out, FIRST_SIZE, None)
     if status in (TRIPLE_WITHOUT_NAME, NEEDS_C_LIBRARY):
-        return status, None
+        return None
     check(status)
-    return status, out.value.decode()
+    return out.value.decode()
 
 
 def translate(text: bytes, from_dialect: int, libc: int, to_dialect: int) -> Tuple[int, str]:
@@ -383,41 +355,15 @@ def changes(text: bytes) -> Iterator[Tuple[int, int, str]]:
         number += 1
 
 
-def reason(dialect: int, text: bytes) -> Optional[str]:
-    """Why a name of a dialect has no triple, or None if it has one, or if it is no name."""
-    return _decoded(_reason(dialect, text, len(text)))
-
-
 def write_reason(dialect: int, triple: TripleStruct, version: Optional[Tuple[int, int]] = None) -> Optional[str]:
     """Why `write` has no name, and what would help; None if it has one."""
-    if version is None:
-        return _decoded(_write_reason(dialect, triple))
-    return _decoded(_write_versioned_reason(dialect, triple, *version))
-
-
-def translate_reason(text: bytes, from_dialect: int, libc: int, to_dialect: int) -> Optional[str]:
-    """Why `translate` has no name, and what would help; None if it has one, or if the text isn't read."""
-    return _decoded(_translate_reason(from_dialect, text, len(text), libc, to_dialect))
-
-
-def _decoded(found: Optional[bytes]) -> Optional[str]:
-    return None if found is None else found.decode()
-
-
-def name_suggestion(dialect: int, text: bytes) -> Optional[str]:
-    """The nearest of the names that a dialect reads, if it doesn't know this one; None if it does, or if none is near."""
-    return _decoded(_name_suggestion(dialect, text, len(text)))
+    return _write_reason(dialect, triple) if version is None else _write_versioned_reason(dialect, triple, *version)
 
 
 def number(field: int, text: bytes) -> Tuple[int, int]:
     """The status, and the number of the value of the field that the string is, if the status is 0."""
     found = c_uint32()
     return _number(field, text, len(text), found), found.value
-
-
-def name(field: int, value: int) -> Optional[str]:
-    """The name of the value with this number, or None if there is none."""
-    return _decoded(_name(field, value))
 
 
 def check_names(field: int, names: Sequence[str]) -> None:

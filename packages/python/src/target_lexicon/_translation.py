@@ -68,7 +68,7 @@ def translate(
     if status not in (_library.TRIPLE_WITHOUT_NAME, _library.NEEDS_C_LIBRARY):
         Triple.read(name, source)  # which says why it isn't read
         _library.check(status)
-    reason = _library.translate_reason(utf8, *numbers) or ""
+    reason = _library.translate_reason(from_number, utf8, *numbers[1:]) or ""
     raise TranslationError(name, source and str(source), str(target), status == _library.NEEDS_C_LIBRARY, reason)
 
 

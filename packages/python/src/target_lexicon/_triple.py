@@ -3,6 +3,7 @@ from __future__ import annotations
 
 import ctypes
 import enum
+import functools
 import operator
 from contextlib import suppress
 from struct import Struct
@@ -11,10 +12,10 @@ from typing import TYPE_CHECKING, Any, Callable, Dict, Mapping, Optional, Sequen
 from . import _library
 from ._dialects import NO_DIALECT, Dialect, DialectName, LinuxLibc, LinuxLibcName, dialect_number, libc_number
 from ._errors import FIELDS, ParseError, encoded, refusal
-from ._facts import ArmProfile, CallingConvention, CLibrary, DataModel, Endianness, FloatAbi, Signedness
+from ._facts import Facts, FactsOfTriple
 from ._fields import CustomVendor
 from ._named import NamedValue, members, shown
-from ._values import Architecture, BinaryFormat, Environment, Family, OperatingSystem, Vendor
+from ._values import Architecture, BinaryFormat, Environment, OperatingSystem, Vendor
 
 if TYPE_CHECKING:
     from ._explain import Explanation
@@ -22,20 +23,12 @@ if TYPE_CHECKING:
 #: Major, minor and patch.
 Version = Tuple[int, int, int]
 
-# The values by number; those of facts begin with None, for no answer.
+# The values by number.
 _ARCHITECTURES: Tuple[Architecture, ...] = members(Architecture)
 _VENDORS: Tuple[Vendor, ...] = members(Vendor)
 _SYSTEMS: Tuple[OperatingSystem, ...] = members(OperatingSystem)
 _ENVIRONMENTS: Tuple[Environment, ...] = members(Environment)
 _FORMATS: Tuple[BinaryFormat, ...] = members(BinaryFormat)
-_FAMILIES: Tuple[Family, ...] = members(Family)
-_ENDIANNESS: Tuple[Optional[Endianness], ...] = (None, *members(Endianness))
-_CONVENTIONS: Tuple[Optional[CallingConvention], ...] = (None, *members(CallingConvention))
-_MODELS: Tuple[Optional[DataModel], ...] = (None, *members(DataModel))
-_C_LIBRARIES: Tuple[Optional[CLibrary], ...] = (None, *members(CLibrary))
-_FLOAT_ABIS: Tuple[Optional[FloatAbi], ...] = (None, *members(FloatAbi))
-_ARM_PROFILES: Tuple[Optional[ArmProfile], ...] = (None, *members(ArmProfile))
-_SIGNEDNESS: Tuple[Optional[Signedness], ...] = (None, *members(Signedness))
 
 for _field, _values in enumerate((_ARCHITECTURES, _VENDORS, _SYSTEMS, _ENVIRONMENTS, _FORMATS)):
     _library.check_names(_field, [str(it) for it in _values])
@@ -59,7 +52,8 @@ _KEEP = Keep.KEEP
 
 
 @final
-class Triple:
+@functools.total_ordering
+class Triple(FactsOfTriple):
     """A target triple such as `x86_64-unknown-linux-gnu`.
 
     >>> triple = Triple("arm64-apple-macosx13.2")
@@ -76,7 +70,6 @@ class Triple:
     __slots__ = ("_struct", "_owner", "_facts", "_printed", "_order_of_triple", "_hash", "__weakref__")
     _struct: _library.TripleStruct
     _owner: Optional[ctypes.Array[ctypes.c_char]]
-    _facts: Optional[_library.FactsStruct]
     _printed: Optional[str]
     _order_of_triple: Optional[str]
     _hash: int
@@ -182,8 +175,6 @@ class Triple:
         of `to_dict` follow from the fields, and aren't looked at. Any other key raises a ValueError, as a name does that the
         field doesn't have.
         """
-        from ._columns import Facts
-
         unknown = [it for it in values if it not in Facts._fields]
         if unknown:
             raise ValueError(f"a triple has no {', '.join(shown(str(it)) for it in unknown)}")
@@ -236,143 +227,6 @@ class Triple:
         """The version of the operating system: major, minor and patch. None if the string has none."""
         it = self._struct
         return (it.major, it.minor, it.patch) if it.has_version else None
-
-    # written by tools/names/write: the facts for Python
-    @property
-    def endianness(self) -> Optional[Endianness]:
-        """The byte order. None if it isn't known."""
-        return _ENDIANNESS[(self._facts or self._ask()).endianness]
-
-    @property
-    def pointer_width(self) -> Optional[int]:
-        """The bits of a pointer. They may be known where there is no data model, and the environment `gnux32` counts. None if it isn't known."""
-        return (self._facts or self._ask()).pointer_width or None
-
-    @property
-    def default_calling_convention(self) -> Optional[CallingConvention]:
-        """The default calling convention of C. None if it isn't known."""
-        return _CONVENTIONS[(self._facts or self._ask()).default_calling_convention]
-
-    @property
-    def data_model(self) -> Optional[DataModel]:
-        """The data model of C. Sizes of C's types may be known without one. None if it isn't known."""
-        return _MODELS[(self._facts or self._ask()).data_model]
-
-    @property
-    def short_size(self) -> Optional[int]:
-        """The bytes of C's `short`. None if it isn't known."""
-        return (self._facts or self._ask()).short_size or None
-
-    @property
-    def int_size(self) -> Optional[int]:
-        """The bytes of C's `int`. None if it isn't known."""
-        return (self._facts or self._ask()).int_size or None
-
-    @property
-    def long_size(self) -> Optional[int]:
-        """The bytes of C's `long`. On bare metal and Cygwin, which have no data model, the sizes are those of the compilers. None if it isn't known."""
-        return (self._facts or self._ask()).long_size or None
-
-    @property
-    def long_long_size(self) -> Optional[int]:
-        """The bytes of C's `long long`. None if it isn't known."""
-        return (self._facts or self._ask()).long_long_size or None
-
-    @property
-    def float_size(self) -> Optional[int]:
-        """The bytes of C's `float`. None if it isn't known."""
-        return (self._facts or self._ask()).float_size or None
-
-    @property
-    def double_size(self) -> Optional[int]:
-        """The bytes of C's `double`. None if it isn't known."""
-        return (self._facts or self._ask()).double_size or None
-
-    @property
-    def implied_format(self) -> BinaryFormat:
-        """The binary format that the other fields imply, as upstream has it: ELF for UEFI."""
-        return _FORMATS[(self._facts or self._ask()).implied_format]
-
-    @property
-    def object_format(self) -> BinaryFormat:
-        """The format that toolchains write, where the triple leaves it open: COFF for UEFI. It gives the linker."""
-        return _FORMATS[(self._facts or self._ask()).object_format]
-
-    @property
-    def family(self) -> Family:
-        """The family of the architecture: all of 32-bit Arm, Thumb too, is `arm`; AArch64 is its own."""
-        return _FAMILIES[(self._facts or self._ask()).family]
-
-    @property
-    def is_thumb(self) -> bool:
-        """Whether the architecture is one of 32-bit Arm whose name begins with `thumb`."""
-        return (self._facts or self._ask()).is_thumb
-
-    @property
-    def is_like_darwin(self) -> bool:
-        """Whether the system is one of Apple's. Only these may have a version."""
-        return (self._facts or self._ask()).is_like_darwin
-
-    @property
-    def c_library(self) -> Optional[CLibrary]:
-        """The C library that the triple states, by its environment or by a system that has only one. None if it isn't known."""
-        return _C_LIBRARIES[(self._facts or self._ask()).c_library]
-
-    @property
-    def float_abi(self) -> Optional[FloatAbi]:
-        """How floating-point arguments are passed: known for 32-bit Arm, and where the triple says `softfloat`. None if it isn't known."""
-        return _FLOAT_ABIS[(self._facts or self._ask()).float_abi]
-
-    @property
-    def is_unix(self) -> bool:
-        """Whether rustc counts the system to its family `unix`."""
-        return (self._facts or self._ask()).is_unix
-
-    @property
-    def long_double_size(self) -> Optional[int]:
-        """The bytes of C's `long double`. None if it isn't known."""
-        return (self._facts or self._ask()).long_double_size or None
-
-    @property
-    def long_double_alignment(self) -> Optional[int]:
-        """The alignment of C's `long double` in bytes. None if it isn't known."""
-        return (self._facts or self._ask()).long_double_alignment or None
-
-    @property
-    def wchar_size(self) -> Optional[int]:
-        """The bytes of C's `wchar_t`. None if it isn't known."""
-        return (self._facts or self._ask()).wchar_size or None
-
-    @property
-    def wchar_alignment(self) -> Optional[int]:
-        """The alignment of C's `wchar_t` in bytes. None if it isn't known."""
-        return (self._facts or self._ask()).wchar_alignment or None
-
-    @property
-    def arm_version(self) -> Optional[int]:
-        """The version of a 32-bit Arm architecture. None if it isn't known."""
-        return (self._facts or self._ask()).arm_version or None
-
-    @property
-    def arm_profile(self) -> Optional[ArmProfile]:
-        """The profile of a 32-bit Arm architecture, where its name states one. None if it isn't known."""
-        return _ARM_PROFILES[(self._facts or self._ask()).arm_profile]
-
-    @property
-    def char_signedness(self) -> Optional[Signedness]:
-        """Whether C's `char` has a sign, as clang has it. None if it isn't known."""
-        return _SIGNEDNESS[(self._facts or self._ask()).char_signedness]
-
-    @property
-    def has_emulated_tls(self) -> bool:
-        """Whether LLVM emulates thread-local storage: on OpenBSD, Cygwin, OpenHarmony, and Android before API level 29."""
-        return (self._facts or self._ask()).has_emulated_tls
-
-    @property
-    def has_comdat(self) -> bool:
-        """Whether the object format has COMDAT sections."""
-        return (self._facts or self._ask()).has_comdat
-    # end of what is written
 
     @property
     def has_custom_vendor(self) -> bool:
@@ -442,7 +296,7 @@ class Triple:
         The vendor doesn't matter, nor what the dialect doesn't name. A version, of one or two numbers, is that of glibc, musl,
         macOS or Android's API level, which names of Python state; with it, names without one are not written.
         """
-        return _library.write(dialect_number(dialect), self._struct, _stated_version(version))[1]
+        return _library.write(dialect_number(dialect), self._struct, _stated_version(version))
 
     def reason_without_name(self, dialect: Union[Dialect, DialectName], version: Optional[Sequence[int]] = None) -> Optional[str]:
         """Why `name_in` has no name for these arguments, and what would help. None if it has one.
@@ -461,9 +315,7 @@ class Triple:
         >>> Triple.read("linux/arm/v7", "oci").complete("glibc"), Triple("aarch64-unknown-linux").complete(LinuxLibc.MUSL)
         (Triple('armv7-unknown-linux-gnueabihf'), Triple('aarch64-unknown-linux-musl'))
         """
-        struct = _library.TripleStruct.from_buffer_copy(self._struct)
-        _library.check(_library.complete(struct, libc_number(libc)))
-        return self if _numbers_of(struct) == _numbers_of(self._struct) else _triple_of(struct, self._owner)
+        return self._changed(_library.complete, libc_number(libc))
 
     def settle(self) -> Triple:
         """The canonical form of the triple, which comes back. So its string is a key for the target.
@@ -472,9 +324,7 @@ class Triple:
         >>> one == other, one.settle() == other.settle()
         (False, True)
         """
-        struct = _library.TripleStruct.from_buffer_copy(self._struct)
-        _library.check(_library.settle(struct))
-        return self if _numbers_of(struct) == _numbers_of(self._struct) else _triple_of(struct, self._owner)
+        return self._changed(_library.settle)
 
     def comes_back(self) -> bool:
         """Whether the printed string parses as this triple.
@@ -544,6 +394,12 @@ class Triple:
 
         return explain(str(self))
 
+    def _changed(self, call: Callable[..., int], *arguments: int) -> Triple:
+        """What a call makes of the triple."""
+        struct = _library.TripleStruct.from_buffer_copy(self._struct)
+        _library.check(call(struct, *arguments))
+        return self if _numbers_of(struct) == _numbers_of(self._struct) else _triple_of(struct, self._owner)
+
     def _ask(self) -> _library.FactsStruct:
         """The facts, which are kept."""
         self._facts = facts = _facts_of(self._struct)
@@ -560,9 +416,7 @@ class Triple:
 
         Where both are equal, so are versions and custom vendors, which are printed.
         """
-        order = self._order_of_triple
-        if order is None:
-            self._order_of_triple = order = f"{str(self)}\0{_ordered_bytes(*_numbers_of(self._struct)).decode('latin-1')}"
+        self._order_of_triple = order = f"{str(self)}\0{_ordered_bytes(*_numbers_of(self._struct)).decode('latin-1')}"
         return order
 
     def __str__(self) -> str:
@@ -577,8 +431,7 @@ class Triple:
     def __repr__(self) -> str:
         if self.comes_back():
             return f"Triple({str(self)!r})"
-        fields = (self.architecture, self.vendor, self.operating_system, self.environment, self.binary_format, self.version)
-        return f"Triple.from_fields({', '.join(map(repr, fields))})"
+        return f"Triple.from_fields({', '.join(map(repr, self.__reduce__()[1]))})"
 
     def __eq__(self, other: object) -> bool:
         if not isinstance(other, Triple):
@@ -593,23 +446,13 @@ class Triple:
             return found
 
     def __lt__(self, other: Triple) -> bool:
-        # This is what `sorted` calls: the same as for the others, in less time.
         try:
             one, two = self._order_of_triple, other._order_of_triple
         except AttributeError:
             return NotImplemented
         if one is None or two is None:
-            one, two = self._ordered(), other._ordered()
+            one, two = one or self._ordered(), two or other._ordered()
         return one < two
-
-    def __le__(self, other: Triple) -> bool:
-        return self._ordered() <= other._ordered() if isinstance(other, Triple) else NotImplemented
-
-    def __gt__(self, other: Triple) -> bool:
-        return self._ordered() > other._ordered() if isinstance(other, Triple) else NotImplemented
-
-    def __ge__(self, other: Triple) -> bool:
-        return self._ordered() >= other._ordered() if isinstance(other, Triple) else NotImplemented
 
     def __copy__(self) -> Triple:
         return self
@@ -624,8 +467,7 @@ class Triple:
         return schema_of(cls)
 
     def __reduce__(self) -> Tuple[Any, ...]:
-        fields = (self.architecture, self.vendor, self.operating_system, self.environment, self.binary_format, self.version)
-        return _triple_from_fields, fields
+        return Triple.from_fields, (self.architecture, self.vendor, self.operating_system, self.environment, self.binary_format, self.version)
 
 
 def _triple_of(struct: _library.TripleStruct, owner: Optional[ctypes.Array[ctypes.c_char]]) -> Triple:
@@ -646,11 +488,6 @@ def _facts_of(struct: _library.TripleStruct) -> _library.FactsStruct:
 
 def _version_text(version: Optional[Version]) -> Optional[str]:
     return None if version is None else ".".join(map(str, version))
-
-
-def _triple_from_fields(*fields: Any) -> Triple:
-    """What a pickle calls."""
-    return Triple.from_fields(*fields)
 
 
 def _number(value: Any, of: Type[NamedValue], name: str) -> int:
