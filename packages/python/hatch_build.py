@@ -25,8 +25,8 @@ TABLES = ("names.json", "names.csv", "names.schema.json", "targets.csv")
 # What an sdist has of the repository, below `native`: what cargo builds the library from, what the tests read, and the licence.
 SOURCES = ("Cargo.toml", "Cargo.lock", *(f"packages/names/{name}" for name in ("Cargo.toml", "src", *TABLES)),
            *(f"packages/{package}/{name}" for package in ("c", "rust") for name in ("Cargo.toml", "build.rs", "src")))
-LISTS = ("packages/c/include", "tools/names/names.tsv", "checks/known_triples.txt", "checks/target_lines.py",
-         "checks/failing_allocator.c", "crates/tests/src")
+LISTS = ("packages/c/include", "tools/names/names.tsv", "tools/names/names_table.py", "checks/known_triples.txt", "checks/target_lines.py",
+         "checks/failing_allocator.c")
 
 
 class CustomBuildHook(BuildHookInterface):

@@ -1,5 +1,4 @@
 """Generated lines compared with the program `triples`, columns, threads, and memory."""
-import ctypes
 import os
 import shutil
 import subprocess
@@ -14,27 +13,21 @@ from target_lexicon import ParseError, Triple, _library
 
 LINES = 20_000
 CALLS = 200_000
+LONG = "a" * 500
+# Targets that aren't read, or not at once, and their canonical strings.
+UNUSUAL = {"x86_64-\udcff-linux": None, "x86_64-\u00e9": None, f"arm64-{LONG}-linux": f"aarch64-{LONG}-linux", "arm64-acme-linux": "aarch64-acme-linux", "": None,
+           "arm64-linux\n": None, "\n": None, "arm\r\n-linux": None, "arm64-linux\0": None}
 
 
-def shown(value):
-    return "-" if value is None else str(value)
-
-
-def show(text):
-    """What the program writes for a line in the mode `show`."""
+def answer(mode, text):
+    """What the program writes for a line in a mode."""
     try:
         it = Triple(text)
     except ParseError as error:
         return f"error: {error.line}"
-    return f"{it} {shown(it.endianness)} {shown(it.pointer_width)} {shown(it.default_calling_convention)} {shown(it.data_model)}"
-
-
-def settle(text):
-    """What the program writes for a line in the mode `settle`."""
-    try:
-        return str(Triple(text).settle())
-    except ParseError as error:
-        return f"error: {error.line}"
+    if mode == "show":
+        return " ".join([str(it), *("-" if fact is None else str(fact) for fact in (it.endianness, it.pointer_width, it.default_calling_convention, it.data_model))])
+    return it.canonical if mode == "settle" else str(it)
 
 
 def resident():
@@ -43,74 +36,76 @@ def resident():
         return int(it.read().split()[1]) * 4096
 
 
-def print_it(text):
-    """What the program writes for a line in the mode `print`."""
-    try:
-        return str(Triple(text))
-    except ParseError as error:
-        return f"error: {error.line}"
-
-
 class Lines(unittest.TestCase):
     @classmethod
     def setUpClass(cls):
         cls.lines = lists.generated_lines(LINES)
-        assert len(cls.lines) == LINES
-
-    def parsed(self):
-        for line in self.lines:
-            try:
-                yield line, Triple(line)
-            except ParseError:
-                pass
+        cls.triples = {line: Triple(line) for line, key in zip(cls.lines, target_lexicon.settle_all(cls.lines)) if key}
+        assert len(cls.lines) == LINES and len(cls.triples) > LINES // 5
 
     @unittest.skipUnless(lists.PROGRAM, "PROGRAM isn't given")
     def test_beside_the_program(self):
-        for mode, call in ("show", show), ("settle", settle), ("print", print_it):
-            given = "".join(f"{it}\n" for it in self.lines).encode()
-            ran = subprocess.run([lists.PROGRAM, mode], input=given, capture_output=True, check=True)
+        for mode in "show", "settle", "print":
+            ran = subprocess.run([lists.PROGRAM, mode], input="".join(f"{it}\n" for it in self.lines).encode(), capture_output=True, check=True)
             expected = ran.stdout.decode().split("\n")[:-1]
             self.assertEqual(len(expected), LINES)
-            answers = zip(self.lines, map(call, self.lines), expected)
-            differ = [(line, answer, it) for line, answer, it in answers if answer != it]
+            differ = [(line, it) for line, it in zip(self.lines, expected) if answer(mode, line) != it]
             self.assertEqual(differ[:5], [])
 
     def test_forms_agree(self):
-        """Each triple is what its fields, its `repr` and its explanation give; equality and keys are the library's."""
-        last, count = Triple("unknown"), 0
-        for line, it in self.parsed():
+        """Each triple is what its fields and its explanation give; equality and keys are the library's."""
+        last = Triple("unknown")
+        for line, it in self.triples.items():
             fields = (it.architecture, it.vendor, it.operating_system, it.environment, it.binary_format, it.version)
-            self.assertEqual(Triple.from_fields(*fields), it)
-            self.assertEqual(target_lexicon.explain(line).triple, it)
-            self.assertIs(it.comes_back(), Triple(str(it)) == it)
-            settled, answer = it.settle(), ctypes.c_bool()
-            self.assertEqual((settled.settle(), Triple(str(settled))), (settled, settled))
-            _library.check(_library.equal(it._struct, last._struct, answer))
-            self.assertIs(it == last, answer.value)
-            self.assertIs(it.same_target(last), settled == last.settle())
-            last, count = it, count + 1
-        self.assertGreater(count, LINES // 4)
-
-    def test_implied_formats(self):
-        for _, it in self.parsed():
+            self.assertEqual((Triple.from_fields(*fields), target_lexicon.explain(line).triple), (it, it))
             self.assertIs(it.replace(binary_format=None).binary_format, it.implied_format)
+            self.assertIs(it.comes_back(), Triple(str(it)) == it)
+            settled, is_equal = it.settle(), _library.c_bool()
+            self.assertEqual((settled.settle(), Triple(it.canonical)), (settled, settled))
+            _library.check(_library.equal(it._struct, last._struct, is_equal))
+            self.assertEqual((it == last, it.same_target(last), it.same_target(settled)), (is_equal.value, settled == last.settle(), True))
+            last = it
 
     def test_columns(self):
-        expected = [None if (line := settle(it)).startswith("error: ") else line for it in self.lines]
-        self.assertEqual(target_lexicon.settle_all(self.lines), expected)
-        self.assertEqual(target_lexicon.settle_all(iter(self.lines * 2)), expected * 2)
+        keys = [self.triples[it].canonical if it in self.triples else None for it in self.lines]
+        self.assertTrue(target_lexicon.settle_all(iter(self.lines * 2)) == keys * 2)
         for line, facts in zip(self.lines, target_lexicon.facts_all(self.lines)):
-            try:
-                it = Triple(line)
-            except ParseError:
-                self.assertEqual(facts, (None,) * len(facts))
-                continue
-            self.assertEqual(facts._asdict(), it.to_dict())
-            for name, value in it.to_dict().items():
-                if name not in ("version", "printed"):
-                    answer = getattr(it, name)
-                    self.assertEqual(value, answer if isinstance(answer, (bool, int, type(None))) else str(answer), name)
-            self.assertEqual((facts.printed, facts.version), (str(it), it.version and ".".join(map(str, it.version))))
+            self.assertEqual(facts._asdict(), self.triples[line].to_dict() if line in self.triples else dict.fromkeys(facts._fields))
+
+
+class Columns(unittest.TestCase):
+    CALLS = (target_lexicon.settle_all, target_lexicon.facts_all)
+
+    def test_unusual_cells(self):
+        for call in self.CALLS:
+            keys = [it and getattr(it, "canonical", it) for it in call([*UNUSUAL, "avr"] * 2)]
+            self.assertEqual(keys, [*UNUSUAL.values(), "avr-unknown-unknown"] * 2)
+            for target in UNUSUAL:
+                self.assertEqual(call([target]), call(["avr", target])[1:])
+            # A missing cell is as a target that is refused, so that each row has its answer.
+            missing = [None, float("nan"), type("NAType", (), {})()]
+            self.assertEqual((call([*missing, "arm64"]), call([])), (call(["", "", "", "arm64"]), []))
+
+    def test_wrong_types(self):
+        for call in self.CALLS:
+            for value in 3, 1.5, b"x86_64", ["x86_64"]:
+                for before in 1, 5000:  # more than are answered at once
+                    column = [*["x86_64"] * before, value]
+                    with self.assertRaises(TypeError) as caught:
+                        call(column)
+                    self.assertEqual(str(caught.exception), f"a target must be a str, not {type(value).__name__}: index {before} has {value!r}")
+                    self.assertTrue(call(column, errors="coerce") == call([*column[:-1], None]))
+            for wrong in "ignore", None, "":
+                self.assertRaisesRegex(ValueError, f"^errors must be 'raise' or 'coerce', not {wrong!r}$", call, ["avr"], wrong)
+            for errors in "raise", "coerce":
+                self.assertRaisesRegex(TypeError, "not one str", call, "x86_64-linux", errors)
+
+    def test_long_columns(self):
+        """More different targets than are answered at once, and than are remembered."""
+        targets = [f"arm64-apple-ios{number % 250}.{number // 250 % 250}.{number // 62500}" for number in range(70000)]
+        expected = [f"aarch64{it[5:]}" for it in targets]
+        self.assertTrue(target_lexicon.settle_all(targets + targets[::-1] + ["avr-\n"]) == expected + expected[::-1] + [None])
+        self.assertTrue([it.canonical for it in target_lexicon.facts_all(targets[:5000])] == expected[:5000])
 
 
 class Threads(unittest.TestCase):
@@ -126,10 +121,7 @@ class Threads(unittest.TestCase):
 
         def run(number):
             barrier.wait()
-            try:
-                answers[number] = work(number)
-            except Exception as error:  # pylint: disable=broad-exception-caught
-                answers[number] = error
+            answers[number] = work(number)
         threads = [threading.Thread(target=run, args=(number,)) for number in range(count)]
         for it in threads:
             it.start()
@@ -139,22 +131,22 @@ class Threads(unittest.TestCase):
 
     def test_each_call_has_its_own_memory(self):
         lines = lists.generated_lines(400)
-        expected = [(show(it), settle(it)) for it in lines]
+        expected = [(answer("show", it), answer("settle", it)) for it in lines]
 
         def work(number):
-            order = lines[number * 40:] + lines[:number * 40]
-            return all([(show(it), settle(it)) for it in order] == expected[number * 40:] + expected[:number * 40] for _ in range(3))
+            first = number * 40
+            return all([(answer("show", it), answer("settle", it)) for it in lines[first:] + lines[:first]] == expected[first:] + expected[:first] for _ in range(3))
         self.assertEqual(self.run_at_once(work), [True] * 8)
 
     def test_each_column_has_its_own_memory(self):
         columns = [[f"x86_64-apple-ios{number}.{line % 250}.{line // 250}" for line in range(2000)] for number in range(8)]
         expected = list(map(target_lexicon.settle_all, columns))
-        self.assertEqual(self.run_at_once(lambda number: target_lexicon.settle_all(columns[number])), expected)
+        self.assertTrue(self.run_at_once(lambda number: target_lexicon.settle_all(columns[number])) == expected)
 
     def test_a_triple_is_asked_by_all_at_once(self):
         for number in range(50):
             it = Triple(f"x86_64-vendor{number}-linux")
-            answers = self.run_at_once(lambda _, it=it: (show(str(it)), str(it.vendor), it.canonical, hash(it)), 4)
+            answers = self.run_at_once(lambda _, it=it: (answer("show", str(it)), str(it.vendor), it.canonical, hash(it)), 4)
             self.assertEqual(len(set(answers)), 1, answers)
             self.assertEqual(answers[0][1:3], (f"vendor{number}", str(it)))
 
@@ -166,9 +158,8 @@ class Memory(unittest.TestCase):
 
         def calls(first, count):
             for number in range(first, first + count, 5):
-                for text in texts[:3]:
-                    show(text)
-                show(f"x86_64-vendor{number}-linux")
+                for text in *texts[:3], f"x86_64-vendor{number}-linux":
+                    answer("show", text)
                 it = Triple(texts[3])
                 self.assertNotEqual(it, it.settle())
                 target_lexicon.explain(texts[number % 2])
