@@ -174,7 +174,7 @@ static void try_translations(const char *text, size_t size) {
     struct lexicon_triple triple;
     uint32_t read = lexicon_read(from, text, size, &triple, NULL);
     for (uint32_t to = LEXICON_DIALECT_NONE; to <= LAST_DIALECT + 1; to++) {
-      uint32_t libc = (from + to) % 3;
+      uint32_t libc = (from + to) % 7;
       char name[37];
       size_t length = 77;
       struct lexicon_error error;
@@ -183,12 +183,14 @@ static void try_translations(const char *text, size_t size) {
       uint32_t status = lexicon_translate(from, text, size, libc, to, name, sizeof name, &length, &error);
       const char *reason = lexicon_translate_reason(from, text, size, libc, to);
       bool has_reason = status == LEXICON_TRIPLE_WITHOUT_NAME || status == LEXICON_NEEDS_C_LIBRARY || status == LEXICON_NAME_WITHOUT_TRIPLE;
+      bool has_dialects = from <= LAST_DIALECT && to != LEXICON_DIALECT_NONE && to <= LAST_DIALECT;
       CHECK((reason != NULL) == has_reason);
+      CHECK(has_dialects ? (status == LEXICON_NO_SUCH_C_LIBRARY) == (libc == 6) : status == LEXICON_NO_SUCH_DIALECT);
       if (status == LEXICON_OK) {
         CHECK(read == LEXICON_OK && length == strlen(name) && is_unchanged(&error, sizeof error));
       } else {
         CHECK(length == 77 && is_unchanged(name, sizeof name) && error.status == status && error.start <= error.end && error.end <= size);
-        CHECK(status == read || (read == LEXICON_OK && (has_reason || status == LEXICON_NO_SUCH_DIALECT)) || status == LEXICON_NO_SUCH_DIALECT);
+        CHECK(status == read || (read == LEXICON_OK && has_reason) || !has_dialects || libc == 6);
       }
     }
   }
@@ -216,16 +218,29 @@ static void try_triple(const struct lexicon_triple *triple) {
   CHECK(facts.has_custom_vendor == (triple->vendor == LEXICON_VENDOR_CUSTOM));
   CHECK(!triple->has_version || facts.is_like_darwin);
   CHECK((facts.long_double_size == 0) == (facts.long_double_alignment == 0) && (facts.wchar_size == 0) == (facts.wchar_alignment == 0));
-  for (uint32_t libc = LEXICON_LINUX_LIBC_GLIBC; libc <= LEXICON_LINUX_LIBC_MUSL; libc++) {
+  for (size_t size = 0; size <= sizeof facts + 2; size++) {
+    bool is_known = size == 0 || size == offsetof(struct lexicon_triple_facts, implied_format) ||
+                    size == offsetof(struct lexicon_triple_facts, c_library) || size >= sizeof facts;
+    void *some = before_guard(2, size);
+    memset(some, 0xa5, size);
+    CHECK(lexicon_facts(triple, (struct lexicon_triple_facts *)some, size) == (is_known ? LEXICON_OK : LEXICON_NO_SUCH_VALUE));
+    CHECK(is_known ? memcmp(some, &facts, size < sizeof facts ? size : sizeof facts) == 0 : is_unchanged(some, size));
+  }
+  for (uint32_t libc = LEXICON_LINUX_LIBC_GLIBC; libc <= LEXICON_LINUX_LIBC_GNULLVM; libc++) {
     struct lexicon_triple completed = *triple, twice;
     CHECK(lexicon_complete(&completed, libc) == LEXICON_OK && has_zeros(&completed));
     twice = completed;
     CHECK(lexicon_complete(&twice, libc) == LEXICON_OK && are_equal(&twice, &completed));
     twice.environment = triple->environment;
     CHECK(are_equal(&twice, triple));
-    bool is_open = triple->operating_system == LEXICON_OPERATING_SYSTEM_LINUX && triple->environment == LEXICON_ENVIRONMENT_UNKNOWN;
+    uint8_t system = libc <= LEXICON_LINUX_LIBC_MUSL ? LEXICON_OPERATING_SYSTEM_LINUX : LEXICON_OPERATING_SYSTEM_WINDOWS;
+    bool is_open = triple->operating_system == system && triple->environment == LEXICON_ENVIRONMENT_UNKNOWN;
     CHECK((completed.environment != triple->environment) == is_open);
   }
+  settled = *triple;
+  CHECK(lexicon_complete(&settled, LEXICON_LINUX_LIBC_NONE) == LEXICON_NO_SUCH_C_LIBRARY && lexicon_complete(&settled, 6) == LEXICON_NO_SUCH_C_LIBRARY);
+  CHECK(lexicon_set_pointer_width(&settled, 8) == LEXICON_NO_SUCH_VALUE && lexicon_set_endianness(&settled, 3) == LEXICON_NO_SUCH_VALUE);
+  CHECK(are_equal(&settled, triple));
   for (uint32_t bits = 16; bits <= 64; bits *= 2) {
     struct lexicon_triple variant = *triple;
     uint32_t status = lexicon_set_pointer_width(&variant, bits);
@@ -539,6 +554,47 @@ static void try_text(const char *text, size_t size) {
   try_meanings(text, size, status);
 }
 
+/* The inline calls, for a string that ends in a zero byte, answer as those with a size. */
+static void try_zero_ended(const char *text, size_t size, uint32_t dialect, uint32_t to) {
+  char *same = (char *)before_guard(3, size + 1), out[64], other[64];
+  struct lexicon_triple triple, parsed;
+  struct lexicon_error error, none;
+  struct lexicon_sources sources;
+  struct lexicon_versions versions;
+  struct lexicon_change change;
+  uint32_t number = 0;
+  if (size) memcpy(same, text, size);
+  same[size] = 0;
+  if (strlen(same) != size) return;
+  uint32_t status = lexicon_parse(text, size, &parsed, &error);
+  CHECK(lexicon_parse_z(same, &triple, NULL) == status && lexicon_explain_z(same, &triple, &sources, NULL) == status);
+  const bool is_custom = status == LEXICON_OK && parsed.vendor == LEXICON_VENDOR_CUSTOM;
+  memset(&triple, 0xa5, sizeof triple);
+  const uint32_t strict = lexicon_parse_strict_z(same, &triple, &none);
+  CHECK(strict == (is_custom ? LEXICON_UNRECOGNIZED_VENDOR : status) && lexicon_parse_strict(text, size, &parsed, NULL) == strict);
+  CHECK(strict == LEXICON_OK ? are_equal(&triple, &parsed) : is_unchanged(&triple, sizeof triple));
+  CHECK(strict == LEXICON_OK || (none.status == strict && none.start <= none.end && none.end <= size));
+  if (status != LEXICON_OK) {
+    CHECK(lexicon_error_line_z(same, &error, out, sizeof out, NULL) == lexicon_error_line(text, size, &error, other, sizeof other, NULL));
+    CHECK(strcmp(out, other) == 0);
+    CHECK(lexicon_error_text_z(same, &error, out, sizeof out, NULL) == lexicon_error_text(text, size, &error, other, sizeof other, NULL));
+    CHECK(strcmp(out, other) == 0);
+    CHECK(lexicon_suggestion_z(same, &error, out, sizeof out, NULL) == lexicon_suggestion(text, size, &error, other, sizeof other, NULL));
+  }
+  CHECK(lexicon_settle_lines_z(same, out, sizeof out, NULL) == lexicon_settle_lines(text, size, other, sizeof other, NULL));
+  CHECK(strcmp(out, other) == 0);
+  CHECK(lexicon_read_z(dialect, same, &triple, NULL) == lexicon_read(dialect, text, size, &triple, NULL));
+  CHECK(lexicon_stated_versions_z(same, &versions, NULL) == lexicon_stated_versions(text, size, &versions, NULL));
+  CHECK(lexicon_translate_z(dialect, same, 1, to, out, sizeof out, NULL, NULL) == lexicon_translate(dialect, text, size, 1, to, out, sizeof out, NULL, NULL));
+  CHECK(lexicon_translate_reason_z(dialect, same, 1, to) == lexicon_translate_reason(dialect, text, size, 1, to));
+  CHECK(lexicon_reason_z(dialect, same) == lexicon_reason(dialect, text, size));
+  CHECK(lexicon_name_suggestion_z(dialect, same) == lexicon_name_suggestion(dialect, text, size));
+  CHECK(lexicon_changes_z(same, to % 3, &change, out, sizeof out, NULL) == lexicon_changes(text, size, to % 3, &change, other, sizeof other, NULL));
+  CHECK(lexicon_meaning_z(same, to % 3, &number, &triple) == lexicon_meaning(text, size, to % 3, &number, &triple));
+  CHECK(lexicon_number_z(dialect % 7, same, &number) == lexicon_number(dialect % 7, text, size, &number));
+  CHECK(lexicon_dialect_named(same) <= LAST_DIALECT);
+}
+
 int LLVMFuzzerTestOneInput(const uint8_t *data, size_t data_size) {
   struct input input = {data, data_size};
   uint8_t how = take_byte(&input), word = take_byte(&input);
@@ -548,6 +604,7 @@ int LLVMFuzzerTestOneInput(const uint8_t *data, size_t data_size) {
   try_text(text, size);
   try_lines(text, size);
   if (how & 2) try_translations(text, size);
+  try_zero_ended(text, size, how % (LAST_DIALECT + 2u), word % (LAST_DIALECT + 2u));
   struct lexicon_versions versions;
   struct lexicon_triple read;
   memset(&versions, 0xa5, sizeof versions);
@@ -558,6 +615,7 @@ int LLVMFuzzerTestOneInput(const uint8_t *data, size_t data_size) {
   CHECK((status == LEXICON_NO_SUCH_FIELD) == (word % 7 > 4));
   if (status == LEXICON_OK) CHECK(has_name(word % 7, number) || number == LEXICON_VENDOR_CUSTOM);
   has_name(word % 7, how);
+  CHECK((lexicon_status_name(word) == NULL) == (word > LEXICON_NO_SUCH_MEANING) && (lexicon_family_name(word) == NULL) == (word > LEXICON_FAMILY_Z80));
   struct lexicon_error error = {word & 15u, how & 15u, word >> 3};
   try_error(text, size, &error);
   return 0;
