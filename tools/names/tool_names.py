@@ -250,12 +250,15 @@ def spelling_rules(tables, lists):
 NO_SYSTEM = "triples have no system "
 
 
+def all_reasons(tables):
+    reasons = {tables.only_written, *(f"{NO_SYSTEM}{word}" for word in tables.words["system"])}
+    reasons |= {meaning for it in tables.dialects.values() for _, meaning, way in it.rows if way == "NoTriple"}
+    return reasons | {text for _, text in tables.reasons + tables.refusals}
+
+
 def rust_lists(tables):
     dialects = tables.dialects.values()
-    reasons = {tables.only_written, *(f"{NO_SYSTEM}{word}" for word in tables.words["system"])}
-    reasons |= {text for _, text in tables.reasons + tables.refusals} | {meaning for it in dialects for _, meaning, way in it.rows if way == "NoTriple"}
     return {
-        "the reasons for C": [rf'"{reason}\0",' for reason in sorted(reasons)],
         "the reasons": [line for name, text in tables.reasons for line in (f"/// {text[0].upper()}{text[1:]}.", f"{name},")],
         "the texts of reasons": [line for name, text in tables.reasons for line in (f"WriteError::{name} => {{", f'    "{text}"', "}")],
         **lists_of_languages(list(dialects), other_names(tables)),

@@ -24,6 +24,7 @@ mod sources;
 mod text;
 mod triple;
 mod values;
+mod zero_ended;
 
 use core::mem::size_of;
 use core::ptr::{addr_of, null};
