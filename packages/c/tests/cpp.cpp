@@ -43,15 +43,14 @@ static void try_triple() {
   EXPECT(in_hex.str() == "17.2.0 aarch64 0xff");
   EXPECT(ios.endianness() == Endianness::Little && ios.pointer_width() == 64u && ios.data_model() == DataModel::LP64);
   EXPECT(ios.default_calling_convention() == CallingConvention::AppleAarch64 && ios.implied_format() == BinaryFormat::Macho);
-  EXPECT(ios.short_size() == 2u && ios.int_size() == 4u && ios.long_size() == 8u && ios.long_long_size() == 8u);
-  EXPECT(ios.float_size() == 4u && ios.double_size() == 8u && ios.family() == Family::Aarch64);
-  EXPECT(ios.is_like_darwin() && !ios.is_thumb() && !ios.has_custom_vendor() && ios.vendor_name() == "apple");
+  EXPECT(ios.is_like_darwin() && !ios.is_thumb() && !ios.has_custom_vendor() && ios.vendor_name() == "apple" && ios.family() == Family::Aarch64);
   EXPECT(ios.printed() == "aarch64-apple-ios17.2.0" && shown(ios) == ios.printed() && ios.comes_back());
-  Triple none = parsed("thumbv7m-none-eabi");
+  Triple none = parsed("thumbv7m-none-eabi"), avr = parsed("avr"), uefi = parsed("x86_64-unknown-uefi"), windows = parsed("x86_64-pc-windows-msvc");
   EXPECT(none.is_thumb() && none.pointer_width() == 32u && !none.data_model() && none.long_size() == 4u && !none.version());
+  EXPECT(avr.short_size() == 2u && avr.int_size() == 2u && avr.float_size() == 4u && avr.double_size() == 4u && windows.double_size() == 8u);
+  EXPECT(windows.int_size() == 4u && windows.long_size() == 4u && windows.long_long_size() == 8u);
   EXPECT(!Triple().endianness() && Triple().printed() == "unknown-unknown-unknown");
-  EXPECT(parsed("x86_64-unknown-uefi").object_format() == BinaryFormat::Coff);
-  EXPECT(parsed("x86_64-unknown-uefi").implied_format() == BinaryFormat::Elf);
+  EXPECT(uefi.object_format() == BinaryFormat::Coff && uefi.implied_format() == BinaryFormat::Elf);
   Triple esp = parsed("riscv32imc-esp-espidf-elf");
   EXPECT(!esp.comes_back() && esp.settle() != esp && esp.same_target(esp.settle()) && esp.canonical() == "riscv32imc-esp-espidf");
 }
@@ -145,19 +144,10 @@ static void try_explain() {
 }
 
 static void try_lines() {
-  EXPECT(settle_lines("arm64-linux\nfoo\n\nx86_64-acme-linux") == "aarch64-unknown-linux\n\n\nx86_64-acme-linux\n");
-  EXPECT(settle_lines("") == "" && settle_lines({}) == "" && settle_lines("\n") == "\n");
+  EXPECT(settle_lines("arm64-linux\nfoo\n\nx86_64-acme-linux") == "aarch64-unknown-linux\n\n\nx86_64-acme-linux\n" && settle_lines({}).empty());
   std::string text, settled;
   for (int i = 0; i < 1000; i++) text += "arm64\n", settled += "aarch64-unknown-unknown-elf\n";  // no string grows by more
   EXPECT(settle_lines(text) == settled);
-}
-
-// The sample of the repository's README.
-static void try_sample() {
-  std::ostringstream out;
-  auto triple = lexicon::Triple::parse("arm64-apple-ios17");
-  if (triple) out << triple->settle() << ' ' << triple->object_format() << ' ' << *triple->pointer_width();
-  EXPECT(out.str() == "aarch64-apple-ios17.0.0 macho 64");
 }
 
 // What a driver asks.
@@ -218,112 +208,79 @@ static void try_errors() {
   EXPECT(shown(error) == "Unrecognized operating system: linx\n  x86_64-pc-linx\n            ^^^^ did you mean `linux`?");
   EXPECT(!Triple::parse("x86_64-elf-linux", &error) && !error.field() && error.suggestion.empty());
   EXPECT(!Triple::parse("avr-\xff", &error) && error.status == LEXICON_NOT_UTF8 && !error.field() && error.line == "Not UTF-8");
-  EXPECT(!Triple::parse("") && !Triple::parse({}));
+  EXPECT(!Triple::parse({}));
   std::string part(3000, 'x');
   EXPECT(!Triple::parse("avr-pc-linux-" + part, &error) && error.line == "Unrecognized environment: " + part);
 }
 
+// Each value has its name, a number that is no enumerator has none, and nothing else is read in its place.
+template <class Value> static void try_names_of(std::string_view second) {
+  EXPECT(name(static_cast<Value>(1)) == second && shown(static_cast<Value>(1)) == second && name(static_cast<Value>(~0u)).empty());
+  for (std::uint32_t number = 0; number < 70000; number++) EXPECT(name(static_cast<Value>(number)).size() < 20);
+}
+
 static void try_names() {
+  try_names_of<Architecture>("arm");
+  try_names_of<Vendor>("amd");
+  try_names_of<OperatingSystem>("aix");
+  try_names_of<Environment>("amdgiz");
+  try_names_of<BinaryFormat>("elf");
+  try_names_of<Field>("vendor");
+  try_names_of<Family>("arm");
+  try_names_of<Dialect>("debian");
+  try_names_of<Endianness>("little");
+  try_names_of<CallingConvention>("SystemV");
+  try_names_of<DataModel>("LP32");
+  try_names_of<CLibrary>("bionic");
+  try_names_of<FloatAbi>("soft");
+  try_names_of<ArmProfile>("A");
+  try_names_of<Signedness>("signed");
+  try_names_of<LinuxLibc>("glibc");
+  try_names_of<Origin>("given");
   ParseError error;
-  EXPECT(name(Architecture::X86_64) == "x86_64" && name(Vendor::Custom).empty() && shown(OperatingSystem::None_) == "none");
-  EXPECT(shown(Environment::Gnu) == "gnu" && shown(BinaryFormat::Macho) == "macho" && shown(Vendor::Pc) == "pc");
-  EXPECT(shown(Endianness::Big) == "big" && shown(CallingConvention::SystemV) == "SystemV" && shown(DataModel::LLP64) == "LLP64");
-  EXPECT(shown(Family::X86_32) == "x86_32" && name(Family::Z80) == "z80" && dialect_named("go") == Dialect::Go && !dialect_named("podman"));
-  EXPECT(Triple::parse("x86_64-linx") && !Triple::parse_strict("x86_64-linx", &error) && error.part == "linx" && error.suggestion == "linux");
-  EXPECT(Triple::parse_strict("x86_64-pc-linux") == Triple::parse("x86_64-pc-linux") && !Triple::parse_strict("x86_64-acme-linux") && !Triple::parse_strict("x86_64-linx") && !Triple::parse_strict("foo", &error) && error.part == "foo");
+  EXPECT(name(Vendor::Custom).empty() && dialect_named("docker") == Dialect::Oci && !dialect_named("podman") && version().substr(0, 5) == LEXICON_VERSION);
+  EXPECT(!Triple::parse_strict("x86_64-linx", &error) && error.part == "linx" && error.suggestion == "linux" && Triple::parse_strict("avr") == parsed("avr"));
   EXPECT(value_of<Architecture>("arm64") == Architecture::Aarch64 && !value_of<Environment>("linux"));
   EXPECT(value_of<Vendor>("acme") == Vendor::Custom && value_of<OperatingSystem>("ios17") == OperatingSystem::IOS);
-  EXPECT(version().substr(0, 5) == LEXICON_VERSION);
-  EXPECT(shown(CLibrary::Glibc) == "glibc" && shown(CLibrary::Uclibc) == "uclibc" && shown(FloatAbi::Hard) == "hard");
-  EXPECT(shown(Endianness::Little) == "little" && shown(Field::BinaryFormat) == "binary format" && shown(DataModel::ILP64) == "ILP64");
-}
-
-// A number that is no enumerator has no name, and nothing else is read in its place.
-template <class Value> static void try_no_name() {
-  for (std::uint32_t number = 0; number < 70000; number++) {
-    std::string_view found = name(static_cast<Value>(number));
-    EXPECT(found.size() < 20 && found.find('\0') == std::string_view::npos);
-  }
-  EXPECT(name(static_cast<Value>(~0u)).empty());
-}
-
-static void try_no_names() {
-  try_no_name<Architecture>();
-  try_no_name<Vendor>();
-  try_no_name<OperatingSystem>();
-  try_no_name<Environment>();
-  try_no_name<BinaryFormat>();
-  try_no_name<Field>();
-  try_no_name<Dialect>();
-  try_no_name<Endianness>();
-  try_no_name<CallingConvention>();
-  try_no_name<DataModel>();
-  try_no_name<CLibrary>();
-  try_no_name<FloatAbi>();
-  try_no_name<Origin>();
-  try_no_name<CLibrary>();
-  try_no_name<FloatAbi>();
-  try_no_name<LinuxLibc>();
-  ParseError error;
-  EXPECT(!Triple::read("amd64", static_cast<Dialect>(99), &error) && error.status == LEXICON_NO_SUCH_DIALECT);
-  EXPECT(!parsed("x86_64-linux").name_in(static_cast<Dialect>(99)));
-  EXPECT(parsed("aarch64-linux-android").versioned_name_in(Dialect::Python, 21) == "android_21_arm64_v8a");
-  EXPECT(parsed("x86_64-linux-gnu").versioned_name_in(Dialect::Debian, 2, 17) == "amd64");
-  std::string reason;
-  EXPECT(!parsed("x86_64-windows").name_in(Dialect::Rust, &reason) && reason == "it depends on the ABI of Windows: say msvc, mingw or gnullvm");
-  EXPECT(!parsed("x86_64-linux-gnu").versioned_name_in(Dialect::Python, 1, 2, &reason) && reason.find("glibc has 2.x") != std::string::npos);
 }
 
 static void try_dialects() {
   ParseError error;
-  auto mingw = Triple::read("x86_64-w64-mingw32");
-  EXPECT(mingw && mingw->printed() == "x86_64-pc-windows-gnu" && mingw->name_in(Dialect::Node) == "win32-x64-gnu");
+  std::string reason;
   auto arm = Triple::read("linux/arm64", Dialect::Oci);
-  EXPECT(arm && *arm == parsed("aarch64-linux") && arm->name_in(Dialect::Oci) == "linux/arm64" && arm->name_in(Dialect::Debian) == std::nullopt);
-  EXPECT(Triple::read("x86_64-acme-linux")->vendor_name() == "acme" && !Triple::read("linux/arm64"));
-  auto wheel = Triple::read("macosx_11_0_arm64", Dialect::Python);
-  EXPECT(wheel && wheel->printed() == "aarch64-apple-macosx11.0.0" && wheel->name_in(Dialect::Python) == "macosx_11_0_arm64");
+  EXPECT(arm == parsed("aarch64-linux") && arm->name_in(Dialect::Oci) == "linux/arm64" && Triple::read("x86_64-w64-mingw32") == parsed("x86_64-pc-windows-gnu"));
   EXPECT(!Triple::read("linux", Dialect::Go, &error) && error.status == LEXICON_UNKNOWN_NAME && error.part == "linux" && !error.field());
   EXPECT(shown(error) == "Unknown name: linux\n  linux\n  ^^^^^" && error.reason.empty() && error.suggestion.empty());
   EXPECT(!Triple::read("linux/amd46", Dialect::Go, &error) && error.suggestion == "linux/amd64" && error.reason.empty());
   EXPECT(shown(error) == "Unknown name: linux/amd46\n  linux/amd46\n  ^^^^^^^^^^^ did you mean `linux/amd64`?");
-  EXPECT(!Triple::read("plan9/386", Dialect::Go, &error) && error.status == LEXICON_NAME_WITHOUT_TRIPLE);
-  EXPECT(error.reason == "Plan 9 is no known name");
+  EXPECT(!Triple::read("plan9/386", Dialect::Go, &error) && error.status == LEXICON_NAME_WITHOUT_TRIPLE && error.reason == "Plan 9 is no known name");
   EXPECT(shown(error) == "No triple has this name: plan9/386\n  plan9/386\n  ^^^^^^^^^ Plan 9 is no known name");
   EXPECT(!Triple::read("amd64-pc-linx", &error) && error.suggestion == "linux" && error.start == 9 && error.reason.empty());
-  EXPECT(shown(Dialect::Gnu) == "gnu" && shown(Dialect::Python) == "python" && name(Dialect::Debian) == "debian");
+  EXPECT(!Triple::read("amd64", static_cast<Dialect>(99), &error) && error.status == LEXICON_NO_SUCH_DIALECT);
+  EXPECT(!arm->name_in(static_cast<Dialect>(99)) && !arm->name_in(Dialect::Debian, &reason) && reason == "it depends on the C library: say glibc or musl");
+  EXPECT(parsed("aarch64-linux-android").versioned_name_in(Dialect::Python, 21) == "android_21_arm64_v8a");
+  EXPECT(parsed("x86_64-linux-gnu").versioned_name_in(Dialect::Python, 2, 17) == "manylinux_2_17_x86_64");
+  EXPECT(!parsed("x86_64-linux-gnu").versioned_name_in(Dialect::Python, 1, 2, &reason) && reason.find("glibc has 2.x") != std::string::npos);
 }
 
 static void try_translation() {
   ParseError error;
-  EXPECT(parsed("aarch64-linux").completed(LinuxLibc::Glibc) == parsed("aarch64-linux-gnu") && shown(LinuxLibc::Musl) == "musl");
   EXPECT(parsed("armv7-acme-linux").completed(LinuxLibc::Musl).printed() == "armv7-acme-linux-musleabihf");
-  EXPECT(parsed("x86_64-linux-gnu").completed(LinuxLibc::Musl) == parsed("x86_64-linux-gnu"));
   EXPECT(parsed("x86_64-linux").completed(static_cast<LinuxLibc>(9)) == parsed("x86_64-linux"));
   EXPECT(Triple::translate("linux/arm64/v8", Dialect::Oci, Dialect::Rust, LinuxLibc::Glibc) == "aarch64-unknown-linux-gnu");
-  EXPECT(Triple::translate("arm64", Dialect::Debian, Dialect::Oci) == "linux/arm64");
   EXPECT(Triple::translate("x86_64-w64-mingw32", std::nullopt, Dialect::Node) == "win32-x64-gnu");
   EXPECT(!Triple::translate("linux/arm64", Dialect::Oci, Dialect::Debian) && !Triple::translate("linux/arm64", Dialect::Oci, static_cast<Dialect>(99)));
   EXPECT(!Triple::translate("linux/arm64", Dialect::Oci, Dialect::Debian, std::nullopt, &error) && error.status == LEXICON_NEEDS_C_LIBRARY);
   EXPECT(error.line == "No name in the other dialect: linux/arm64" && error.part == "linux/arm64" && !error.field());
   EXPECT(shown(error) == error.line + "\n  linux/arm64\n  ^^^^^^^^^^^ it depends on the C library: say glibc or musl");
-  EXPECT(!Triple::translate("windows/amd64", Dialect::Oci, Dialect::Debian, LinuxLibc::Glibc, &error) && error.status == LEXICON_TRIPLE_WITHOUT_NAME);
-  EXPECT(error.line == "No name in the other dialect: windows/amd64" && error.suggestion.empty());
-  EXPECT(error.reason == "the tool has no name for the system");
   EXPECT(!Triple::translate("linux/amd46", Dialect::Go, Dialect::Oci, std::nullopt, &error) && error.suggestion == "linux/amd64");
-  EXPECT(!Triple::translate("js/wasm", Dialect::Go, Dialect::Oci, std::nullopt, &error) && !error.reason.empty());
   auto found = changes("amd64-unknown-freebsd13.2");
   EXPECT(found.size() == 2 && found[0].part == "amd64" && found[0].names == "x86_64" && found[1].start == 14 && found[1].end == 25);
   EXPECT(found[1].part == "freebsd13.2" && found[1].names == "freebsd" && changes("x86_64-linux").empty() && changes("").empty());
-  EXPECT(changes("x86_64-w64-mingw32").back().names == "windows-gnu");
   auto armhf = Triple::meanings("armhf"), plan9 = Triple::meanings("plan9/amd64"), avr = Triple::meanings("avr-none");
   EXPECT(armhf.size() == 2 && armhf[0].dialect == Dialect::Debian && armhf[1].triple->printed() == "armv6-unknown-linux-musleabihf");
   EXPECT(plan9.size() == 1 && !plan9[0].triple && plan9[0].dialect == Dialect::Go && plan9[0].reason == "Plan 9 is no known name");
   EXPECT(!avr.front().dialect && avr.front().triple == Triple::parse("avr-none") && avr.front().reason.empty() && Triple::meanings("foo/bar").empty());
-  auto android = parsed("armv7-linux-androideabi"), i686 = parsed("i686-linux-gnu");
-  EXPECT(android.c_library() == CLibrary::Bionic && android.float_abi() == FloatAbi::Soft && android.is_unix() && shown(CLibrary::Bionic) == "bionic");
-  EXPECT(i686.long_double() == (TypeLayout{12, 4}) && i686.wchar() == (TypeLayout{4, 4}) && shown(FloatAbi::Hard) == "hard");
-  EXPECT(!parsed("avr").c_library() && !parsed("unknown").wchar() && !parsed("x86_64-pc-windows-msvc").is_unix());
 }
 
 int main() {
@@ -333,13 +290,11 @@ int main() {
   try_changes();
   try_explain();
   try_lines();
-  try_sample();
   try_driver();
   try_ownership();
   try_containers();
   try_errors();
   try_names();
-  try_no_names();
   try_dialects();
   try_translation();
   std::cerr << "cpp: " << failures << " wrong\n";

@@ -211,7 +211,7 @@ static void try_triple(const struct lexicon_triple *triple) {
   CHECK(are_equal(&again, triple) == comes_back);
   size_t settled_length = printed(&settled, 3, &settled_text);
   CHECK(lexicon_parse(settled_text, settled_length, &again, &error) == LEXICON_OK && are_equal(&again, &settled));
-  CHECK(lexicon_facts(triple, &facts, sizeof facts) == LEXICON_OK && lexicon_facts(&settled, &same_facts, sizeof same_facts) == LEXICON_OK);
+  CHECK(lexicon_all_facts(triple, &facts) == LEXICON_OK && lexicon_all_facts(&settled, &same_facts) == LEXICON_OK);
   CHECK(facts.endianness == same_facts.endianness && facts.pointer_width == same_facts.pointer_width);
   CHECK(facts.data_model == same_facts.data_model && facts.default_calling_convention == same_facts.default_calling_convention);
   CHECK(facts.short_size == (facts.data_model || facts.int_size ? 2 : 0) && facts.pointer_width % 16 == 0);
@@ -592,7 +592,7 @@ static void try_zero_ended(const char *text, size_t size, uint32_t dialect, uint
   CHECK(lexicon_changes_z(same, to % 3, &change, out, sizeof out, NULL) == lexicon_changes(text, size, to % 3, &change, other, sizeof other, NULL));
   CHECK(lexicon_meaning_z(same, to % 3, &number, &triple) == lexicon_meaning(text, size, to % 3, &number, &triple));
   CHECK(lexicon_number_z(dialect % 7, same, &number) == lexicon_number(dialect % 7, text, size, &number));
-  CHECK(lexicon_dialect_named(same) <= LAST_DIALECT);
+  CHECK((uint32_t)lexicon_dialect_named(same) <= LAST_DIALECT);
 }
 
 int LLVMFuzzerTestOneInput(const uint8_t *data, size_t data_size) {
@@ -627,7 +627,7 @@ int main(void) {
   unsigned count = 0;
   line[0] = line[1] = 0;
   while (fgets(line + 2, sizeof line - 2, stdin) != NULL) {
-    line[0] = count % 16 ? 0 : 2; /* each 16th is translated, which takes long */
+    line[0] = count % 16 ? count % 5 == 0 : 2; /* each 16th is translated, which takes long, and some are structs too */
     line[1] = (char)count++;
     LLVMFuzzerTestOneInput((const uint8_t *)line, 2 + strcspn(line + 2, "\n"));
   }
