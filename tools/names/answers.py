@@ -3,7 +3,7 @@ import re
 from dataclasses import dataclass
 
 import facts
-from names_table import Mistake, columns
+from names_table import Mistake, columns, filled
 
 PATH = "tools/names/answers.tsv"
 ENUMS = {"endianness": "Endianness", "calling_convention": "CallingConvention", "data_model": "DataModel", "c_library": "CLibrary",
@@ -59,7 +59,7 @@ def lists(answers):
         comments = [f" /* {it.about.rstrip('.')} */" * bool(it.about) for it in answers[kind]]
         found |= {
             f"the answers of {kind} for C": [f"{prefix}{it.constant} = {it.number},{comment}" for it, comment in zip(answers[kind], comments)],
-            f"the answers of {kind} for C++": [f"{it.variant} = {prefix}{it.constant}," for it in answers[kind]],
+            f"the answers of {kind} for C++": filled([f"{it.variant} = {it.number}," for it in answers[kind]], " "),
         }
         if kind != "linux_libc":
             found[f"the answers of {kind} for TypeScript"] = [f"export type {of} = {' | '.join(quoted(kind, answers))};"]

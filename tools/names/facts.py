@@ -111,7 +111,7 @@ def lists(facts):
     found = {
         "the facts for C": [f"{'bool' if it.type == 'bool' else 'uint8_t'} {it.name}; {it.c_about}" for it in by_groups],
         "the size of the facts": [f"const FACT_COUNT: usize = {len(facts)};"],
-        "the facts for C++": [line for it in facts if it.name != KNOWN for line in (f"// {it.about.replace('`', '')}", it.cpp)],
+        "the facts for C++": [it.cpp for it in facts if it.name != KNOWN],
         "the facts for the command": [f'("{it.name}", {it.json}),' for it in facts],
         "the names of facts for Python": filled([f'"{it.name}",' for it in by_groups], " "),
         "the size of the facts for JavaScript": [f"const FACTS_SIZE = {len(facts)};"],
@@ -153,8 +153,5 @@ def lists_of_reasons(reasons):
 
 def members(facts):
     """The members of a group in Rust, of which one that has several answers comes once."""
-    lines = {}
-    for it in facts:
-        name, of = (it.part[0], PARTS[it.part[0]]) if it.part else (it.name, "bool" if it.type == "bool" else "u8")
-        lines.setdefault(name, [f"/// {it.about}", f"pub {name}: {of},"])
-    return [line for member in lines.values() for line in member]
+    types = dict((it.part[0], PARTS[it.part[0]]) if it.part else (it.name, "bool" if it.type == "bool" else "u8") for it in facts)
+    return [f"pub {name}: {of}," for name, of in types.items()]

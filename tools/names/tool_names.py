@@ -272,7 +272,7 @@ def lists_of_languages(dialects, others):
     return {
         "the dialects for C": [f"LEXICON_DIALECT_{it.constant} = {number}, /* {it.about.rstrip('.').replace('`', '')} */" for number, it in enumerate(dialects, 1)],
         "the last dialect": [f"enum {{ LAST_DIALECT = {len(dialects)} }};"],
-        "the dialects for C++": [f"{it.variant} = LEXICON_DIALECT_{it.constant}," for it in dialects],
+        "the dialects for C++": filled([f"{it.variant} = {number}," for number, it in enumerate(dialects, 1)], " "),
         "the dialects' names for C": [f"{names},"],
         "the other names of dialects for C": [f'if (strcmp(name, "{name}") == 0) return LEXICON_DIALECT_{it.constant};' for name, it in others],
         "the dialects that are only read": ["fn is_only_read(dialect: Dialect) -> bool {",

@@ -101,95 +101,58 @@ enum class Family : std::uint8_t {
 // The tools whose names of targets are read and written.
 enum class Dialect : std::uint8_t {
   // written by tools/names/write: the dialects for C++
-  Debian = LEXICON_DIALECT_DEBIAN,
-  Go = LEXICON_DIALECT_GO,
-  Oci = LEXICON_DIALECT_OCI,
-  Node = LEXICON_DIALECT_NODE,
-  Gnu = LEXICON_DIALECT_GNU,
-  Python = LEXICON_DIALECT_PYTHON,
-  Rust = LEXICON_DIALECT_RUST,
-  Uname = LEXICON_DIALECT_UNAME,
-  Rpm = LEXICON_DIALECT_RPM,
-  Apk = LEXICON_DIALECT_APK,
-  Pacman = LEXICON_DIALECT_PACMAN,
-  Dotnet = LEXICON_DIALECT_DOTNET,
-  Conda = LEXICON_DIALECT_CONDA,
-  Zig = LEXICON_DIALECT_ZIG,
-  Nix = LEXICON_DIALECT_NIX,
+  Debian = 1, Go = 2, Oci = 3, Node = 4, Gnu = 5, Python = 6, Rust = 7, Uname = 8, Rpm = 9, Apk = 10, Pacman = 11,
+  Dotnet = 12, Conda = 13, Zig = 14, Nix = 15,
   // end of what is written
 };
 
 enum class Endianness : std::uint8_t {
   // written by tools/names/write: the answers of endianness for C++
-  Little = LEXICON_ENDIANNESS_LITTLE,
-  Big = LEXICON_ENDIANNESS_BIG,
+  Little = 1, Big = 2,
   // end of what is written
 };
 enum class CallingConvention : std::uint8_t {
   // written by tools/names/write: the answers of calling_convention for C++
-  SystemV = LEXICON_CALLING_CONVENTION_SYSTEM_V,
-  WasmBasicCAbi = LEXICON_CALLING_CONVENTION_WASM_BASIC_C_ABI,
-  WindowsFastcall = LEXICON_CALLING_CONVENTION_WINDOWS_FASTCALL,
-  AppleAarch64 = LEXICON_CALLING_CONVENTION_APPLE_AARCH64,
+  SystemV = 1, WasmBasicCAbi = 2, WindowsFastcall = 3, AppleAarch64 = 4,
   // end of what is written
 };
 enum class DataModel : std::uint8_t {
   // written by tools/names/write: the answers of data_model for C++
-  LP32 = LEXICON_DATA_MODEL_LP32,
-  ILP32 = LEXICON_DATA_MODEL_ILP32,
-  LLP64 = LEXICON_DATA_MODEL_LLP64,
-  LP64 = LEXICON_DATA_MODEL_LP64,
-  ILP64 = LEXICON_DATA_MODEL_ILP64,
+  LP32 = 1, ILP32 = 2, LLP64 = 3, LP64 = 4, ILP64 = 5,
   // end of what is written
 };
 
 // The C library that a triple states. System is the system's own, which no other system has.
 enum class CLibrary : std::uint8_t {
   // written by tools/names/write: the answers of c_library for C++
-  Bionic = LEXICON_C_LIBRARY_BIONIC,
-  Glibc = LEXICON_C_LIBRARY_GLIBC,
-  Mingw = LEXICON_C_LIBRARY_MINGW,
-  Msvc = LEXICON_C_LIBRARY_MSVC,
-  Musl = LEXICON_C_LIBRARY_MUSL,
-  Newlib = LEXICON_C_LIBRARY_NEWLIB,
-  Relibc = LEXICON_C_LIBRARY_RELIBC,
-  System = LEXICON_C_LIBRARY_SYSTEM,
-  Uclibc = LEXICON_C_LIBRARY_UCLIBC,
+  Bionic = 1, Glibc = 2, Mingw = 3, Msvc = 4, Musl = 5, Newlib = 6, Relibc = 7, System = 8, Uclibc = 9,
   // end of what is written
 };
 // How floating-point arguments are passed: in integer registers, or in floating-point registers.
 enum class FloatAbi : std::uint8_t {
   // written by tools/names/write: the answers of float_abi for C++
-  Soft = LEXICON_FLOAT_ABI_SOFT,
-  Hard = LEXICON_FLOAT_ABI_HARD,
+  Soft = 1, Hard = 2,
   // end of what is written
 };
 
 // The profile of a 32-bit Arm architecture: for what its processors are made.
 enum class ArmProfile : std::uint8_t {
   // written by tools/names/write: the answers of arm_profile for C++
-  Application = LEXICON_ARM_PROFILE_APPLICATION,
-  RealTime = LEXICON_ARM_PROFILE_REAL_TIME,
-  Microcontroller = LEXICON_ARM_PROFILE_MICROCONTROLLER,
+  Application = 1, RealTime = 2, Microcontroller = 3,
   // end of what is written
 };
 
 // Whether C's char has a sign.
 enum class Signedness : std::uint8_t {
   // written by tools/names/write: the answers of signedness for C++
-  Signed = LEXICON_SIGNEDNESS_SIGNED,
-  Unsigned = LEXICON_SIGNEDNESS_UNSIGNED,
+  Signed = 1, Unsigned = 2,
   // end of what is written
 };
 
 // A C library of Linux, which the caller says where a name doesn't state it.
 enum class LinuxLibc : std::uint8_t {
   // written by tools/names/write: the answers of linux_libc for C++
-  Glibc = LEXICON_LINUX_LIBC_GLIBC,
-  Musl = LEXICON_LINUX_LIBC_MUSL,
-  Msvc = LEXICON_LINUX_LIBC_MSVC,
-  Mingw = LEXICON_LINUX_LIBC_MINGW,
-  Gnullvm = LEXICON_LINUX_LIBC_GNULLVM,
+  Glibc = 1, Musl = 2, Msvc = 3, Mingw = 4, Gnullvm = 5,
   // end of what is written
 };
 
@@ -478,12 +441,7 @@ class Triple {
   // The name of the vendor, also of a custom one. It stays as long as the triple.
   std::string_view vendor_name() const { return has_custom_vendor() ? std::string_view(custom_vendor_) : name(vendor()); }
   // The name that may have been meant by a custom vendor; empty if there is none.
-  std::string vendor_suggestion() const {
-    lexicon_triple triple = c_triple();
-    return detail::written([&](char* out, std::size_t size, std::size_t* length) {
-      return lexicon_vendor_suggestion(&triple, out, size, length);
-    });
-  }
+  std::string vendor_suggestion() const { return text(lexicon_vendor_suggestion); }
   std::optional<Version> version() const {
     if (!numbers_.has_version) return std::nullopt;
     return Version{numbers_.major, numbers_.minor, numbers_.patch};
@@ -493,61 +451,34 @@ class Triple {
   // The oldest version of one of Apple's systems that rustc builds programs for, unless it is asked for another one.
   std::optional<Version> minimum_os_version() const { return version_by(lexicon_minimum_os_version); }
 
-  // What a compiler and its driver ask. Sizes of C's types are in bytes.
+  // What a compiler and its driver ask, as struct lexicon_triple_facts says of each. Sizes of C's types are in bytes.
   // written by tools/names/write: the facts for C++
-  // The byte order.
   std::optional<Endianness> endianness() const { return detail::answer<Endianness>(queries().endianness); }
-  // The bits of a pointer. They may be known where there is no data model, and the environment gnux32 counts.
   std::optional<unsigned> pointer_width() const { return detail::answer<unsigned>(queries().pointer_width); }
-  // The default calling convention of C.
   std::optional<CallingConvention> default_calling_convention() const { return detail::answer<CallingConvention>(queries().default_calling_convention); }
-  // The data model of C. Sizes of C's types may be known without one.
   std::optional<DataModel> data_model() const { return detail::answer<DataModel>(queries().data_model); }
-  // The bytes of C's short.
   std::optional<unsigned> short_size() const { return detail::answer<unsigned>(queries().short_size); }
-  // The bytes of C's int.
   std::optional<unsigned> int_size() const { return detail::answer<unsigned>(queries().int_size); }
-  // The bytes of C's long. On bare metal and Cygwin, which have no data model, the sizes are those of the compilers.
   std::optional<unsigned> long_size() const { return detail::answer<unsigned>(queries().long_size); }
-  // The bytes of C's long long.
   std::optional<unsigned> long_long_size() const { return detail::answer<unsigned>(queries().long_long_size); }
-  // The bytes of C's float.
   std::optional<unsigned> float_size() const { return detail::answer<unsigned>(queries().float_size); }
-  // The bytes of C's double.
   std::optional<unsigned> double_size() const { return detail::answer<unsigned>(queries().double_size); }
-  // The binary format that the other fields imply, as upstream has it: ELF for UEFI.
   BinaryFormat implied_format() const { return static_cast<BinaryFormat>(formats().implied_format); }
-  // The format that toolchains write, where the triple leaves it open: COFF for UEFI. It gives the linker.
   BinaryFormat object_format() const { return static_cast<BinaryFormat>(formats().object_format); }
-  // The family of the architecture: all of 32-bit Arm, Thumb too, is arm; AArch64 is its own.
   Family family() const { return static_cast<Family>(formats().family); }
-  // Whether the architecture is one of 32-bit Arm whose name begins with thumb.
   bool is_thumb() const { return queries().is_thumb; }
-  // Whether the system is one of Apple's. Only these may have a version.
   bool is_like_darwin() const { return queries().is_like_darwin; }
-  // The C library that the triple states, by its environment or by a system that has only one.
   std::optional<CLibrary> c_library() const { return detail::answer<CLibrary>(facts().c_library); }
-  // How floating-point arguments are passed: known for 32-bit Arm, and where the triple says softfloat.
   std::optional<FloatAbi> float_abi() const { return detail::answer<FloatAbi>(facts().float_abi); }
-  // Whether rustc counts the system to its family unix.
   bool is_unix() const { return facts().is_unix; }
-  // The bytes of C's long double.
   std::optional<unsigned> long_double_size() const { return detail::answer<unsigned>(facts().long_double_size); }
-  // The alignment of C's long double in bytes.
   std::optional<unsigned> long_double_alignment() const { return detail::answer<unsigned>(facts().long_double_alignment); }
-  // The bytes of C's wchar_t.
   std::optional<unsigned> wchar_size() const { return detail::answer<unsigned>(facts().wchar_size); }
-  // The alignment of C's wchar_t in bytes.
   std::optional<unsigned> wchar_alignment() const { return detail::answer<unsigned>(facts().wchar_alignment); }
-  // The version of a 32-bit Arm architecture.
   std::optional<unsigned> arm_version() const { return detail::answer<unsigned>(facts().arm_version); }
-  // The profile of a 32-bit Arm architecture, where its name states one.
   std::optional<ArmProfile> arm_profile() const { return detail::answer<ArmProfile>(facts().arm_profile); }
-  // Whether C's char has a sign, as clang has it.
   std::optional<Signedness> char_signedness() const { return detail::answer<Signedness>(facts().char_signedness); }
-  // Whether LLVM emulates thread-local storage: on OpenBSD, Cygwin, OpenHarmony, and Android before API level 29.
   bool has_emulated_tls() const { return facts().has_emulated_tls; }
-  // Whether the object format has COMDAT sections.
   bool has_comdat() const { return facts().has_comdat; }
   // end of what is written
   bool has_custom_vendor() const { return !custom_vendor_.empty(); }
@@ -751,15 +682,12 @@ class Triple {
     error.start = found.start;
     error.end = found.end;
     error.part = std::string(text.substr(found.start, found.end - found.start));
-    error.line = detail::written([&](char* out, std::size_t size, std::size_t* length) {
-      return lexicon_error_line(text.data(), text.size(), &found, out, size, length);
-    });
-    error.text = detail::written([&](char* out, std::size_t size, std::size_t* length) {
-      return lexicon_error_text(text.data(), text.size(), &found, out, size, length);
-    });
-    error.suggestion = detail::written([&](char* out, std::size_t size, std::size_t* length) {
-      return lexicon_suggestion(text.data(), text.size(), &found, out, size, length);
-    });
+    auto written_by = [&](auto call) {
+      return detail::written([&](char* out, std::size_t size, std::size_t* length) { return call(text.data(), text.size(), &found, out, size, length); });
+    };
+    error.line = written_by(lexicon_error_line);
+    error.text = written_by(lexicon_error_text);
+    error.suggestion = written_by(lexicon_suggestion);
     return error;
   }
 

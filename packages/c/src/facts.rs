@@ -21,21 +21,13 @@ pub struct TypeSizes {
 #[derive(Clone, Copy)]
 pub struct QueryFacts {
     // written by tools/names/write: the facts of queries for the library
-    /// The byte order.
     pub endianness: u8,
-    /// The bits of a pointer. They may be known where there is no data model, and the environment `gnux32` counts.
     pub pointer_width: u8,
-    /// The default calling convention of C.
     pub default_calling_convention: u8,
-    /// The data model of C. Sizes of C's types may be known without one.
     pub data_model: u8,
-    /// The bytes of C's `short`.
     pub sizes: TypeSizes,
-    /// Whether the architecture is one of 32-bit Arm whose name begins with `thumb`.
     pub is_thumb: bool,
-    /// Whether the system is one of Apple's. Only these may have a version.
     pub is_like_darwin: bool,
-    /// Whether the vendor is a custom one.
     pub has_custom_vendor: bool,
     // end of what is written
 }
@@ -45,11 +37,8 @@ pub struct QueryFacts {
 #[derive(Clone, Copy)]
 pub struct FormatFacts {
     // written by tools/names/write: the facts of formats for the library
-    /// The binary format that the other fields imply, as upstream has it: ELF for UEFI.
     pub implied_format: u8,
-    /// The format that toolchains write, where the triple leaves it open: COFF for UEFI. It gives the linker.
     pub object_format: u8,
-    /// The family of the architecture: all of 32-bit Arm, Thumb too, is `arm`; AArch64 is its own.
     pub family: u8,
     // end of what is written
 }
@@ -67,25 +56,15 @@ pub struct LayoutNumbers {
 #[derive(Clone, Copy)]
 pub struct DriverFacts {
     // written by tools/names/write: the facts of driver for the library
-    /// The C library that the triple states, by its environment or by a system that has only one.
     pub c_library: u8,
-    /// How floating-point arguments are passed: known for 32-bit Arm, and where the triple says `softfloat`.
     pub float_abi: u8,
-    /// Whether rustc counts the system to its family `unix`.
     pub is_unix: bool,
-    /// The bytes of C's `long double`.
     pub long_double: LayoutNumbers,
-    /// The bytes of C's `wchar_t`.
     pub wchar: LayoutNumbers,
-    /// The version of a 32-bit Arm architecture.
     pub arm_version: u8,
-    /// The profile of a 32-bit Arm architecture, where its name states one.
     pub arm_profile: u8,
-    /// Whether C's `char` has a sign, as clang has it.
     pub char_signedness: u8,
-    /// Whether LLVM emulates thread-local storage: on OpenBSD, Cygwin, OpenHarmony, and Android before API level 29.
     pub has_emulated_tls: bool,
-    /// Whether the object format has COMDAT sections.
     pub has_comdat: bool,
     // end of what is written
 }

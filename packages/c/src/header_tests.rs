@@ -1,5 +1,4 @@
 //! The numbers of target_lexicon.h and target_lexicon.hpp are the library's.
-use crate::error::expected_at;
 use crate::facts::Facts;
 use crate::triple::{NumberedTriple, TripleNumbers};
 use crate::values::{architecture_at, c_library_at, dialect_at, environment_at, field_at, name_at, operating_system_at};
@@ -61,6 +60,27 @@ fn the_dialects_are_those_of_the_library() {
     assert_eq!(names("LEXICON_DIALECT_")[1..], dialects[1..]);
     for (number, name) in (0..).zip(dialects) {
         assert_eq!(found[&number], name.to_uppercase());
+    }
+}
+
+/// The numbers of target_lexicon.hpp that are none of a field's or family's are those of target_lexicon.h.
+#[test]
+fn the_enumerators_of_both_headers_are_the_same() {
+    for (prefix, cpp) in [
+        ("DIALECT", "Dialect"),
+        ("LINUX_LIBC", "LinuxLibc"),
+        ("ENDIANNESS", "Endianness"),
+        ("CALLING_CONVENTION", "CallingConvention"),
+        ("DATA_MODEL", "DataModel"),
+        ("C_LIBRARY", "CLibrary"),
+        ("FLOAT_ABI", "FloatAbi"),
+        ("ARM_PROFILE", "ArmProfile"),
+        ("SIGNEDNESS", "Signedness"),
+    ] {
+        let mut found = enumerators(HEADER, &format!("LEXICON_{prefix}_"));
+        assert_eq!(found.remove(&0).as_deref(), Some("NONE"));
+        let letters = |of: BTreeMap<u32, String>| of.into_iter().map(|(number, it)| (number, it.replace('_', "").to_uppercase())).collect::<Vec<_>>();
+        assert_eq!(letters(found), letters(cpp_enumerators(cpp)));
     }
 }
 
@@ -161,24 +181,6 @@ fn the_answers_for_a_driver_are_those_of_the_library() {
     assert_eq!(said, found);
 }
 
-#[test]
-fn the_statuses_are_those_of_the_calls() {
-    let (_, after) = HEADER.split_once("enum lexicon_status {").expect("the statuses");
-    let found = enumerators(after.split_once("};").expect("an end").0, "LEXICON_");
-    let declared = include_str!("lib.rs").lines().filter_map(|line| {
-        let (name, number) = line.strip_prefix("const ")?.strip_suffix(';')?.split_once(": Status = ")?;
-        Some((number.parse().expect(name), name.to_string()))
-    });
-    let mut statuses: BTreeMap<u32, String> = declared.collect();
-    for (status, (field, _)) in (1..).zip(FIELDS) {
-        assert_eq!(expected_at(status).map(|it| it == field_at(status - 1)), Some(true));
-        statuses.insert(status, format!("UNRECOGNIZED_{field}"));
-    }
-    assert_eq!(expected_at(6).map(|it| it.is_none()), Some(true));
-    statuses.insert(6, "UNRECOGNIZED_FIELD".to_string());
-    assert_eq!(found, statuses);
-}
-
 /// A call may be given null for a text, a buffer, `length` and `error`, and for no other pointer.
 #[test]
 fn the_pointers_that_may_not_be_null_are_marked() {
@@ -205,63 +207,4 @@ fn the_pointers_that_may_not_be_null_are_marked() {
 /// The text without its comments.
 fn uncommented(text: &str) -> String {
     text.split("/*").map(|it| it.split_once("*/").map_or(it, |(_, after)| after)).collect()
-}
-
-const TYPES: [(&str, &str); 7] = [
-    ("uint8_t", "u8"),
-    ("uint16_t", "u16"),
-    ("uint32_t", "u32"),
-    ("size_t", "usize"),
-    ("bool", "bool"),
-    ("const char *", "*const u8"),
-    ("struct lexicon_source", "FieldSource"),
-];
-
-/// The members of a struct of target_lexicon.h, each as its type in Rust and its name.
-fn members(name: &str) -> Vec<(String, String)> {
-    let (_, after) = HEADER.split_once(&format!("struct {name} {{")).expect(name);
-    let listed = after.split_once("\n};").expect("an end").0;
-    let listed = uncommented(listed);
-    let declared = listed.split(';').map(str::trim).filter(|it| !it.is_empty());
-    declared
-        .flat_map(|it| {
-            let (names, of) = TYPES.iter().find_map(|(c, rust)| Some((it.strip_prefix(c)?, rust))).expect(it);
-            names.split(',').map(|name| (of.to_string(), name.trim().to_string())).collect::<Vec<_>>()
-        })
-        .collect()
-}
-
-/// The fields of a struct in a source of Rust, likewise.
-fn fields(source: &str, name: &str) -> Vec<(String, String)> {
-    let (_, after) = source.split_once(&format!("pub struct {name} {{")).expect(name);
-    let lines = after.split_once("\n}").expect("an end").0.lines().map(str::trim);
-    let declared = lines.filter_map(|line| line.trim_start_matches("pub ").strip_suffix(',')?.split_once(": "));
-    declared.map(|(name, of)| (of.to_string(), name.to_string())).collect()
-}
-
-/// The fields of a struct, where one of them is the fields of another struct, with these names.
-fn flattened(fields: Vec<(String, String)>, inner: &str, of: &[(String, String)]) -> Vec<(String, String)> {
-    fields.into_iter().flat_map(|it| if it.0 == inner { of.to_vec() } else { vec![it] }).collect()
-}
-
-#[test]
-fn the_structs_are_those_of_the_library() {
-    let (triple, facts) = (include_str!("triple.rs"), include_str!("facts.rs"));
-    let (error, sources) = (include_str!("error.rs"), include_str!("sources.rs"));
-    let library = include_str!("lib.rs");
-    let numbers = fields(triple, "TripleNumbers");
-    assert_eq!(members("lexicon_triple"), flattened(fields(library, "Triple"), "TripleNumbers", &numbers));
-    let sizes: Vec<_> = fields(facts, "TypeSizes").into_iter().map(|(of, name)| (of, name + "_size")).collect();
-    let groups = fields(facts, "Facts").into_iter().flat_map(|(of, _)| flattened(fields(facts, &of), "TypeSizes", &sizes));
-    let layout = |it: (String, String)| match &*it.0 {
-        "LayoutNumbers" => fields(facts, "LayoutNumbers").into_iter().map(|(of, name)| (of, format!("{}_{name}", it.1))).collect(),
-        _ => vec![it],
-    };
-    assert_eq!(members("lexicon_triple_facts"), groups.flat_map(layout).collect::<Vec<_>>());
-    assert_eq!(members("lexicon_change"), fields(library, "Change"));
-    assert_eq!(members("lexicon_stated_version"), fields(library, "StatedVersion"));
-    assert_eq!(members("lexicon_error"), fields(error, "TextError"));
-    assert_eq!(members("lexicon_source"), fields(sources, "FieldSource"));
-    assert_eq!(members("lexicon_sources"), fields(sources, "FieldSources"));
-    assert_eq!((numbers.len(), sizes.len(), members("lexicon_sources").len()), (9, 6, 5));
 }

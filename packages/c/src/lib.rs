@@ -234,15 +234,16 @@ unsafe fn answer<T>(to: *mut T, answer: Result<impl Into<T>, impl Into<Status>>)
     }
 }
 
-/// Writes what parsing gives. The error is written if the caller wants it.
+/// Writes an answer, or the error if the caller wants it.
 #[inline(always)]
-unsafe fn parsed(result: Result<TripleRef<'_>, TextError>, triple: *mut Triple, error: *mut TextError) -> Status {
-    // SAFETY: the caller's variables.
-    match result {
-        Ok(it) => unsafe {
-            triple.write(it.into());
+unsafe fn answer_or_error<T>(to: *mut T, answer: Result<impl Into<T>, TextError>, error: *mut TextError) -> Status {
+    match answer {
+        Ok(it) => {
+            // SAFETY: the caller's variable.
+            unsafe { to.write(it.into()) }
             OK
-        },
+        }
+        // SAFETY: likewise.
         Err(it) => unsafe { refused(it, error) },
     }
 }
@@ -269,7 +270,7 @@ fn not_utf8(bytes: &[u8], error: str::Utf8Error) -> TextError {
 
 #[no_mangle]
 pub unsafe extern "C" fn lexicon_parse(text: *const u8, text_size: usize, triple: *mut Triple, error: *mut TextError) -> Status {
-    unsafe { parsed(text_at(text, text_size).and_then(|text| Ok(TripleRef::from_str(text)?)), triple, error) }
+    unsafe { answer_or_error(triple, text_at(text, text_size).and_then(|text| Ok(TripleRef::from_str(text)?)), error) }
 }
 
 #[no_mangle]
@@ -283,7 +284,7 @@ pub unsafe extern "C" fn lexicon_explain(
     let explained = unsafe { text_at(text, text_size) }.map(TripleRef::explain);
     unsafe {
         sources.write(explained.map_or(FieldSources::default(), |it| it.sources.into()));
-        parsed(explained.and_then(|it| Ok(it.triple?)), triple, error)
+        answer_or_error(triple, explained.and_then(|it| Ok(it.triple?)), error)
     }
 }
 
@@ -481,7 +482,7 @@ pub unsafe extern "C" fn lexicon_read(
         let dialect = dialect_at(dialect).ok_or(TextError::without_part(NO_SUCH_DIALECT))?;
         meant(dialect, text_of(bytes)?)
     };
-    unsafe { parsed(find(), triple, error) }
+    unsafe { answer_or_error(triple, find(), error) }
 }
 
 /// The triple that a name of a dialect means, or a string that is spelled like a triple.
@@ -499,13 +500,7 @@ pub unsafe extern "C" fn lexicon_stated_versions(
     versions: *mut StatedVersions,
     error: *mut TextError,
 ) -> Status {
-    match unsafe { text_at(text, text_size) }.and_then(|text| Ok(target_names::stated_versions(text)?)) {
-        Ok(found) => unsafe {
-            versions.write(found.into());
-            OK
-        },
-        Err(it) => unsafe { refused(it, error) },
-    }
+    unsafe { answer_or_error(versions, text_at(text, text_size).and_then(|text| Ok(target_names::stated_versions(text)?)), error) }
 }
 
 #[no_mangle]
