@@ -17,14 +17,14 @@
 
    A string goes in as a pointer and a size. It needs no zero byte at its end, and need not be UTF-8. For strings that end in a
    zero byte there are calls without a size, whose names end in _z. A string comes out into the caller's buffer, with a zero byte
-   after it. `length` may be null; otherwise *length becomes the length of the whole
-   string without the zero byte, even if the buffer is too small for it.
+   after it, and *length becomes the length of the whole string without that byte, even if the buffer is too small. Such a buffer
+   is unchanged, except where a call says otherwise.
 
    A string or a buffer of size 0 may be null, as with snprintf, and so may `length` and `error`; no other pointer may. What a
-   call writes may not overlap any other argument, and no other byte is changed: of a buffer, only the string and its zero byte
-   are written. No memory has more than PTRDIFF_MAX bytes, so a larger size is a mistake: the status is LEXICON_TOO_LARGE
-   whatever else is wrong, or the returned string is null. No call allocates, waits, or stops the program, and nothing is kept
-   or shared between calls. So threads and signal handlers may make calls at any time.
+   call writes may not overlap any other argument, and no other byte is changed. No memory has more than PTRDIFF_MAX bytes, so a
+   larger size is a mistake: the status is LEXICON_TOO_LARGE whatever else is wrong, or the returned string is null. No call
+   allocates, waits, or stops the program, and nothing is kept or shared between calls. So threads and signal handlers may make
+   calls at any time.
 
    Most calls return a status. Except where a call says otherwise, it writes nothing if the status is not LEXICON_OK. A struct
    with a number that names no value gives LEXICON_NO_SUCH_VALUE, and one with a custom vendor that no string parses as gives
@@ -564,7 +564,7 @@ LEXICON_CHECKED LEXICON_NONNULL(3, 4)
 enum lexicon_status lexicon_explain(const char *text, size_t text_size, struct lexicon_triple *triple,
                                     struct lexicon_sources *sources, struct lexicon_error *error);
 
-/* Prints a triple: wasm32-unknown-wasi prints as wasm32-wasi. A buffer that is too small is unchanged. */
+/* Prints a triple: wasm32-unknown-wasi prints as wasm32-wasi. */
 LEXICON_CHECKED LEXICON_NONNULL(1)
 enum lexicon_status lexicon_print(const struct lexicon_triple *triple, char *out, size_t out_size, size_t *length);
 
@@ -596,21 +596,19 @@ enum lexicon_status lexicon_same_target(const struct lexicon_triple *first, cons
 LEXICON_CHECKED LEXICON_NONNULL(1, 2)
 enum lexicon_status lexicon_facts(const struct lexicon_triple *triple, struct lexicon_triple_facts *facts, size_t facts_size);
 
-/* What rustc --print cfg writes of the target's cfg options: a line for each, such as target_os="linux" or unix. A buffer that is too
-   small is unchanged. */
+/* What rustc --print cfg writes of the target's cfg options: a line for each, such as target_os="linux" or unix. */
 LEXICON_CHECKED LEXICON_NONNULL(1)
 enum lexicon_status lexicon_rustc_cfg(const struct lexicon_triple *triple, char *out, size_t out_size, size_t *length);
 
-/* The string that LLVM and clang take for the target, which is rustc's llvm-target for each of its targets that parses: arm64-apple-macosx for
-   aarch64-apple-darwin, x86_64-apple-macosx13.0.0 for x86_64-apple-darwin22. It has the versions that a triple has, those of Apple's
-   systems: lexicon_stated_versions gives the others of a string. A buffer that is too small is unchanged. */
+/* The string that LLVM and clang take for the target, which is rustc's llvm-target for each of its targets that parses:
+   arm64-apple-macosx for aarch64-apple-darwin, x86_64-apple-macosx13.0.0 for x86_64-apple-darwin22. It has the versions that
+   a triple has, those of Apple's systems: lexicon_stated_versions gives the others of a string. */
 LEXICON_CHECKED LEXICON_NONNULL(1)
 enum lexicon_status lexicon_llvm_target(const struct lexicon_triple *triple, char *out, size_t out_size, size_t *length);
 
-/* What clang passes to the linker for the target: the dynamic linker that programs name, and the emulation after -m; and what ends the name
-   of a program, as rustc has it, which may be nothing. /lib64/ld-linux-x86-64.so.2, elf_x86_64 and an empty string for
-   x86_64-unknown-linux-gnu. LEXICON_NO_ANSWER where clang passes none, or the triple states no C library. A buffer that is too small is
-   unchanged. */
+/* What clang passes to the linker for the target: the dynamic linker that programs name, and the emulation after -m; and
+   what ends the name of a program, as rustc has it, which may be nothing. /lib64/ld-linux-x86-64.so.2, elf_x86_64 and an
+   empty string for x86_64-unknown-linux-gnu. LEXICON_NO_ANSWER where clang passes none, or the triple states no C library. */
 LEXICON_CHECKED LEXICON_NONNULL(1)
 enum lexicon_status lexicon_dynamic_linker(const struct lexicon_triple *triple, char *out, size_t out_size, size_t *length);
 LEXICON_CHECKED LEXICON_NONNULL(1)
@@ -619,26 +617,22 @@ LEXICON_CHECKED LEXICON_NONNULL(1)
 enum lexicon_status lexicon_program_suffix(const struct lexicon_triple *triple, char *out, size_t out_size, size_t *length);
 
 /* Debian's multiarch tuple, as dpkg-architecture -qDEB_HOST_MULTIARCH prints it: i386-linux-gnu for i686-unknown-linux-gnu.
-   LEXICON_TRIPLE_WITHOUT_NAME if Debian has no architecture for the triple, or it depends on a C library that the triple doesn't state;
-   lexicon_write_reason of LEXICON_DIALECT_DEBIAN says why. A buffer that is too small is unchanged. */
+   If there is none, the status is LEXICON_TRIPLE_WITHOUT_NAME; lexicon_write_reason of LEXICON_DIALECT_DEBIAN says why. */
 LEXICON_CHECKED LEXICON_NONNULL(1)
 enum lexicon_status lexicon_multiarch_tuple(const struct lexicon_triple *triple, char *out, size_t out_size, size_t *length);
 
-/* Reads what another tool calls a target. At LEXICON_OK the triple is written. At any other status the error is, unless it is
-   null.
+/* Reads what another tool calls a target. At LEXICON_OK the triple is written. At any other status the error is, unless it is null.
 
-   With LEXICON_DIALECT_NONE, the string is spelled like a triple, as clang takes it after -target. What cc -dumpmachine prints, of GCC
-   and of clang, is a name of LEXICON_DIALECT_GNU: i686-gnu is the Hurd's there. Without a dialect, some parts are other spellings of known names: amd64 is x86_64, w64 is pc, mingw32 is windows-gnu, macos13 is macosx13; after armv7hl, which is
-   armv7, gnueabi is gnueabihf. Versions of systems other than Apple's are dropped: freebsd13.2 is freebsd, and
-   lexicon_stated_versions has them. What parses without a
-   custom vendor is read as it parses, and the status and the error are as those of lexicon_parse; the part is as it is in the
-   string.
+   With LEXICON_DIALECT_NONE, the string is spelled like a triple, as clang takes it after -target. Some parts are other spellings of
+   known names: amd64 is x86_64, w64 is pc, mingw32 is windows-gnu, macos13 is macosx13; after armv7hl, which is armv7, gnueabi is
+   gnueabihf. Versions of systems other than Apple's are dropped: lexicon_stated_versions has them. What parses without a custom
+   vendor is read as it parses, and the status and the error are as those of lexicon_parse.
 
-   With a dialect, the string is a name of that tool, and no other dialect is tried. The triple is canonical, and what the name
-   doesn't state is unknown: linux/arm64 is aarch64-unknown-linux. It may have around it what files and commands have, such as the
-   scope of a package of npm, or a wheel's file name: docs/TOOL_NAMES.md. The status is then LEXICON_OK, LEXICON_UNKNOWN_NAME,
-   LEXICON_NAME_WITHOUT_TRIPLE or LEXICON_NOT_UTF8; of the first two refusals, the range is that of the whole name. At
-   LEXICON_NO_SUCH_DIALECT it is empty. */
+   With a dialect, the string is a name of that tool, and no other dialect is tried; what cc -dumpmachine prints is one of
+   LEXICON_DIALECT_GNU. The triple is canonical, and what the name doesn't state is unknown: linux/arm64 is aarch64-unknown-linux.
+   Around the name may be what files and commands have, such as the scope of a package of npm: docs/TOOL_NAMES.md. The status is then
+   LEXICON_OK, LEXICON_UNKNOWN_NAME, LEXICON_NAME_WITHOUT_TRIPLE or LEXICON_NOT_UTF8; of the first two refusals, the range is that of
+   the whole name. At LEXICON_NO_SUCH_DIALECT it is empty. */
 LEXICON_CHECKED LEXICON_NONNULL(4)
 enum lexicon_status lexicon_read(uint32_t dialect, const char *text, size_t text_size, struct lexicon_triple *triple,
                                  struct lexicon_error *error);
@@ -652,14 +646,14 @@ enum lexicon_status lexicon_stated_versions(const char *text, size_t text_size, 
 
 /* The name of a triple in a dialect, which has at most 36 bytes. The vendor doesn't matter, nor what the dialect doesn't name;
    byte order, pointer width and object format do. Without a name, the status is LEXICON_NEEDS_C_LIBRARY if lexicon_complete gives
-   the triple one, and otherwise LEXICON_TRIPLE_WITHOUT_NAME; lexicon_write_reason says why. A buffer that is too small is unchanged. */
+   the triple one, and otherwise LEXICON_TRIPLE_WITHOUT_NAME; lexicon_write_reason says why. */
 LEXICON_CHECKED LEXICON_NONNULL(2)
 enum lexicon_status lexicon_write(uint32_t dialect, const struct lexicon_triple *triple, char *out, size_t out_size, size_t *length);
 
 /* The name of a triple in a dialect that states a version which triples don't have: manylinux_2_17_x86_64 of Python with glibc
    2.17, musllinux_1_2_aarch64 with musl 1.2, macosx_11_0_arm64 with macOS 11.0, or android_21_x86_64 with Android's API level 21,
    which has no second number: pass 0. LEXICON_TRIPLE_WITHOUT_NAME if the dialect has no such name, or a number is too large for one:
-   over 65535, or 255 for the second. A buffer that is too small is unchanged. */
+   over 65535, or 255 for the second. */
 LEXICON_CHECKED LEXICON_NONNULL(2)
 enum lexicon_status lexicon_write_versioned(uint32_t dialect, const struct lexicon_triple *triple, uint32_t major, uint32_t minor,
                                             char *out, size_t out_size, size_t *length);
@@ -690,7 +684,7 @@ enum lexicon_status lexicon_minimum_os_version(const struct lexicon_triple *trip
    a C library unless that is LEXICON_LINUX_LIBC_NONE, and written. The name has at most 36 bytes. If it can't be read, the status
    and the error are those of lexicon_read. LEXICON_TRIPLE_WITHOUT_NAME and LEXICON_NEEDS_C_LIBRARY say that what it means can't be
    written; the range of the error is that of the whole name. At any other status from 15 on the range is empty, and at
-   LEXICON_TOO_SMALL no error is written. A buffer that is too small is unchanged. */
+   LEXICON_TOO_SMALL no error is written. */
 LEXICON_CHECKED
 enum lexicon_status lexicon_translate(uint32_t from, const char *name, size_t name_size, uint32_t linux_libc, uint32_t to, char *out,
                                       size_t out_size, size_t *length, struct lexicon_error *error);
@@ -698,7 +692,7 @@ enum lexicon_status lexicon_translate(uint32_t from, const char *name, size_t na
 /* The change with this number, from 0, of those that lexicon_read, without a dialect, makes in a string: the range of a part, and
    the names that it is read as. Of amd64-unknown-freebsd13.2 the first is amd64, read as x86_64, and the second freebsd13.2, read as
    freebsd: the version is dropped. After the last one the status is LEXICON_NO_SUCH_CHANGE. A string that is refused has its changes
-   too. A buffer that is too small is unchanged, and so is the change then. */
+   too. If the buffer is too small, the change is unchanged too. */
 LEXICON_CHECKED LEXICON_NONNULL(4)
 enum lexicon_status lexicon_changes(const char *text, size_t text_size, size_t number, struct lexicon_change *change, char *out,
                                     size_t out_size, size_t *length);
@@ -751,7 +745,7 @@ enum lexicon_status lexicon_error_text(const char *text, size_t text_size, const
 
 /* What may have been meant by the refused part, of the expected field or a later one: linux for linx, windows-gnu for mingw32. A
    version stays if the system may have it: macosx14 for macos14. If there is none, the status is LEXICON_NO_SUGGESTION. A buffer of
-   LEXICON_MAX_GROWTH + 1 bytes more than the part has room. One that is too small is unchanged. */
+   LEXICON_MAX_GROWTH + 1 bytes more than the part has room. */
 LEXICON_CHECKED
 enum lexicon_status lexicon_suggestion(const char *text, size_t text_size, const struct lexicon_error *error, char *out,
                                        size_t out_size, size_t *length);
