@@ -240,16 +240,13 @@ WRITES(facts) {
 #define TEN "vvvvvvvvvv"
 #define LONG TEN TEN TEN TEN TEN TEN TEN TEN TEN TEN TEN TEN TEN
 #define SAY_LIBRARY "it depends on the C library: say glibc or musl"
-#define SAY_ABI "it depends on the ABI of Windows: say msvc, mingw or gnullvm"
 #define NO_VERSION "no version of its system or C library has these numbers: glibc has 2.x, musl 1.x, and macOS 10.x or later"
 enum { DEBIAN = LEXICON_DIALECT_DEBIAN, GO = LEXICON_DIALECT_GO, OCI = LEXICON_DIALECT_OCI, NODE = LEXICON_DIALECT_NODE, GNU = LEXICON_DIALECT_GNU,
        PYTHON = LEXICON_DIALECT_PYTHON, RUST = LEXICON_DIALECT_RUST, APK = LEXICON_DIALECT_APK, GLIBC = LEXICON_LINUX_LIBC_GLIBC,
        MUSL = LEXICON_LINUX_LIBC_MUSL, MSVC = LEXICON_LINUX_LIBC_MSVC };
 
 static const struct row { writes *call; const char *text; uint32_t numbers[3]; enum lexicon_status status; const char *expected; } rows[] = {
-  {parsed, "wasm32-unknown-wasi", {0}, LEXICON_OK, "wasm32-wasi"},
   {parsed, "arm64-apple-darwin23.6", {0}, LEXICON_OK, "aarch64-apple-darwin23.6.0"},
-  {parsed, "arm64", {0}, LEXICON_OK, "aarch64-unknown-unknown-elf"},
   {parsed, "x86_64-acme-linux", {0}, LEXICON_OK, "x86_64-acme-linux"},
   {parsed, "avr-" LONG "-linux", {0}, LEXICON_OK, "avr-" LONG "-linux"},
   {parsed, "x86_64-pc-linx", {0}, LEXICON_UNRECOGNIZED_OPERATING_SYSTEM, NULL},
@@ -260,7 +257,6 @@ static const struct row { writes *call; const char *text; uint32_t numbers[3]; e
   {comes_back, "x86_64-unknown-linux-gnu", {0}, LEXICON_OK, "yes"},
   {comes_back, "armv7-nintendo-horizon-newlib", {0}, LEXICON_OK, "no"},
   {settled_lines, "arm64-linux\nfoo\n\nx86_64-\xff\nx86_64-linux\r\navr-" LONG, {0}, LEXICON_OK, "aarch64-unknown-linux\n\n\n\n\navr-" LONG "-unknown\n"},
-  {settled_lines, "\n", {0}, LEXICON_OK, "\n"},
   {sources, "x86_64-linux-gnu", {0}, LEXICON_OK, "given 0-6; not given 0-0; given 7-12; given 13-16; implied 0-0; "},
   {sources, "arm64-acme-ios17-elf", {0}, LEXICON_OK, "alias 0-5; given 6-10; alias 11-16; not given 0-0; given 17-20; "},
   {sources, "arm64-apple-ios1-x", {0}, LEXICON_OK, "alias 0-5; given 6-11; alias 12-16; not given 0-0; not given 0-0; "},
@@ -270,7 +266,6 @@ static const struct row { writes *call; const char *text; uint32_t numbers[3]; e
   {error_text, "arm64-apple-macos14.2", {0}, LEXICON_OK, "Unrecognized operating system: macos14.2\n  arm64-apple-macos14.2\n"
    "              ^^^^^^^^^ did you mean `macosx14.2`?"},
   {error_text, "x86_64-linux-gn\xc3\xbc", {0}, LEXICON_OK, "Unrecognized environment: gn\\u{fc}\n  x86_64-linux-gn\\u{fc}\n               ^^^^^^^^"},
-  {error_text, "x86_64-gnu-linux", {0}, LEXICON_OK, "Unrecognized binary format: linux\n  x86_64-gnu-linux\n             ^^^^^"},
   {error_text, "x86_64-elf-linux", {0}, LEXICON_OK, "Unrecognized field: linux\n  x86_64-elf-linux\n             ^^^^^"},
   {error_text, "avr-\xff-linux", {0}, LEXICON_OK, "Not UTF-8\n  avr-\\u{fffd}-linux\n      ^^^^^^^^"},
   {error_text, "x86_64-\xe2\x82", {0}, LEXICON_OK, "Not UTF-8\n  x86_64-\\u{fffd}\\u{fffd}\n         ^^^^^^^^^^^^^^^^"},
@@ -336,20 +331,16 @@ static const struct row { writes *call; const char *text; uint32_t numbers[3]; e
   {number, "\xff", {LEXICON_FIELD_VENDOR}, LEXICON_NOT_UTF8, NULL},
   {number, "\xff", {5}, LEXICON_NO_SUCH_FIELD, NULL},
   {name, "", {LEXICON_FIELD_ARCHITECTURE, LEXICON_ARCHITECTURE_ARMV8M_MAIN}, LEXICON_OK, "armv8m.main"},
-  {name, "", {LEXICON_FIELD_OPERATING_SYSTEM, LEXICON_OPERATING_SYSTEM_IOS}, LEXICON_OK, "ios"},
   {name, "", {LEXICON_FIELD_VENDOR, LEXICON_VENDOR_CUSTOM}, LEXICON_NO_ANSWER, NULL},
   {name, "", {LEXICON_FIELD_ARCHITECTURE, 256}, LEXICON_NO_ANSWER, NULL},
   {name, "", {5, 0}, LEXICON_NO_ANSWER, NULL},
 
   {read, "x86_64-w64-mingw32", {0}, LEXICON_OK, "x86_64-pc-windows-gnu"},
-  {read, "x86_64-acme-linux", {0}, LEXICON_OK, "x86_64-acme-linux"},
   {read, "armhf", {DEBIAN}, LEXICON_OK, "armv7-unknown-linux-gnueabihf"},
-  {read, "linux/arm64", {GO}, LEXICON_OK, "aarch64-unknown-linux"},
   {read, "@esbuild/linux-x64", {NODE}, LEXICON_OK, "x86_64-unknown-linux"},
   {read, "ios_65535_255_arm64_iphonesimulator", {PYTHON}, LEXICON_OK, "aarch64-apple-ios65535.255.0-sim"},
   {read, "avr", {77}, LEXICON_NO_SUCH_DIALECT, NULL},
   {read_error, "amd64-pc-linx", {0}, LEXICON_OK, "Unrecognized operating system: linx\n  amd64-pc-linx\n           ^^^^ did you mean `linux`?"},
-  {read_error, "linux/arm64", {0}, LEXICON_OK, "Unrecognized architecture: linux/arm64\n  linux/arm64\n  ^^^^^^^^^^^"},
   {read_error, "\xff", {GO}, LEXICON_OK, "Not UTF-8\n  \\u{fffd}\n  ^^^^^^^^"},
   {read_error, "linux/amd46", {GO}, LEXICON_OK, "Unknown name: linux/amd46\n  linux/amd46\n  ^^^^^^^^^^^"},
   {read_error, "plan9/386", {GO}, LEXICON_OK, "No triple has this name: plan9/386\n  plan9/386\n  ^^^^^^^^^"},
@@ -370,11 +361,9 @@ static const struct row { writes *call; const char *text; uint32_t numbers[3]; e
   {written, "x86_64-linux", {0}, LEXICON_NO_SUCH_DIALECT, NULL},
   {write_reason, "avr-none", {GO}, LEXICON_OK, "the tool has no name for this machine on any system"},
   {write_reason, "x86_64-linux", {DEBIAN}, LEXICON_OK, SAY_LIBRARY},
-  {write_reason, "x86_64-windows", {RUST}, LEXICON_OK, SAY_ABI},
   {write_reason, "x86_64-linux", {GO}, LEXICON_NO_ANSWER, NULL},
   {write_reason, "x86_64-linux", {0}, LEXICON_NO_ANSWER, NULL},
   {versioned, "x86_64-acme-linux-gnu", {PYTHON, 2, 17}, LEXICON_OK, "manylinux_2_17_x86_64"},
-  {versioned, "x86_64-linux-android", {PYTHON, 21, 0}, LEXICON_OK, "android_21_x86_64"},
   {versioned, "x86_64-unknown-linux-gnu", {GO, 2, 17}, LEXICON_OK, "linux/amd64"},
   {versioned, "x86_64-unknown-linux-gnu", {PYTHON, 65538, 17}, LEXICON_TRIPLE_WITHOUT_NAME, NULL},
   {versioned, "x86_64-unknown-linux-gnu", {PYTHON, 2, 273}, LEXICON_TRIPLE_WITHOUT_NAME, NULL},
@@ -392,7 +381,6 @@ static const struct row { writes *call; const char *text; uint32_t numbers[3]; e
   {translated, "windows/amd64", {OCI, GLIBC, DEBIAN}, LEXICON_TRIPLE_WITHOUT_NAME, NULL},
   {translated, "js/wasm", {GO, 0, OCI}, LEXICON_NAME_WITHOUT_TRIPLE, NULL},
   {translated, "linux/amd46", {GO, 0, OCI}, LEXICON_UNKNOWN_NAME, NULL},
-  {translated, "", {GO, 0, OCI}, LEXICON_UNKNOWN_NAME, NULL},
   {translated, "linx", {0, 0, OCI}, LEXICON_UNRECOGNIZED_ARCHITECTURE, NULL},
   {translated, "linux/amd64", {77, 0, OCI}, LEXICON_NO_SUCH_DIALECT, NULL},
   {translated, "linux/amd64", {GO, 0, 0}, LEXICON_NO_SUCH_DIALECT, NULL},
@@ -412,7 +400,6 @@ static const struct row { writes *call; const char *text; uint32_t numbers[3]; e
   {meaning, "armhf", {1, APK}, LEXICON_OK, "armv6-unknown-linux-musleabihf"},
   {meaning, "armhf", {2}, LEXICON_NO_SUCH_MEANING, NULL},
   {meaning, "amd64", {1, GO}, LEXICON_NAME_WITHOUT_TRIPLE, NULL},
-  {meaning, "x86_64-acme-linux", {0, 0}, LEXICON_OK, "x86_64-acme-linux"},
   {meaning, "avr-\xff", {0}, LEXICON_NOT_UTF8, NULL},
 };
 

@@ -537,6 +537,8 @@ static void try_text(const char *text, size_t size) {
   try_meanings(text, size, status);
 }
 
+#define SAME_TEXT(one, two) CHECK((one) == (two) && strcmp(out, other) == 0)
+
 /* The inline calls, for a string that ends in a zero byte, answer as those with a size. */
 static void try_zero_ended(const char *text, size_t size, uint32_t dialect, uint32_t to) {
   char *same = (char *)before_guard(3, size + 1), out[64], other[64];
@@ -558,14 +560,11 @@ static void try_zero_ended(const char *text, size_t size, uint32_t dialect, uint
   CHECK(strict == LEXICON_OK ? are_equal(&triple, &parsed) : is_unchanged(&triple, sizeof triple));
   CHECK(strict == LEXICON_OK || (none.status == strict && none.start <= none.end && none.end <= size));
   if (status != LEXICON_OK) {
-    CHECK(lexicon_error_line_z(same, &error, out, sizeof out, NULL) == lexicon_error_line(text, size, &error, other, sizeof other, NULL));
-    CHECK(strcmp(out, other) == 0);
-    CHECK(lexicon_error_text_z(same, &error, out, sizeof out, NULL) == lexicon_error_text(text, size, &error, other, sizeof other, NULL));
-    CHECK(strcmp(out, other) == 0);
+    SAME_TEXT(lexicon_error_line_z(same, &error, out, sizeof out, NULL), lexicon_error_line(text, size, &error, other, sizeof other, NULL));
+    SAME_TEXT(lexicon_error_text_z(same, &error, out, sizeof out, NULL), lexicon_error_text(text, size, &error, other, sizeof other, NULL));
     CHECK(lexicon_suggestion_z(same, &error, out, sizeof out, NULL) == lexicon_suggestion(text, size, &error, other, sizeof other, NULL));
   }
-  CHECK(lexicon_settle_lines_z(same, out, sizeof out, NULL) == lexicon_settle_lines(text, size, other, sizeof other, NULL));
-  CHECK(strcmp(out, other) == 0);
+  SAME_TEXT(lexicon_settle_lines_z(same, out, sizeof out, NULL), lexicon_settle_lines(text, size, other, sizeof other, NULL));
   CHECK(lexicon_read_z(dialect, same, &triple, NULL) == lexicon_read(dialect, text, size, &triple, NULL));
   CHECK(lexicon_stated_versions_z(same, &versions, NULL) == lexicon_stated_versions(text, size, &versions, NULL));
   CHECK(lexicon_translate_z(dialect, same, 1, to, out, sizeof out, NULL, NULL) == lexicon_translate(dialect, text, size, 1, to, out, sizeof out, NULL, NULL));
