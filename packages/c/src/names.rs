@@ -24,16 +24,18 @@ mod tests {
     use std::ffi::CStr;
     use target_names::{Dialect, NameError};
 
+    /// What C reads.
+    fn text(found: *const u8) -> Option<&'static str> {
+        (!found.is_null()).then(|| unsafe { CStr::from_ptr(found.cast()) }.to_str().expect("a text"))
+    }
+
     #[test]
     fn every_name_has_a_zero_byte_after_it() {
         for field in (0..5).filter_map(field_at) {
-            let numbered = (0..).map_while(|number| name_at(field, number));
-            let known: Vec<&str> = numbered.chain(field.names().iter().copied()).collect();
-            assert!(!known.is_empty());
-            for name in known {
-                let found = c_name(name);
-                assert!(!found.is_null(), "{name}");
-                assert_eq!(unsafe { CStr::from_ptr(found.cast()) }.to_str(), Ok(name));
+            let numbered: Vec<_> = (0..).map_while(|number| name_at(field, number)).collect();
+            assert!(!numbered.is_empty());
+            for name in numbered.iter().chain(field.names()) {
+                assert_eq!(text(c_name(name)), Some(*name));
             }
         }
         assert!(c_name("linx").is_null());
@@ -51,9 +53,7 @@ mod tests {
             if row[0].parse::<Dialect>().is_err() || row[1].contains('*') || row[2].contains('+') {
                 continue; // no name of a dialect; or one with a version or of several machines, which isn't suggested
             }
-            let found = c_name(row[1]);
-            assert!(!found.is_null(), "{}", row[1]);
-            assert_eq!(unsafe { CStr::from_ptr(found.cast()) }.to_str(), Ok(row[1]));
+            assert_eq!(text(c_name(row[1])), Some(row[1]));
             count += 1;
         }
         assert!(count > 200);
@@ -66,16 +66,11 @@ mod tests {
         for row in rows().filter(|row| row.get(3) == Some(&"-") && row[0].parse::<Dialect>().is_ok()) {
             let dialect: Dialect = row[0].parse().expect("a dialect");
             let Err(NameError::WithoutTriple(why)) = dialect.read(&row[1].replace('*', "10")) else { panic!("{}", row[1]) };
-            let found = c_reason(why);
-            assert!(!found.is_null(), "{why}");
-            let found = unsafe { CStr::from_ptr(found.cast()) }.to_str().expect("it is a text");
-            assert!(reasons.contains(&(row[4], found)), "{found}");
+            assert!(text(c_reason(why)) == Some(why) && reasons.contains(&(row[4], why)), "{why}");
             count += 1;
         }
         for row in rows().filter(|row| row[0] == "# reason") {
-            let found = c_reason(row[2]);
-            assert!(!found.is_null(), "{}", row[2]);
-            assert_eq!(unsafe { CStr::from_ptr(found.cast()) }.to_str(), Ok(row[2]));
+            assert_eq!(text(c_reason(row[2])), Some(row[2]));
             count += 1;
         }
         assert!(count > 40 && !c_reason("names of cross compilers are only written").is_null());
