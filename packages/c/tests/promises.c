@@ -208,10 +208,11 @@ static void try_triple(const struct lexicon_triple *triple) {
   for (size_t size = 0; size <= sizeof facts + 2; size++) {
     bool is_known = size == 0 || size == offsetof(struct lexicon_triple_facts, implied_format) ||
                     size == offsetof(struct lexicon_triple_facts, c_library) || size >= sizeof facts;
-    void *some = before_guard(2, size);
+    uint8_t *some = (uint8_t *)before_guard(2, size);
     memset(some, 0xa5, size);
-    CHECK(lexicon_facts(triple, (struct lexicon_triple_facts *)some, size) == (is_known ? LEXICON_OK : LEXICON_NO_SUCH_VALUE));
+    CHECK(lexicon_facts(triple, (struct lexicon_triple_facts *)(void *)some, size) == (is_known ? LEXICON_OK : LEXICON_NO_SUCH_VALUE));
     CHECK(is_known ? memcmp(some, &facts, size < sizeof facts ? size : sizeof facts) == 0 : is_unchanged(some, size));
+    for (size_t i = sizeof facts; i < size; i++) CHECK(some[i] == 0); /* of a newer header */
   }
   for (uint32_t libc = LEXICON_LINUX_LIBC_GLIBC; libc <= LEXICON_LINUX_LIBC_GNULLVM; libc++) {
     struct lexicon_triple completed = *triple;
