@@ -267,7 +267,7 @@ static const struct row { writes *call; const char *text; uint32_t numbers[3]; e
    "              ^^^^^^^^^ did you mean `macosx14.2`?"},
   {error_text, "x86_64-linux-gn\xc3\xbc", {0}, LEXICON_OK, "Unrecognized environment: gn\\u{fc}\n  x86_64-linux-gn\\u{fc}\n               ^^^^^^^^"},
   {error_text, "x86_64-elf-linux", {0}, LEXICON_OK, "Unrecognized field: linux\n  x86_64-elf-linux\n             ^^^^^"},
-  {error_text, "avr-\xff-linux", {0}, LEXICON_OK, "Not UTF-8\n  avr-\\u{fffd}-linux\n      ^^^^^^^^"},
+  {error_text, "avr-\xe2\x82-linux", {0}, LEXICON_OK, "Not UTF-8\n  avr-\\u{fffd}\\u{fffd}-linux\n      ^^^^^^^^^^^^^^^^"},
   {error_text, "x86_64-\xe2\x82", {0}, LEXICON_OK, "Not UTF-8\n  x86_64-\\u{fffd}\\u{fffd}\n         ^^^^^^^^^^^^^^^^"},
   {error_line, "x86_64-linux-gn\xc3\xbc", {0}, LEXICON_OK, "Unrecognized environment: gn\xc3\xbc"},
   {suggestion, "x86_64-pc-linx", {0}, LEXICON_OK, "linux"},
