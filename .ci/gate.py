@@ -96,7 +96,7 @@ LAST = [
     ("names, rules and tables are upstream's, by its kept answers", "checks/compare answers", "cargo"),
     ("the mode json: the proved program answers as Rust's serde_json does", "/usr/bin/python3 checks/compare json --inputs 200 --of proved cargo",
      "rt cargo hypothesis"),
-    ("the page and the package for JavaScript answer as the program does, in Node and in a browser", f'packages/javascript/test "$WORK/web" --program {COMMANDS}/lines', "cargo wasm32"),
+    ("the page and the package for JavaScript answer as the command does, in Node and in a browser", f'packages/javascript/test "$WORK/web" --command {COMMANDS}/target-lexicon', "cargo wasm32"),
 ]
 
 running, passed, left_out, failed = set(), [], [], []

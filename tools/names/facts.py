@@ -73,7 +73,7 @@ class Fact:
     def javascript(self, number):
         """The answer from a number of C: the name from a list, whether it is true, or none where it is 0."""
         if self.words:
-            names = {"family": "FAMILIES", "format": "it.names[4]"}.get(self.type) or self.constants[self.type]
+            names = {"family": "FAMILIES", "format": "formats"}.get(self.type) or self.constants[self.type]
             return f"{names}[{number}]"
         return f"{number} === 1" if self.type == "bool" else f"{number} || null"
 
@@ -115,8 +115,11 @@ def lists(facts):
         "the facts for the command": [f'("{it.name}", {it.json}),' for it in facts],
         "the names of facts for Python": filled([f'"{it.name}",' for it in by_groups], " "),
         "the size of the facts for JavaScript": [f"const FACTS_SIZE = {len(facts)};"],
-        "the facts for JavaScript": [f"{it.camel}: {it.javascript(numbers[it.name])}," for it in facts],
-        "the facts for TypeScript": [line for it in facts for line in (f"/** {it.about} */", it.typescript)],
+        "the facts for JavaScript": [
+            "/** What a compiler asks, from the bytes of the struct of facts and the names of binary formats. */", "const factsOf = (n, formats) => ({", *(
+            f"  {it.camel}: {it.javascript(numbers[it.name])}," for it in facts), "});"],
+        "the facts for TypeScript": ["/** What a compiler asks of a triple; null where there is no answer. */", "export interface Facts {",
+                                     *(line for it in facts for line in (f"  /** {it.about} */", f"  {it.typescript}")), "}"],
     }
     for group in GROUPS:
         of = [it for it in facts if it.group == group]

@@ -268,7 +268,7 @@ def rust_lists(tables):
 def lists_of_languages(dialects, others):
     names = ", ".join(f'"{it.name}"' for it in dialects)
     words = [it.name for it in dialects]
-    read, written = [it for it in dialects if it.is_read], [it for it in dialects if it.is_written]
+    written = ", ".join(f'"{it.name}"' for it in dialects if it.is_written)
     return {
         "the dialects for C": [f"LEXICON_DIALECT_{it.constant} = {number}, /* {it.about.rstrip('.').replace('`', '')} */" for number, it in enumerate(dialects, 1)],
         "the last dialect": [f"enum {{ LAST_DIALECT = {len(dialects)} }};"],
@@ -290,10 +290,11 @@ def lists_of_languages(dialects, others):
         "the other names of dialects for JavaScript": [f"const OTHER_NAMES = {{ {', '.join(f'{name}: {chr(34)}{it.name}{chr(34)}' for name, it in others)} }};"],
         "the dialects for the documentation": ["", "| Dialect | Its names |", "|---|---|",
                                                *(f"| {', '.join(f'`{name}`' for name in [it.name, *it.other_names])} | {it.about} |" for it in dialects)],
-        "the dialects for the page": [f"const {name} = [{', '.join(chr(34) + it.name + chr(34) for it in of)}];" for name, of in (("READ", read), ("WRITTEN", written))],
-        "the dialects for JavaScript": [f"export const DIALECTS = Object.freeze([{names}]);"],
-        "the type of dialects": ["export type Dialect = " + " | ".join(f'"{it}"' for it in [*words, *(name for name, _ in others)]) + ";"],
-        "the dialects for TypeScript": [f"export const DIALECTS: readonly [{names}];"],
+        "the dialects for JavaScript": ["/** The tools whose names of targets are known, by their numbers, which begin with 1; and those whose names are written. */",
+                                        f"export const DIALECTS = Object.freeze([{names}]);", f"const WRITTEN = [{written}];"],
+        "the dialects for TypeScript": ["/** The dialects, in the order of their numbers in target_lexicon.h, which begin with 1. */", f"export const DIALECTS: readonly [{names}];",
+                                        "", "/**", " * A tool, or a group of tools, that names targets in its own way.", *(f" * - `{it.name}`: {it.about}" for it in dialects), " */",
+                                        "export type Dialect = (typeof DIALECTS)[number] | " + " | ".join(f'"{name}"' for name, _ in others) + ";"],
     }
 
 

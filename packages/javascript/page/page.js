@@ -1,13 +1,11 @@
-// The page: shows the targets and names of the text field in the table. `build` puts target-lexicon.js, the module and this file into one script.
+// The page: shows the targets and names of the text field in the table. `build` puts target-lexicon.js, the module, entries.js and this file into one script.
+import { DIALECTS, WRITTEN } from "../src/names.js";
 import { FIELDS, ParseError, Triple, load, meanings } from "../src/target-lexicon.js";
+import { factsEntry, namesEntry, versionOf } from "./entries.js";
 
 const LABELS = {
   architecture: "Architecture", vendor: "Vendor", operatingSystem: "System", environment: "Environment", binaryFormat: "Format",
 };
-// written by tools/names/write: the dialects for the page
-const READ = ["debian", "go", "oci", "node", "gnu", "python", "rust", "uname", "rpm", "apk", "pacman", "dotnet", "conda", "zig", "nix"];
-const WRITTEN = ["debian", "go", "oci", "node", "gnu", "python", "rust", "rpm", "apk", "pacman", "dotnet", "conda", "zig", "nix"];
-// end of what is written
 // The tools as they write themselves, where that isn't the dialect's name with a capital. A string that is only spelled like a triple is LLVM's.
 const TOOLS = { oci: "containers", gnu: "GNU", rust: "rustc", uname: "uname", rpm: "RPM", apk: "apk", pacman: "pacman", dotnet: ".NET", conda: "conda",
   spelling: "LLVM", triple: "a triple" };
@@ -94,8 +92,6 @@ function markOf({ origin, part }, text, isCustom) {
   return origin === "implied" ? [element("span", { class: "aside" }, " implied")] : [];
 }
 
-const versionOf = ({ version: it }) => it && `${it.major}.${it.minor}.${it.patch}`;
-
 function fieldCell(triple, name, source, text) {
   const value = code(triple[name] + (name === "operatingSystem" ? versionOf(triple) ?? "" : ""));
   if (source.part === null) value.className = "dim";
@@ -135,6 +131,13 @@ function foldButton(row, text) {
   return button;
 }
 
+/** The keys of pairs, each with its values. */
+function grouped(pairs) {
+  const found = new Map();
+  for (const [key, value] of pairs) found.set(key, [...found.get(key) ?? [], value]);
+  return found;
+}
+
 const listOf = (words) => words.length < 2 ? words.join() : `${words.slice(0, -1).join(", ")} and ${words[words.length - 1]}`;
 const toolsOf = (tools) => listOf(tools.map(toolName));
 
@@ -146,17 +149,13 @@ const pair = (term, ...answer) => element("div", {}, element("dt", {}, term), el
 
 /** What each tool calls a triple, and for those that have no name why. */
 function toolNames(triple) {
-  const list = element("dl"), without = new Map();
-  for (const dialect of WRITTEN) {
-    const name = triple.nameIn(dialect);
-    if (name !== null) list.append(pair(toolName(dialect), code(name)));
-    else without.set(triple.reasonWithoutName(dialect), [...without.get(triple.reasonWithoutName(dialect)) ?? [], dialect]);
-  }
+  const names = triple.names(), without = grouped(WRITTEN.filter((dialect) => names[dialect] === null).map((dialect) => [triple.reasonWithoutName(dialect), dialect]));
+  const list = element("dl", {}, ...WRITTEN.filter((dialect) => names[dialect] !== null).map((dialect) => pair(toolName(dialect), code(names[dialect]))));
   return [list, ...[...without].map(([reason, tools]) => element("p", {}, dim(`None in ${toolsOf(tools)}: `), `${reason}.`))];
 }
 
 /** What a driver asks, where there is an answer. */
-function factsOf(triple) {
+function factList(triple) {
   const facts = triple.facts(), list = element("dl"), isMingw = triple.operatingSystem === "windows" && triple.environment.startsWith("gnu");
   const sizes = ["short", "int", "long", "longLong", "float", "double"].filter((it) => facts[`${it}Size`] !== null)
     .map((it) => `${it === "longLong" ? "long long" : it} ${facts[`${it}Size`]}`);
@@ -179,7 +178,7 @@ function detailCells(triple, text) {
     details.hidden = !isOpen;
     button.setAttribute("aria-expanded", isOpen);
     if (!isOpen || inside.firstChild) return;
-    inside.append(element("h2", {}, "In each tool"), ...toolNames(triple), element("h2", {}, "For a linker and a driver"), factsOf(triple));
+    inside.append(element("h2", {}, "In each tool"), ...toolNames(triple), element("h2", {}, "For a linker and a driver"), factList(triple));
   };
   button.addEventListener("click", () => show(details.hidden));
   return [show, element("td", { role: "cell", class: "elsewhere" }, button), details];
@@ -192,21 +191,20 @@ function meaningsOf(text) {
   return { found: isNamed ? found.filter((it) => !isBare(it)) : found, withoutTriple };
 }
 
-/** The canonical form of what a target means to tools of GNU and LLVM, if that has a known vendor. */
-function spelledTriple(text) {
+/** What `Triple.read` gives: the triple or the error. */
+function readIn(text, dialect) {
   try {
-    const triple = Triple.read(text);
-    return triple.hasCustomVendor ? null : triple.settle();
+    return { triple: Triple.read(text, dialect) };
   } catch (error) {
     if (!(error instanceof ParseError)) throw error;
-    return null;
+    return { error };
   }
 }
 
 /** What a name means that is a triple with a custom vendor. GNU drops each vendor, so it counts only where LLVM knows the name too. */
 function meaningsOfCustom(text, { found, withoutTriple }) {
-  const others = found.filter(({ tools }) => tools.some((it) => it !== "gnu" && it !== "triple")), spelled = spelledTriple(text);
-  return { found: spelled ? [{ triple: spelled, tools: ["spelling"] }, ...others] : others, withoutTriple };
+  const others = found.filter(({ tools }) => tools.some((it) => it !== "gnu" && it !== "triple")), { triple } = readIn(text);
+  return { found: triple && !triple.hasCustomVendor ? [{ triple: triple.settle(), tools: ["spelling"] }, ...others] : others, withoutTriple };
 }
 
 /** Whether two triples are of the same target, up to a known vendor and how much is written of it. */
@@ -227,9 +225,7 @@ function* otherMeanings(meant, text, own) {
     if (rust && (!own || own.operatingSystem === "unknown")) yield element("p", {}, `${rust[0].toUpperCase()}${rust.slice(1)}.`);
     return;
   }
-  const reasons = new Map();
-  for (const [tool, reason] of Object.entries(without)) reasons.set(reason, [...reasons.get(reason) ?? [], tool]);
-  for (const [reason, tools] of reasons) yield element("p", {}, `In ${toolsOf(tools)} no triple means it: ${reason}.`);
+  for (const [reason, tools] of grouped(Object.entries(without).map(([tool, reason]) => [reason, tool]))) yield element("p", {}, `In ${toolsOf(tools)} no triple means it: ${reason}.`);
 }
 
 /** A row of what a triple is; `fields` says where each value comes from. */
@@ -286,16 +282,8 @@ function soFar(fields) {
 
 /** The nearest names of tools for one that nobody knows: for each name, which tools have it. */
 function* nearestNames(text) {
-  const found = new Map();
-  for (const dialect of READ) {
-    try {
-      Triple.read(text, dialect);
-    } catch (error) {
-      if (!(error instanceof ParseError)) throw error;
-      if (error.suggestion !== null && dialect !== "gnu") found.set(error.suggestion, [...found.get(error.suggestion) ?? [], dialect]);
-    }
-  }
-  for (const [name, tools] of found) yield element("p", {}, "Did you mean ", offer(name, text, name), ` of ${toolsOf(tools)}?`);
+  const found = DIALECTS.filter((dialect) => dialect !== "gnu").map((dialect) => [readIn(text, dialect).error?.suggestion, dialect]).filter(([name]) => name);
+  for (const [name, tools] of grouped(found)) yield element("p", {}, "Did you mean ", offer(name, text, name), ` of ${toolsOf(tools)}?`);
 }
 
 function refusedRow({ text, error, fields, suggestion }, meant) {
@@ -511,37 +499,6 @@ function edited() {
   return show();
 }
 
-const snakeCase = (name) => name.replace(/[A-Z]/g, (letter) => `_${letter.toLowerCase()}`);
-const bytesOf = (text) => new TextEncoder().encode(text).length;
-
-/** What `target-lexicon facts --json` writes of a target. */
-function matrixEntry(text) {
-  const { triple, error } = Triple.explain(text), place = { target: text, file: null, line: null };
-  if (error) {
-    const { part, start, end, suggestion } = error, name = error.field && snakeCase(error.field);
-    const [from, size] = [text.slice(0, start), text.slice(start, end)].map(bytesOf);
-    const reason = `unrecognized ${(name ?? "field").replace("_", " ")}`;
-    return { ...place, error: reason, part, start: from, end: from + size, field: name, suggestion };
-  }
-  const fields = FIELDS.flatMap((name) => [[name, triple[name]], ...(name === "operatingSystem" ? [["version", versionOf(triple)]] : [])]);
-  const facts = { ...Object.fromEntries(fields), ...triple.facts(), llvmTarget: triple.llvmTarget(), multiarchTuple: triple.multiarchTuple(), printed: `${triple}`, canonical: triple.canonical };
-  return { ...place, ...Object.fromEntries(Object.entries(facts).map(([name, fact]) => [snakeCase(name), fact])) };
-}
-
-/** What `target-lexicon what --json` writes of a name, with what is chosen. */
-function nameEntry(text) {
-  const { meanings: found, withoutTriple } = meanings(text), merged = new Map();
-  for (const { triple, tools } of found) {
-    const it = completed(triple), { canonical } = it, none = WRITTEN.filter((dialect) => it.nameIn(dialect) === null);
-    const entry = { canonical, tools: [...merged.get(canonical)?.tools ?? [], ...tools], names: Object.fromEntries(WRITTEN.map((dialect) => [dialect, it.nameIn(dialect)])),
-      reasons: Object.fromEntries(none.map((dialect) => [dialect, it.reasonWithoutName(dialect)])) };
-    merged.set(canonical, entry);
-  }
-  const place = { target: text, file: null, line: null };
-  if (!found.length && !Object.keys(withoutTriple).length) return { ...place, error: "no tool has the name" };
-  return { ...place, meanings: [...merged.values()], without_triple: withoutTriple };
-}
-
 async function copy(button, text, said) {
   try {
     await navigator.clipboard.writeText(text);
@@ -586,7 +543,8 @@ async function begin() {
     followLink();
     show();
   });
-  for (const [id, entryOf] of [["copy_names", nameEntry], ["copy_facts", matrixEntry]]) byId(id).addEventListener("click", ({ currentTarget }) => copyJson(currentTarget, entryOf));
+  const lexicon = { DIALECTS, FIELDS, Triple, meanings };
+  for (const [id, entryOf] of [["copy_names", (text) => namesEntry(lexicon, text, WRITTEN, completed)], ["copy_facts", (text) => factsEntry(lexicon, text)]]) byId(id).addEventListener("click", ({ currentTarget }) => copyJson(currentTarget, entryOf));
   byId("copy_link").addEventListener("click", ({ currentTarget }) => copyLink(currentTarget));
   const query = new URLSearchParams(location.search);
   for (const id of CHOICES) {

@@ -37,7 +37,7 @@ class Driver(Service):
 class Page:
     """A page in a Chromium of its own."""
 
-    def __init__(self, url, before=""):
+    def __init__(self, url):
         options = webdriver.ChromeOptions()
         options.binary_location = "/usr/bin/chromium"
         for flag in [*FLAGS, *["--no-sandbox"] * (not HAS_NAMESPACES)]:
@@ -49,8 +49,6 @@ class Page:
         self.driver = webdriver.Chrome(service=Driver(self.home), options=options)
         self.call("Browser.grantPermissions", permissions=["clipboardReadWrite", "clipboardSanitizedWrite"])
         self.driver.set_script_timeout(600)
-        if before:
-            self.call("Page.addScriptToEvaluateOnNewDocument", source=before)
         self.driver.get(url)
 
     def call(self, method, **params):
@@ -92,10 +90,6 @@ class Page:
         """The role and the name of each node of the accessibility tree."""
         nodes = self.call("Accessibility.getFullAXTree")["nodes"]
         return [(it["role"]["value"], it.get("name", {}).get("value", "")) for it in nodes if not it.get("ignored")]
-
-    def picture(self, path):
-        """A picture of the viewport."""
-        self.driver.save_screenshot(path)
 
     def __enter__(self):
         return self

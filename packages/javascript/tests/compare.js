@@ -1,63 +1,68 @@
-// Compares the answers of target-lexicon.js with the program's, and with one another. It runs in Node and in a browser.
+// Compares target-lexicon.js with what the command `target-lexicon` writes with --json, and its answers with one another. It runs in Node and in a browser.
+import { byteRange, errorEntry, factsEntry, namesEntry, snakeCase, versionOf } from "../page/entries.js";
 
-const wordOf = (answer) => answer ?? "-";
-
-const MODES = {
-  print: (triple) => `${triple}`,
-  settle: (triple) => `${triple.settle()}`,
-  show: (triple) => {
-    const { endianness, pointerWidth, defaultCallingConvention, dataModel } = triple.facts();
-    return [`${triple}`, ...[endianness, pointerWidth, defaultCallingConvention, dataModel].map(wordOf)].join(" ");
-  },
-};
-
-function* agreeing({ FIELDS, ParseError, Triple, numberOf }, line) {
-  const { triple, error, fields } = Triple.explain(line), given = FIELDS.filter((name) => fields[name].part !== null);
-  yield given.every((name) => line.slice(fields[name].start, fields[name].end) === fields[name].part);
-  if (error) {
-    yield error instanceof ParseError && line.slice(error.start, error.end) === error.part;
-    yield error.message.endsWith(`: ${error.part}`) && given.every((name) => fields[name].end < error.start);
-    return;
-  }
-  const parsed = Triple.parse(line), settled = triple.settle(), printed = Triple.parse(`${settled}`), { version } = triple;
-  const isSpecial = given.length === 5 && fields.architecture.end === fields.vendor.end;
-  const values = Object.fromEntries(FIELDS.map((name) => [name, triple[name]]));
-  yield parsed.equals(triple) && FIELDS.every((name) => parsed[name] === triple[name] && parsed.numbers[name] === triple.numbers[name]);
-  yield FIELDS.every((name) => fields[name].value === triple[name]);
-  yield isSpecial || given.every((name) => numberOf(name, fields[name].part) === triple.numbers[name]);
-  yield FIELDS.every((name) => fields[name].origin !== "not given" || triple[name] === "unknown");
-  yield fields.binaryFormat.origin !== "implied" || triple.binaryFormat === triple.facts().impliedFormat;
-  yield Triple.of({ ...values, version }).equals(triple) && triple.with({}).equals(triple);
-  yield settled.comesBack() && printed.equals(settled) && triple.sameTarget(settled);
-  yield triple.equals(settled) === (triple.equals(printed));
+function explained({ FIELDS, Triple }, text) {
+  const { triple, error, fields, suggestion } = Triple.explain(text);
+  if (error) return errorEntry(text, error);
+  const sources = FIELDS.map((name) => [snakeCase(name), { value: fields[name].value, origin: fields[name].origin, part: fields[name].part }]);
+  return { ...Object.fromEntries(sources), version: versionOf(triple), has_custom_vendor: triple.hasCustomVendor, suggestion };
 }
 
-/** The lines that differ, of each mode, and those of which two answers of target-lexicon.js don't agree. */
-export function differences(targetLexicon, lines, expected) {
-  const { ParseError, Triple } = targetLexicon, found = [];
-  const answerOf = (answer, line) => {
-    try {
-      return answer(Triple.parse(line));
-    } catch (error) {
-      if (error instanceof ParseError) return `error: ${error.message}`;
-      throw error;
-    }
-  };
-  for (const [mode, answer] of Object.entries(MODES)) {
-    if (lines.length !== expected[mode].length) found.push(`${mode}: ${lines.length} lines, and ${expected[mode].length} expected`);
-    lines.forEach((line, at) => {
-      const shown = answerOf(answer, line);
-      if (shown !== expected[mode][at]) found.push(`${mode} of ${JSON.stringify(line)}: ${shown}, and not ${expected[mode][at]}`);
-    });
+function read({ ParseError, Triple, changes }, text) {
+  try {
+    return { canonical: Triple.read(text).canonical, changes: changes(text).map((it) => ({ part: it.part, ...byteRange(text, it), read_as: it.names })) };
+  } catch (error) {
+    if (!(error instanceof ParseError)) throw error;
+    return errorEntry(text, error);
   }
-  for (const line of lines) {
-    [...agreeing(targetLexicon, line)].forEach((agrees, at) => agrees || found.push(`agreement ${at} of ${JSON.stringify(line)}`));
+}
+
+function cfg({ Triple }, text) {
+  const { triple, error } = Triple.explain(text);
+  if (error) return errorEntry(text, error);
+  const { target_family: families, target_pointer_width: width, target_endian = null, ...values } = triple.rustcCfg();
+  return { ...values, target_endian, target_family: families?.split(",") ?? [], target_pointer_width: width ? Number(width) : null };
+}
+
+function translated({ ParseError, translate }, text, from, to, libc) {
+  try {
+    return { name: translate(text, from, to, libc) };
+  } catch (error) {
+    if (!(error instanceof ParseError)) throw error;
+    return { part: error.part, ...byteRange(text, error), field: error.field, suggestion: error.suggestion };
+  }
+}
+
+// By the words after which the command wrote: what target-lexicon.js answers to a text, of which the command's answer has each key.
+const CALLS = { facts: factsEntry, explain: explained, read, cfg, translate: translated,
+  what: (lexicon, text, libc) => namesEntry(lexicon, text, lexicon.WRITTEN, (triple) => (libc ? triple.complete(libc) : triple)) };
+
+/** Whether answers of target-lexicon.js to a text that parses agree. */
+function* agreeing({ FIELDS, Triple, numberOf, settleAll }, text) {
+  const { triple, fields } = Triple.explain(text), parsed = Triple.parse(text), settled = triple.settle(), printed = Triple.parse(`${settled}`), { version } = triple;
+  const given = FIELDS.filter((name) => fields[name].part !== null), isSpecial = given.length === 5 && fields.architecture.end === fields.vendor.end;
+  yield parsed.equals(triple) && FIELDS.every((name) => parsed[name] === triple[name] && parsed.numbers[name] === triple.numbers[name]);
+  yield given.every((name) => text.slice(fields[name].start, fields[name].end) === fields[name].part && (isSpecial || numberOf(name, fields[name].part) === triple.numbers[name]));
+  yield Triple.of({ ...Object.fromEntries(FIELDS.map((name) => [name, triple[name]])), version }).equals(triple) && triple.with({}).equals(triple);
+  yield settled.comesBack() && printed.equals(settled) && triple.sameTarget(settled) && settleAll([text])[0] === `${settled}`;
+  yield triple.equals(settled) === triple.equals(printed) && triple.comesBack() === Triple.parse(`${triple}`).equals(triple);
+}
+
+/** What differs. `answers` has what the command wrote by its words. */
+export function differences(lexicon, answers) {
+  const found = [];
+  for (const [words, list] of Object.entries(answers)) {
+    const [word, ...more] = words.split(" ");
+    for (const { note, file, line, target, ...wanted } of list) {
+      if (word === "translate" && wanted.error) delete wanted.error; // the command's own words
+      const answer = CALLS[word](lexicon, target, ...more), { meanings } = wanted;
+      if (meanings) wanted.meanings = meanings.map(({ note: _, ...it }) => it);
+      for (const [key, value] of Object.entries(wanted)) {
+        const [ours, theirs] = [answer[key], value].map((it) => JSON.stringify(it));
+        if (ours !== theirs && !(word === "what" && "error" in answer && key !== "error")) found.push(`${words} ${JSON.stringify(target)}: ${key} is ${ours}, and not ${theirs}`);
+      }
+      if (word === "facts" && !wanted.error) [...agreeing(lexicon, target)].forEach((agrees, at) => agrees || found.push(`agreement ${at} of ${JSON.stringify(target)}`));
+    }
   }
   return found;
-}
-
-/** The lines of a file. */
-export function linesOf(bytes) {
-  const text = new TextDecoder("utf-8", { fatal: true, ignoreBOM: true }).decode(bytes);
-  return text.replace(/\n$/, "").split("\n");
 }
