@@ -4,7 +4,7 @@ use crate::shape::{AbiRule, Rules};
 use crate::table::{refusals, KERNELS, MAKERS, SYSTEMS};
 use crate::{changes, read, Dialect, LinuxLibc, NameError, TargetInfo};
 use alloc::{format, string::String, string::ToString, vec::Vec};
-use target_lexicon::spellings::{fit_alone, Form, Place, Rule, FIRST_RULES, LATER_RULES};
+use target_lexicon::spellings::{fit_alone, Form, Place, FIRST_RULES, LATER_RULES};
 use target_lexicon::{
     Architecture, ArmArchitecture, BinaryFormat, DeploymentTarget, Environment, Field, KnownVendor,
     OperatingSystem, TripleRef, VendorRef,
@@ -524,13 +524,9 @@ fn given_object_formats_are_kept() {
     });
 }
 
-fn rules() -> impl Iterator<Item = &'static Rule> {
-    FIRST_RULES.iter().chain(LATER_RULES)
-}
-
 #[test]
 fn each_rule_rewrites_an_unknown_part_once() {
-    for &(place, text, form, names) in rules() {
+    for &(place, text, form, names) in FIRST_RULES.iter().chain(LATER_RULES) {
         let is_wide =
             place == Place::AfterHardFloats || matches!(form, Form::Pair | Form::PairWithin);
         let part = match form {
@@ -552,72 +548,6 @@ fn each_rule_rewrites_an_unknown_part_once() {
             assert!(fit_alone(place, &name).is_none(), "{part} {name}");
         }
     }
-}
-
-/// Strings of parts that have rules, and others.
-fn each_string(mut f: impl FnMut(&str)) {
-    let numbered = |rule: &Rule| match rule.2 {
-        Form::Dropped | Form::MacOs => format!("{}13.2", rule.1),
-        _ => rule.1.to_string(),
-    };
-    let parts: Vec<_> = rules().map(numbered).collect();
-    let mut firsts: Vec<_> = ["x86_64", "armv7hl", "arm64", "foo", ""]
-        .map(String::from)
-        .into();
-    firsts.extend(FIRST_RULES.iter().map(numbered));
-    for first in &firsts {
-        for second in parts.iter().map(|it| it.as_str()).chain([
-            "pc",
-            "linux",
-            "acme",
-            "nuttx",
-            "macos.11",
-            "linux5.10",
-            "elf",
-        ]) {
-            for third in parts
-                .iter()
-                .map(|it| it.as_str())
-                .chain(["linux", "gnueabi", "elf", "bar", "none-elf"])
-            {
-                f(&format!("{first}-{second}-{third}"));
-            }
-            f(&format!("{first}-{second}"));
-        }
-        f(first);
-    }
-}
-
-#[test]
-fn what_is_read_is_read_again() {
-    let (mut found, mut refused) = (0, 0);
-    each_string(|text| {
-        let parsed = TripleRef::from_str(text);
-        let is_known = parsed.as_ref().map_or(false, |it| !it.vendor.is_custom());
-        for change in changes(text) {
-            assert_eq!(&text[change.part.range()], change.part.text);
-            assert!(!is_known, "{text}");
-        }
-        match read(text) {
-            Ok(triple) => {
-                found += 1;
-                assert_eq!(read(&triple.to_string()), Ok(triple.step()), "{text}");
-                assert_eq!(
-                    read(&triple.step().to_string()),
-                    Ok(triple.step()),
-                    "{text}"
-                );
-            }
-            Err(refusal) => {
-                refused += 1;
-                assert_eq!(&text[refusal.range()], refusal.part.text, "{text}");
-            }
-        }
-        if is_known || changes(text).next().is_none() {
-            assert_eq!(read(text), parsed, "{text}");
-        }
-    });
-    assert!(found > 20_000 && refused > 20_000, "{found} {refused}");
 }
 
 #[test]

@@ -188,10 +188,27 @@ impl Dialect {
     ) -> Result<Name, WriteError> {
         let triple = triple.into();
         let triple = c_library.map_or(triple, |it| triple.with_c_library(it));
+        let is_of_linux = matches!(c_library, Some(LinuxLibc::Glibc | LinuxLibc::Musl));
         match self.write(triple) {
+            Some(_) if is_of_linux && self.would_state_c_library(&triple) => {
+                Err(WriteError::NeedsArmVersion)
+            }
             Some(name) => Ok(name),
             None => Err(self.why_unnamed(&triple)),
         }
+    }
+
+    /// Whether names would state the C library of an Arm on Linux, which gets none without a version.
+    #[inline]
+    fn would_state_c_library(self, triple: &TripleRef<'_>) -> bool {
+        let completed = TripleRef {
+            environment: Environment::Gnu,
+            ..*triple
+        };
+        triple.architecture == Architecture::Arm(ArmArchitecture::Arm)
+            && triple.operating_system == OperatingSystem::Linux
+            && triple.environment == Environment::Unknown
+            && self.shape(&completed) != self.shape(triple)
     }
 
     /// The name that states a version which triples don't have, as [`Dialect::write_versioned`] gives it. Where no name of

@@ -3,64 +3,52 @@
 use target_lexicon::{Architecture, Environment, Named, OperatingSystem, PointerWidth, TripleRef};
 use target_names::{hint, meanings, Dialect, FloatAbi, Hint, NameOf, TargetInfo};
 
-/// Words for machines, and an architecture of the same family, width and byte order.
-const MACHINES: [(&str, &str); 26] = [
-    ("amd64", "x86_64"),
-    ("x86_64", "x86_64"),
-    ("x64", "x86_64"),
-    ("x86", "i686"),
-    ("i386", "i686"),
-    ("386", "i686"),
-    ("ia32", "i686"),
-    ("arm64", "aarch64"),
-    ("aarch64", "aarch64"),
-    ("aarch64_be", "aarch64_be"),
-    ("armv6", "armv6"),
-    ("armv7", "armv7"),
-    ("armhf", "arm"),
-    ("armel", "arm"),
-    ("armeb", "armeb"),
-    ("mips", "mips"),
-    ("mipsle", "mipsel"),
-    ("mips64el", "mips64el"),
-    ("mips64-le", "mips64el"),
-    ("ppc64", "powerpc64"),
-    ("ppc64le", "powerpc64le"),
-    ("ppc64-le", "powerpc64le"),
-    ("riscv64", "riscv64"),
-    ("s390x", "s390x"),
-    ("loong64", "loongarch64"),
-    ("sparc64", "sparc64"),
-];
+/// Architectures, and words for machines of the same family, width and byte order.
+const MACHINES: &str = "\
+x86_64=amd64 x86_64 x64
+i686=x86 i386 386 ia32
+aarch64=arm64 aarch64
+aarch64_be=aarch64_be
+armv6=armv6
+armv7=armv7
+arm=armhf armel
+armeb=armeb
+mips=mips
+mipsel=mipsle
+mips64el=mips64el mips64-le
+powerpc64=ppc64
+powerpc64le=ppc64le ppc64-le
+riscv64=riscv64
+s390x=s390x
+loongarch64=loong64
+sparc64=sparc64";
 
-/// Words for systems, and a triple of the same.
-const SYSTEMS: [(&str, &str); 25] = [
-    ("linux", "x86_64-unknown-linux"),
-    ("alpine", "x86_64-unknown-linux"),
-    ("debian", "x86_64-unknown-linux"),
-    ("ubuntu", "x86_64-unknown-linux"),
-    ("android", "x86_64-linux-android"),
-    ("darwin", "x86_64-apple-darwin"),
-    ("macos", "x86_64-apple-darwin"),
-    ("macOS", "x86_64-apple-darwin"),
-    ("osx", "x86_64-apple-darwin"),
-    ("mac", "x86_64-apple-darwin"),
-    ("ios", "x86_64-apple-ios"),
-    ("tvos", "x86_64-apple-tvos"),
-    ("visionos", "x86_64-apple-visionos"),
-    ("windows", "x86_64-pc-windows"),
-    ("win", "x86_64-pc-windows"),
-    ("mingw", "x86_64-pc-windows"),
-    ("freebsd", "x86_64-unknown-freebsd"),
-    ("netbsd", "x86_64-unknown-netbsd"),
-    ("openbsd", "x86_64-unknown-openbsd"),
-    ("dragonfly", "x86_64-unknown-dragonfly"),
-    ("illumos", "x86_64-unknown-illumos"),
-    ("solaris", "x86_64-pc-solaris"),
-    ("fuchsia", "x86_64-unknown-fuchsia"),
-    ("haiku", "x86_64-unknown-haiku"),
-    ("uefi", "x86_64-unknown-uefi"),
-];
+/// How triples go on after a machine, and words for the same system.
+const SYSTEMS: &str = "\
+unknown-linux=linux alpine debian ubuntu
+linux-android=android
+apple-darwin=darwin macos macOS osx mac
+apple-ios=ios
+apple-tvos=tvos
+apple-visionos=visionos
+pc-windows=windows win mingw
+unknown-freebsd=freebsd
+unknown-netbsd=netbsd
+unknown-openbsd=openbsd
+unknown-dragonfly=dragonfly
+unknown-illumos=illumos
+pc-solaris=solaris
+unknown-fuchsia=fuchsia
+unknown-haiku=haiku
+unknown-uefi=uefi";
+
+/// What is before `=` in each line, with each word after it.
+fn pairs(table: &str) -> impl Iterator<Item = (&str, &str)> {
+    table.lines().flat_map(|line| {
+        let (meaning, words) = line.split_once('=').unwrap();
+        words.split(' ').map(move |word| (word, meaning))
+    })
+}
 
 /// Words for C libraries and ABIs, and how they pass floating-point arguments.
 const ABIS: [(&str, Option<FloatAbi>); 9] = [
@@ -78,9 +66,9 @@ const ABIS: [(&str, Option<FloatAbi>); 9] = [
 /// Node's machine `ppc64` is little-endian on Linux.
 const LITTLE_ENDIAN: &str = "linux-ppc64";
 
-struct Said {
+struct Said<'a> {
     architecture: Architecture,
-    system: TripleRef<'static>,
+    system: TripleRef<'a>,
     floats: Option<FloatAbi>,
     width: Option<PointerWidth>,
 }
@@ -95,7 +83,7 @@ fn family(architecture: Architecture) -> &'static str {
     }
 }
 
-impl Said {
+impl Said<'_> {
     /// Checks a triple that is an answer. The name of a tool may say more of floating-point arguments and of the C library, and a triple that
     /// parses is itself.
     fn check(
@@ -160,8 +148,9 @@ fn answers_say_what_the_words_say() {
             _ => format!("tool-1.2.3-{system}-{machine}{dash}{abi}{form}"),
         }
     };
-    for (system_word, system) in SYSTEMS {
-        for (machine, architecture) in MACHINES {
+    for (system_word, system) in pairs(SYSTEMS) {
+        let system = format!("x86_64-{system}");
+        for (machine, architecture) in pairs(MACHINES) {
             for (abi, floats) in ABIS {
                 let architecture: Architecture = architecture.parse().unwrap();
                 let stated = match machine {
@@ -175,7 +164,7 @@ fn answers_say_what_the_words_say() {
                 };
                 let said = Said {
                     architecture,
-                    system: TripleRef::from_str(system).unwrap(),
+                    system: TripleRef::from_str(&system).unwrap(),
                     floats: floats.or(stated),
                     width,
                 };

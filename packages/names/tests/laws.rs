@@ -3,9 +3,8 @@
 use proptest::prelude::*;
 use proptest::sample::select;
 use proptest::test_runner::FileFailurePersistence;
-use std::str::FromStr;
 use target_lexicon::spellings::{FIRST_RULES, LATER_RULES};
-use target_lexicon::{BinaryFormat, Field, Triple, TripleRef};
+use target_lexicon::{Field, TripleRef};
 use target_names::{
     changes, hint, meanings, read, suggestion, Dialect, FloatAbi, LinuxLibc, NameError, TargetInfo,
 };
@@ -207,15 +206,6 @@ proptest! {
                 prop_assert_eq!(full.endianness(), it.endianness());
                 prop_assert_eq!(full.pointer_width().ok(), full.with_c_library(LinuxLibc::Glibc).pointer_width().ok());
             }
-        }
-    }
-
-    #[test]
-    fn given_object_formats_are_kept(text in spelled(), format in select(vec!["elf", "coff", "macho", "wasm", "xcoff"])) {
-        if let Ok(mut it) = Triple::from_str(&text) {
-            it.binary_format = format.parse().unwrap();
-            let implied = TripleRef::from(&it).default_binary_format();
-            prop_assert!(it.object_format() == it.binary_format || it.binary_format == implied || it.binary_format == BinaryFormat::Unknown);
         }
     }
 }

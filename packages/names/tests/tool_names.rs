@@ -93,35 +93,31 @@ fn drivers_are_answered() {
     assert_eq!(FloatAbi::Hard.to_string(), "hard");
 }
 
+/// A triple, and after `=` its version of Arm and its profile.
+const ARMS: &str = "\
+armv4t-none-eabi=4 -
+armv5te-unknown-linux-gnueabi=5 -
+armv6k-nintendo-3ds=6 -
+thumbv6m-none-eabi=6 M
+armv7-unknown-linux-gnueabihf=7 -
+armv7a-none-eabi=7 A
+armebv7r-none-eabihf=7 R
+thumbv7em-none-eabihf=7 M
+armv8r-none-eabihf=8 R
+thumbv8m.main-none-eabi=8 M
+arm-unknown-linux-gnueabi=- -
+aarch64-unknown-linux-gnu=- -
+x86_64-unknown-linux-gnu=- -";
+
 #[test]
 fn versions_and_profiles_of_arm_are_answered() {
-    let answers = |text| {
+    for (text, expected) in ARMS.lines().map(row_of) {
         let triple = parsed(text);
-        (
-            triple.arm_version(),
-            triple.arm_profile().map(|it| it.name()),
-        )
-    };
-    for (text, version, profile) in [
-        ("armv4t-none-eabi", 4, None),
-        ("armv5te-unknown-linux-gnueabi", 5, None),
-        ("armv6k-nintendo-3ds", 6, None),
-        ("thumbv6m-none-eabi", 6, Some("M")),
-        ("armv7-unknown-linux-gnueabihf", 7, None),
-        ("armv7a-none-eabi", 7, Some("A")),
-        ("armebv7r-none-eabihf", 7, Some("R")),
-        ("thumbv7em-none-eabihf", 7, Some("M")),
-        ("armv8r-none-eabihf", 8, Some("R")),
-        ("thumbv8m.main-none-eabi", 8, Some("M")),
-    ] {
-        assert_eq!(answers(text), (Some(version), profile), "{text}");
-    }
-    for text in [
-        "arm-unknown-linux-gnueabi",
-        "aarch64-unknown-linux-gnu",
-        "x86_64-unknown-linux-gnu",
-    ] {
-        assert_eq!(answers(text), (None, None), "{text}");
+        let version = triple
+            .arm_version()
+            .map_or("-".to_string(), |it| it.to_string());
+        let profile = triple.arm_profile().map_or("-", |it| it.name());
+        assert_eq!(format!("{version} {profile}"), expected, "{text}");
     }
 }
 
@@ -230,53 +226,47 @@ fn variants_have_what_is_asked_for() {
     assert!(count > 300, "{count}");
 }
 
+/// A triple, and after `=` its version of macOS, and the oldest version that rustc builds for.
+const APPLES: &str = "\
+x86_64-apple-macosx10.7.5=10.7.5 10.12.0
+aarch64-apple-macosx=- 11.0.0
+aarch64-apple-darwin=- 11.0.0
+powerpc-apple-darwin3=- 10.12.0
+powerpc-apple-darwin4=10.0.0 10.12.0
+x86_64-apple-darwin19.6=10.15.0 10.12.0
+aarch64-apple-darwin20.1=11.0.0 11.0.0
+aarch64-apple-darwin24=15.0.0 11.0.0
+aarch64-apple-darwin25=26.0.0 11.0.0
+aarch64-apple-darwin65535=65535.0.0 11.0.0
+aarch64-apple-ios17=- 10.0.0
+aarch64-apple-ios-sim=- 14.0.0
+x86_64-apple-ios-macabi=- 13.1.0
+aarch64-apple-ios-macabi=- 14.0.0
+x86_64-apple-tvos=- 10.0.0
+aarch64-apple-tvos-sim=- 14.0.0
+armv7k-apple-watchos=- 5.0.0
+aarch64-apple-watchos=- 26.0.0
+aarch64-apple-watchos-sim=- 7.0.0
+aarch64-apple-visionos-sim=- 1.0.0
+aarch64-apple-xros2=- 1.0.0
+x86_64-unknown-linux-gnu=- -
+unknown=- -";
+
 #[test]
 fn versions_of_apples_systems_are_answered() {
-    let numbers = |it: Option<DeploymentTarget>| it.map(|it| (it.major, it.minor, it.patch));
-    for (text, macos, oldest) in [
-        (
-            "x86_64-apple-macosx10.7.5",
-            Some((10, 7, 5)),
-            Some((10, 12, 0)),
-        ),
-        ("aarch64-apple-macosx", None, Some((11, 0, 0))),
-        ("aarch64-apple-darwin", None, Some((11, 0, 0))),
-        ("powerpc-apple-darwin3", None, Some((10, 12, 0))),
-        ("powerpc-apple-darwin4", Some((10, 0, 0)), Some((10, 12, 0))),
-        (
-            "x86_64-apple-darwin19.6",
-            Some((10, 15, 0)),
-            Some((10, 12, 0)),
-        ),
-        (
-            "aarch64-apple-darwin20.1",
-            Some((11, 0, 0)),
-            Some((11, 0, 0)),
-        ),
-        ("aarch64-apple-darwin24", Some((15, 0, 0)), Some((11, 0, 0))),
-        ("aarch64-apple-darwin25", Some((26, 0, 0)), Some((11, 0, 0))),
-        (
-            "aarch64-apple-darwin65535",
-            Some((65535, 0, 0)),
-            Some((11, 0, 0)),
-        ),
-        ("aarch64-apple-ios17", None, Some((10, 0, 0))),
-        ("aarch64-apple-ios-sim", None, Some((14, 0, 0))),
-        ("x86_64-apple-ios-macabi", None, Some((13, 1, 0))),
-        ("aarch64-apple-ios-macabi", None, Some((14, 0, 0))),
-        ("x86_64-apple-tvos", None, Some((10, 0, 0))),
-        ("aarch64-apple-tvos-sim", None, Some((14, 0, 0))),
-        ("armv7k-apple-watchos", None, Some((5, 0, 0))),
-        ("aarch64-apple-watchos", None, Some((26, 0, 0))),
-        ("aarch64-apple-watchos-sim", None, Some((7, 0, 0))),
-        ("aarch64-apple-visionos-sim", None, Some((1, 0, 0))),
-        ("aarch64-apple-xros2", None, Some((1, 0, 0))),
-        ("x86_64-unknown-linux-gnu", None, None),
-        ("unknown", None, None),
-    ] {
+    let shown = |it: Option<DeploymentTarget>| {
+        it.map_or("-".to_string(), |it| {
+            format!("{}.{}.{}", it.major, it.minor, it.patch)
+        })
+    };
+    for (text, expected) in APPLES.lines().map(row_of) {
         let triple = parsed(text);
-        assert_eq!(numbers(triple.macos_version()), macos, "{text}");
-        assert_eq!(numbers(triple.minimum_os_version()), oldest, "{text}");
+        let (macos, oldest) = (triple.macos_version(), triple.minimum_os_version());
+        assert_eq!(
+            format!("{} {}", shown(macos), shown(oldest)),
+            expected,
+            "{text}"
+        );
     }
 }
 
@@ -449,132 +439,58 @@ fn lines_are_those_of_rustc() {
     assert_eq!(TripleRef::unknown().rustc_cfg().to_string(), UNKNOWN_LINES);
 }
 
-/// For each field strings, and after `=` the name that should be suggested, or nothing.
+/// For each field a name, or `-` for none, and after `=` the strings for which it should be suggested.
 const OPERATING_SYSTEMS: &str = "\
-linx=linux
-darwim=darwin
-widows=windows
-plan9=
-w64=
-solar=
-solart=solaris
-darwxyz=
-lniux=linux
-psx=
-kfreebsd=
-uclinux=
-wasip3=
-Linux=linux
-iso17=ios17
-iso17.2=ios17.2
-iso=ios
-iso017.2.3=ios017.2.3
-iso17.2.3.4=ios
-iso65536=ios
-darwim20.1=darwin20.1
-darwin20.1.2.3=darwin
-macosc14=macosx14
-iOS17=ios17
-MacOS14.5=macosx14.5
-macOS=macosx
-LINUX=linux
-macos14=macosx14
-macos14.=macosx
-macos.11.0=macosx
-macosx.11.0=macosx
-iso17x=
-ios17x=ios
-ios17é=ios
-iosé17=
-linux5.10=linux
-Linux5.10=linux
-linx5.10=
-windows10=windows
-windows.win10=windows
-haiku1=haiku
-freebsd13.2=freebsd
-freebsd13x=freebsd
-wasi0.2=wasi
-wasip4=
-psp2=psp
-psx1=
-5.10=
-.=
-aux7=";
+linux=linx lniux Linux LINUX linux5.10 Linux5.10
+darwin=darwim darwin20.1.2.3
+windows=widows windows10 windows.win10
+solaris=solart
+ios17=iso17 iOS17
+ios17.2=iso17.2
+ios=iso iso17.2.3.4 iso65536 ios17x ios17é
+ios017.2.3=iso017.2.3
+darwin20.1=darwim20.1
+macosx14=macosc14 macos14
+macosx14.5=MacOS14.5
+macosx=macOS macos14. macos.11.0 macosx.11.0
+haiku=haiku1
+freebsd=freebsd13.2 freebsd13x
+wasi=wasi0.2
+psp=psp2
+-=plan9 w64 solar darwxyz psx kfreebsd uclinux wasip3 iso17x iosé17 linx5.10 wasip4 psx1 5.10 . aux7";
 
 const ARCHITECTURES: &str = "\
-x86-64=x86_64
-=
-arm64e=
-arm64ec=
-riscv64im=
-riscv32em=
-riscv32mi=riscv32im
-thumbv8r=
-armv7hl=
-armv6hl=
-armv7l=armv7
-armel=arm
-thumbv8m.bas=thumbv8m.base
-aarch64be=aarch64_be
-X86_64=x86_64
-ARM64=arm64
-mips32el=
-iso17=
-arm6j=
-i368=i386
-amd64=x86_64
-wasm=
-x86=
-x86_32=
-mipsel64=
-arc=
-arceb=
-crisv32=
-m88k=
-r600=
-s390=
-spir64=
-spirv64=
-z8k=
-amr64=
-powerpcle=
-mipsl=
-ppc64el=powerpc64le
-x8664=x86_64
-mipse=";
+x86_64=x86-64 X86_64 amd64 x8664
+riscv32im=riscv32mi
+armv7=armv7l
+arm=armel
+thumbv8m.base=thumbv8m.bas
+aarch64_be=aarch64be
+arm64=ARM64
+i386=i368
+powerpc64le=ppc64el
+-=arm64e arm64ec riscv64im riscv32em thumbv8r armv7hl armv6hl mips32el iso17 arm6j wasm x86 x86_32 mipsel64
+-=arc arceb crisv32 m88k r600 s390 spir64 spirv64 z8k amr64 powerpcle mipsl mipse";
 
 const VENDORS: &str = "\
-linxu=linux
-aple=apple
-freebsd13.2=freebsd
-mingw32=windows-gnu
-macos13=macosx13
-iso17=ios17
-linux5.10=linux
-w64=pc";
+linux=linxu linux5.10
+apple=aple
+freebsd=freebsd13.2
+windows-gnu=mingw32
+macosx13=macos13
+ios17=iso17
+pc=w64";
 
 const ENVIRONMENTS: &str = "\
-android21=android
-mingw32=
-gnuabi=
-musl=musl
-msul=musl
-glibc=
-gnuabi32=
-iso17=
-macos14=
-linux5.10=
-ela=
-efl=elf
-gnueabihff=
-gnuu=gnu
-gnux3=";
+android=android21
+musl=musl msul
+elf=efl
+gnu=gnuu
+-=mingw32 gnuabi glibc gnuabi32 iso17 macos14 linux5.10 ela gnueabihff gnux3";
 
 const BINARY_FORMATS: &str = "\
-mach0=
-mahco=macho
-nothing of the kind=";
+macho=mahco
+-=mach0";
 
 #[test]
 fn names_are_suggested() {
@@ -585,9 +501,14 @@ fn names_are_suggested() {
         (Field::Environment, ENVIRONMENTS),
         (Field::BinaryFormat, BINARY_FORMATS),
     ] {
-        for (text, name) in rows.lines().map(row_of) {
-            let found = suggestion(field, text).map_or(String::new(), |it| it.to_string());
-            assert_eq!(found, name, "{text}");
+        for (name, texts) in rows.lines().map(row_of) {
+            for text in texts.split(' ') {
+                let found = suggestion(field, text).map_or("-".to_string(), |it| it.to_string());
+                assert_eq!(found, name, "{text}");
+            }
+        }
+        for text in ["", "nothing of the kind"] {
+            assert_eq!(suggestion(field, text), None);
         }
         for name in field.names() {
             assert_eq!(suggestion(field, name).unwrap(), *name);
