@@ -21,20 +21,10 @@ that character, `*`, and how many:
   $ many() { yes "$(cat "$1")" 2> /dev/null | head -n 610000; }
   $ many lines > input; wc -c < input
   10126000
-  $ for mode in print show settle; do
+  $ for mode in print show settle stream stream-show stream-settle; do
   >   triples $mode < lines > answers
   >   triples $mode < input | cmp - <(many answers)
   > done
-  $ for mode in stream stream-show stream-settle; do
-  >   triples $mode < lines > answers
-  >   triples $mode < input | cmp - <(many answers)
-  > done
-  $ triples show < lines
-  aarch64-apple-ios little 64 AppleAarch64 LP64
-  error: Unrecognized architecture: foo
-  x86_64-customvendor-linux little 64 SystemV LP64
-  wasm32-wasi little 32 WasmBasicCAbi ILP32
-  error: Unrecognized environment: foo
 
 A matrix has each refusal, but each text once:
 
@@ -92,23 +82,11 @@ A matrix has each refusal, but each text once:
 
   $ as_list() { sed 's/.*/"&"/' | paste -sd, | sed 's/.*/[&]/'; }
   $ grep -v foo lines > good
-  $ for count in 100000 500000; do
-  >   many good | head -n $count > elements
-  >   as_list < elements | triples json | cmp - <(triples print < elements | as_list)
-  >   { cat elements; echo foo; } | as_list | triples json
-  > done
-  error: Element 100000: Unrecognized architecture: foo
+  $ many good | head -n 500000 > elements
+  $ as_list < elements | triples json | cmp - <(triples print < elements | as_list)
+  $ { cat elements; echo foo; } | as_list | triples json
   error: Element 500000: Unrecognized architecture: foo
-  $ while read -r line; do echo "$line" | as_list | triples json; done < long | shortened
-  ["x86_64-a*1000000-linux"]
-  error: Element 0: Unrecognized architecture: a*1000000
-  error: Element 0: Unrecognized environment: a*1000000
-  error: Element 0: Unrecognized vendor: A*1000000
-  error: Element 0: Unrecognized vendor: é*500000
-  ["x86_64-apple-ios7.0.0"]
-  error: Element 0: Unrecognized operating system: ios1*10000
-  ["x86_64-apple-ios1.2.0"]
-  error: Element 0: Unrecognized field:  (esc)
+  $ while read -r line; do echo "$line" | as_list | triples json; done < long | cmp - <(triples print < long | sed '/^error: /!s/.*/["&"]/; s/^error: /&Element 0: /')
   $ { printf '["x86_64-'; repeated a 1000000 | sed 's/a/\\u0061/g'; printf -- '-linux"]'; } | triples json | shortened
   ["x86_64-a*1000000-linux"]
 
@@ -117,9 +95,9 @@ A matrix has each refusal, but each text once:
 Nothing is written before all is read:
 
   $ for mode in print show settle json matrix; do
-  >   repeated '\377' 1000000 | triples $mode
+  >   for text in '\xff' 'x86_64\n\xc3' 'x86_64-unknown-linux\n\xed\xa0\x80'; do printf "$text" | triples $mode; done
   >   { repeated a 999999; printf '\xc3'; } | triples $mode
   >   { yes x86_64 | head -n 140000; printf '\xff'; } 2> /dev/null | triples $mode
   > done | sort | uniq -c
-       15 fault: Input is not UTF-8
-       15 status 1
+       25 fault: Input is not UTF-8
+       25 status 1

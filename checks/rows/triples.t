@@ -159,28 +159,12 @@ write for refused lines, which must be the same:
   error: Unrecognized architecture: eM-BM-^EfM-bM-^@M-(g^Kh^Li
   $ : > lines
   $ agreed
-  $ yes '' | head -n 1000 > lines
-  $ agreed | uniq -c
-     1000 error: Unrecognized architecture:  (esc)
 
 Digits of two bytes each, so many that a read ends within one of them:
 
   $ printf 'ios'"$(printf '\331\241%.0s' {1..9001})" > part
   $ { printf x86_64-apple-; cat part; } > lines
   $ agreed | cmp - <(printf 'error: Unrecognized operating system: '; cat part; echo)
-
-Input that is not UTF-8, in each mode. No line before it is answered:
-
-  $ printf '\xff' | triples print
-  fault: Input is not UTF-8
-  [1]
-  $ for text in '\xff' 'x86_64\n\xc3' 'x86_64-unknown-linux\n\xed\xa0\x80'; do
-  >   for mode in print show settle json matrix; do
-  >     printf "$text" | triples $mode; echo "status $?"
-  >   done
-  > done | sort | uniq -c
-       15 fault: Input is not UTF-8
-       15 status 1
 
 ## Arguments
 
@@ -193,34 +177,42 @@ Input that is not UTF-8, in each mode. No line before it is answered:
 
 ## Readers and writers that fail
 
-A folder can't be read:
+A folder can't be read, and neither can a closed input, in any mode:
 
-  $ for mode in print show settle json matrix; do triples $mode < /; echo "status $?"; done | sort | uniq -c
-        5 fault: Read failed
-        5 status 1
+  $ for mode in print show settle json matrix stream stream-show stream-settle; do
+  >   triples $mode < /; echo "status $?"; triples $mode <&-; echo "status $?"
+  > done | sort | uniq -c
+       16 fault: Read failed
+       16 status 1
 
-If something can't be written, the status is 1, or 2 without a mode. Here the output is full, and then has no reader: the
-signal for that, which would end a C program, is blocked or not.
+If something can't be written, the status is 1, or 2 without a mode; if there is nothing to write, it is 0. Here the output is full, then closed, and then
+has no reader: the signal for that, which would end a C program, is blocked or not.
 
   $ mkfifo pipe && exec 3<> pipe 4> pipe 3<&-
-  $ statuses() {
-  >   triples $1 < lines > /dev/full; first=$?
-  >   triples $1 < lines >&4; second=$?
-  >   (trap '' PIPE; triples $1 < lines >&4); echo $first $second $?
-  > }
-  $ echo x86_64 > lines; statuses print
-  1 1 1
-  $ echo foo > lines; statuses matrix
-  1 1 1
-  $ printf '[]' > lines; statuses json
-  1 1 1
-  $ printf '{}' > lines; statuses json
-  1 1 1
-  $ printf '\xff' > lines; statuses print
-  1 1 1
-  $ : > lines; statuses no
-  2 2 2
-  $ triples print < lines > /dev/full
+  $ while read -r mode input; do
+  >   printf "$input" > lines
+  >   triples $mode < lines > /dev/full; full=$?
+  >   triples $mode < lines >&-; closed=$?
+  >   triples $mode < lines >&4; unread=$?
+  >   (trap '' PIPE; triples $mode < lines >&4); echo $mode $full $closed $unread $?
+  > done << 'END'
+  > print x86_64
+  > matrix foo
+  > stream foo
+  > json []
+  > json {}
+  > print \xff
+  > no
+  > print
+  > END
+  print 1 1 1 1
+  matrix 1 1 1 1
+  stream 1 1 1 1
+  json 1 1 1 1
+  json 1 1 1 1
+  print 1 1 1 1
+  no 2 2 2 2
+  print 0 0 0 0
 
 A reader closes after a hundred bytes, and a file may have 64 kB. Both get the beginning of the output:
 
