@@ -1,7 +1,7 @@
 //! What the user may have meant by a target that is refused.
 use crate::calls::Call;
 use crate::input::{end_of_line, Place, Target};
-use crate::reader::{meaning_elsewhere, Reader, Takes};
+use crate::reader::{note_of_others, Reader, Takes};
 use crate::refusal::{visible, Names, Refusal};
 use clap::ArgMatches;
 use std::collections::HashMap;
@@ -83,11 +83,9 @@ impl Helper {
         let text = target.text.trim();
         let parses = TripleRef::from_str(text).is_ok();
         let of_other_tools = match self.takes {
-            Takes::Triples if !parses => meaning_elsewhere(text)
-                .map(|meant| {
-                    format!("other tools mean `{meant}`, which `target-lexicon read` gives")
-                })
-                .or_else(|| dialects_note("target-lexicon read ", text)),
+            Takes::Triples if !parses => {
+                note_of_others(text).or_else(|| dialects_note("target-lexicon read ", text))
+            }
             Takes::Spellings => dialects_note("", text),
             _ => None,
         };

@@ -20,16 +20,13 @@ mod usage;
 use clap::error::ErrorKind;
 use clap::ArgMatches;
 use fault::Fault;
-use output::Outputs;
+use output::write_only;
 use std::process;
 
 /// Runs what the arguments say. Returns the status.
 fn run(arguments: &ArgMatches) -> Result<i32, Fault> {
     if arguments.get_flag("manual") {
-        let mut outputs = Outputs::plain();
-        outputs.write(|out| out.write_all(include_bytes!("../man/target-lexicon.1")))?;
-        outputs.flush()?;
-        return Ok(0);
+        return write_only(|out| out.write_all(include_bytes!("../man/target-lexicon.1")));
     }
     match arguments.subcommand() {
         Some((name, arguments)) => calls::run(name, arguments),

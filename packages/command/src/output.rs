@@ -48,6 +48,14 @@ pub fn takes_escapes() -> bool {
         && env::var_os("TERM").map_or(cfg!(windows), |it| it != "dumb")
 }
 
+/// Writes a text that answers for no target. Returns the status.
+pub fn write_only(text: impl FnOnce(&mut dyn Write) -> io::Result<()>) -> Result<i32, Fault> {
+    let mut outputs = Outputs::plain();
+    outputs.write(text)?;
+    outputs.flush()?;
+    Ok(0)
+}
+
 impl Outputs {
     pub fn plain() -> Self {
         Outputs {

@@ -120,10 +120,11 @@ impl Reader {
     }
 }
 
-/// The canonical form of what a string means that GNU and LLVM tools print, if that has a known vendor and a system.
-pub fn meaning_elsewhere(text: &str) -> Option<String> {
+/// That other tools mean a target by a string, as GNU and LLVM tools print it, if that has a known vendor and a system.
+pub fn note_of_others(text: &str) -> Option<String> {
     let triple = read(text).ok()?;
     let is_target =
         !triple.vendor.is_custom() && triple.operating_system != OperatingSystem::Unknown;
-    is_target.then(|| canonical(triple).to_string())
+    let meant = canonical(triple);
+    is_target.then(|| format!("other tools mean `{meant}`, which `target-lexicon read` gives"))
 }

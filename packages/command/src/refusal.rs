@@ -10,8 +10,8 @@ use target_lexicon::{Field, TextPart, TripleRef};
 use target_names::{Dialect, NameError, WriteError};
 
 pub struct Refusal<'a> {
-    /// The word before it: a warning isn't refused.
-    kind: Kind,
+    /// Whether the target isn't refused.
+    is_warning: bool,
     error: String,
     /// The field that the part isn't a name of.
     field: Option<Field>,
@@ -19,12 +19,6 @@ pub struct Refusal<'a> {
     pub names: Names<'a>,
     /// Why the name of a tool has no triple.
     reason: Option<&'static str>,
-}
-
-#[derive(Clone, Copy, PartialEq, Eq)]
-enum Kind {
-    Error,
-    Warning,
 }
 
 /// Among which names one is suggested. To find it takes longer than all else, so it is found only where it is shown.
@@ -51,32 +45,44 @@ pub fn reason(error: WriteError) -> &'static str {
 }
 
 impl<'a> Refusal<'a> {
+    fn new(error: impl Into<String>, part: TextPart<'a>) -> Self {
+        Refusal {
+            is_warning: false,
+            error: error.into(),
+            field: None,
+            part,
+            names: Names::No,
+            reason: None,
+        }
+    }
+
+    fn of_all(error: impl Into<String>, text: &'a str) -> Self {
+        Refusal::new(error, TextPart { text, start: 0 })
+    }
+
     pub fn of_part(refusal: target_lexicon::Refusal<'a>) -> Self {
         let name = refusal.expected.and_then(key_of).unwrap_or("field");
         Refusal {
-            kind: Kind::Error,
-            error: format!("unrecognized {}", name.replace('_', " ")),
             field: refusal.expected,
-            part: refusal.part,
             names: Names::OfParts(refusal),
-            reason: None,
+            ..Refusal::new(
+                format!("unrecognized {}", name.replace('_', " ")),
+                refusal.part,
+            )
         }
     }
 
     pub fn of_vendor(triple: TripleRef<'a>, part: TextPart<'a>) -> Self {
         Refusal {
-            kind: Kind::Error,
-            error: "custom vendor".into(),
             field: Some(Field::Vendor),
-            part,
             names: Names::OfVendors(triple),
-            reason: None,
+            ..Refusal::new("custom vendor", part)
         }
     }
 
     pub fn into_warning(self) -> Self {
         Refusal {
-            kind: Kind::Warning,
+            is_warning: true,
             ..self
         }
     }
@@ -110,18 +116,7 @@ impl<'a> Refusal<'a> {
     pub fn unknown_to_all(text: &'a str) -> Self {
         Refusal {
             names: Names::OfAll(text),
-            ..Refusal::of_all("no tool has the name".into(), text)
-        }
-    }
-
-    fn of_all(error: String, text: &'a str) -> Self {
-        Refusal {
-            kind: Kind::Error,
-            error,
-            field: None,
-            part: TextPart { text, start: 0 },
-            names: Names::No,
-            reason: None,
+            ..Refusal::of_all("no tool has the name", text)
         }
     }
 }
@@ -147,41 +142,28 @@ impl Refusal<'_> {
                 text.to_string()
             }
         };
-        let (before, after) = (
-            &target.text[..self.part.start],
-            &target.text[self.part.range().end..],
-        );
-        let (before, part, after) = (
-            last(before),
-            visible(self.part.text).shortened().to_string(),
-            visible(after).shortened(),
-        );
+        let (before, after) = target.text.split_at(self.part.start);
+        let column = before.chars().count() + 1;
+        let before = last(before);
+        let part = visible(self.part.text).shortened().to_string();
+        let after = visible(&after[self.part.text.len()..]).shortened();
         if let Place::Line {
             file,
             number,
             indent,
         } = target.place
         {
-            let column = indent + target.text[..self.part.start].chars().count() + 1;
-            write!(
-                out,
-                "{}",
-                color("1", &format!("{}:{number}:{column}: ", visible(file)))
-            )?;
+            let place = format!("{}:{number}:{}: ", visible(file), indent + column);
+            write!(out, "{}", color("1", &place))?;
         }
-        let (code, kind) = match self.kind {
-            Kind::Error => ("1;31", "error:"),
-            Kind::Warning => ("1;35", "warning:"),
+        let (code, kind) = match self.is_warning {
+            false => ("1;31", "error:"),
+            true => ("1;35", "warning:"),
         };
         writeln!(out, "{} {} `{part}`", color(code, kind), self.error)?;
         writeln!(out, "  {before}{part}{after}")?;
-        let carets = "^".repeat(part.chars().count().max(1));
-        write!(
-            out,
-            "  {}{}",
-            " ".repeat(before.chars().count()),
-            color(code, &carets)
-        )?;
+        let carets = color(code, &"^".repeat(part.len().max(1))); // all shown is ASCII
+        write!(out, "  {}{carets}", " ".repeat(before.len()))?;
         match (&help.suggestion, self.reason) {
             (Some(name), _) => {
                 let name = visible(name).to_string();

@@ -1,7 +1,7 @@
 //! Help, and what is wrong with the arguments.
 use crate::arguments::command;
 use crate::fault::Fault;
-use crate::output::Outputs;
+use crate::output::{write_only, Outputs};
 use crate::refusal::visible;
 use clap::error::{ContextKind, ContextValue, ErrorKind};
 use std::env;
@@ -9,16 +9,14 @@ use target_lexicon::TripleRef;
 
 /// Help, the version, or what is wrong with the arguments. Returns the status.
 pub fn show(error: &clap::Error) -> Result<i32, Fault> {
-    let mut outputs = Outputs::plain();
     let text = usage_text(error) + &target_note(error);
-    let is_wrong = error.use_stderr();
-    if is_wrong {
-        outputs.refuse(|out, _| out.write_all(text.as_bytes()))?;
-    } else {
-        outputs.write(|out| out.write_all(text.as_bytes()))?;
+    if !error.use_stderr() {
+        return write_only(|out| out.write_all(text.as_bytes()));
     }
+    let mut outputs = Outputs::plain();
+    outputs.refuse(|out, _| out.write_all(text.as_bytes()))?;
     outputs.flush()?;
-    Ok(if is_wrong { 2 } else { 0 })
+    Ok(2)
 }
 
 /// What clap says of the arguments, without a control character of theirs: it is asked about the escaped ones.

@@ -13,10 +13,7 @@ pub fn command() -> Command {
 
 pub fn run(arguments: &ArgMatches) -> Result<i32, Fault> {
     let shell = *arguments.get_one("shell").expect("a shell is required");
-    let mut outputs = Outputs::plain();
-    outputs.write(|out| out.write_all(script(shell).as_bytes()))?;
-    outputs.flush()?;
-    Ok(0)
+    write_only(|out| out.write_all(script(shell).as_bytes()))
 }
 
 fn script(shell: Shell) -> String {

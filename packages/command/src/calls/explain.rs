@@ -1,7 +1,7 @@
 //! `explain`: each field, its value, and where that comes from.
 use super::*;
 use crate::fields::{name_of, version};
-use crate::reader::{meaning_elsewhere, Parsed};
+use crate::reader::{note_of_others, Parsed};
 use target_lexicon::{Field, Source};
 
 pub fn command() -> Command {
@@ -80,24 +80,15 @@ impl Answer for Explained<'_> {
                 (word, None) => writeln!(out, "{word}")?,
             }
         }
-        if let Some(name) = triple.vendor_suggestion() {
-            let vendor = triple.vendor;
-            writeln!(
-                out,
-                "  {:17} `{vendor}` is a custom vendor; did you mean `{name}`?",
-                "note"
-            )?;
+        let vendor = triple.vendor;
+        let suggestion = triple
+            .vendor_suggestion()
+            .map(|name| format!("`{vendor}` is a custom vendor; did you mean `{name}`?"));
+        let others = note_of_others(self.text).filter(|_| vendor.is_custom());
+        for note in suggestion.into_iter().chain(others) {
+            writeln!(out, "  {:17} {note}", "note")?;
         }
-        match meaning_elsewhere(self.text) {
-            Some(meant) if triple.vendor.is_custom() => {
-                writeln!(
-                    out,
-                    "  {:17} other tools mean `{meant}`, which `target-lexicon read` gives",
-                    "note"
-                )
-            }
-            _ => Ok(()),
-        }
+        Ok(())
     }
 
     fn members(&self) -> Object {

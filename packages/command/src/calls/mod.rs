@@ -17,7 +17,7 @@ use crate::fault::Fault;
 use crate::fields::{canonical, FIELDS};
 use crate::input::Target;
 use crate::json::{Json, Object};
-use crate::output::Outputs;
+use crate::output::{write_only, Outputs};
 use crate::reader::{Reader, Takes};
 use crate::refusal::{visible, Refusal};
 use crate::run::Run;

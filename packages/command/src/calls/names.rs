@@ -23,10 +23,7 @@ pub fn command() -> Command {
 }
 
 pub fn run(arguments: &ArgMatches) -> Result<i32, Fault> {
-    let mut outputs = Outputs::plain();
-    outputs.write(|out| write_names(out, arguments))?;
-    outputs.flush()?;
-    Ok(0)
+    write_only(|out| write_names(out, arguments))
 }
 
 /// The names of the requested field or dialect, those of the dialects, or of each field below its own name.

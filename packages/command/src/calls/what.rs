@@ -3,7 +3,7 @@ use super::*;
 use crate::arguments::written;
 use crate::refusal::reason;
 use target_lexicon::{OperatingSystem, VendorRef};
-use target_names::{hint, meanings, Dialect, Hint, LinuxLibc, Meaning, Name, WriteError};
+use target_names::{hint, meanings, Dialect, Hint, LinuxLibc, Meaning};
 
 pub fn command() -> Command {
     of_targets(
@@ -140,42 +140,31 @@ impl Answer for Meanings<'_> {
     }
 
     fn members(&self) -> Object {
-        let strings =
-            |tools: &[&'static str]| Json::List(tools.iter().map(|it| Json::from(*it)).collect());
         let meaning = |(triple, tools): &(TripleRef<'_>, Vec<&'static str>)| {
-            let names = written().map(|it| (it.name(), it.write_with(triple, self.libc)));
-            let names: Vec<(&'static str, Result<Name, WriteError>)> = names.collect();
-            let name = |(tool, found): &(&'static str, Result<Name, WriteError>)| {
-                let name = found.as_ref().ok().map(|name| name.as_str().to_string());
-                (*tool, name.into())
-            };
-            let why = |(tool, found): &(&'static str, Result<Name, WriteError>)| {
-                Some((*tool, found.as_ref().err()?.reason().into()))
-            };
+            let (mut names, mut reasons) = (Object::new(), Object::new());
+            for dialect in written() {
+                let name = dialect.write_with(triple, self.libc);
+                let why = name.as_ref().err().map(|it| it.reason());
+                reasons.extend(why.map(|it| (dialect.name(), it.into())));
+                names.push((dialect.name(), name.ok().map(|it| it.to_string()).into()));
+            }
             let own = self.note(triple).into_iter();
             let notes: Vec<String> = own.chain(self.notes(tools)).collect();
-            let note = (!notes.is_empty()).then(|| notes.join("; "));
+            let tools = tools.iter().map(|it| Json::from(*it));
             Json::Object(vec![
                 ("canonical", triple.to_string().into()),
-                ("tools", strings(tools)),
-                ("note", note.into()),
-                ("names", Json::Object(names.iter().map(name).collect())),
-                (
-                    "reasons",
-                    Json::Object(names.iter().filter_map(why).collect()),
-                ),
+                ("tools", Json::List(tools.collect())),
+                ("note", (!notes.is_empty()).then(|| notes.join("; ")).into()),
+                ("names", Json::Object(names)),
+                ("reasons", Json::Object(reasons)),
             ])
         };
-        let without = self.without_triple.iter();
+        let meanings = self.meanings.iter().map(meaning).collect();
+        let reasons = self.without_triple.iter();
+        let reasons = reasons.map(|(tool, why)| (*tool, Json::from(*why)));
         vec![
-            (
-                "meanings",
-                Json::List(self.meanings.iter().map(meaning).collect()),
-            ),
-            (
-                "without_triple",
-                Json::Object(without.map(|(tool, why)| (*tool, (*why).into())).collect()),
-            ),
+            ("meanings", Json::List(meanings)),
+            ("without_triple", Json::Object(reasons.collect())),
         ]
     }
 }
