@@ -113,8 +113,10 @@ def python_type(fact):
 
 def answers(answered, facts, reasons):
     """The file of the answers, from those of each kind, the facts, and why one has no answer."""
-    enumerations = [line for kind, about in ANSWERS.items() for line in enumeration(ENUMS[kind], "NamedValue", about, [(it.constant, it.name, it.about) for it in answered[kind]])]
-    tables = {table_of(it): f"Tuple[{python_type(it)}, ...] = " + ("(None, *members({}))" if it.is_optional else "members({})").format(it.words) for it in facts if it.words}
+    members = {kind: [(it.constant, it.name, it.about) for it in answered[kind]] for kind in ANSWERS}
+    enumerations = [line for kind, about in ANSWERS.items() for line in enumeration(ENUMS[kind], "NamedValue", about, members[kind])]
+    by_number = {True: "(None, *members({}))", False: "members({})"}
+    tables = {table_of(it): f"Tuple[{python_type(it)}, ...] = {by_number[it.is_optional].format(it.words)}" for it in facts if it.words}
     columns = dict.fromkeys(FIRST, "str") | {it.name: "str" if it.words else plain_type(it) for it in facts} | dict.fromkeys(LAST, "str")
     return HEAD.format("answers.tsv") + FACTS.format(
         enumerations="\n".join(enumerations),
@@ -122,5 +124,6 @@ def answers(answered, facts, reasons):
         reasons="\n".join(f'    "{name}": "{reason}",' for names, reason in reasons for name in names),
         tables="\n".join(f"{name}: {value}" for name, value in tables.items()),
         columns="\n".join(f"    {name}: Optional[{of}] = None" for name, of in columns.items()),
-        properties="\n".join(PROPERTY.format(name=it.name, type=python_type(it), table=table_of(it), about=it.about + " None if it isn't known." * it.is_optional)
+        properties="\n".join(PROPERTY.format(name=it.name, type=python_type(it), table=table_of(it),
+                                             about=it.about + " None if it isn't known." * it.is_optional)
                              for it in facts if it.name != KNOWN))

@@ -15,7 +15,8 @@ LINES = 20_000
 CALLS = 200_000
 LONG = "a" * 500
 # Targets that aren't read, or not at once, and their canonical strings.
-UNUSUAL = {"x86_64-\udcff-linux": None, "x86_64-\u00e9": None, f"arm64-{LONG}-linux": f"aarch64-{LONG}-linux", "arm64-acme-linux": "aarch64-acme-linux", "": None,
+UNUSUAL = {"x86_64-\udcff-linux": None, "x86_64-\u00e9": None, f"arm64-{LONG}-linux": f"aarch64-{LONG}-linux",
+           "arm64-acme-linux": "aarch64-acme-linux", "": None,
            "arm64-linux\n": None, "\n": None, "arm\r\n-linux": None, "arm64-linux\0": None}
 
 
@@ -26,7 +27,8 @@ def answer(mode, text):
     except ParseError as error:
         return f"error: {error.line}"
     if mode == "show":
-        return " ".join([str(it), *("-" if fact is None else str(fact) for fact in (it.endianness, it.pointer_width, it.default_calling_convention, it.data_model))])
+        facts = it.endianness, it.pointer_width, it.default_calling_convention, it.data_model
+        return " ".join([str(it), *("-" if fact is None else str(fact) for fact in facts)])
     return it.canonical if mode == "settle" else str(it)
 
 
@@ -135,7 +137,8 @@ class Threads(unittest.TestCase):
 
         def work(number):
             first = number * 40
-            return all([(answer("show", it), answer("settle", it)) for it in lines[first:] + lines[:first]] == expected[first:] + expected[:first] for _ in range(3))
+            order, wanted = lines[first:] + lines[:first], expected[first:] + expected[:first]
+            return all([(answer("show", it), answer("settle", it)) for it in order] == wanted for _ in range(3))
         self.assertEqual(self.run_at_once(work), [True] * 8)
 
     def test_each_column_has_its_own_memory(self):

@@ -106,7 +106,8 @@ class Built(Folder):
             archive.extractall(self.folder)
         source, = (os.path.join(self.folder, it) for it in os.listdir(self.folder))
         command = [BASE_PYTHON, *PIP, "wheel", *BUILD, "-w", self.folder, source]
-        for variables, said in (({"PATH": self.folder}, r"isn't built: cargo doesn't run(?s:.*)Install Rust"), ({"CARGO": shutil.which("false")}, "isn't built: cargo ended with status 1"),
+        for variables, said in (({"PATH": self.folder}, r"isn't built: cargo doesn't run(?s:.*)Install Rust"),
+                                ({"CARGO": shutil.which("false")}, "isn't built: cargo ended with status 1"),
                                 ({"TARGET_LEXICON_LIBRARY": os.path.join(source, "pyproject.toml")}, "isn't a shared library for Linux")):
             ran = run(*command, **variables)
             self.assertRegex(ran.stdout + ran.stderr, said)
@@ -116,8 +117,10 @@ class Built(Folder):
             self.assertFalse([it for it in wheel.namelist() if NAME in it])
         self.passes(*command, TARGET_LEXICON_LIBRARY=lists.LIBRARY)
         self.assertTrue(filecmp.cmp(os.path.join(self.folder, os.path.basename(built(".whl"))), built(".whl"), shallow=False))
-        variables = {**{it: os.environ[it] for it in os.environ if it.startswith("LEXICON_TEST_")}, "LEXICON_TEST_ROOT": os.path.join(source, "native")}
-        self.passes(sys.executable, "-c", "import test_triples, test_values, test_lines; test_lines.lists.generated_lines(400)", PYTHONPATH=os.path.join(source, "tests"), **variables)
+        variables = {**{it: os.environ[it] for it in os.environ if it.startswith("LEXICON_TEST_")},
+                     "LEXICON_TEST_ROOT": os.path.join(source, "native")}
+        self.passes(sys.executable, "-c", "import test_triples, test_values, test_lines; test_lines.lists.generated_lines(400)",
+                    PYTHONPATH=os.path.join(source, "tests"), **variables)
 
     @unittest.skipUnless(shutil.which("cargo") and shutil.which("git"), "no cargo and git")
     def test_pip_installs_by_cargo(self):
@@ -154,7 +157,8 @@ class Platforms(Folder):
         libc, path = (os.path.join(self.folder, it) for it in ("libc.so.6", "library.so"))
         functions = "".join(f"void f{number}(void) {{}}\n" for number in range(len(versions)))
         calls = "".join(f"void f{it}(void); void g{it}(void) {{ f{it}(); }}\n" for it in range(len(versions)))
-        for name, text in (f"{libc}.c", functions), (f"{path}.c", calls), (f"{libc}.map", "".join(f"{version} {{ f{it}; }};\n" for it, version in enumerate(versions))):
+        of_versions = "".join(f"{version} {{ f{it}; }};\n" for it, version in enumerate(versions))
+        for name, text in (f"{libc}.c", functions), (f"{path}.c", calls), (f"{libc}.map", of_versions):
             with open(name, "w", encoding="utf-8") as file:
                 file.write(text)
         compiler = "cc", "-shared", "-fPIC", "-nostdlib"
@@ -165,10 +169,12 @@ class Platforms(Folder):
         with open(path, "r+b") as file:
             file.seek(18)
             file.write(machine.to_bytes(2, "little"))
-        return self.passes(BASE_PYTHON, "-c", f"import hatch_build; print(hatch_build.linux_platform(hatch_build.read({path!r})))", PYTHONPATH=lists.PACKAGE).strip()
+        return self.passes(BASE_PYTHON, "-c", f"import hatch_build; print(hatch_build.linux_platform(hatch_build.read({path!r})))",
+                           PYTHONPATH=lists.PACKAGE).strip()
 
     def test_tags(self):
-        for versions, tag in ((["GLIBC_2.2.5"], "manylinux_2_17"), (["GLIBC_2.9", "GLIBC_2.34"], "manylinux_2_34"), (["GLIBC_2.38", "GLIBC_2.4", "GLIBC_2.18"], "manylinux_2_38"),
+        for versions, tag in ((["GLIBC_2.2.5"], "manylinux_2_17"), (["GLIBC_2.9", "GLIBC_2.34"], "manylinux_2_34"),
+                              (["GLIBC_2.38", "GLIBC_2.4", "GLIBC_2.18"], "manylinux_2_38"),
                               (["GLIBC_3.1"], "manylinux_3_1"), (["GLIBC_2.17", "GLIBC_PRIVATE"], "linux")):
             for machine, name in (62, "x86_64"), (183, "aarch64"):
                 self.assertEqual(self.tag(*versions, machine=machine), f"{tag}_{name}", versions)
@@ -190,11 +196,13 @@ class FindsTheLibrary(Folder):
         needs = rf"^ImportError: target_lexicon needs the shared library libtarget_lexicon {re.escape(CALLS)}: .*TARGET_LEXICON_LIBRARY"
         self.assertRegex(prints(), needs)
         self.assertRegex(prints(TARGET_LEXICON_LIBRARY="/nowhere/libtarget_lexicon.so"), needs)
-        self.assertEqual(prints(TARGET_LEXICON_LIBRARY="libc.so.6"), f"ImportError: libc.so.6 isn't libtarget_lexicon {CALLS}: it doesn't have lexicon_version")
+        self.assertEqual(prints(TARGET_LEXICON_LIBRARY="libc.so.6"),
+                         f"ImportError: libc.so.6 isn't libtarget_lexicon {CALLS}: it doesn't have lexicon_version")
         self.assertEqual(prints(TARGET_LEXICON_LIBRARY=lists.LIBRARY), f"aarch64-unknown-linux {lists.LIBRARY}\n")
         library = shutil.copy(lists.LIBRARY, os.path.join(self.folder, NAME))
         self.assertEqual(prints(LD_LIBRARY_PATH=self.folder), f"aarch64-unknown-linux {NAME}\n")
-        for file, old, new, said in (("_values.py", '    XCOFF = "xcoff"\n', '    XCOFF = "xcoff"\n    ELF2 = "elf2"\n', "has other names than this package"),
+        for file, old, new, said in (("_values.py", '    XCOFF = "xcoff"\n', '    XCOFF = "xcoff"\n    ELF2 = "elf2"\n',
+                                      "has other names than this package"),
                                      ("_library.py", f'VERSION = "{CALLS}.', 'VERSION = "9.9.', r"isn't libtarget_lexicon 9\.9: its version is")):
             path = os.path.join(package, file)
             with open(path, encoding="utf-8") as it:
@@ -212,7 +220,8 @@ class Command(unittest.TestCase):
     def answer(self, *arguments, given=""):
         """What the installed command says, which is what `python -m target_lexicon` says."""
         installed, module = (subprocess.run([*command, *arguments], input=given, capture_output=True, text=True, check=False)
-                             for command in ([os.path.join(os.path.dirname(sys.executable), "target-lexicon")], [sys.executable, "-I", "-m", "target_lexicon"]))
+                             for command in ([os.path.join(os.path.dirname(sys.executable), "target-lexicon")],
+                                             [sys.executable, "-I", "-m", "target_lexicon"]))
         self.assertEqual((module.stdout, module.returncode, module.stderr.replace("python -m target_lexicon", "target-lexicon").splitlines()[-1:]),
                          (installed.stdout, installed.returncode, installed.stderr.splitlines()[-1:]))
         return installed.stdout, installed.stderr, installed.returncode
@@ -221,7 +230,8 @@ class Command(unittest.TestCase):
         with self.assertRaises(ParseError) as caught:
             Triple("x86_64-pc-linx")
         refusal = f"{caught.exception}\n"
-        self.assertEqual(self.answer("settle", "-", given="arm64-linux\nx86_64-pc-linx\r\navr\n"), ("aarch64-unknown-linux\navr-unknown-unknown\n", refusal, 1))
+        self.assertEqual(self.answer("settle", "-", given="arm64-linux\nx86_64-pc-linx\r\navr\n"),
+                         ("aarch64-unknown-linux\navr-unknown-unknown\n", refusal, 1))
         self.assertEqual(self.answer("check", "avr", "x86_64-pc-linx"), ("", refusal, 1))
         self.assertEqual(self.answer("translate", "--to", "debian", "avr-none", "x86_64-linux")[1:], (
             "no name of debian for avr-none: the tool has no name for this machine on any system\n"
@@ -237,19 +247,25 @@ class Command(unittest.TestCase):
             self.assertEqual((self.answer(*words)[0], self.answer(*words)[2]), ("", 2), words)
 
     def test_streams(self):
-        for streams, stdout, stderr in (("<&-", "3\n", "error: standard input is closed\n"), (">&- < /dev/null", "3\n", "error: standard output is closed\n"),
-                                        ("avr > /dev/full", "3\n", "error: [Errno 28] No space left on device\n"), ("< <(yes avr) | head -n 1", "avr-unknown-unknown\n141\n", "")):
+        for streams, stdout, stderr in (("<&-", "3\n", "error: standard input is closed\n"),
+                                        (">&- < /dev/null", "3\n", "error: standard output is closed\n"),
+                                        ("avr > /dev/full", "3\n", "error: [Errno 28] No space left on device\n"),
+                                        ("< <(yes avr) | head -n 1", "avr-unknown-unknown\n141\n", "")):
             ran = run("bash", "-c", f"{sys.executable} -I -m target_lexicon settle {streams}; echo ${{PIPESTATUS[0]}}")
             self.assertEqual((ran.stdout, ran.stderr), (stdout, stderr))
 
     @unittest.skipUnless(COMMAND, "the command target-lexicon isn't beside PROGRAM")
     def test_it_writes_what_the_command_in_rust_writes(self):
-        """The same bytes on standard output, and the same status, except that objects of `read` have no `changes` here, there is no `note`, and `what` has no `suggestion`."""
+        """The same bytes on standard output, and the same status, except that objects of `read` have no `changes` here, there is no
+        `note`, and `what` has no `suggestion`."""
         targets = ["arm64-apple-ios17.1", "avr", "x86_64-aple-linux", "x86_64-unknown-uefi", "armv6k-nintendo-3ds", "thumbv7m-none-eabi",
-                   "x86_64-w64-windows-gnu", "x86_64-pc-linx", "x86_64-\u00e9\U0001f600-x", "", "x86_64-linux-elf-gnu", "x86_64-w64-mingw32", "i686-linux-gnu"]
+                   "x86_64-w64-windows-gnu", "x86_64-pc-linx", "x86_64-\u00e9\U0001f600-x", "", "x86_64-linux-elf-gnu",
+                   "x86_64-w64-mingw32", "i686-linux-gnu"]
         names = ["linux/arm64", "amd64", "linux-x64-musl", "js/wasm", "linux/amd46", "x86_64-linux-gnu", "", "x86_64-w64-mingw32", "gnu-\u00e9"]
-        calls = ["facts", "explain", "settle", "check", "read", "what", "read --libc musl", "what --libc musl", "translate --from oci --to rust --libc musl", "facts --from oci --libc glibc",
-                 "settle --from oci --libc musl", "check --from oci", *(f"translate --to {it}" for it in _dialects.WRITTEN), *(f"read --from {it}" for it in _dialects.READ)]
+        calls = ["facts", "explain", "settle", "check", "read", "what", "read --libc musl", "what --libc musl",
+                 "translate --from oci --to rust --libc musl", "facts --from oci --libc glibc",
+                 "settle --from oci --libc musl", "check --from oci", *(f"translate --to {it}" for it in _dialects.WRITTEN),
+                 *(f"read --from {it}" for it in _dialects.READ)]
         for words in map(str.split, calls):
             given = [*targets * ("--from" not in words), *names * (words[0] in ("read", "what") or "--from" in words)]
             for arguments, line in (given, b""), (["--json", "-", "avr"], "".join(f"{it}\r\n" for it in given).encode()):
@@ -267,11 +283,13 @@ class Samples(Folder):
         self.assertGreater(results.attempted, 15)
 
     def commands_run(self, python, library):
-        """Runs the commands of the page, which write what it shows, and bind no port: those on programs with this library, or with none. Returns how many."""
+        """Runs the commands of the page, which write what it shows, and bind no port: those on programs with this library, or with
+        none. Returns how many."""
         with open(os.path.join(lists.PACKAGE, "README.md"), encoding="utf-8") as it:
             page = it.read()
         programs = dict(re.findall(r"<!-- file: (\S+) -->\n```python\n(.*?)```", page, re.S))
-        no_ports = "import os, socket, sys\nsys.addaudithook(lambda event, words: event == 'socket.bind' and words[0].family != socket.AF_UNIX and os._exit(9))\n"
+        no_ports = ("import os, socket, sys\n"
+                    "sys.addaudithook(lambda event, words: event == 'socket.bind' and words[0].family != socket.AF_UNIX and os._exit(9))\n")
         for name, text in {**programs, "python3": f'#!/bin/sh\nexec {python} "$@"\n', "sitecustomize.py": no_ports}.items():
             with open(os.path.join(self.folder, name), "w", encoding="utf-8") as it:
                 it.write(text)
@@ -281,7 +299,8 @@ class Samples(Folder):
             needed = [it for name, text in programs.items() if name in block for it in ("pandas", "pydantic") if it in text]
             if needed[:1] == [library] * bool(library):
                 for command, expected in re.findall(r"^\$ (.*)\n((?:[^$].*\n)*)", block, re.M):
-                    ran = run("bash", "-c", f"cd {self.folder} && {{ {command}; }} 2>&1", PATH=f"{self.folder}:{os.environ['PATH']}", **{"PYTHONPATH": f"{self.folder}:{PACKAGES}"} if library else {})
+                    ran = run("bash", "-c", f"cd {self.folder} && {{ {command}; }} 2>&1", PATH=f"{self.folder}:{os.environ['PATH']}",
+                              **{"PYTHONPATH": f"{self.folder}:{PACKAGES}"} if library else {})
                     self.assertEqual(ran.stdout, expected, command)
                     count += 1
         return count
@@ -293,7 +312,8 @@ class Samples(Folder):
     def test_columns_of_the_page(self):
         self.assertEqual(self.commands_run(DEBIAN_PYTHON, "pandas"), 2)
 
-    @unittest.skipUnless(has(PATH_PYTHON, "import pydantic; assert int(pydantic.VERSION.split('.')[0]) == 2"), "pydantic 2 isn't there; Debian 12 doesn't have it")
+    @unittest.skipUnless(has(PATH_PYTHON, "import pydantic; assert int(pydantic.VERSION.split('.')[0]) == 2"),
+                         "pydantic 2 isn't there; Debian 12 doesn't have it")
     def test_models(self):
         self.assertEqual(self.commands_run(PATH_PYTHON, "pydantic"), 1)
         self.assertEqual(self.passes(PATH_PYTHON, os.path.join(HERE, "with_pydantic.py"), PYTHONPATH=PACKAGES), "all well\n")
@@ -333,7 +353,8 @@ class OtherTools(Folder):
     def test_pypy(self):
         """PyPy moves the objects that aren't of ctypes, so a pointer into one of them would be seen."""
         given = {name: value for name, value in os.environ.items() if name.startswith("LEXICON_TEST_")}
-        ran = run("pypy3", "-m", "unittest", "test_triples.Values", "test_values", "test_names.Names", "test_lines.Threads", PYTHONPATH=f"{PACKAGES}:{HERE}", **given)
+        ran = run("pypy3", "-m", "unittest", "test_triples.Values", "test_values", "test_names.Names", "test_lines.Threads",
+                  PYTHONPATH=f"{PACKAGES}:{HERE}", **given)
         self.assertRegex(ran.stderr, r"Ran [23]\d tests in (?s:.*)\nOK")
 
     @unittest.skipUnless(shutil.which("mypy"), "no mypy")

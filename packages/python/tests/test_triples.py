@@ -13,8 +13,9 @@ import target_lexicon
 from target_lexicon import Architecture, CustomVendor, Environment, OperatingSystem, Origin, ParseError, Triple, Vendor
 
 LONG = f"x86_64-{'a' * 500}-linux"  # longer than the first buffer
-TEXTS = ["unknown", "x86_64-unknown-linux-gnu", "arm64-apple-macosx13.2", "arm64-apple-macosx", "arm64-apple-macosx0", "x86_64-acme-linux", "x86_64-acmf-linux",
-         "armv6k-nintendo-horizon-gnu", "armv6k-nintendo-3ds", "riscv32imc-esp-espidf-elf", "clever-unknown-unknown-none", "x86_64-darwin65535.255.255", LONG]
+TEXTS = ["unknown", "x86_64-unknown-linux-gnu", "arm64-apple-macosx13.2", "arm64-apple-macosx", "arm64-apple-macosx0",
+         "x86_64-acme-linux", "x86_64-acmf-linux", "armv6k-nintendo-horizon-gnu", "armv6k-nintendo-3ds", "riscv32imc-esp-espidf-elf", "clever-unknown-unknown-none",
+         "x86_64-darwin65535.255.255", LONG]
 
 # The answers of `to_dict`, where - is none: the printed string is the last but one.
 FACTS = """\
@@ -60,14 +61,16 @@ class Values(Refused):
 
     def test_host(self):
         host = Triple.host()
-        self.assertEqual((host.pointer_width, host.endianness, host.operating_system), (8 * struct.calcsize("P"), sys.byteorder, platform.system().lower()))
+        self.assertEqual((host.pointer_width, host.endianness, host.operating_system),
+                         (8 * struct.calcsize("P"), sys.byteorder, platform.system().lower()))
 
     def test_equality_and_order(self):
         triples = sorted(map(Triple, TEXTS))
         self.assertEqual([str(it) for it in triples], sorted(str(Triple(it)) for it in TEXTS))
         for (number, one), (place, other) in itertools.product(enumerate(triples), enumerate(triples)):
             self.assertEqual((one == other, one != other, hash(one) == hash(other)), (number == place, number != place, number == place))
-            self.assertEqual((one < other, one <= other, one > other, one >= other), (number < place, number <= place, number > place, number >= place))
+            self.assertEqual((one < other, one <= other, one > other, one >= other),
+                             (number < place, number <= place, number > place, number >= place))
         self.assertEqual(hash(Triple("x86_64-acme-linux")), hash(Triple("x86_64-acme-linux-unknown-elf")))
         self.assertNotEqual(Triple("x86_64-linux"), "x86_64-unknown-linux")
         self.assertIs(Triple("x86_64").__lt__("x86_64"), NotImplemented)
@@ -76,14 +79,16 @@ class Values(Refused):
         for triple in map(Triple, TEXTS):
             self.assertIs(copy.copy(triple), triple)
             self.assertIs(copy.deepcopy([triple])[0], triple)
-            for again in *(pickle.loads(pickle.dumps(triple, it)) for it in range(pickle.HIGHEST_PROTOCOL + 1)), eval(repr(triple), vars(target_lexicon)):
+            pickled = [pickle.loads(pickle.dumps(triple, it)) for it in range(pickle.HIGHEST_PROTOCOL + 1)]
+            for again in *pickled, eval(repr(triple), vars(target_lexicon)):
                 self.assertEqual((again, str(again), again.vendor, again.version), (triple, str(triple), triple.vendor, triple.version))
         for value in CustomVendor("acme"), target_lexicon.explain("x86_64-linux"), target_lexicon.Keep.KEEP:
             self.assertEqual((pickle.loads(pickle.dumps(value)), copy.deepcopy(value)), (value, value))
         triple = Triple("x86_64-acme-linux")
         self.assertEqual(f"{triple!r}|{triple:20}|{triple.vendor:>6}", "Triple('x86_64-acme-linux')|x86_64-acme-linux   |  acme")
         self.assertEqual(json.dumps({"targets": [triple]}, default=str), '{"targets": ["x86_64-acme-linux"]}')
-        self.assertEqual([str(getattr(Triple("arm64-apple-ios17"), it)) for it in Triple.__match_args__], ["aarch64", "apple", "ios", "unknown", "macho", "(17, 0, 0)"])
+        self.assertEqual([str(getattr(Triple("arm64-apple-ios17"), it)) for it in Triple.__match_args__],
+                         ["aarch64", "apple", "ios", "unknown", "macho", "(17, 0, 0)"])
 
     def test_immutable_and_final(self):
         triple = Triple("x86_64-acme-linux")
@@ -103,7 +108,8 @@ class Values(Refused):
         self.assertTrue(all((str(it), it.vendor) == (f"x86_64-vendor{number}-linux-gnu", f"vendor{number}") for number, it in enumerate(vendors)))
 
     def test_canonical_forms(self):
-        for text, canonical, comes_back in (("x86_64-linux-elf", "x86_64-unknown-linux", True), ("armv7-nintendo-horizon-newlib", "armv7-nintendo-horizon", False), (LONG, LONG, True)):
+        for text, canonical, comes_back in (("x86_64-linux-elf", "x86_64-unknown-linux", True),
+                                            ("armv7-nintendo-horizon-newlib", "armv7-nintendo-horizon", False), (LONG, LONG, True)):
             triple, settled = Triple(text), Triple(canonical)
             self.assertEqual((triple.settle(), triple.canonical, triple.comes_back()), (settled, canonical, comes_back))
             self.assertEqual((triple.same_target(settled), triple.same_target(Triple("avr"))), (True, False))
@@ -112,13 +118,19 @@ class Values(Refused):
         mac, linux = Triple("arm64-apple-macosx13.2"), Triple("x86_64-unknown-linux-gnu")
         macho = Triple("aarch64-unknown-linux-macho")
         for triple, fields, text in (
-            (mac, {}, "aarch64-apple-macosx13.2.0"), (mac, {"version": [14]}, "aarch64-apple-macosx14.0.0"), (mac, {"version": None}, "aarch64-apple-macosx"),
-            (mac, {"operating_system": OperatingSystem.IOS}, "aarch64-apple-ios"), (mac, {"operating_system": "ios", "version": (17, 1, 2)}, "aarch64-apple-ios17.1.2"),
-            (mac, {"architecture": Architecture.X86_64}, "x86_64-apple-macosx13.2.0"), (mac, {"vendor": CustomVendor("acme")}, "aarch64-acme-macosx13.2.0"),
-            (macho, {"operating_system": OperatingSystem.WINDOWS}, "aarch64-unknown-windows-macho"), (macho, {"binary_format": None}, "aarch64-unknown-linux"),
-            (linux, {"architecture": "arm64"}, "aarch64-unknown-linux-gnu"), (linux, {"vendor": "acme"}, "x86_64-acme-linux-gnu"), (linux, {"vendor": "pc"}, "x86_64-pc-linux-gnu"),
+            (mac, {}, "aarch64-apple-macosx13.2.0"), (mac, {"version": [14]}, "aarch64-apple-macosx14.0.0"),
+            (mac, {"version": None}, "aarch64-apple-macosx"),
+            (mac, {"operating_system": OperatingSystem.IOS}, "aarch64-apple-ios"),
+            (mac, {"operating_system": "ios", "version": (17, 1, 2)}, "aarch64-apple-ios17.1.2"),
+            (mac, {"architecture": Architecture.X86_64}, "x86_64-apple-macosx13.2.0"),
+            (mac, {"vendor": CustomVendor("acme")}, "aarch64-acme-macosx13.2.0"),
+            (macho, {"operating_system": OperatingSystem.WINDOWS}, "aarch64-unknown-windows-macho"),
+            (macho, {"binary_format": None}, "aarch64-unknown-linux"),
+            (linux, {"architecture": "arm64"}, "aarch64-unknown-linux-gnu"), (linux, {"vendor": "acme"}, "x86_64-acme-linux-gnu"),
+            (linux, {"vendor": "pc"}, "x86_64-pc-linux-gnu"),
             (linux, {"operating_system": "windows"}, "x86_64-unknown-windows-gnu"), (linux, {"environment": "musl"}, "x86_64-unknown-linux-musl"),
-            (linux, {"binary_format": "coff"}, "x86_64-unknown-linux-gnu-coff"), (mac, {"version": (65535, 255, 255)}, "aarch64-apple-macosx65535.255.255"),
+            (linux, {"binary_format": "coff"}, "x86_64-unknown-linux-gnu-coff"),
+            (mac, {"version": (65535, 255, 255)}, "aarch64-apple-macosx65535.255.255"),
         ):
             for call in triple.replace, triple.__replace__:
                 self.assertEqual((str(call(**fields)), call(**fields)), (text, Triple(text)))
@@ -129,10 +141,12 @@ class Values(Refused):
 
     def test_wrong_fields(self):
         linux, darwin = Triple("x86_64-unknown-linux-gnu"), Triple("x86_64-apple-darwin")
-        for name, value in (("architecture", Vendor.UNKNOWN), ("vendor", OperatingSystem.UNKNOWN), ("vendor", None), ("operating_system", None), ("environment", 3),
+        for name, value in (("architecture", Vendor.UNKNOWN), ("vendor", OperatingSystem.UNKNOWN), ("vendor", None),
+                            ("operating_system", None), ("environment", 3),
                             ("environment", Environment), ("binary_format", b"elf")):
             self.assertRaisesRegex(TypeError, f"{name} must be of type", linux.replace, **{name: value})
-        for name, value, meant in (("environment", "mulsl", "musl"), ("operating_system", "widnows", "windows"), ("architecture", "amd64", "x86_64"), ("binary_format", "pe", None)):
+        for name, value, meant in (("environment", "mulsl", "musl"), ("operating_system", "widnows", "windows"),
+                                   ("architecture", "amd64", "x86_64"), ("binary_format", "pe", None)):
             hint = f"; did you mean {meant!r}\\?" if meant else ""
             self.assertRaisesRegex(ValueError, f"^no {name} has the name {value!r}{hint}$", linux.replace, **{name: value})
         self.assertRaises(ParseError, linux.replace, vendor="No")
@@ -143,18 +157,21 @@ class Values(Refused):
             for call in (lambda it: darwin.replace(version=it), lambda it: darwin.name_in("python", it)):
                 self.assertRaisesRegex(TypeError, rf"^a version must be a tuple of numbers such as \(17, 2\), not {type(version).__name__}$", call, version)
         for number in 1.5, "13", None:
-            self.assertRaisesRegex(TypeError, f"^the numbers of a version must be int, not {type(number).__name__}$", darwin.replace, version=(number,))
+            self.assertRaisesRegex(TypeError, f"^the numbers of a version must be int, not {type(number).__name__}$", darwin.replace,
+                                   version=(number,))
         for values in ({"cpu": "arm"}, {"architecture": "arm65"}, {"operating_system": "ios17"}, {"vendor": "ACME"}, {"binary_format": "pe"},
                        {"operating_system": "linux", "version": "1"}, {"operating_system": "ios", "version": "x"}):
             self.assertRaises(ValueError, Triple.from_dict, values)
-        for call in (Triple, lambda: Triple("x86_64", "linux"), lambda: linux.replace(cpu=1), lambda: linux.__replace__(cpu=1), lambda: linux.same_target("x86_64"),
+        for call in (Triple, lambda: Triple("x86_64", "linux"), lambda: linux.replace(cpu=1), lambda: linux.__replace__(cpu=1),
+                     lambda: linux.same_target("x86_64"),
                      lambda: Triple.from_dict({"architecture": None})):
             self.assertRaises(TypeError, call)
 
     def test_explanations(self):
         it = target_lexicon.explain("arm64-aple-ios17.2")
         self.assertEqual([(name, *source, source.end) for name, source in it.sources], [
-            ("architecture", "aarch64", Origin.ALIAS, "arm64", 0, 5), ("vendor", "aple", Origin.GIVEN, "aple", 6, 10), ("operating_system", "ios", Origin.ALIAS, "ios17.2", 11, 18),
+            ("architecture", "aarch64", Origin.ALIAS, "arm64", 0, 5), ("vendor", "aple", Origin.GIVEN, "aple", 6, 10),
+            ("operating_system", "ios", Origin.ALIAS, "ios17.2", 11, 18),
             ("environment", "unknown", Origin.NOT_GIVEN, None, None, None), ("binary_format", "macho", Origin.IMPLIED, None, None, None)])
         self.assertEqual((it.triple, it.suggestion, it.note), (Triple(it.text), "apple", "`aple` is a custom vendor; did you mean `apple`?"))
         self.assertEqual({source[2:4] for _, source in target_lexicon.explain("armv6k-nintendo-3ds").sources}, {("armv6k-nintendo-3ds", 0)})
@@ -185,7 +202,8 @@ class Refusals(Refused):
         for text, field, part, start, line in (
             ("x86_64-pc-linux-gn\u00fc\U0001f600-x", "environment", "gn\u00fc\U0001f600", 16, "Unrecognized environment: gn\u00fc\U0001f600"),
             ("x86_64-unknown-linux\0-gnu", "operating_system", "linux\0", 15, "Unrecognized operating system: linux\0"),
-            ("a" * 100, "architecture", "a" * 100, 0, f"Unrecognized architecture: {'a' * 100}"), ("x86_64-linux-elf-gnu", None, "gnu", 17, "Unrecognized field: gnu"),
+            ("a" * 100, "architecture", "a" * 100, 0, f"Unrecognized architecture: {'a' * 100}"),
+            ("x86_64-linux-elf-gnu", None, "gnu", 17, "Unrecognized field: gnu"),
             ("x86_64-\udcff\ud800-linux", None, "\udcff", 7, "Lone surrogate: \udcff"),
         ):
             error = self.refusal(Triple, text)
@@ -204,7 +222,8 @@ class Refusals(Refused):
                 self.assertEqual(str(error), error.report + note + " or ".join(calls))
             for call in calls:
                 self.assertIsInstance(eval(call, {"Triple": Triple, "text": text}), Triple)
-        self.assertRegex(str(self.refusal(Triple, "js/wasm")), r"\n  note: it is a name of go without a triple: a module for Go's own JavaScript; .*$")
+        self.assertRegex(str(self.refusal(Triple, "js/wasm")),
+                         r"\n  note: it is a name of go without a triple: a module for Go's own JavaScript; .*$")
         for error in self.refusal(Triple, "linux/amd46"), self.refusal(Triple.read, "linux/amd64", "debian"):
             self.assertEqual(str(error), error.report)
 
@@ -234,11 +253,13 @@ class Refusals(Refused):
         """No method of it is asked."""
         def asked(*_):
             raise AssertionError("the text of a subclass was asked")
-        Text = type("Text", (str,), dict.fromkeys(("encode", "startswith", "__contains__", "__eq__", "__hash__", "__str__", "__len__", "__getitem__", "__iter__"), asked))
+        Text = type("Text", (str,), dict.fromkeys(("encode", "startswith", "__contains__", "__eq__", "__hash__", "__str__", "__len__",
+                                                   "__getitem__", "__iter__"), asked))
         self.assertEqual(Triple(Text("x86_64-linux")), Triple("x86_64-linux"))
         self.assertRaises(ParseError, Triple, Text("x86_64-\u00e9"))
         self.assertEqual(target_lexicon.translate(Text("linux/arm64"), "oci", "go"), "linux/arm64")
-        texts, keys = [Text("x86_64-linux\n"), Text("arm64-linux"), Text("avr\nx"), "avr"], [None, "aarch64-unknown-linux", None, "avr-unknown-unknown"]
+        texts = [Text("x86_64-linux\n"), Text("arm64-linux"), Text("avr\nx"), "avr"]
+        keys = [None, "aarch64-unknown-linux", None, "avr-unknown-unknown"]
         self.assertEqual((target_lexicon.settle_all(texts), [it.canonical for it in target_lexicon.facts_all(texts)]), (keys, keys))
 
     def test_huge_texts(self):

@@ -57,7 +57,8 @@ class Values(unittest.TestCase):
 
     def test_custom_vendors(self):
         vendor = Triple("x86_64-acme-linux").vendor
-        self.assertEqual((vendor, vendor.text, vendor.value, vendor.number, repr(vendor)), (CustomVendor("acme"), "acme", "acme", 255, "CustomVendor('acme')"))
+        self.assertEqual((vendor, vendor.text, vendor.value, vendor.number, repr(vendor)),
+                         (CustomVendor("acme"), "acme", "acme", 255, "CustomVendor('acme')"))
         self.assertEqual((hash(vendor), json.dumps({vendor: vendor}), type(str(vendor))), (hash("acme"), '{"acme": "acme"}', str))
         self.assertNotIsInstance(vendor, Vendor)
         for name in "text", "other":

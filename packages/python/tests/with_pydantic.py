@@ -24,7 +24,8 @@ release = Release(target="arm64-linux", vendor="acme", architecture="arm", sizes
 assert (release.target, release.sizes, Release(target=triple).target) == (triple, {triple: 3}, triple)
 assert (release.vendor, type(release.vendor), release.architecture) == (CustomVendor("acme"), CustomVendor, Architecture.ARM)
 assert Release(target="avr", vendor="pc").vendor is Vendor.PC
-assert release.model_dump(mode="json") == {"target": "aarch64-unknown-linux", "vendor": "acme", "architecture": "arm", "sizes": {"aarch64-unknown-linux": 3}}
+assert release.model_dump(mode="json") == {"target": "aarch64-unknown-linux", "vendor": "acme", "architecture": "arm",
+                                           "sizes": {"aarch64-unknown-linux": 3}}
 assert Release.model_validate_json(release.model_dump_json()) == release == release.model_copy(deep=True)
 for mode in "validation", "serialization":
     assert Release.model_json_schema(mode=mode)["properties"]["target"]["type"] == "string"

@@ -161,5 +161,6 @@ def _facts_from(numbers: Tuple[Any, ...], vendor: Optional[str], *strings: Optio
     architecture, known, system, environment, form, has_version, minor, patch, major, _, _, *facts = numbers
     return Facts._make((
         _ARCHITECTURES[architecture], vendor or _VENDORS[known], _SYSTEMS[system],
-        f"{major}.{minor}.{patch}" if has_version else None, _ENVIRONMENTS[environment], _FORMATS[form], *map(_value_of, _VALUES, _in_order(facts)), *strings,
+        f"{major}.{minor}.{patch}" if has_version else None, _ENVIRONMENTS[environment], _FORMATS[form],
+        *map(_value_of, _VALUES, _in_order(facts)), *strings,
     ))
