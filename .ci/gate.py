@@ -74,7 +74,9 @@ WITHOUT_PROOF = [[
     ("the definitions run, and say what the Rust crate answers; what they take from the kit's library, written again, is the kit's; without something to compare that fails",
      'checks/specification quick ${KIT:+--kit "$KIT"} && checks/running/test', "cargo"),
     ("they say what upstream's own crate answers", 'if [ "$UPSTREAM" ]; then checks/specification against "$UPSTREAM"; else echo "left out: upstream\'s crate (UPSTREAM isn\'t set)"; fi', "cargo"),
-    ("the module, the package and the page for JavaScript are built", 'packages/javascript/build --out "$WORK/web"', "cargo wasm32"),
+    ("the command `target-lexicon`: arguments, output and statuses", "packages/command/test", "cargo cram3 jq"),
+    ("the library for C, header, packages and samples, as C and C++ users have them", "packages/c/test", "cargo cc"),
+    ("Debian's packages are built, and lintian finds no error", 'packages/debian/build "$WORK/debian" -d', "cargo cc dpkg-buildpackage"),
 ], [
     ("the command `target-lexicon`, and a program to compare with, are built for the next steps",
      f'cd packages/command && cargo build --quiet --locked --release --all-features && cp ../../{COMMANDS}/lines ../../{COMMANDS}/target-lexicon "$BUILT/bin"', "cargo"),
@@ -82,11 +84,10 @@ WITHOUT_PROOF = [[
     ("what other tools say of names and targets; suggestions keep the machine", "checks/compare elsewhere && checks/compare llvm && checks/compare edits", "cargo cc"),
     ("the Python package: each answer, wheels, types, samples", f'packages/python/test "$BUILT/lib/libtarget_lexicon.so" {COMMANDS}/lines',
      "cargo cc hatchling"),
-    ("the command `target-lexicon`: arguments, output and statuses", "packages/command/test", "cargo cram3 jq"),
     ("a list of misspelled names takes at most ten times as long as one of right names", f"packages/command/tests/cost {COMMANDS}/target-lexicon", "cargo valgrind"),
-    ("the library for C, header, packages and samples, as C and C++ users have them", "packages/c/test", "cargo cc"),
-    ("Debian's packages are built, and lintian finds no error", 'packages/debian/build "$WORK/debian" -d', "cargo cc dpkg-buildpackage"),
     ("what is released is made, and works in clean folders", 'tools/release "$WORK/release"', "cargo cc"),
+    ("the module, the package and the page for JavaScript are built", 'packages/javascript/build --out "$WORK/web"', "cargo wasm32"),
+    ("the page and the package for JavaScript answer as the command does, in Node and in a browser", f'packages/javascript/test "$WORK/web" --command {COMMANDS}/target-lexicon', "cargo wasm32"),
 ]]
 LAST = [
     ("links, names, samples, counts and versions of the pages, and the pictures", "checks/pages", "cargo"),
@@ -96,7 +97,6 @@ LAST = [
     ("names, rules and tables are upstream's, by its kept answers", "checks/compare answers", "cargo"),
     ("the mode json: the proved program answers as Rust's serde_json does", "/usr/bin/python3 checks/compare json --inputs 200 --of proved cargo",
      "rt cargo hypothesis"),
-    ("the page and the package for JavaScript answer as the command does, in Node and in a browser", f'packages/javascript/test "$WORK/web" --command {COMMANDS}/target-lexicon', "cargo wasm32"),
 ]
 
 running, passed, left_out, failed = set(), [], [], []

@@ -65,7 +65,7 @@ CONST = set(
     CDataModel::name CDataModel::pointer_width CDataModel::short_size Endianness::name
     Environment::name KnownVendor::name KnownVendor::to_vendor OperatingSystem::is_like_darwin OperatingSystem::prefix
     OperatingSystem::version PointerWidth::bits PointerWidth::bytes PointerWidth::name Refusal::range Size::bits Size::bytes
-    TextPart::range leaves_format_open wasm_or Triple::data_model Triple::default_calling_convention
+    TextPart::range Triple::data_model Triple::default_calling_convention
     Triple::endianness Triple::pointer_width Triple::unknown
     Triple::without_vendor TripleRef::data_model TripleRef::data_model_32 TripleRef::data_model_64
     TripleRef::default_binary_format TripleRef::default_calling_convention

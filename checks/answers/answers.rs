@@ -9,8 +9,10 @@
 //! - `model`, `size` and `width`: their sizes;
 //! - `parsed`: the five values, as `{:?}` shows them, or the error;
 //! - `triple`: what is printed, the canonical string, byte order, width, convention and model, or the line of the error;
-//! - `all`: each architecture with each system and environment: width, convention, model, implied format, and what is shown of it.
-use std::fmt::{Debug, Display, Write};
+//! - `all`, for each architecture, system and environment: a checksum of the answers of all triples that have it and no other vendor, and of what
+//!   is printed of these with some vendors and each format.
+use std::collections::BTreeMap;
+use std::fmt::{Debug, Write};
 use std::io::Read;
 use std::str::FromStr;
 use target_lexicon::*;
@@ -87,44 +89,23 @@ fn answer_triple(text: &str) -> String {
     }
 }
 
-/// Which of the fields after the architecture are printed: a letter for each, or the whole string if it isn't made of them.
-fn letters(printed: &str, triple: &Triple) -> (String, bool) {
-    let names: [&dyn Display; 4] = [&triple.vendor, &triple.operating_system, &triple.environment, &triple.binary_format];
-    let mut parts = printed.split('-').skip(1).peekable();
-    let mut letters = String::new();
-    for (name, letter) in names.into_iter().zip("vsef".chars()) {
-        if parts.next_if(|part| *part == name.to_string()).is_some() {
-            letters.push(letter);
+/// What is answered of a triple, and printed with each vendor and format. An unknown environment and an unknown format aren't asked together.
+fn answer_all(mut triple: Triple, formats: &[BinaryFormat]) -> String {
+    let answers = (triple.pointer_width(), triple.default_calling_convention(), triple.data_model(), triple.binary_format);
+    let mut line = format!("{answers:?}");
+    for vendor in VENDORS {
+        triple.vendor = vendor;
+        for format in formats.iter().filter(|it| triple.environment != Environment::Unknown || **it != BinaryFormat::Unknown) {
+            triple.binary_format = *format;
+            write!(line, " {triple}").expect("memory");
         }
     }
-    if parts.next().is_some() {
-        return (printed.to_string(), false);
-    }
-    let shows_format = letters.ends_with('f');
-    (letters.trim_end_matches('f').to_string(), shows_format)
+    line
 }
 
-/// What is printed of a triple with each vendor and format. An unknown environment and an unknown format aren't asked together.
-fn printed(triple: &mut Triple, formats: &[BinaryFormat]) -> String {
-    let mut of_vendors = Vec::new();
-    for vendor in VENDORS {
-        let mut of_formats = Vec::new();
-        triple.vendor = vendor;
-        for format in formats {
-            triple.binary_format = *format;
-            if triple.environment != Environment::Unknown || *format != BinaryFormat::Unknown {
-                let (fields, shows_format) = letters(&triple.to_string(), triple);
-                of_formats.push((fields, if shows_format { format.to_string() } else { String::new() }));
-            }
-        }
-        let fields = if of_formats.iter().all(|it| it.0 == of_formats[0].0) { of_formats[0].0.clone() } else { format!("{of_formats:?}") };
-        let shows: Vec<&str> = of_formats.iter().map(|it| it.1.as_str()).filter(|name| !name.is_empty()).collect();
-        of_vendors.push((fields, shows.join(",")));
-    }
-    let fields: Vec<&str> = of_vendors.iter().map(|it| if it.0.is_empty() { "-" } else { it.0.as_str() }).collect();
-    let mut shows: Vec<&str> = of_vendors.iter().map(|it| if it.1.is_empty() { "-" } else { it.1.as_str() }).collect();
-    shows.dedup();
-    format!("{}\t{}", fields.join(" "), shows.join(" "))
+/// The checksum of a text after another one, FNV-1a, which is the same in each version of Rust.
+fn checksum(before: u64, text: &str) -> u64 {
+    text.bytes().fold(before, |sum, byte| (sum ^ u64::from(byte)).wrapping_mul(0x100_0000_01b3))
 }
 
 fn main() {
@@ -163,20 +144,20 @@ fn main() {
     for (_, text) in asked.iter().filter(|it| it.0 == "triple") {
         println!("{}", answer_triple(text));
     }
-    let mut all = String::new();
+    let mut all = BTreeMap::new();
     for system in &systems {
         for environment in &environments {
             for architecture in &architectures {
                 let text = format!("{architecture}-unknown-{system}-{environment}");
-                let mut triple = text.parse::<Triple>().expect("each name parses");
-                let implied = triple.binary_format;
-                let (convention, model) = (shown(triple.default_calling_convention()), shown(triple.data_model()));
-                let width = shown(triple.pointer_width());
-                let printed = printed(&mut triple, &formats);
-                writeln!(all, "all\t{system}\t{environment}\t{architecture}\t{width}\t{convention}\t{model}\t{implied}\t{printed}")
-                    .expect("memory");
+                let line = answer_all(text.parse().expect("each name parses"), &formats);
+                for key in [format!("architecture\t{architecture}"), format!("system\t{system}"), format!("environment\t{environment}")] {
+                    let sum = all.entry(key).or_insert(0xcbf2_9ce4_8422_2325);
+                    *sum = checksum(*sum, &line);
+                }
             }
         }
     }
-    print!("{all}");
+    for (key, sum) in all {
+        println!("all\t{key}\t{sum:016x}");
+    }
 }

@@ -6,11 +6,9 @@ Each line of the file has words with tabs between them: what was asked, and the 
 - `word`: what a word of upstream's sources, or of a few more, parses as in each field.
 - `architecture`: byte order, pointer width, whether it is Clever, and what the types of Arm's answer themselves. `system`: whether it
   is like Darwin. `model`, `size`, `width`: sizes.
-- `pointer_width`, `calling_convention`, `data_model`, `implied_format`, for all systems, environments and architectures. A star is
-  all that no other line has of the same systems, or of the same systems and environments.
-- `printed`: which fields after the architecture are printed (v, s, e), with the vendors unknown, pc, nintendo and espressif in turn.
-  `printed_formats`: the formats that are printed. An unknown environment with an unknown format isn't asked, since this repository
-  prints both if another format is implied.
+- `all`, for each architecture, system and environment: a checksum of pointer width, calling convention, data model and implied format of all
+  triples that have it, and of what is printed of these with the vendors unknown, pc, nintendo and espressif, and each format. An unknown
+  environment with an unknown format isn't asked, since this repository prints both if another format is implied.
 - `parsed`: the five values of a string, or the error.
 - `triple`, for known triples and a few other strings: what is printed, the canonical string and the four answers; or the line of the
   error.
@@ -18,7 +16,6 @@ Each line of the file has words with tabs between them: what was asked, and the 
 The same program asks upstream's crate and the Rust crate of this repository, whose source is the proved one. The other programs are
 asked for the strings of `triple`, in each mode. A name of the table that upstream doesn't have differs.
 """
-import collections
 import os
 import re
 import subprocess
@@ -33,7 +30,6 @@ KNOWN = f"{built.ROOT}/checks/known_triples.txt"
 HEAD = """# @generated: answers of upstream's crate, target-lexicon 0.13.5. checks/comparisons/answers.py says what each line is.
 # `checks/compare answers --write` writes them, and `checks/compare answers` compares them with the answers of this repository.
 """
-QUESTIONS = ("pointer_width", "calling_convention", "data_model", "implied_format", "printed", "printed_formats")
 # Words that aren't in upstream's sources: systems with versions, custom vendors, and words that parse as nothing.
 MORE_WORDS = ["darwin23.6.0", "ios17", "macosx10.7", "tvos+1.02", "visionos0.0.0", "watchos1.2.3.4", "xros65535.255.255", "xros65536",
               "xros1.256", "xros1.2.256", "ios1.", "iosfoo", "acme", "a_b.c9", "7up", "_esp", "PC"]
@@ -51,30 +47,6 @@ def add_arguments(parser):
 
 # ---- the lines of the file
 
-def groups(answers):
-    """The answers, each with its keys in a string. The answer with the most keys comes first, with a star."""
-    keys = collections.defaultdict(list)
-    for key, answer in answers:
-        keys[answer].append(key)
-    most = max(keys, key=lambda answer: len(keys[answer]))
-    yield "*", most
-    yield from ((" ".join(names), answer) for answer, names in keys.items() if answer != most)
-
-
-def question_lines(question, rows):
-    """The lines of a question. A row is a system, an environment, an architecture, and the answer."""
-    tables, systems = collections.defaultdict(lambda: collections.defaultdict(list)), collections.defaultdict(list)
-    for system, environment, architecture, answer in rows:
-        tables[system][environment].append((architecture, answer))
-    for system, table in tables.items():
-        systems[tuple((environment, tuple(answers)) for environment, answers in table.items())].append(system)
-    for table, names in systems.items():
-        names = "*" if len(names) == len(tables) else " ".join(names)
-        for environments, answers in groups(table):
-            for architectures, answer in groups(answers):
-                yield "\t".join([question, names, environments, architectures, answer])
-
-
 def file_lines(crate, asked):
     """The lines of the file, as a crate answers: that of a folder, or upstream's, which cargo fetches."""
     cargo = built.CARGO if crate == OURS else ["cargo", *(["--offline"] if crate else [])]
@@ -84,11 +56,7 @@ def file_lines(crate, asked):
     ran = subprocess.run(words, input=given, stdout=subprocess.PIPE, text=True, env={**os.environ, "RUSTFLAGS": "--cap-lints allow"})
     if ran.returncode:
         raise RuntimeError(f"that failed: {' '.join(words)}")
-    answers = [line.split("\t") for line in ran.stdout.splitlines()]
-    found = ["\t".join(words) for words in answers if words[0] != "all"]
-    for place, question in enumerate(QUESTIONS, start=4):
-        found += question_lines(question, ((*words[1:4], words[place]) for words in answers if words[0] == "all"))
-    return found
+    return ran.stdout.splitlines()
 
 
 def known_triples(crate):
