@@ -1,7 +1,7 @@
-// The page: shows the targets and names of the text field in the table. `build` puts target-lexicon.js, the module, entries.js and this file into one script.
+// The page: shows the targets and names of the text field in the table. `build` puts target-lexicon.js, the module, entries.mjs and this file into one script.
 import { DIALECTS, WRITTEN } from "../src/names.js";
 import { FIELDS, ParseError, Triple, load, meanings } from "../src/target-lexicon.js";
-import { factsEntry, namesEntry, versionOf } from "./entries.js";
+import { factsEntry, namesEntry, versionOf } from "./entries.mjs";
 
 const LABELS = {
   architecture: "Architecture", vendor: "Vendor", operatingSystem: "System", environment: "Environment", binaryFormat: "Format",
@@ -134,7 +134,10 @@ function foldButton(row, text) {
 /** The keys of pairs, each with its values. */
 function grouped(pairs) {
   const found = new Map();
-  for (const [key, value] of pairs) found.set(key, [...found.get(key) ?? [], value]);
+  for (const [key, value] of pairs) {
+    if (!found.has(key)) found.set(key, []);
+    found.get(key).push(value);
+  }
   return found;
 }
 
@@ -366,12 +369,7 @@ const pause = () => new Promise((resolve) => setTimeout(resolve));
 
 /** The row that is there for each line, or undefined. All other rows are removed. */
 function rowsFor(lines) {
-  const there = new Map();
-  for (const row of table.querySelectorAll("tbody > tr")) {
-    if (!there.has(row.target)) there.set(row.target, []);
-    there.get(row.target).push(row);
-  }
-  for (const rows of there.values()) rows.reverse();
+  const there = grouped([...table.querySelectorAll("tbody > tr")].reverse().map((row) => [row.target, row]));
   const found = lines.map((line) => there.get(line)?.pop());
   for (const rows of there.values()) for (const row of rows) row.remove();
   return found;

@@ -44,19 +44,15 @@ class Instance {
   /** Makes room for so many bytes of strings and buffers. */
   hold(size) {
     const missing = this.base + TEXTS + size - this.memory.buffer.byteLength;
-    if (missing > 0) this.grow(Math.ceil(missing / PAGE));
+    try {
+      if (missing > 0) this.memory.grow(Math.ceil(missing / PAGE));
+    } catch (error) {
+      throw new RangeError("the string is too long for the memory", { cause: error });
+    }
     if (this.bytes?.buffer !== this.memory.buffer) {
       this.bytes = new Uint8Array(this.memory.buffer);
       this.view = new DataView(this.memory.buffer);
       this.isSpent = this.bytes.length > LARGE;
-    }
-  }
-
-  grow(pages) {
-    try {
-      this.memory.grow(pages);
-    } catch (error) {
-      throw new RangeError("the string is too long for the memory", { cause: error });
     }
   }
 

@@ -4,7 +4,7 @@ import assert from "node:assert/strict";
 import { readFileSync } from "node:fs";
 import { inspect } from "node:util";
 import { pathToFileURL } from "node:url";
-import { differences } from "./compare.js";
+import { differences } from "./compare.mjs";
 
 const [script, answers] = process.argv.slice(2), file = script.replace(/js$/, "wasm");
 const all = await import(pathToFileURL(script));

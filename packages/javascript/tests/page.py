@@ -479,7 +479,7 @@ def takes_time_in_proportion(page):
 
 
 def copies_what_the_command_writes(command, page):
-    """The answers of `target-lexicon facts` and `what` with --json, without notes. tests/compare.js compares more of them."""
+    """The answers of `target-lexicon facts` and `what` with --json, without notes. tests/compare.mjs compares more of them."""
     targets = ["arm64-apple-ios17.1", "x86_64-pc-linx", "x86_64-\u4e2d\u6587-linux", *NAMES]
     typed(page, "\n".join(targets))
     choose(page, linux="glibc")

@@ -1,5 +1,5 @@
 // Compares target-lexicon.js with what the command `target-lexicon` writes with --json, and its answers with one another. It runs in Node and in a browser.
-import { byteRange, errorEntry, factsEntry, namesEntry, snakeCase, versionOf } from "../page/entries.js";
+import { byteRange, errorEntry, factsEntry, namesEntry, snakeCase, versionOf } from "../page/entries.mjs";
 
 function explained({ FIELDS, Triple }, text) {
   const { triple, error, fields, suggestion } = Triple.explain(text);
