@@ -72,7 +72,7 @@ WITHOUT_PROOF = [[
     ("the crate of other tools' names: each row, shape and rule, laws over generated strings, samples of the documentation",
      "packages/names/test && packages/names/plant 2", "cargo"),
     ("the definitions run, and say what the Rust crate answers; what they take from the kit's library, written again, is the kit's; without something to compare that fails",
-     'checks/specification quick ${KIT:+--kit "$KIT"} && checks/running/test', "cargo"),
+     "checks/specification quick && checks/running/test", "cargo"),
     ("they say what upstream's own crate answers", 'if [ "$UPSTREAM" ]; then checks/specification against "$UPSTREAM"; else echo "left out: upstream\'s crate (UPSTREAM isn\'t set)"; fi', "cargo"),
     ("the command `target-lexicon`: arguments, output and statuses", "packages/command/test", "cargo cram3 jq"),
     ("the library for C, header, packages and samples, as C and C++ users have them", "packages/c/test", "cargo cc"),
