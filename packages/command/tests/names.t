@@ -6,6 +6,8 @@
   armv7-unknown-linux
   $ target-lexicon read amd64-w64-mingw32
   x86_64-pc-windows-gnu
+  $ target-lexicon read --libc musl amd64-linux
+  x86_64-unknown-linux-musl
   $ target-lexicon read --from uname 'Linux x86_64'
   x86_64-unknown-linux
   $ target-lexicon read --from python manylinux_2_17_x86_64

@@ -58,9 +58,6 @@ It has the names that facts have elsewhere:
   "unknown"
   $ target-lexicon explain --json arm64-apple-ios17
   [{"target":"arm64-apple-ios17","file":null,"line":null,"architecture":{"value":"aarch64","origin":"alias","part":"arm64"},"vendor":{"value":"apple","origin":"given","part":"apple"},"operating_system":{"value":"ios","origin":"alias","part":"ios17"},"version":"17.0.0","environment":{"value":"unknown","origin":"not given","part":null},"binary_format":{"value":"macho","origin":"implied","part":null},"has_custom_vendor":false,"suggestion":null}]
-  $ target-lexicon explain --json x86_64-pc-linx
-  [{"target":"x86_64-pc-linx","file":null,"line":null,"error":"unrecognized operating system","part":"linx","start":10,"end":14,"field":"operating_system","suggestion":"linux","note":null}]
-  [1]
 
 It is an array, or lines:
 
@@ -114,25 +111,15 @@ It is whole where the run ends early, too:
 
 If a target is refused or can't be read, there is none:
 
-  $ for layout in --color=never --json --json-lines; do target-lexicon matrix $layout -f lines; done
-  ! lines:2:1: error: unrecognized architecture `foo`
-  !   foo
-  !   ^^^
-  ! 1 of 3 targets refused
-  ! lines:2:1: error: unrecognized architecture `foo`
-  !   foo
-  !   ^^^
-  ! 1 of 3 targets refused
-  ! lines:2:1: error: unrecognized architecture `foo`
-  !   foo
-  !   ^^^
-  ! 1 of 3 targets refused
-  [1]
-  $ for layout in --color=never --json --json-lines; do target-lexicon matrix $layout z80 -f nowhere; done
-  ! target-lexicon: nowhere: No such file or directory (os error 2)
-  ! target-lexicon: nowhere: No such file or directory (os error 2)
-  ! target-lexicon: nowhere: No such file or directory (os error 2)
-  [3]
+  $ for layout in --color=never --json --json-lines; do target-lexicon matrix $layout -f lines; echo "$?"; done | sort | uniq -c
+        3 !   ^^^
+        3 !   foo
+        3 ! 1 of 3 targets refused
+        3 ! lines:2:1: error: unrecognized architecture `foo`
+        3 1
+  $ for layout in --color=never --json --json-lines; do target-lexicon matrix $layout z80 -f nowhere; echo "$?"; done | sort | uniq -c
+        3 ! target-lexicon: nowhere: No such file or directory (os error 2)
+        3 3
 
 ## Colours
 

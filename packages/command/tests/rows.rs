@@ -5,45 +5,21 @@ use std::env;
 use std::path::Path;
 use std::process::Command;
 
-fn try_page(name: &str) {
+#[test]
+fn rows() {
     let folder = Path::new(env!("CARGO_BIN_EXE_target-lexicon"))
         .parent()
         .expect("the program is in a folder");
     let path = env::var("PATH").unwrap_or_default();
-    let ran = Command::new("cram3")
-        .arg("--shell=/bin/bash")
-        .arg(format!("{}/tests/{name}.t", env!("CARGO_MANIFEST_DIR")))
+    let ran = Command::new("bash")
+        .args([
+            "-c",
+            "printf '%s\\0' *.t | xargs -0 -n 1 -P 5 cram3 --shell=/bin/bash",
+        ])
+        .current_dir(concat!(env!("CARGO_MANIFEST_DIR"), "/tests"))
         .env("PATH", format!("{}:{path}", folder.display()))
         .output()
-        .expect("cram3 is needed, which is Debian's python3-cram");
-    assert!(
-        ran.status.success(),
-        "{}",
-        String::from_utf8_lossy(&ran.stdout)
-    );
-}
-
-#[test]
-fn targets() {
-    try_page("targets");
-}
-
-#[test]
-fn names() {
-    try_page("names");
-}
-
-#[test]
-fn output() {
-    try_page("output");
-}
-
-#[test]
-fn streams() {
-    try_page("streams");
-}
-
-#[test]
-fn help() {
-    try_page("help");
+        .expect("bash is there");
+    let said = [ran.stdout, ran.stderr].concat();
+    assert!(ran.status.success(), "{}", String::from_utf8_lossy(&said));
 }

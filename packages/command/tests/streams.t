@@ -84,16 +84,6 @@ A file that is also the output is refused. Two files, and a device, are no such 
   status 3
   z80
   foo
-  $ tried 'settle < both 1<> both'
-  target-lexicon: <stdin>: input file is also the output
-  status 3
-  z80
-  foo
-  $ tried 'settle - < both >> both'
-  target-lexicon: <stdin>: input file is also the output
-  status 3
-  z80
-  foo
   $ tried 'check -f both 2>> both'
   status 3
   z80
