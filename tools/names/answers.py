@@ -10,6 +10,10 @@ ENUMS = {"endianness": "Endianness", "calling_convention": "CallingConvention", 
          "float_abi": "FloatAbi", "arm_profile": "ArmProfile", "signedness": "Signedness", "linux_libc": "LinuxLibc"}
 JAVASCRIPT = {"endianness": "ENDIANNESS", "calling_convention": "CONVENTIONS", "data_model": "MODELS", "c_library": "C_LIBRARIES",
               "float_abi": "FLOAT_ABIS", "arm_profile": "ARM_PROFILES", "signedness": "SIGNEDNESS", "linux_libc": "LINUX_LIBCS"}
+# The types of the crate of names.
+TYPES = {"c_library": "The C library of a target.", "float_abi": "How floating-point arguments are passed.", "signedness": "Whether C's `char` has a sign.",
+         "arm_profile": "The profile of a 32-bit Arm architecture: for what its processors are made.",
+         "linux_libc": "A C library of Linux or Windows, which gives a triple its environment. On Windows it is an ABI too."}
 
 
 @dataclass
@@ -51,8 +55,6 @@ def lists(answers):
         "the statuses for Python": [f"{it.constant} = {it.number}" for it in statuses if it.number > 5],
         "the statuses for JavaScript": [f"const {', '.join(f'{it.constant} = {it.number}' for it in part)};" for part in (statuses[5:12], statuses[12:])],
         "the answers for JavaScript": [f"const {JAVASCRIPT[kind]} = [null, {', '.join(quoted(kind, answers))}];" for kind in ENUMS],
-        "the C libraries": [line for it in answers["c_library"] for line in (f"/// {it.about}", f"{it.variant},")],
-        "the names of C libraries": [f'CLibrary::{it.variant} => "{it.name}",' for it in answers["c_library"]],
     }
     for kind, of in ENUMS.items():
         prefix = f"LEXICON_{kind.upper()}_"
@@ -63,6 +65,18 @@ def lists(answers):
             f"the answers of {kind} for TypeScript": [f"export type {of} = {' | '.join(quoted(kind, answers))};"],
         }
     return found
+
+
+def types_of_names(answers):
+    """The types of the crate of names, in Rust."""
+    for kind, about in TYPES.items():
+        name, of = ENUMS[kind], answers[kind]
+        yield from ["", f"/// {about}", *["#[non_exhaustive]"] * (kind != "linux_libc"), "#[derive(Clone, Copy, Debug, PartialEq, Eq, Hash)]", f"pub enum {name} {{",
+                    *(line for it in of for line in (f"    /// {it.about}", f"    {it.variant},")), "}", "",
+                    f"impl {name} {{", "    /// The name.", "    ///", "    /// # Examples", "    ///", "    /// ```",
+                    f'    /// assert_eq!(target_names::{name}::{of[0].variant}.name(), "{of[0].name}");', "    /// ```", "    #[must_use]", "    #[inline]",
+                    "    pub const fn name(self) -> &'static str {", "        match self {",
+                    *(f'            {name}::{it.variant} => "{it.name}",' for it in of), "        }", "    }", "}"]
 
 
 def facts_of(text, wrong):

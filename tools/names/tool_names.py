@@ -8,15 +8,13 @@ PATH = "packages/names/elsewhere.tsv"
 DAY = re.compile(r"\d{4}-\d\d-\d\d")
 WAYS = {"rw": "Both", "r": "Read", "w": "Written", "-": "NoTriple", "several": "Several"}
 DIALECT, ONLY_WRITTEN = "# dialect ", "# only written: "
-# The rules of a dialect: for each word of its line the field of `Rules`, and its value for each choice. The first choice goes
-# without saying. A dialect may have other names too.
-RULES = {"machine": ("machine", {"order": "MachineRule::Order", "version": "MachineRule::Version", "rustc": "MachineRule::Rustc",
-                      "alpine": "MachineRule::Alpine", "packages": "MachineRule::Packages"}),
-         "abi": ("abi", {"kept": "AbiRule::Kept", "dropped": "AbiRule::Dropped", "linux": "AbiRule::KeptOnLinux",
-                  "windows": "AbiRule::KeptOnLinuxAndWindows", "systems": "AbiRule::KeptOnSystems"}),
-         "versions": ("versions", {"no": "false", "yes": "true"}), "tags": ("tags", {"no": "false", "yes": "true"}),
-         "spelled": ("spelled", {"no": "false", "yes": "true"}), "platforms": ("platforms", {"no": "false", "yes": "true"}),
-         "itself": ("itself", {"no": "false", "yes": "true"})}
+# The rules of a dialect: for each field of `Rules` its value for each choice. The first choice goes without saying. A dialect may have
+# other names too.
+RULES = {"machine": {"order": "MachineRule::Order", "version": "MachineRule::Version", "rustc": "MachineRule::Rustc",
+                     "alpine": "MachineRule::Alpine", "packages": "MachineRule::Packages"},
+         "abi": {"kept": "AbiRule::Kept", "dropped": "AbiRule::Dropped", "linux": "AbiRule::KeptOnLinux",
+                 "windows": "AbiRule::KeptOnLinuxAndWindows", "systems": "AbiRule::KeptOnSystems"},
+         **{word: {"no": "false", "yes": "true"} for word in ("versions", "tags", "spelled", "platforms", "itself")}}
 
 
 @dataclass
@@ -117,7 +115,7 @@ def add_dialect(found, name="", *rules):
     others = [it for it in rules.pop("names", "").split(",") if it]
     taken = {*found.dialects, *(other for other, _ in other_names(found)), *found.parts, *found.words}
     # It is there for its rows even if something is wrong.
-    found.dialects.setdefault(name, Dialect(name, {word: rules.get(word, next(iter(choices))) for word, (_, choices) in RULES.items()}, others))
+    found.dialects.setdefault(name, Dialect(name, {word: rules.get(word, next(iter(choices))) for word, choices in RULES.items()}, others))
     for it in [name, *others]:
         if it in taken:
             raise Mistake(f"`{it}` is the name of another dialect or list")
@@ -126,8 +124,8 @@ def add_dialect(found, name="", *rules):
     for word, choice in rules.items():
         if word not in RULES:
             raise Mistake(f"there is no rule `{word}`, only {', '.join(RULES)} and names")
-        if choice not in RULES[word][1]:
-            raise Mistake(f"`{word}={choice}` is no rule: {word} is {' or '.join(RULES[word][1])}")
+        if choice not in RULES[word]:
+            raise Mistake(f"`{word}={choice}` is no rule: {word} is {' or '.join(RULES[word])}")
 
 
 def add_line(found, last, word, cells):
@@ -256,16 +254,8 @@ def all_reasons(tables):
     return reasons | {text for _, text in tables.reasons + tables.refusals}
 
 
-def rust_lists(tables):
-    dialects = tables.dialects.values()
-    return {
-        "the reasons": [line for name, text in tables.reasons for line in (f"/// {text[0].upper()}{text[1:]}.", f"{name},")],
-        "the texts of reasons": [line for name, text in tables.reasons for line in (f"WriteError::{name} => {{", f'    "{text}"', "}")],
-        **lists_of_languages(list(dialects), other_names(tables)),
-    }
-
-
-def lists_of_languages(dialects, others):
+def lists(tables):
+    dialects, others = list(tables.dialects.values()), other_names(tables)
     names = ", ".join(f'"{it.name}"' for it in dialects)
     words = [it.name for it in dialects]
     written = ", ".join(f'"{it.name}"' for it in dialects if it.is_written)
@@ -303,7 +293,7 @@ def literal(names):
 
 
 def table_rules(it):
-    said = [f"{name}: {values[it.rules[word]]}" for word, (name, values) in RULES.items() if it.rules[word] != next(iter(values))]
+    said = [f"{word}: {values[it.rules[word]]}" for word, values in RULES.items() if it.rules[word] != next(iter(values))]
     return f"Rules {{ {', '.join([*said, '..USUAL'])} }}" if said else "USUAL"
 
 
@@ -316,8 +306,8 @@ def row_orders(it):
     return [[f"{number}," for number in of] for of in (by_name, [number for name, number in numbers.items() if "*" in name])]
 
 
-def files(tables):
-    """The table of names, which says of the dialects what isn't the same for all."""
+def files(tables, types):
+    """The table of names, which says of the dialects what isn't the same for all, and these types."""
     words, dialects, others = tables.words, tables.dialects.values(), other_names(tables)
     texts = lambda name, of: ["", f"pub(crate) static {name}: &[&str] = &[", *filled([f'"{it}",' for it in words[of]], " ", "    "), "];"]
     lines = [
@@ -338,6 +328,11 @@ def files(tables):
         f"pub(crate) const DIALECT_NAMES: [&str; {len(dialects)}] = [", *filled([f'"{it.name}",' for it in dialects], " ", "    "), "];",
         f"pub(crate) const OTHER_NAMES: [(&str, Dialect); {len(others)}] = [{', '.join(f'({chr(34)}{name}{chr(34)}, Dialect::{it.variant})' for name, it in others)}];", "",
         f'pub(crate) const ONLY_WRITTEN: &str = "{tables.only_written}";', "",
+        "/// Why a triple has no name in a dialect. `Display` says it, and what would help.",
+        "#[derive(Clone, Copy, Debug, PartialEq, Eq, Hash)]", "#[non_exhaustive]", "pub enum WriteError {",
+        *(line for name, text in tables.reasons for line in (f"    /// {text[0].upper()}{text[1:]}.", f"    {name},")), "}", "",
+        "/// The reasons, in the order of the variants.", f"pub(crate) const WRITE_REASONS: [&str; {len(tables.reasons)}] = [",
+        *(f'    "{text}",' for _, text in tables.reasons), "];", *types, "",
         "/// Why a string isn't read that has such a system, by its name.",
         "macro_rules! systems {", "    ($($word:literal)*) => {",
         f'        &[$(($word, concat!("{NO_SYSTEM}", $word))),*]', "    };", "}", "",

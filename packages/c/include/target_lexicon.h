@@ -120,8 +120,8 @@ enum lexicon_dialect {
 enum lexicon_linux_libc {
   LEXICON_LINUX_LIBC_NONE = 0,
   /* written by tools/names/write: the answers of linux_libc for C */
-  LEXICON_LINUX_LIBC_GLIBC = 1,
-  LEXICON_LINUX_LIBC_MUSL = 2,
+  LEXICON_LINUX_LIBC_GLIBC = 1, /* Linux, with the GNU C library */
+  LEXICON_LINUX_LIBC_MUSL = 2, /* Linux, with musl */
   LEXICON_LINUX_LIBC_MSVC = 3, /* Windows, with the ABI of Visual C++ */
   LEXICON_LINUX_LIBC_MINGW = 4, /* Windows, with MinGW */
   LEXICON_LINUX_LIBC_GNULLVM = 5, /* Windows, with MinGW and the tools of LLVM */

@@ -1,4 +1,5 @@
 //! Versions of Apple's systems. `checks/compare llvm` asks LLVM of macOS's, and rustc of the oldest ones.
+use crate::shape::version;
 use target_lexicon::{Architecture, DeploymentTarget, Environment, OperatingSystem, TripleRef};
 
 /// The answer of [`TargetInfo::macos_version`].
@@ -16,11 +17,7 @@ pub(crate) const fn macos_version(triple: &TripleRef<'_>) -> Option<DeploymentTa
         // After macOS 15 comes macOS 26.
         _ => (kernel.saturating_add(1), 0),
     };
-    Some(DeploymentTarget {
-        major,
-        minor,
-        patch: 0,
-    })
+    Some(version(major, minor))
 }
 
 /// The answer of [`TargetInfo::minimum_os_version`].
@@ -40,9 +37,5 @@ pub(crate) const fn minimum_os_version(triple: &TripleRef<'_>) -> Option<Deploym
         (VisionOS(_) | XROS(_), _, _) => (1, 0),
         _ => return Option::None,
     };
-    Some(DeploymentTarget {
-        major,
-        minor,
-        patch: 0,
-    })
+    Some(version(major, minor))
 }

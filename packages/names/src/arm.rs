@@ -1,46 +1,8 @@
 //! The version of a 32-bit Arm architecture, and its profile. `checks/compare llvm` asks LLVM of each.
-use core::fmt;
+use crate::ArmProfile;
 use target_lexicon::{Architecture, ArmArchitecture, TripleRef};
 
-/// The profile of a 32-bit Arm architecture: for what its processors are made.
-///
-/// # Examples
-///
-/// ```
-/// use target_lexicon::triple;
-/// use target_names::{ArmProfile, TargetInfo};
-///
-/// assert_eq!(triple!("thumbv7em-none-eabihf").arm_profile(), Some(ArmProfile::Microcontroller));
-/// ```
-#[non_exhaustive]
-#[derive(Clone, Copy, Debug, PartialEq, Eq, Hash)]
-pub enum ArmProfile {
-    /// A: applications, such as phones and servers.
-    Application,
-    /// R: real-time systems.
-    RealTime,
-    /// M: microcontrollers.
-    Microcontroller,
-}
-
 impl ArmProfile {
-    /// The letter.
-    ///
-    /// # Examples
-    ///
-    /// ```
-    /// assert_eq!(target_names::ArmProfile::RealTime.name(), "R");
-    /// ```
-    #[must_use]
-    #[inline]
-    pub const fn name(self) -> &'static str {
-        match self {
-            ArmProfile::Application => "A",
-            ArmProfile::RealTime => "R",
-            ArmProfile::Microcontroller => "M",
-        }
-    }
-
     /// The answer of [`TargetInfo::arm_profile`].
     #[inline]
     pub(crate) const fn of(triple: &TripleRef<'_>) -> Option<ArmProfile> {
@@ -62,13 +24,6 @@ impl ArmProfile {
             }
             _ => None,
         }
-    }
-}
-
-impl fmt::Display for ArmProfile {
-    #[inline]
-    fn fmt(&self, f: &mut fmt::Formatter<'_>) -> fmt::Result {
-        f.pad(self.name())
     }
 }
 

@@ -1,58 +1,9 @@
 //! The environment that a C library gives to a triple of Linux or Windows.
 use crate::shape::arm_of_version;
-use core::fmt;
+use crate::LinuxLibc;
 use target_lexicon::{Architecture, ArmArchitecture, Environment, OperatingSystem, TripleRef};
 
-/// A C library of Linux or Windows, which gives a triple its environment. On Windows it is an ABI too.
-///
-/// # Examples
-///
-/// ```
-/// use target_names::LinuxLibc;
-///
-/// assert_eq!("musl".parse(), Ok(LinuxLibc::Musl));
-/// assert_eq!(LinuxLibc::Glibc.to_string(), "glibc");
-/// ```
-#[derive(Clone, Copy, Debug, PartialEq, Eq, Hash)]
-pub enum LinuxLibc {
-    /// GNU's C library, which most distributions have.
-    Glibc,
-    /// musl, as Alpine has it.
-    Musl,
-    /// Microsoft's, with the ABI of Visual C++.
-    Msvc,
-    /// MinGW's, with the ABI of GNU's tools.
-    Mingw,
-    /// MinGW's, with the tools of LLVM.
-    Gnullvm,
-}
-
 impl LinuxLibc {
-    /// The name of the C library.
-    ///
-    /// # Examples
-    ///
-    /// ```
-    /// assert_eq!(target_names::LinuxLibc::Musl.name(), "musl");
-    /// ```
-    #[must_use]
-    pub fn name(self) -> &'static str {
-        match self {
-            LinuxLibc::Glibc => "glibc",
-            LinuxLibc::Musl => "musl",
-            LinuxLibc::Msvc => "msvc",
-            LinuxLibc::Mingw => "mingw",
-            LinuxLibc::Gnullvm => "gnullvm",
-        }
-    }
-
-    /// The C library with this name. `Err` for every other text.
-    pub(crate) fn from_str(name: &str) -> Result<Self, ()> {
-        use LinuxLibc::*;
-        let mut all = [Glibc, Musl, Msvc, Mingw, Gnullvm].into_iter();
-        all.find(|it| it.name() == name).ok_or(())
-    }
-
     /// Its system, and the usual environment on an architecture.
     fn environment(self, architecture: Architecture) -> (OperatingSystem, Environment) {
         use Environment::*;
@@ -75,12 +26,6 @@ impl LinuxLibc {
             _ => usual,
         };
         (OperatingSystem::Linux, environment)
-    }
-}
-
-impl fmt::Display for LinuxLibc {
-    fn fmt(&self, f: &mut fmt::Formatter<'_>) -> fmt::Result {
-        f.pad(self.name())
     }
 }
 

@@ -3,11 +3,10 @@ use crate::gnu::read_as_gnu;
 use crate::loose::last_tag;
 use crate::name::Name;
 use crate::platform::row_of_platform;
-use crate::shape::{is_another_target, unversioned, AbiRule, Rules};
+use crate::shape::{is_another_target, unversioned, version, AbiRule, Rules};
 use crate::table::refusals::SEVERAL;
-use crate::table::{Dialect, DIALECT_NAMES, ONLY_WRITTEN, OTHER_NAMES, TABLES, VERSION_RANGES};
+use crate::table::{Dialect, DIALECT_NAMES, ONLY_WRITTEN, TABLES, VERSION_RANGES};
 use core::cmp::Ordering;
-use core::fmt;
 use target_lexicon::{DeploymentTarget, OperatingSystem, TripleRef};
 
 /// How a name is used.
@@ -44,15 +43,6 @@ pub(super) type Numbers = Option<(u16, u8)>;
 pub(super) const MAX_LENGTH: usize = 64;
 
 /// Why a name isn't read.
-///
-/// # Examples
-///
-/// ```
-/// use target_names::Dialect;
-///
-/// let error = Dialect::Debian.read("foo").unwrap_err();
-/// assert_eq!(error.to_string(), "Unknown name");
-/// ```
 #[derive(Clone, Copy, Debug, PartialEq, Eq, Hash)]
 pub enum NameError {
     /// The dialect has no such name.
@@ -72,13 +62,6 @@ impl Dialect {
     #[must_use]
     pub const fn name(self) -> &'static str {
         DIALECT_NAMES[self as usize]
-    }
-
-    /// The dialect with this name. `Err` for every other text.
-    pub(crate) fn from_str(name: &str) -> Result<Self, ()> {
-        let names = Dialect::ALL.iter().map(|it| (it.name(), *it));
-        let mut found = names.chain(OTHER_NAMES).filter(|it| it.0 == name);
-        found.next().map(|it| it.1).ok_or(())
     }
 
     #[inline]
@@ -306,12 +289,6 @@ impl Dialect {
     }
 }
 
-impl fmt::Display for Dialect {
-    fn fmt(&self, f: &mut fmt::Formatter<'_>) -> fmt::Result {
-        f.pad(self.name())
-    }
-}
-
 impl Table {
     /// The row that has a name, or its tag, and the numbers of the name.
     pub(super) fn row_named(&self, name: &str) -> Option<(&'static Row, Numbers)> {
@@ -354,14 +331,10 @@ fn meaning(row: &Row, numbers: Numbers) -> Result<TripleRef<'static>, NameError>
 /// The triple of a row's text with some numbers.
 fn with_numbers(text: &'static str, numbers: Numbers) -> Result<TripleRef<'static>, NameError> {
     let mut triple = TripleRef::from_str(text).map_err(|_| NameError::Unknown)?;
-    if let (Some((major, minor)), Some(version)) =
+    if let (Some((major, minor)), Some(stated)) =
         (numbers, version_in(&mut triple.operating_system))
     {
-        *version = Some(DeploymentTarget {
-            major,
-            minor,
-            patch: 0,
-        });
+        *stated = Some(version(major, minor));
     }
     Ok(triple)
 }

@@ -1,6 +1,6 @@
 //! The name that is suggested for an unknown name of a dialect.
 use crate::dialect::{Row, Way};
-use crate::hints::{allows, triple_of_words};
+use crate::hints::{allows, found_in, triple_of_words};
 use crate::mistakes::LONGEST_PATH;
 use crate::spelled::may_be_versioned;
 use crate::table::SYSTEMS;
@@ -31,6 +31,7 @@ impl Dialect {
     /// assert_eq!(Dialect::Node.suggestion("linux-amd64"), Some("linux-x64"));
     /// assert_eq!(Dialect::Node.suggestion("turbo-linux-arm64"), Some("linux-arm64"));
     /// assert_eq!(Dialect::Node.suggestion("linux-arm-gnueabi"), None); // only `gnueabihf` is known
+    /// assert_eq!(Dialect::Node.suggestion("linux0-armhf"), None); // `linux-arm` would leave out the ABI
     /// ```
     #[must_use]
     #[inline]
@@ -228,7 +229,7 @@ impl MachineWord {
     #[inline]
     pub(super) fn at(range: Range<usize>, name: &str) -> Option<MachineWord> {
         let word = name.get(range.clone())?;
-        let known = WORDS.iter().find(|it| it.0 == word).map_or(word, |it| it.1);
+        let known = found_in(WORDS, word).unwrap_or(word);
         let architecture = architecture_of(known).filter(|it| *it != Architecture::Unknown)?;
         let (machine, width, order) = machine_of(architecture);
         let width = if word == "x32" {
@@ -258,7 +259,7 @@ impl MachineWord {
             return false;
         }
         // A version of Arm or x86 is a machine of its own.
-        let is_version = |word: &str| WORDS.iter().all(|it| it.0 != word);
+        let is_version = |word: &str| found_in(WORDS, word).is_none();
         let are_versions = is_version(word) && is_version(&name[self.range.clone()]);
         match (triple_of(row), self.architecture) {
             (Some(triple), Architecture::Arm(_)) => triple.architecture == self.architecture,
@@ -299,40 +300,26 @@ pub(super) fn words(name: &str) -> impl Iterator<Item = Range<usize>> + '_ {
     })
 }
 
-/// Words for machines that are neither known names nor spellings of parts.
-const WORDS: [(&str, &str); 32] = [
-    ("386", "i386"),
-    ("x86", "i386"),
-    ("ia32", "i386"),
-    ("x86-64", "x86_64"),
-    ("x32", "x86_64"),
-    ("armhf", "arm"),
-    ("mipsle", "mipsel"),
-    ("mips64le", "mips64el"),
-    ("loong64", "loongarch64"),
-    ("aarch_64", "aarch64"),
-    ("ppcle_64", "powerpc64le"),
-    ("s390_64", "s390x"),
-    ("x86_32", "i386"),
-    ("armeabi", "armv7"),
-    ("arm32", "arm"),
-    ("aarch32", "arm"),
-    ("aarch32hf", "arm"),
-    ("aarch32sf", "arm"),
-    ("mips32", "mips"),
-    ("mips32el", "mipsel"),
-    ("mips32le", "mipsel"),
-    ("mipsel32", "mipsel"),
-    ("arm32v5", "armv5te"),
-    ("arm32v6", "armv6"),
-    ("arm32v7", "armv7"),
-    ("arm64v8", "aarch64"),
-    ("armv5b", "armeb"),
-    ("armv6b", "armeb"),
-    ("armv7b", "armeb"),
-    ("armebv5", "armeb"),
-    ("armebv6", "armeb"),
-    ("armebv7", "armeb"),
+/// Words for machines that are neither known names nor spellings of parts, after the name of the machine.
+const WORDS: &[(&str, &[&str])] = &[
+    ("i386", &["386", "x86", "ia32", "x86_32"]),
+    ("x86_64", &["x86-64", "x32"]),
+    (
+        "arm",
+        &["armhf", "arm32", "aarch32", "aarch32hf", "aarch32sf"],
+    ),
+    ("armv5te", &["arm32v5"]),
+    ("armv6", &["arm32v6"]),
+    ("armv7", &["arm32v7", "armeabi"]),
+    ("armeb", &["armv5b", "armv6b", "armv7b"]),
+    ("armeb", &["armebv5", "armebv6", "armebv7"]),
+    ("aarch64", &["aarch_64", "arm64v8"]),
+    ("mips", &["mips32"]),
+    ("mipsel", &["mipsle", "mips32el", "mips32le", "mipsel32"]),
+    ("mips64el", &["mips64le"]),
+    ("loongarch64", &["loong64"]),
+    ("powerpc64le", &["ppcle_64"]),
+    ("s390x", &["s390_64"]),
 ];
 
 /// Words of machines that aren't known here, and would pass for misspelled ones.

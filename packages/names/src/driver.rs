@@ -1,96 +1,15 @@
 //! What a compiler's driver asks of a triple besides the queries. `checks/compare llvm` asks rustc and clang of each of rustc's targets.
 
 use crate::object_format::object_format;
-use crate::rustc_cfg::UnlistedSystem;
-use core::fmt;
+use crate::rustc_cfg::unlisted_system;
+use crate::{CLibrary, FloatAbi, Signedness};
 use target_lexicon::{
     Aarch64Architecture, Architecture, BinaryFormat, CDataModel, Endianness, Environment,
     Mips32Architecture, Mips64Architecture, OperatingSystem, PointerWidth, Riscv32Architecture,
     Riscv64Architecture, TripleRef,
 };
 
-/// The C library of a target.
-///
-/// # Examples
-///
-/// ```
-/// use target_lexicon::triple;
-/// use target_names::{CLibrary, TargetInfo};
-///
-/// assert_eq!(triple!("armv7-unknown-linux-musleabihf").c_library(), Some(CLibrary::Musl));
-/// ```
-#[non_exhaustive]
-#[derive(Clone, Copy, Debug, PartialEq, Eq, Hash)]
-pub enum CLibrary {
-    // written by tools/names/write: the C libraries
-    /// Android's.
-    Bionic,
-    /// The GNU C library.
-    Glibc,
-    /// MinGW, over a library of Windows.
-    Mingw,
-    /// Microsoft's Visual C++.
-    Msvc,
-    /// musl.
-    Musl,
-    /// Newlib, of embedded systems.
-    Newlib,
-    /// That of Redox.
-    Relibc,
-    /// The system's own, which no other system has.
-    System,
-    /// uClibc.
-    Uclibc,
-    // end of what is written
-}
-
-/// How floating-point arguments are passed.
-///
-/// # Examples
-///
-/// ```
-/// use target_lexicon::triple;
-/// use target_names::{FloatAbi, TargetInfo};
-///
-/// assert_eq!(triple!("armv7-unknown-linux-gnueabi").float_abi(), Some(FloatAbi::Soft));
-/// ```
-#[non_exhaustive]
-#[derive(Clone, Copy, Debug, PartialEq, Eq, Hash)]
-pub enum FloatAbi {
-    /// In integer registers. The processor may have floating-point registers.
-    Soft,
-    /// In floating-point registers.
-    Hard,
-}
-
-/// Whether C's `char` has a sign.
-///
-/// # Examples
-///
-/// ```
-/// use target_lexicon::triple;
-/// use target_names::{Signedness, TargetInfo};
-///
-/// assert_eq!(triple!("aarch64-unknown-linux-gnu").char_signedness(), Some(Signedness::Unsigned));
-/// ```
-#[non_exhaustive]
-#[derive(Clone, Copy, Debug, PartialEq, Eq, Hash)]
-pub enum Signedness {
-    /// As `signed char`.
-    Signed,
-    /// As `unsigned char`.
-    Unsigned,
-}
-
 /// The size and the alignment of a type of C, in bytes.
-///
-/// # Examples
-///
-/// ```
-/// use target_names::TargetInfo;
-/// let layout = target_lexicon::triple!("i686-unknown-linux-gnu").long_double_layout().unwrap();
-/// assert_eq!((layout.size, layout.alignment), (12, 4));
-/// ```
 #[derive(Clone, Copy, Debug, PartialEq, Eq, Hash)]
 pub struct TypeLayout {
     /// The size in bytes.
@@ -100,16 +19,6 @@ pub struct TypeLayout {
 }
 
 /// The sizes of C's arithmetic types, in bytes.
-///
-/// # Examples
-///
-/// ```
-/// use target_lexicon::triple;
-/// use target_names::TargetInfo;
-///
-/// let sizes = triple!("x86_64-pc-cygwin").type_sizes().unwrap();
-/// assert_eq!((sizes.int, sizes.long), (4, 8));
-/// ```
 #[non_exhaustive]
 #[derive(Clone, Copy, Debug, PartialEq, Eq, Hash)]
 pub struct TypeSizes {
@@ -132,56 +41,20 @@ impl CLibrary {
     #[inline]
     pub(crate) fn of(triple: &TripleRef<'_>) -> Option<CLibrary> {
         use {Environment::*, OperatingSystem::*};
+        let has_gnu = matches!(
+            triple.environment,
+            Gnu | Gnuabi64 | Gnueabi | Gnueabihf | Gnuspe | Gnux32 | GnuIlp32 | GnuLlvm
+        );
         match (triple.environment, triple.operating_system) {
+            (_, Hurd | Linux) if has_gnu => Some(CLibrary::Glibc),
+            (_, Windows) if has_gnu => Some(CLibrary::Mingw),
             (Android | Androideabi, _) => Some(CLibrary::Bionic),
-            (
-                Gnu | Gnuabi64 | Gnueabi | Gnueabihf | Gnuspe | Gnux32 | GnuIlp32 | GnuLlvm,
-                Hurd | Linux,
-            ) => Some(CLibrary::Glibc),
-            (
-                Gnu | Gnuabi64 | Gnueabi | Gnueabihf | Gnuspe | Gnux32 | GnuIlp32 | GnuLlvm,
-                OperatingSystem::Windows,
-            ) => Some(CLibrary::Mingw),
-            (Environment::Msvc, _) => Some(CLibrary::Msvc),
-            (Environment::Musl | Muslabi64 | Musleabi | Musleabihf | Ohos, _) => {
-                Some(CLibrary::Musl)
-            }
-            (Environment::Newlib, _) => Some(CLibrary::Newlib),
-            (Environment::Uclibc | Uclibceabi | Uclibceabihf, _) => Some(CLibrary::Uclibc),
+            (Msvc, _) => Some(CLibrary::Msvc),
+            (Musl | Muslabi64 | Musleabi | Musleabihf | Ohos, _) => Some(CLibrary::Musl),
+            (Newlib, _) => Some(CLibrary::Newlib),
+            (Uclibc | Uclibceabi | Uclibceabihf, _) => Some(CLibrary::Uclibc),
             _ => library_of_system(triple),
         }
-    }
-
-    /// The name.
-    ///
-    /// # Examples
-    ///
-    /// ```
-    /// assert_eq!(target_names::CLibrary::Glibc.name(), "glibc");
-    /// ```
-    #[must_use]
-    #[inline]
-    pub const fn name(self) -> &'static str {
-        match self {
-            // written by tools/names/write: the names of C libraries
-            CLibrary::Bionic => "bionic",
-            CLibrary::Glibc => "glibc",
-            CLibrary::Mingw => "mingw",
-            CLibrary::Msvc => "msvc",
-            CLibrary::Musl => "musl",
-            CLibrary::Newlib => "newlib",
-            CLibrary::Relibc => "relibc",
-            CLibrary::System => "system",
-            CLibrary::Uclibc => "uclibc",
-            // end of what is written
-        }
-    }
-}
-
-impl fmt::Display for CLibrary {
-    #[inline]
-    fn fmt(&self, f: &mut fmt::Formatter<'_>) -> fmt::Result {
-        f.pad(self.name())
     }
 }
 
@@ -189,20 +62,15 @@ impl fmt::Display for CLibrary {
 #[inline]
 fn library_of_system(triple: &TripleRef<'_>) -> Option<CLibrary> {
     use OperatingSystem::*;
-    match UnlistedSystem::of(triple) {
-        Some(UnlistedSystem::Nuttx) => return Some(CLibrary::System),
-        Some(UnlistedSystem::Rtems) => return Some(CLibrary::Newlib),
-        Some(UnlistedSystem::WasiP3) => return None,
-        None => {}
-    }
-    match triple.operating_system {
-        Espidf | Horizon => Some(CLibrary::Newlib),
-        Redox => Some(CLibrary::Relibc),
-        Aix | Bitrig | Cygwin | Darwin(_) | Dragonfly | Freebsd | Fuchsia | Haiku | Illumos
-        | IOS(_) | MacOSX(_) | Netbsd | Openbsd | Solaris | TvOS(_) | VisionOS(_) | VxWorks
-        | WatchOS(_) | XROS(_) => Some(CLibrary::System),
-        _ => None,
-    }
+    Some(match (unlisted_system(triple), triple.operating_system) {
+        (Some("nuttx"), _) => CLibrary::System,
+        (Some("rtems"), _) | (_, Espidf | Horizon) => CLibrary::Newlib,
+        (_, Redox) => CLibrary::Relibc,
+        (_, Aix | Bitrig | Cygwin | Darwin(_) | Dragonfly | Freebsd | Fuchsia) => CLibrary::System,
+        (_, Haiku | Illumos | IOS(_) | MacOSX(_) | Netbsd | Openbsd | Solaris) => CLibrary::System,
+        (_, TvOS(_) | VisionOS(_) | VxWorks | WatchOS(_) | XROS(_)) => CLibrary::System,
+        _ => return None,
+    })
 }
 
 impl FloatAbi {
@@ -222,29 +90,6 @@ impl FloatAbi {
             (_, OperatingSystem::Windows | OperatingSystem::WatchOS(_)) => Some(FloatAbi::Hard),
             _ => Option::None,
         }
-    }
-
-    /// The name.
-    ///
-    /// # Examples
-    ///
-    /// ```
-    /// assert_eq!(target_names::FloatAbi::Hard.name(), "hard");
-    /// ```
-    #[must_use]
-    #[inline]
-    pub const fn name(self) -> &'static str {
-        match self {
-            FloatAbi::Soft => "soft",
-            FloatAbi::Hard => "hard",
-        }
-    }
-}
-
-impl fmt::Display for FloatAbi {
-    #[inline]
-    fn fmt(&self, f: &mut fmt::Formatter<'_>) -> fmt::Result {
-        f.pad(self.name())
     }
 }
 
@@ -267,29 +112,6 @@ impl Signedness {
             }
             _ => None,
         }
-    }
-
-    /// The name.
-    ///
-    /// # Examples
-    ///
-    /// ```
-    /// assert_eq!(target_names::Signedness::Signed.name(), "signed");
-    /// ```
-    #[must_use]
-    #[inline]
-    pub const fn name(self) -> &'static str {
-        match self {
-            Signedness::Signed => "signed",
-            Signedness::Unsigned => "unsigned",
-        }
-    }
-}
-
-impl fmt::Display for Signedness {
-    #[inline]
-    fn fmt(&self, f: &mut fmt::Formatter<'_>) -> fmt::Result {
-        f.pad(self.name())
     }
 }
 

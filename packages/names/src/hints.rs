@@ -11,15 +11,6 @@ use target_lexicon::{
 };
 
 /// What the words of a name say, in whatever order they are: [`hint`] returns it. `Display` says it.
-///
-/// # Examples
-///
-/// ```
-/// use target_names::{hint, Hint};
-///
-/// assert!(matches!(hint("x64-linux"), Some(Hint::Triple(_))));
-/// assert_eq!(Hint::NoSystem.to_string(), "it names a machine, and no system");
-/// ```
 #[derive(Clone, Copy, Debug, PartialEq, Eq)]
 #[non_exhaustive]
 pub enum Hint {
@@ -196,7 +187,7 @@ impl Said {
         if found.machine.1 != found.architecture.pointer_width().ok() {
             self.width = found.machine.1;
         }
-        self.floats = found_in(&ARMS, word).or(floats_of(word)).or(self.floats);
+        self.floats = found_in(ARMS, word).or(floats_of(word)).or(self.floats);
         self.is_any_x86 |= ["x86", "i386", "386", "ia32", "x86_32"].contains(&word);
         true
     }
@@ -229,13 +220,11 @@ impl Said {
     fn take_word(&mut self, word: &str) {
         let system = system_of(word);
         let name = word.trim_end_matches(is_digit);
-        let library = found_in(&LIBRARIES, name);
-        let floats = found_in(&FLOATS, word);
-        let environment = ENVIRONMENTS
-            .contains(&word)
-            .then(|| word.parse().ok())
-            .flatten();
-        let width = found_in(&WIDTHS, word);
+        let library = found_in(LIBRARIES, name);
+        let floats = found_in(FLOATS, word);
+        let is_environment = ENVIRONMENTS.split(' ').any(|it| it == word);
+        let environment = word.parse().ok().filter(|_| is_environment);
+        let width = found_in(WIDTHS, word);
         let is_known = system.is_some() || library.is_some() || floats.is_some() || width.is_some();
         if let Some(system) = system {
             self.take_system(system);
@@ -247,26 +236,25 @@ impl Said {
         }
         self.floats = floats.or(self.floats);
         self.width = width.or(self.width);
-        if AMBIGUOUS.contains(&word) {
-            self.is_arm = true;
-        } else if ["v7a", "v8a"].contains(&word) {
-            self.is_abi_of_android = true;
-        } else if is_known || self.take_machine(word) {
-        } else if environment.is_some() {
-            self.has_other_abi |= self.environment.is_some() && self.environment != environment;
-            self.environment = environment;
-        } else if SEVERAL.contains(&word) {
-            self.has_several_machines = true;
-        } else if SIMULATORS.contains(&word) {
-            self.is_simulator = true;
-        } else if word == "clang" {
-            self.is_clang = true;
-        } else {
-            let is_number = word.bytes().all(|it| it.is_ascii_digit());
-            self.has_number |= is_number;
-            self.has_other |= !is_number;
-            self.has_end |= !is_number && self.machine.is_some() && word.starts_with(is_digit);
-            self.has_other_abi |= is_of_abi(word);
+        match word {
+            // Of 32 bits or of 64.
+            "arm" | "armv8" | "armv8a" | "armv9" => self.is_arm = true,
+            "v7a" | "v8a" => self.is_abi_of_android = true,
+            _ if is_known || self.take_machine(word) => {}
+            _ if environment.is_some() => {
+                self.has_other_abi |= self.environment.is_some() && self.environment != environment;
+                self.environment = environment;
+            }
+            "universal" | "universal2" | "fat" | "multiarch" => self.has_several_machines = true,
+            "sim" | "simulator" => self.is_simulator = true,
+            "clang" => self.is_clang = true,
+            _ => {
+                let is_number = word.bytes().all(|it| it.is_ascii_digit());
+                self.has_number |= is_number;
+                self.has_other |= !is_number;
+                self.has_end |= !is_number && self.machine.is_some() && word.starts_with(is_digit);
+                self.has_other_abi |= is_of_abi(word);
+            }
         }
     }
 
@@ -406,13 +394,13 @@ fn is_digit(letter: char) -> bool {
 }
 
 /// What a list says of a word.
-fn found_in<T: Copy>(list: &[(&str, T)], word: &str) -> Option<T> {
-    list.iter().find(|it| it.0 == word).map(|it| it.1)
+pub(crate) fn found_in<T: Copy>(list: &[(T, &[&str])], word: &str) -> Option<T> {
+    list.iter().find(|it| it.1.contains(&word)).map(|it| it.0)
 }
 
 /// How a triple goes on after the machine on the system of a word: of a list, perhaps with a version, or a known name.
 pub(crate) fn system_of(word: &str) -> Option<&'static str> {
-    let listed = |word| found_in(&SYSTEMS, word);
+    let listed = |word| found_in(SYSTEMS, word);
     let known = || {
         let mut names = Field::OperatingSystem.names().iter().copied();
         names.find(|it| *it == word && *it != "unknown")
@@ -454,152 +442,79 @@ fn spaced(text: &str) -> Option<Text> {
 /// A name with spaces. A longer one gets no hint.
 type Text = Buffer<192>;
 
-/// Words for systems that aren't the library's name, or that have a vendor, and how a triple goes on with them.
-const SYSTEMS: [(&str, &str); 66] = [
-    ("android", "linux-android"),
-    ("androideabi", "linux-android"),
-    ("ohos", "unknown-linux-ohos"),
-    ("openharmony", "unknown-linux-ohos"),
-    ("ios", "apple-ios"),
-    ("iphoneos", "apple-ios"),
-    ("iphonesimulator", "apple-ios"),
-    ("iossimulator", "apple-ios"),
-    ("catalyst", "apple-ios-macabi"),
-    ("maccatalyst", "apple-ios-macabi"),
-    ("tvos", "apple-tvos"),
-    ("appletvos", "apple-tvos"),
-    ("appletvsimulator", "apple-tvos"),
-    ("visionos", "apple-visionos"),
-    ("xros", "apple-xros"),
-    ("watchos", "apple-watchos"),
-    ("watchsimulator", "apple-watchos"),
-    ("darwin", "apple-darwin"),
-    ("mac", "apple-darwin"),
-    ("macos", "apple-darwin"),
-    ("macosx", "apple-darwin"),
-    ("osx", "apple-darwin"),
-    ("catalina", "apple-darwin"),
-    ("sur", "apple-darwin"),
-    ("monterey", "apple-darwin"),
-    ("ventura", "apple-darwin"),
-    ("sonoma", "apple-darwin"),
-    ("sequoia", "apple-darwin"),
-    ("tahoe", "apple-darwin"),
-    ("mingw", "pc-windows-gnu"),
-    ("mingw32", "pc-windows-gnu"),
-    ("mingw64", "pc-windows-gnu"),
-    ("ucrt", "pc-windows-gnu"),
-    ("ucrt64", "pc-windows-gnu"),
-    ("clang32", "pc-windows-gnullvm"),
-    ("clang64", "pc-windows-gnullvm"),
-    ("clangarm64", "pc-windows-gnullvm"),
-    ("win", "pc-windows"),
-    ("windows", "pc-windows"),
-    ("dragonfly", "unknown-dragonfly"),
-    ("dragonflybsd", "unknown-dragonfly"),
-    ("emscripten", "unknown-emscripten"),
-    ("freebsd", "unknown-freebsd"),
-    ("netbsd", "unknown-netbsd"),
-    ("openbsd", "unknown-openbsd"),
-    ("solaris", "pc-solaris"),
-    ("efi", "unknown-uefi"),
-    ("uefi", "unknown-uefi"),
-    ("freestanding", "unknown-none"),
-    ("baremetal", "unknown-none"),
-    ("none", "unknown-none"),
-    ("vx6", "unknown-vxworks"),
-    ("vx653", "unknown-vxworks"),
-    ("vx7", "unknown-vxworks"),
-    ("vx7r2", "unknown-vxworks"),
-    ("linux", "unknown-linux"),
-    ("manylinux", "unknown-linux"),
-    ("musllinux", "unknown-linux"),
-    ("linuxmusl", "unknown-linux"),
-    ("alpine", "unknown-linux"),
-    ("debian", "unknown-linux"),
-    ("ubuntu", "unknown-linux"),
-    ("centos", "unknown-linux"),
-    ("rhel", "unknown-linux"),
-    ("fedora", "unknown-linux"),
-    ("opensuse", "unknown-linux"),
+/// Words for systems that aren't the library's name, or that have a vendor, after how a triple goes on with them.
+const SYSTEMS: &[(&str, &[&str])] = &[
+    ("linux-android", &["android", "androideabi"]),
+    ("unknown-linux-ohos", &["ohos", "openharmony"]),
+    ("apple-ios", &["ios", "iphoneos"]),
+    ("apple-ios", &["iphonesimulator", "iossimulator"]),
+    ("apple-ios-macabi", &["catalyst", "maccatalyst"]),
+    ("apple-tvos", &["tvos", "appletvos", "appletvsimulator"]),
+    ("apple-visionos", &["visionos"]),
+    ("apple-xros", &["xros"]),
+    ("apple-watchos", &["watchos", "watchsimulator"]),
+    ("apple-darwin", &["darwin", "mac", "macos", "macosx", "osx"]),
+    ("apple-darwin", &["catalina", "sur", "monterey", "ventura"]),
+    ("apple-darwin", &["sonoma", "sequoia", "tahoe"]),
+    ("pc-windows-gnu", &["mingw", "mingw32", "mingw64"]),
+    ("pc-windows-gnu", &["ucrt", "ucrt64"]),
+    ("pc-windows-gnullvm", &["clang32", "clang64", "clangarm64"]),
+    ("pc-windows", &["win", "windows"]),
+    ("unknown-dragonfly", &["dragonfly", "dragonflybsd"]),
+    ("unknown-emscripten", &["emscripten"]),
+    ("unknown-freebsd", &["freebsd"]),
+    ("unknown-netbsd", &["netbsd"]),
+    ("unknown-openbsd", &["openbsd"]),
+    ("pc-solaris", &["solaris"]),
+    ("unknown-uefi", &["efi", "uefi"]),
+    ("unknown-none", &["freestanding", "baremetal", "none"]),
+    ("unknown-vxworks", &["vx6", "vx653", "vx7", "vx7r2"]),
+    (
+        "unknown-linux",
+        &["linux", "manylinux", "musllinux", "linuxmusl", "alpine"],
+    ),
+    ("unknown-linux", DISTRIBUTIONS),
 ];
 
-/// Words for C libraries, of which some are distributions.
-const LIBRARIES: [(&str, Library); 15] = [
-    ("alpine", Library::Musl),
-    ("musl", Library::Musl),
-    ("musllinux", Library::Musl),
-    ("linuxmusl", Library::Musl),
-    ("glibc", Library::Glibc),
-    ("manylinux", Library::Glibc),
-    ("debian", Library::Glibc),
-    ("ubuntu", Library::Glibc),
-    ("centos", Library::Glibc),
-    ("rhel", Library::Glibc),
-    ("fedora", Library::Glibc),
-    ("opensuse", Library::Glibc),
-    ("gnu", Library::Gnu),
-    ("uclibc", Library::Uclibc),
-    ("msvc", Library::Msvc),
+/// Distributions with glibc.
+const DISTRIBUTIONS: &[&str] = &["debian", "ubuntu", "centos", "rhel", "fedora", "opensuse"];
+
+/// Words for C libraries.
+const LIBRARIES: &[(Library, &[&str])] = &[
+    (Library::Musl, &["alpine", "musl", "musllinux", "linuxmusl"]),
+    (Library::Glibc, &["glibc", "manylinux"]),
+    (Library::Glibc, DISTRIBUTIONS),
+    (Library::Gnu, &["gnu"]),
+    (Library::Uclibc, &["uclibc"]),
+    (Library::Msvc, &["msvc"]),
 ];
 
 /// Environments that say an ABI, and are words by themselves.
-const ENVIRONMENTS: [&str; 17] = [
-    "androideabi",
-    "eabi",
-    "eabihf",
-    "gnuabi64",
-    "gnueabi",
-    "gnueabihf",
-    "gnullvm",
-    "gnuspe",
-    "gnux32",
-    "macabi",
-    "musleabi",
-    "musleabihf",
-    "muslabi64",
-    "newlib",
-    "sgx",
-    "uclibceabi",
-    "uclibceabihf",
-];
+const ENVIRONMENTS: &str =
+    "androideabi eabi eabihf gnuabi64 gnueabi gnueabihf gnullvm gnuspe gnux32 \
+    macabi musleabi musleabihf muslabi64 newlib sgx uclibceabi uclibceabihf";
 
 /// Words that say how floating-point arguments are passed.
-const FLOATS: [(&str, FloatAbi); 9] = [
-    ("hf", FloatAbi::Hard),
-    ("hfp", FloatAbi::Hard),
-    ("hardfp", FloatAbi::Hard),
-    ("hardfloat", FloatAbi::Hard),
-    ("sf", FloatAbi::Soft),
-    ("soft", FloatAbi::Soft),
-    ("softfp", FloatAbi::Soft),
-    ("softfloat", FloatAbi::Soft),
-    ("nofp", FloatAbi::Soft),
+const FLOATS: &[(FloatAbi, &[&str])] = &[
+    (FloatAbi::Hard, &["hf", "hfp", "hardfp", "hardfloat"]),
+    (
+        FloatAbi::Soft,
+        &["sf", "soft", "softfp", "softfloat", "nofp"],
+    ),
 ];
 
 /// Words for an Arm that say it.
-const ARMS: [(&str, FloatAbi); 2] = [("aarch32hf", FloatAbi::Hard), ("aarch32sf", FloatAbi::Soft)];
-
-/// Words that say how wide a pointer is.
-const WIDTHS: [(&str, PointerWidth); 10] = [
-    ("32bit", PointerWidth::U32),
-    ("64bit", PointerWidth::U64),
-    ("n32", PointerWidth::U32),
-    ("ilp32", PointerWidth::U32),
-    ("linux32", PointerWidth::U32),
-    ("linux64", PointerWidth::U64),
-    ("mac64", PointerWidth::U64),
-    ("macos64", PointerWidth::U64),
-    ("osx64", PointerWidth::U64),
-    ("win64", PointerWidth::U64),
+const ARMS: &[(FloatAbi, &[&str])] = &[
+    (FloatAbi::Hard, &["aarch32hf"]),
+    (FloatAbi::Soft, &["aarch32sf"]),
 ];
 
-/// Words for an Arm of 32 bits or of 64.
-const AMBIGUOUS: [&str; 4] = ["arm", "armv8", "armv8a", "armv9"];
-
-/// Words for several machines, and for simulators.
-const SEVERAL: [&str; 4] = ["universal", "universal2", "fat", "multiarch"];
-const SIMULATORS: [&str; 2] = ["sim", "simulator"];
+/// Words that say how wide a pointer is.
+const WIDTHS: &[(PointerWidth, &[&str])] = &[
+    (PointerWidth::U32, &["32bit", "n32", "ilp32", "linux32"]),
+    (PointerWidth::U64, &["64bit", "linux64", "mac64", "macos64"]),
+    (PointerWidth::U64, &["osx64", "win64"]),
+];
 
 /// What words of ABIs begin and end with that aren't known here.
 const C_LIBRARIES: [&str; 6] = ["", "gnu", "glibc", "musl", "uclibc", "eabi"];

@@ -46,8 +46,8 @@ mod meanings;
 mod mistakes;
 mod multiarch;
 mod name;
+mod named;
 mod object_format;
-mod order;
 #[cfg(feature = "alloc")]
 mod parse_name_error;
 mod platform;
@@ -64,11 +64,9 @@ mod target_info;
 mod translation;
 mod variants;
 
-pub use arm::ArmProfile;
-pub use c_library::LinuxLibc;
 pub use dialect::NameError;
 pub use dialect_suggestions::suggestions;
-pub use driver::{CLibrary, FloatAbi, Signedness, TypeLayout, TypeSizes};
+pub use driver::{TypeLayout, TypeSizes};
 pub use hints::{hint, Hint};
 pub use llvm_target::LlvmTarget;
 pub use meanings::{meanings, Meaning, NameOf};
@@ -81,10 +79,10 @@ pub use reading::{changes, read, Change, ChangedParts};
 pub use rustc_cfg::{is_vendor_of_rustc, RustcCfg};
 pub use spelled::Spelling;
 pub use stated_versions::{stated_versions, StatedVersion, StatedVersions};
-pub use table::Dialect;
+pub use table::{ArmProfile, CLibrary, Dialect, FloatAbi, LinuxLibc, Signedness, WriteError};
 pub use target_info::TargetInfo;
 pub use target_lexicon::spellings::suggestion;
-pub use translation::{TranslateError, WriteError};
+pub use translation::TranslateError;
 
 /// The samples of the page are tested.
 #[cfg(all(doctest, feature = "std"))]

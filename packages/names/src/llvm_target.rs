@@ -1,7 +1,7 @@
 //! The string that rustc gives to LLVM for a target. `checks/compare llvm` asks rustc for that of each of its targets.
 
 use crate::apple_versions::macos_version;
-use crate::rustc_cfg::{is_simulator, UnlistedSystem};
+use crate::rustc_cfg::{is_simulator, unlisted_system};
 use core::fmt;
 use target_lexicon::{
     Aarch64Architecture, Architecture, ArmArchitecture, Environment, KnownVendor,
@@ -11,14 +11,6 @@ use target_lexicon::{
 
 /// The string that LLVM and clang take for a target, which is displayed. It is rustc's `llvm-target` for each of its targets that
 /// parses. That of any other triple has the same words for its machine and its system.
-///
-/// # Examples
-///
-/// ```
-/// use target_names::TargetInfo;
-/// let triple = target_lexicon::triple!("aarch64-apple-ios-sim");
-/// assert_eq!(triple.llvm_target().to_string(), "arm64-apple-ios-simulator");
-/// ```
 #[derive(Clone, Copy, Debug, PartialEq, Eq, Hash)]
 pub struct LlvmTarget<'a>(TripleRef<'a>);
 
@@ -97,11 +89,11 @@ fn environment(environment: Environment) -> Environment {
 #[inline]
 fn rest(triple: &TripleRef<'_>) -> Option<&'static str> {
     use {Architecture::*, Environment::*, Mips32Architecture::*, OperatingSystem as System};
-    match (UnlistedSystem::of(triple), triple.environment) {
-        (Some(UnlistedSystem::Nuttx), Eabi) => return Some("-none-eabi"),
-        (Some(UnlistedSystem::Nuttx), Eabihf) => return Some("-none-eabihf"),
-        (Some(UnlistedSystem::Rtems), Eabihf) => return Some("-unknown-none-eabihf"),
-        (Some(UnlistedSystem::WasiP3), _) => return Some("-wasip3"),
+    match (unlisted_system(triple), triple.environment) {
+        (Some("nuttx"), Eabi) => return Some("-none-eabi"),
+        (Some("nuttx"), Eabihf) => return Some("-none-eabihf"),
+        (Some("rtems"), Eabihf) => return Some("-unknown-none-eabihf"),
+        (Some("wasip3"), _) => return Some("-wasip3"),
         _ => {}
     }
     let is_mti = triple.vendor == VendorRef::Custom("mti");

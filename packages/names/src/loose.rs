@@ -4,7 +4,7 @@ use crate::dialect_suggestions::floats_of;
 use crate::hints::{allows, system_of};
 use crate::table::OF_CONFIG_SUB;
 use crate::{hint, Dialect, FloatAbi, Hint, NameError};
-use core::fmt::Write;
+use core::fmt::{self, Write};
 use target_lexicon::{Environment, TripleRef};
 
 impl Dialect {
@@ -65,7 +65,7 @@ impl Dialect {
 
     /// What the name within a text means, if the text has the form of one that has a name within.
     #[inline]
-    fn read_within(self, text: &str) -> Option<Result<TripleRef<'static>, NameError>> {
+    fn read_within(self, text: &str) -> Option<Found> {
         match self {
             Dialect::Node => self.read_package(text),
             Dialect::Python => self.read_tags(text),
@@ -83,7 +83,7 @@ impl Dialect {
 
     /// Of the file of a package or an archive: the longest end before its suffix that is a name. No name has such a suffix.
     #[inline]
-    fn read_file(self, text: &str) -> Option<Result<TripleRef<'static>, NameError>> {
+    fn read_file(self, text: &str) -> Option<Found> {
         let file = match self {
             Dialect::Debian => text.strip_suffix(".deb")?,
             Dialect::Rpm => text.strip_suffix(".rpm")?,
@@ -111,7 +111,7 @@ impl Dialect {
 
     /// Of a package with a scope, without its version: the longest end that is a platform, after a dash or whole.
     #[inline]
-    fn read_package(self, text: &str) -> Option<Result<TripleRef<'static>, NameError>> {
+    fn read_package(self, text: &str) -> Option<Found> {
         let (_, scoped) = text.split_once('@')?;
         let name = scoped.split_once('/')?.1.split(['@', '/']).next()?;
         self.read_end(name, ['-'; 3])
@@ -119,11 +119,7 @@ impl Dialect {
 
     /// What the longest end of a text means that is a name, after one of these signs or whole.
     #[inline]
-    fn read_end(
-        self,
-        text: &str,
-        signs: [char; 3],
-    ) -> Option<Result<TripleRef<'static>, NameError>> {
+    fn read_end(self, text: &str, signs: [char; 3]) -> Option<Found> {
         let places = text.match_indices(signs).map(|(at, _)| at + 1);
         let ends = core::iter::once(0)
             .chain(places)
@@ -144,10 +140,10 @@ impl Dialect {
     /// A port with `_` or a dash instead of the slash. GoReleaser's folders say after it which machine it is, as container images do, and
     /// what it writes with capitals has container images' other words.
     #[inline]
-    fn read_port(self, text: &str) -> Option<Result<TripleRef<'static>, NameError>> {
+    fn read_port(self, text: &str) -> Option<Found> {
         let (system, machine) = text.split_once(['_', '-'])?;
         let machine = match machine.rsplit_once('_') {
-            Some((name, _)) if USUAL_MACHINES.contains(&machine) => name,
+            Some((name, _)) if USUAL_MACHINES.split(' ').any(|it| it == machine) => name,
             _ => machine,
         };
         // The `armhf` of container images is Armv7, and that of others isn't.
@@ -159,16 +155,13 @@ impl Dialect {
         }
         let has_capital = system.starts_with(|it: char| it.is_ascii_uppercase());
         let dialect = if has_capital { Dialect::Oci } else { self };
-        let mut name = Text::new();
-        write!(name, "{system}/{machine}").ok()?;
-        match (dialect.read(name.as_str()), machine.split_once(['_', '-'])) {
+        let found = dialect.read_written(format_args!("{system}/{machine}"))?;
+        match (found, machine.split_once(['_', '-'])) {
             (Err(NameError::Unknown), None) if machine.starts_with("armv") => {
-                Some(Dialect::Oci.read(name.as_str()))
+                Dialect::Oci.read_written(format_args!("{system}/{machine}"))
             }
             (Err(NameError::Unknown), Some((machine, variant))) => {
-                let mut name = Text::new();
-                write!(name, "{system}/{machine}/{variant}").ok()?;
-                Some(Dialect::Oci.read(name.as_str()))
+                Dialect::Oci.read_written(format_args!("{system}/{machine}/{variant}"))
             }
             (found, _) => Some(found),
         }
@@ -176,7 +169,7 @@ impl Dialect {
 
     /// The architecture after the name of a package and a colon.
     #[inline]
-    fn read_architecture(self, text: &str) -> Option<Result<TripleRef<'static>, NameError>> {
+    fn read_architecture(self, text: &str) -> Option<Found> {
         let (package, architecture) = text.split_once(':')?;
         let is_name = |it: u8| matches!(it, b'a'..=b'z' | b'0'..=b'9' | b'+' | b'-' | b'.');
         let is_package = package.len() > 1 && package.bytes().all(is_name);
@@ -185,7 +178,7 @@ impl Dialect {
 
     /// The prefix of a cross compiler, before the name of one of its tools or nothing.
     #[inline]
-    fn read_compiler(self, text: &str) -> Option<Result<TripleRef<'static>, NameError>> {
+    fn read_compiler(self, text: &str) -> Option<Found> {
         let file = text.rsplit(['/', '\\']).next()?;
         let file = file.strip_suffix(".exe").unwrap_or(file);
         let models = ["-posix", "-win32"].iter();
@@ -194,14 +187,14 @@ impl Dialect {
             Some((file, version)) if is_version(version) => file,
             _ => file,
         };
-        let before = |tool: &&str| file.strip_suffix(*tool)?.strip_suffix('-');
-        let prefix = TOOLS.iter().find_map(before)?;
+        let before = |tool: &str| file.strip_suffix(tool)?.strip_suffix('-');
+        let prefix = before("").or_else(|| TOOLS.split(' ').find_map(before))?;
         prefix.contains('-').then(|| self.read(prefix))
     }
 
     /// A target of rustc with the version of glibc, as cargo-zigbuild takes it.
     #[inline]
-    fn read_version_of_glibc(self, text: &str) -> Option<Result<TripleRef<'static>, NameError>> {
+    fn read_version_of_glibc(self, text: &str) -> Option<Found> {
         if self != Dialect::Rust {
             return None;
         }
@@ -213,7 +206,7 @@ impl Dialect {
 
     /// A target whose system has versions, without those after the least, or without any; or the machine that asks.
     #[inline]
-    fn read_versions(self, text: &str) -> Option<Result<TripleRef<'static>, NameError>> {
+    fn read_versions(self, text: &str) -> Option<Found> {
         let (machine, rest) = text.split_once('-')?;
         if machine == "native" {
             return Some(self.read(machine));
@@ -227,13 +220,9 @@ impl Dialect {
         if !are_versions {
             return None;
         }
-        let mut name = Text::new();
-        write!(name, "{machine}-{system}.{least}{library}").ok()?;
-        match self.read(name.as_str()) {
+        match self.read_written(format_args!("{machine}-{system}.{least}{library}"))? {
             Err(NameError::Unknown) => {
-                let mut name = Text::new();
-                write!(name, "{machine}-{system}{library}").ok()?;
-                Some(self.read(name.as_str()))
+                self.read_written(format_args!("{machine}-{system}{library}"))
             }
             found => Some(found),
         }
@@ -241,7 +230,7 @@ impl Dialect {
 
     /// Of a wheel, or of its tags, the last: all platforms in it mean the same, or one means no triple.
     #[inline]
-    fn read_tags(self, text: &str) -> Option<Result<TripleRef<'static>, NameError>> {
+    fn read_tags(self, text: &str) -> Option<Found> {
         let platforms = last_tag(text);
         if platforms.len() == text.len() && !text.contains('.') {
             return None;
@@ -256,7 +245,7 @@ impl Dialect {
     /// The words of `uname -s` and `uname -m`, with one space between them, and any version of Windows as Windows 10. Of more words the
     /// machine is the last one that isn't a system's or `unknown`.
     #[inline]
-    fn read_words(self, text: &str) -> Option<Result<TripleRef<'static>, NameError>> {
+    fn read_words(self, text: &str) -> Option<Found> {
         let (system, machine) = text
             .trim()
             .split_once(char::is_whitespace)
@@ -277,7 +266,7 @@ impl Dialect {
         self,
         system: &str,
         mut machine: impl Iterator<Item = &'w str>,
-    ) -> Option<Result<TripleRef<'static>, NameError>> {
+    ) -> Option<Found> {
         let mut name = Text::new();
         match system.split_once("_NT-") {
             Some((kind, _)) => write!(name, "{kind}_NT-10.0").ok()?,
@@ -289,23 +278,27 @@ impl Dialect {
 
     /// A platform of Windows without the version in parentheses.
     #[inline]
-    fn read_version_of_windows(self, text: &str) -> Option<Result<TripleRef<'static>, NameError>> {
+    fn read_version_of_windows(self, text: &str) -> Option<Found> {
         let (system, rest) = text.split_once('(')?;
         let (version, machine) = rest.split_once(')')?;
         if !system.eq_ignore_ascii_case("windows") || !is_version(version) {
             return None;
         }
-        let mut name = Text::new();
-        write!(name, "windows{machine}").ok()?;
-        Some(self.read(name.as_str()))
+        self.read_written(format_args!("windows{machine}"))
+    }
+
+    /// What a name means that is put together.
+    fn read_written(self, name: fmt::Arguments<'_>) -> Option<Found> {
+        let mut text = Text::new();
+        text.write_fmt(name).ok()?;
+        Some(self.read(text.as_str()))
     }
 
     /// What the same name with musl means, with uClibc.
     #[inline]
-    fn read_uclibc(self, text: &str) -> Option<Result<TripleRef<'static>, NameError>> {
-        let mut name = Text::new();
-        write!(name, "musl-{}", text.strip_prefix("uclibc-")?).ok()?;
-        Some(self.read(name.as_str()).map(|triple| TripleRef {
+    fn read_uclibc(self, text: &str) -> Option<Found> {
+        let found = self.read_written(format_args!("musl-{}", text.strip_prefix("uclibc-")?))?;
+        Some(found.map(|triple| TripleRef {
             environment: match triple.environment {
                 Environment::Musleabihf => Environment::Uclibceabihf,
                 _ => Environment::Uclibc,
@@ -314,6 +307,9 @@ impl Dialect {
         }))
     }
 }
+
+/// What a name within a text means.
+type Found = Result<TripleRef<'static>, NameError>;
 
 /// No name that ends a file's or a package's name is longer, in bytes.
 const LONGEST_NAME: usize = 40;
@@ -324,66 +320,14 @@ const ARCHIVES: [&str; 7] = [
 ];
 
 /// What the folders of GoReleaser say of the machines that Go takes if nothing else is said.
-const USUAL_MACHINES: [&str; 10] = [
-    "amd64_v1",
-    "arm64_v8.0",
-    "386_sse2",
-    "mips_hardfloat",
-    "mipsle_hardfloat",
-    "mips64_hardfloat",
-    "mips64le_hardfloat",
-    "ppc64_power8",
-    "ppc64le_power8",
-    "riscv64_rva20u64",
-];
+const USUAL_MACHINES: &str = "amd64_v1 arm64_v8.0 386_sse2 mips_hardfloat mipsle_hardfloat \
+    mips64_hardfloat mips64le_hardfloat ppc64_power8 ppc64le_power8 riscv64_rva20u64";
 
 /// The tools after the prefix of a cross compiler, of which the first that fits is it.
-const TOOLS: [&str; 44] = [
-    "gcc-ar",
-    "gcc-nm",
-    "gcc-ranlib",
-    "gcov-dump",
-    "gcov-tool",
-    "lto-dump",
-    "",
-    "gcc",
-    "g++",
-    "cc",
-    "c++",
-    "cpp",
-    "clang",
-    "clang++",
-    "gfortran",
-    "ld",
-    "as",
-    "ar",
-    "nm",
-    "ranlib",
-    "strip",
-    "objcopy",
-    "objdump",
-    "readelf",
-    "size",
-    "strings",
-    "addr2line",
-    "c++filt",
-    "elfedit",
-    "dwp",
-    "gprof",
-    "gdb",
-    "ld.bfd",
-    "ld.gold",
-    "ld.lld",
-    "gcov",
-    "gccgo",
-    "gdc",
-    "gnatmake",
-    "gm2",
-    "windres",
-    "windmc",
-    "dlltool",
-    "dllwrap",
-];
+const TOOLS: &str = "gcc-ar gcc-nm gcc-ranlib gcov-dump gcov-tool lto-dump gcc g++ cc c++ cpp clang \
+    clang++ gfortran ld as ar nm ranlib strip objcopy objdump readelf size strings addr2line c++filt \
+    elfedit dwp gprof gdb ld.bfd ld.gold ld.lld gcov gccgo gdc gnatmake gm2 windres windmc dlltool \
+    dllwrap";
 
 /// What `uname` prints after the machine.
 const AFTER_MACHINES: [&str; 4] = ["GNU/Linux", "Msys", "Cygwin", "unknown"];

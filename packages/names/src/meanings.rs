@@ -2,19 +2,9 @@
 use crate::spelled::is_of_machine;
 use crate::table::OF_CONFIG_SUB;
 use crate::{read, Dialect, NameError};
-use core::fmt;
 use target_lexicon::{TripleRef, VendorRef};
 
 /// Whose name it is: that of a dialect, or of nobody but who spells triples. `Display` says it in a word.
-///
-/// # Examples
-///
-/// ```
-/// use target_names::{Dialect, NameOf};
-///
-/// assert_eq!(NameOf::Dialect(Dialect::Go).to_string(), "go");
-/// assert_eq!(NameOf::Triple.to_string(), "triple");
-/// ```
 #[derive(Clone, Copy, Debug, PartialEq, Eq, Hash)]
 pub enum NameOf {
     /// A tool's name.
@@ -46,24 +36,7 @@ impl NameOf {
     }
 }
 
-impl fmt::Display for NameOf {
-    #[inline]
-    fn fmt(&self, f: &mut fmt::Formatter<'_>) -> fmt::Result {
-        f.pad(self.name())
-    }
-}
-
 /// What a name means to one tool: an item of [`meanings`].
-///
-/// # Examples
-///
-/// ```
-/// use target_names::{meanings, Meaning};
-///
-/// let Meaning { of, triple, .. } = meanings("linux/amd64").next().unwrap();
-/// assert_eq!(of.name(), "go");
-/// assert_eq!(triple.unwrap().to_string(), "x86_64-unknown-linux");
-/// ```
 #[derive(Clone, Copy, Debug, PartialEq, Eq, Hash)]
 pub struct Meaning<'a> {
     /// Whose name it is.

@@ -5,22 +5,6 @@ use target_lexicon::spellings::visible;
 use target_lexicon::Refusal;
 
 /// What is wrong with a name that a dialect doesn't have. `Display` says it.
-///
-/// # Examples
-///
-/// ```
-/// use target_names::Dialect;
-///
-/// let mistake = |dialect: Dialect, name| dialect.mistake(name).map(|it| it.to_string());
-/// assert_eq!(mistake(Dialect::Go, "Linux/AMD64").unwrap(), "capital letters matter");
-/// assert_eq!(mistake(Dialect::Go, "linux/amd64 ").unwrap(), "it has a space");
-/// assert_eq!(mistake(Dialect::Rust, "/opt/x86_64-apple-darwin").unwrap(), "it has a path");
-/// assert_eq!(mistake(Dialect::Debian, "linux/arm64").unwrap(), "it is a name of go and oci");
-/// assert_eq!(mistake(Dialect::Uname, "Linux").unwrap(), "it is a part of a name, such as `Linux x86_64`");
-/// assert_eq!(mistake(Dialect::Node, "turbo-linux-x64").unwrap(), "another name comes before it");
-/// assert_eq!(mistake(Dialect::Gnu, "nios2-linux-gnu").unwrap(), "as a triple: Unrecognized architecture: nios2");
-/// assert_eq!(mistake(Dialect::Go, "plan10"), None);
-/// ```
 #[derive(Clone, Copy, Debug, PartialEq, Eq)]
 #[non_exhaustive]
 pub enum Mistake<'a> {
@@ -97,7 +81,15 @@ impl Dialect {
     /// use target_names::{Dialect, Mistake};
     ///
     /// assert_eq!(Dialect::Debian.mistake("AMD64"), Some(Mistake::Capitals("amd64")));
-    /// assert_eq!(Dialect::Node.mistake("x64"), Some(Mistake::Part("linux-x64")));
+    /// let mistake = |dialect: Dialect, name| dialect.mistake(name).map(|it| it.to_string());
+    /// assert_eq!(mistake(Dialect::Go, "Linux/AMD64").unwrap(), "capital letters matter");
+    /// assert_eq!(mistake(Dialect::Go, "linux/amd64 ").unwrap(), "it has a space");
+    /// assert_eq!(mistake(Dialect::Rust, "/opt/x86_64-apple-darwin").unwrap(), "it has a path");
+    /// assert_eq!(mistake(Dialect::Debian, "linux/arm64").unwrap(), "it is a name of go and oci");
+    /// assert_eq!(mistake(Dialect::Uname, "Linux").unwrap(), "it is a part of a name, such as `Linux x86_64`");
+    /// assert_eq!(mistake(Dialect::Node, "turbo-linux-x64").unwrap(), "another name comes before it");
+    /// assert_eq!(mistake(Dialect::Gnu, "nios2-linux-gnu").unwrap(), "as a triple: Unrecognized architecture: nios2");
+    /// assert_eq!(mistake(Dialect::Go, "plan10"), None);
     /// ```
     #[must_use]
     #[inline]
@@ -194,14 +186,8 @@ pub(super) const LONGEST_PATH: usize = 256;
 /// Whether a word begins or ends a name, up to a sign.
 #[inline]
 fn is_part(word: &str, name: &str) -> bool {
-    let is_sign = |byte: Option<&u8>| matches!(byte, Some(b'/' | b' ' | b'-' | b'_'));
-    let begins = || {
-        name.strip_prefix(word)
-            .map(|it| is_sign(it.as_bytes().first()))
-    };
-    let ends = || {
-        name.strip_suffix(word)
-            .map(|it| is_sign(it.as_bytes().last()))
-    };
-    !word.is_empty() && (begins() == Some(true) || ends() == Some(true))
+    let after = name.strip_prefix(word).and_then(|it| it.bytes().next());
+    let before = name.strip_suffix(word).and_then(|it| it.bytes().last());
+    let is_sign = |byte: &u8| b"/ -_".contains(byte);
+    !word.is_empty() && after.iter().chain(&before).any(is_sign)
 }

@@ -4,15 +4,6 @@ use core::fmt;
 use target_lexicon::TripleRef;
 
 /// Debian's multiarch tuple of a target, which names its folders of libraries, as `dpkg-architecture -qDEB_HOST_MULTIARCH` prints it.
-///
-/// # Examples
-///
-/// ```
-/// use target_lexicon::triple;
-/// use target_names::TargetInfo;
-///
-/// assert_eq!(triple!("i686-unknown-linux-gnu").multiarch_tuple().unwrap().to_string(), "i386-linux-gnu");
-/// ```
 #[derive(Clone, Copy, Debug, PartialEq, Eq, Hash)]
 pub struct MultiarchTuple {
     /// The prefix of GNU's tools, which is the tuple except on 32-bit x86.

@@ -4,16 +4,6 @@ use crate::dialect::Numbers;
 use core::fmt::{self, Write};
 
 /// A name of a target in a dialect.
-///
-/// # Examples
-///
-/// ```
-/// use target_lexicon::TripleRef;
-/// use target_names::Dialect;
-///
-/// let triple = TripleRef::from_str("x86_64-unknown-freebsd").unwrap();
-/// assert_eq!(Dialect::Go.write(&triple).unwrap().to_string(), "freebsd/amd64");
-/// ```
 #[derive(Clone, Copy, PartialEq, Eq, Hash)]
 pub struct Name(Buffer<{ Name::MOST }>);
 
@@ -49,12 +39,6 @@ impl Name {
             let _ = write!(name, "{number}{piece}");
         }
         Name(name)
-    }
-}
-
-impl fmt::Display for Name {
-    fn fmt(&self, f: &mut fmt::Formatter<'_>) -> fmt::Result {
-        f.pad(self.as_str())
     }
 }
 

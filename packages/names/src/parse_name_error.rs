@@ -1,5 +1,5 @@
 //! Why a name of another tool isn't read, and why a word is no dialect, in errors that own the string.
-use crate::table::OF_CONFIG_SUB;
+use crate::table::{OF_CONFIG_SUB, OTHER_NAMES};
 use crate::{Dialect, LinuxLibc, Mistake, NameError};
 use alloc::boxed::Box;
 use core::fmt;
@@ -23,33 +23,17 @@ use target_lexicon::TripleRef;
 #[derive(Clone, Debug, PartialEq, Eq, Hash)]
 pub struct UnknownWord {
     word: Box<str>,
-    of: Words,
-}
-
-#[derive(Clone, Copy, Debug, PartialEq, Eq, Hash)]
-enum Words {
-    Dialects,
-    LinuxLibcs,
+    is_dialect: bool,
 }
 
 impl UnknownWord {
     #[inline]
-    fn new(word: &str, of: Words) -> Self {
-        UnknownWord {
-            word: word.into(),
-            of,
-        }
+    fn new(word: &str, is_dialect: bool) -> Self {
+        let word = word.into();
+        UnknownWord { word, is_dialect }
     }
 
     /// The word.
-    ///
-    /// # Examples
-    ///
-    /// ```
-    /// use target_names::Dialect;
-    ///
-    /// assert_eq!("rustc".parse::<Dialect>().unwrap_err().word(), "rustc");
-    /// ```
     #[must_use]
     #[inline]
     pub fn word(&self) -> &str {
@@ -70,10 +54,10 @@ impl UnknownWord {
     #[must_use]
     #[inline]
     pub fn suggestion(&self) -> Option<&'static str> {
-        let names = match self.of {
-            Words::Dialects => Dialect::ALL.iter().map(|it| it.name()),
-            Words::LinuxLibcs => return None,
-        };
+        if !self.is_dialect {
+            return None;
+        }
+        let names = Dialect::ALL.iter().map(|it| it.name());
         let word = self.word.to_ascii_lowercase();
         let count = |text: &str, byte| text.bytes().filter(|it| *it == byte).count();
         let has_its_letters = |name: &str| {
@@ -91,21 +75,16 @@ impl fmt::Display for UnknownWord {
     #[inline]
     fn fmt(&self, f: &mut fmt::Formatter<'_>) -> fmt::Result {
         let word = visible(&self.word);
-        match (self.of, self.suggestion()) {
-            (Words::Dialects, Some(name)) => {
-                write!(f, "Unknown dialect: {word}; did you mean `{name}`?")
-            }
-            (Words::Dialects, None) => {
-                write!(f, "Unknown dialect: {word}; it is one of")?;
-                Dialect::ALL.iter().try_for_each(|it| write!(f, " {it}"))
-            }
-            (Words::LinuxLibcs, _) => {
-                write!(
-                    f,
-                    "Unknown C library: {word}; it is glibc, musl, msvc, mingw or gnullvm"
-                )
-            }
+        if !self.is_dialect {
+            let libraries = "glibc, musl, msvc, mingw or gnullvm";
+            return write!(f, "Unknown C library: {word}; it is {libraries}");
         }
+        write!(f, "Unknown dialect: {word}; ")?;
+        if let Some(name) = self.suggestion() {
+            return write!(f, "did you mean `{name}`?");
+        }
+        f.write_str("it is one of")?;
+        Dialect::ALL.iter().try_for_each(|it| write!(f, " {it}"))
     }
 }
 
@@ -115,7 +94,10 @@ impl FromStr for Dialect {
     /// The dialect of a name, such as `debian`; `docker` is [`Dialect::Oci`], and `npm` is [`Dialect::Node`].
     #[inline]
     fn from_str(word: &str) -> Result<Self, UnknownWord> {
-        Dialect::from_str(word).map_err(|()| UnknownWord::new(word, Words::Dialects))
+        let names = Dialect::ALL.iter().map(|it| (it.name(), *it));
+        let mut found = names.chain(OTHER_NAMES).filter(|it| it.0 == word);
+        let found = found.next().map(|it| it.1);
+        found.ok_or_else(|| UnknownWord::new(word, true))
     }
 }
 
@@ -125,7 +107,10 @@ impl FromStr for LinuxLibc {
     /// The C library of a name: `glibc` or `musl`.
     #[inline]
     fn from_str(word: &str) -> Result<Self, UnknownWord> {
-        LinuxLibc::from_str(word).map_err(|()| UnknownWord::new(word, Words::LinuxLibcs))
+        use LinuxLibc::*;
+        let mut all = [Glibc, Musl, Msvc, Mingw, Gnullvm].into_iter();
+        let found = all.find(|it| it.name() == word);
+        found.ok_or_else(|| UnknownWord::new(word, false))
     }
 }
 
@@ -134,10 +119,11 @@ impl FromStr for LinuxLibc {
 /// # Examples
 ///
 /// ```
-/// use target_names::Dialect;
+/// use target_names::{Dialect, NameError};
 ///
 /// let error = Dialect::Go.parse("linux/amd46").unwrap_err();
 /// assert_eq!((error.dialect(), error.name(), error.suggestion()), (Dialect::Go, "linux/amd46", Some("linux/amd64")));
+/// assert_eq!((error.why(), error.mistake()), (NameError::Unknown, None));
 /// assert_eq!(error.to_string(), "Unknown name of go: linux/amd46; did you mean `linux/amd64`?");
 /// let error = Dialect::Debian.parse("linux/arm64").unwrap_err();
 /// assert_eq!(error.to_string(), "Unknown name of debian: linux/arm64; it is a name of go and oci; did you mean `arm64`?");
@@ -183,14 +169,6 @@ impl Dialect {
 
 impl ParseNameError {
     /// The dialect in which the name was read.
-    ///
-    /// # Examples
-    ///
-    /// ```
-    /// use target_names::Dialect;
-    ///
-    /// assert_eq!(Dialect::Go.parse("foo").unwrap_err().dialect(), Dialect::Go);
-    /// ```
     #[must_use]
     #[inline]
     pub fn dialect(&self) -> Dialect {
@@ -198,14 +176,6 @@ impl ParseNameError {
     }
 
     /// The name.
-    ///
-    /// # Examples
-    ///
-    /// ```
-    /// use target_names::Dialect;
-    ///
-    /// assert_eq!(Dialect::Go.parse("foo").unwrap_err().name(), "foo");
-    /// ```
     #[must_use]
     #[inline]
     pub fn name(&self) -> &str {
@@ -213,14 +183,6 @@ impl ParseNameError {
     }
 
     /// What [`read_loosely`](Dialect::read_loosely) says.
-    ///
-    /// # Examples
-    ///
-    /// ```
-    /// use target_names::{Dialect, NameError};
-    ///
-    /// assert_eq!(Dialect::Go.parse("foo").unwrap_err().why(), NameError::Unknown);
-    /// ```
     #[must_use]
     #[inline]
     pub fn why(&self) -> NameError {
@@ -228,15 +190,6 @@ impl ParseNameError {
     }
 
     /// What is wrong with a name that is unknown, as [`Dialect::mistake`] says.
-    ///
-    /// # Examples
-    ///
-    /// ```
-    /// use target_names::{Dialect, Mistake};
-    ///
-    /// let error = Dialect::Debian.parse("AMD64").unwrap_err();
-    /// assert_eq!(error.mistake(), Some(Mistake::Capitals("amd64")));
-    /// ```
     #[must_use]
     #[inline]
     pub fn mistake(&self) -> Option<Mistake<'_>> {
@@ -247,14 +200,6 @@ impl ParseNameError {
     }
 
     /// The name that was perhaps meant by one that is unknown.
-    ///
-    /// # Examples
-    ///
-    /// ```
-    /// use target_names::Dialect;
-    ///
-    /// assert_eq!(Dialect::Debian.parse("amd46").unwrap_err().suggestion(), Some("amd64"));
-    /// ```
     #[must_use]
     #[inline]
     pub fn suggestion(&self) -> Option<&'static str> {

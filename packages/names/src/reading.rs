@@ -67,16 +67,6 @@ pub(crate) fn is_soft_floats(part: &str) -> bool {
 
 /// A part of a string that is another spelling of known names, by itself or together with the part before or after it, or a
 /// second part that states no vendor.
-///
-/// # Examples
-///
-/// ```
-/// use target_names::changes;
-///
-/// let change = changes("x86_64-w64-mingw32").last().unwrap();
-/// assert_eq!((change.part.text, change.part.range()), ("mingw32", 11..18));
-/// assert_eq!(change.names.to_string(), "windows-gnu");
-/// ```
 #[derive(Clone, Copy, Debug, PartialEq, Eq)]
 pub struct Change<'a> {
     /// The part, as it is in the string.
@@ -109,14 +99,6 @@ impl<'a> Change<'a> {
 }
 
 /// The changes of a string, from its start to its end. [`changes`] returns them.
-///
-/// # Examples
-///
-/// ```
-/// use target_names::changes;
-///
-/// assert_eq!(changes("amd64-pc-mingw32").count(), 2);
-/// ```
 #[derive(Debug, Clone)]
 pub struct ChangedParts<'a>(SpelledParts<'a>);
 

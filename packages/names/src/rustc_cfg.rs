@@ -13,16 +13,6 @@ use target_lexicon::{Named as _, OperatingSystemExt as _};
 ///
 /// Each is what `cfg(target_arch = "..")` and the like test in Rust, and what the variables `CARGO_CFG_TARGET_ARCH` and
 /// the like hold in a build script.
-///
-/// # Examples
-///
-/// ```
-/// use target_names::TargetInfo;
-/// let triple = target_lexicon::triple!("aarch64-apple-darwin");
-/// let cfg = triple.rustc_cfg();
-/// assert_eq!((cfg.target_arch, cfg.target_os, cfg.target_env), ("aarch64", "macos", ""));
-/// assert_eq!(cfg.target_family, ["unix"]);
-/// ```
 #[non_exhaustive]
 #[derive(Clone, Copy, Debug, PartialEq, Eq, Hash)]
 pub struct RustcCfg<'a> {
@@ -66,9 +56,7 @@ impl<'a> RustcCfg<'a> {
             target_endian: triple.endianness().ok(),
         }
     }
-}
 
-impl<'a> RustcCfg<'a> {
     /// Each option that is set, in the order of `rustc --print cfg`: its name, and its value if it has one.
     ///
     /// # Examples
@@ -84,29 +72,25 @@ impl<'a> RustcCfg<'a> {
     /// ```
     #[inline]
     pub fn options(&self) -> impl Iterator<Item = (&'static str, Option<&'a str>)> {
-        let families = self.target_family;
-        let one = |name, value| core::iter::once((name, Some(value)));
-        one("target_abi", self.target_abi as &'a str)
-            .chain(one("target_arch", self.target_arch))
-            .chain(
-                self.target_endian
-                    .map(|it| ("target_endian", Some(it.name()))),
-            )
-            .chain(one("target_env", self.target_env))
-            .chain(families.iter().map(|it| ("target_family", Some(*it))))
-            .chain(one("target_os", self.target_os))
-            .chain(
-                self.target_pointer_width
-                    .map(|it| ("target_pointer_width", Some(it.name()))),
-            )
-            .chain(one("target_vendor", self.target_vendor))
-            // These families are options themselves.
-            .chain(
-                families
-                    .iter()
-                    .filter(|it| **it != "wasm")
-                    .map(|it| (*it, None)),
-            )
+        let families = self.target_family.iter().copied();
+        let order = self.target_endian.map(|it| it.name());
+        let width = self.target_pointer_width.map(|it| it.name());
+        let first = [
+            ("target_abi", Some(self.target_abi as &'a str)),
+            ("target_arch", Some(self.target_arch)),
+            ("target_endian", order),
+            ("target_env", Some(self.target_env)),
+        ];
+        let last = [
+            ("target_os", Some(self.target_os)),
+            ("target_pointer_width", width),
+            ("target_vendor", Some(self.target_vendor)),
+        ];
+        let of_families = families.clone().map(|it| ("target_family", Some(it)));
+        let values = first.into_iter().chain(of_families).chain(last);
+        // These families are options themselves.
+        let alone = families.filter(|it| *it != "wasm").map(|it| (it, None));
+        values.filter(|it| it.1.is_some()).chain(alone)
     }
 }
 
@@ -121,22 +105,13 @@ impl fmt::Display for RustcCfg<'_> {
 }
 
 /// A system of rustc that is no known name, so that a triple has it as a custom vendor.
-pub(super) enum UnlistedSystem {
-    Nuttx,
-    Rtems,
-    WasiP3,
-}
-
-impl UnlistedSystem {
-    /// The unlisted system of a triple.
-    #[inline]
-    pub(super) fn of(triple: &TripleRef<'_>) -> Option<UnlistedSystem> {
-        match (triple.vendor, triple.operating_system) {
-            (VendorRef::Custom("nuttx"), OperatingSystem::Unknown) => Some(UnlistedSystem::Nuttx),
-            (VendorRef::Custom("rtems"), OperatingSystem::Unknown) => Some(UnlistedSystem::Rtems),
-            (VendorRef::Custom("wasip3"), OperatingSystem::Unknown) => Some(UnlistedSystem::WasiP3),
-            _ => None,
-        }
+#[inline]
+pub(super) fn unlisted_system<'a>(triple: &TripleRef<'a>) -> Option<&'a str> {
+    match (triple.vendor, triple.operating_system) {
+        (VendorRef::Custom(system), OperatingSystem::Unknown) => ["nuttx", "rtems", "wasip3"]
+            .contains(&system)
+            .then_some(system),
+        _ => None,
     }
 }
 
@@ -165,18 +140,15 @@ fn target_arch(architecture: Architecture) -> &'static str {
 #[inline]
 fn target_os(triple: &TripleRef<'_>) -> &'static str {
     use OperatingSystem::*;
-    match UnlistedSystem::of(triple) {
-        Some(UnlistedSystem::Nuttx) => return "nuttx",
-        Some(UnlistedSystem::Rtems) => return "rtems",
-        Some(UnlistedSystem::WasiP3) => return "wasi",
-        None => {}
-    }
-    match (triple.operating_system, triple.environment) {
-        (Linux, Environment::Android | Environment::Androideabi) => "android",
-        (Darwin(_) | MacOSX(_), _) => "macos",
-        (VisionOS(_) | XROS(_), _) => "visionos",
-        (WasiP1 | WasiP2, _) => "wasi",
-        (other, _) => other.prefix(),
+    let system = triple.operating_system;
+    match (unlisted_system(triple), system, triple.environment) {
+        (Some("nuttx"), ..) => "nuttx",
+        (Some("rtems"), ..) => "rtems",
+        (Some("wasip3"), ..) | (_, WasiP1 | WasiP2, _) => "wasi",
+        (_, Linux, Environment::Android | Environment::Androideabi) => "android",
+        (_, Darwin(_) | MacOSX(_), _) => "macos",
+        (_, VisionOS(_) | XROS(_), _) => "visionos",
+        _ => system.prefix(),
     }
 }
 
@@ -200,18 +172,14 @@ fn target_env(triple: &TripleRef<'_>) -> &'static str {
 /// The value of a system where the environment states none.
 #[inline]
 fn env_of_system(triple: &TripleRef<'_>) -> &'static str {
-    match UnlistedSystem::of(triple) {
-        Some(UnlistedSystem::Nuttx) => return "",
-        Some(UnlistedSystem::Rtems) => return "newlib",
-        Some(UnlistedSystem::WasiP3) => return "p3",
-        None => {}
-    }
-    match triple.operating_system {
-        OperatingSystem::Espidf | OperatingSystem::Horizon => "newlib",
-        OperatingSystem::Redox => "relibc",
-        OperatingSystem::VxWorks => "gnu",
-        OperatingSystem::WasiP1 => "p1",
-        OperatingSystem::WasiP2 => "p2",
+    use OperatingSystem::*;
+    match (unlisted_system(triple), triple.operating_system) {
+        (Some("rtems"), _) | (_, Espidf | Horizon) => "newlib",
+        (Some("wasip3"), _) => "p3",
+        (_, Redox) => "relibc",
+        (_, VxWorks) => "gnu",
+        (_, WasiP1) => "p1",
+        (_, WasiP2) => "p2",
         _ if is_simulator(triple) => "sim",
         _ => "",
     }
@@ -271,45 +239,19 @@ fn abi_of_system(triple: &TripleRef<'_>) -> &'static str {
 #[inline]
 pub(crate) fn is_unix(triple: &TripleRef<'_>) -> bool {
     use OperatingSystem::*;
-    match UnlistedSystem::of(triple) {
-        Some(UnlistedSystem::Nuttx | UnlistedSystem::Rtems) => return true,
-        Some(UnlistedSystem::WasiP3) => return false,
-        None => {}
+    match (unlisted_system(triple), triple.operating_system) {
+        (Some(unlisted), _) => unlisted != "wasip3",
+        (_, Aix | Bitrig | Cygwin | Darwin(_) | Dragonfly | Emscripten | Espidf | Freebsd) => true,
+        (_, Fuchsia | Haiku | Horizon | Hurd | Illumos | IOS(_) | L4re | Linux | MacOSX(_)) => true,
+        (_, Netbsd | Openbsd | Redox | Solaris | TvOS(_) | VisionOS(_) | VxWorks) => true,
+        (_, system) => matches!(system, WatchOS(_) | XROS(_)),
     }
-    matches!(
-        triple.operating_system,
-        Aix | Bitrig
-            | Cygwin
-            | Darwin(_)
-            | Dragonfly
-            | Emscripten
-            | Espidf
-            | Freebsd
-            | Fuchsia
-            | Haiku
-            | Horizon
-            | Hurd
-            | Illumos
-            | IOS(_)
-            | L4re
-            | Linux
-            | MacOSX(_)
-            | Netbsd
-            | Openbsd
-            | Redox
-            | Solaris
-            | TvOS(_)
-            | VisionOS(_)
-            | VxWorks
-            | WatchOS(_)
-            | XROS(_)
-    )
 }
 
 #[inline]
 fn target_vendor<'a>(triple: &TripleRef<'a>) -> &'a str {
     match triple.vendor {
-        _ if UnlistedSystem::of(triple).is_some() => "unknown",
+        _ if unlisted_system(triple).is_some() => "unknown",
         VendorRef::Custom("esp" | "esp32" | "esp32s2" | "esp32s3") => "espressif",
         VendorRef::Custom("wali") => "unknown",
         VendorRef::Custom(text) => text,

@@ -210,11 +210,17 @@ pub(super) fn unversioned(system: OperatingSystem) -> OperatingSystem {
 }
 
 /// A version without its third number.
-fn two_numbers_of(version: Option<DeploymentTarget>) -> Option<DeploymentTarget> {
-    version.map(|version| DeploymentTarget {
+fn two_numbers_of(stated: Option<DeploymentTarget>) -> Option<DeploymentTarget> {
+    stated.map(|it| version(it.major, it.minor))
+}
+
+/// The version with these numbers and 0.
+pub(super) const fn version(major: u16, minor: u8) -> DeploymentTarget {
+    DeploymentTarget {
+        major,
+        minor,
         patch: 0,
-        ..version
-    })
+    }
 }
 
 /// The vendor that triples on a system usually have.

@@ -2,47 +2,22 @@
 use crate::table::NO_VENDORS;
 use core::fmt;
 use target_lexicon::spellings::{
-    architecture_of, first_part, fit, is_digit_or_dot, Fit, Form, Place, Reading,
+    architecture_of, first_part, fit, is_digit_or_dot, Form, Place, Reading,
 };
 use target_lexicon::{
     Architecture, DeploymentTarget, Field, OperatingSystem, Refusal, TextPart, VendorRef,
 };
-
-/// What the parts before a part say of it.
-#[derive(Clone, Copy, Debug)]
-struct Standing {
-    place: Place,
-    /// Whether they state hard floats.
-    hard_floats: bool,
-    /// Its name, if it is the second of a pair.
-    name: Option<&'static str>,
-}
-
-impl Standing {
-    #[inline]
-    fn at(place: Place) -> Standing {
-        Standing {
-            place,
-            hard_floats: false,
-            name: None,
-        }
-    }
-
-    /// What a rule makes of a part with this after its dash, unless it is the second of a pair.
-    fn fit<'a>(&self, part: &'a str, rest: Option<&str>) -> Option<Fit<'a>> {
-        match self.name {
-            Some(_) => None,
-            None => fit(self.place, self.hard_floats, part, rest),
-        }
-    }
-}
 
 /// The parts of a string that are left, each with the names that it spells.
 #[derive(Clone, Debug)]
 pub(crate) struct SpelledParts<'a> {
     text: &'a str,
     rest: Option<&'a str>,
-    at: Standing,
+    place: Place,
+    /// Whether the parts before state hard floats.
+    hard_floats: bool,
+    /// The name of the next part, if it is the second of a pair.
+    name: Option<&'static str>,
 }
 
 impl<'a> SpelledParts<'a> {
@@ -51,7 +26,9 @@ impl<'a> SpelledParts<'a> {
         SpelledParts {
             text,
             rest: Some(text),
-            at: Standing::at(Place::First),
+            place: Place::First,
+            hard_floats: false,
+            name: None,
         }
     }
 }
@@ -62,45 +39,36 @@ impl<'a> Iterator for SpelledParts<'a> {
     fn next(&mut self) -> Option<Self::Item> {
         let from = self.rest?;
         let (part, rest) = first_part(from);
-        let (at, fit) = (self.at, self.at.fit(part, rest));
         let spelling = |names, version, system| Spelling {
             names,
             version,
             system,
         };
-        let names = match (&fit, at.name) {
+        let found = match self.name {
+            Some(_) => None,
+            None => fit(self.place, self.hard_floats, part, rest),
+        };
+        let names = match (&found, self.name) {
             (Some(fit), _) => spelling(fit.names, fit.kept_version(), None),
             (None, Some(name)) => spelling(name, "", None),
-            (None, None) if at.place == Place::Second && is_other_system(part) => {
+            (None, None) if self.place == Place::Second && is_other_system(part) => {
                 spelling("unknown", "", Some(part))
             }
             (None, None) => spelling(part, "", None),
         };
         self.rest = rest;
-        self.at = Standing {
-            place: if at.place == Place::First {
-                Place::Second
-            } else {
-                Place::AfterFirst
-            },
-            hard_floats: at.hard_floats || fit.map_or(false, |it| it.form == Form::HardFloats),
-            name: fit.and_then(|it| it.next_name),
+        self.place = match self.place {
+            Place::First => Place::Second,
+            _ => Place::AfterFirst,
         };
+        self.hard_floats |= found.map_or(false, |it| it.form == Form::HardFloats);
+        self.name = found.and_then(|it| it.next_name);
         let start = self.text.len().saturating_sub(from.len());
         Some((TextPart { text: part, start }, names))
     }
 }
 
 /// The names that a part of a string spells: one or two, written with a dash between them.
-///
-/// # Examples
-///
-/// ```
-/// use target_names::changes;
-///
-/// let spelled = |text| changes(text).map(|it| it.names.to_string()).collect::<Vec<_>>();
-/// assert_eq!(spelled("aarch64-apple-macos13"), ["macosx13"]);
-/// ```
 #[derive(Clone, Copy, Debug, PartialEq, Eq)]
 pub struct Spelling<'a> {
     /// The part, or known names with dashes between them.

@@ -4,13 +4,6 @@ use target_lexicon::spellings::first_part;
 use target_lexicon::{OperatingSystem, OperatingSystemExt, Refusal};
 
 /// A version of a system, of a C library or of a compiler. A number that isn't stated is 0.
-///
-/// # Examples
-///
-/// ```
-/// let versions = target_names::stated_versions("x86_64-pc-windows-msvc19.33.31629").unwrap();
-/// assert_eq!(versions.environment.map(|it| (it.major, it.minor, it.patch)), Some((19, 33, 31629)));
-/// ```
 #[derive(Clone, Copy, Debug, PartialEq, Eq, PartialOrd, Ord, Hash)]
 pub struct StatedVersion {
     /// The first number.
@@ -22,12 +15,6 @@ pub struct StatedVersion {
 }
 
 /// The versions that [`stated_versions`] finds.
-///
-/// # Examples
-///
-/// ```
-/// assert_eq!(target_names::stated_versions("x86_64-linux-gnu").unwrap(), Default::default());
-/// ```
 #[derive(Clone, Copy, Debug, Default, PartialEq, Eq, Hash)]
 pub struct StatedVersions {
     /// That of the operating system, such as 14.0 of `freebsd14.0`.

@@ -90,6 +90,233 @@ pub(crate) const OTHER_NAMES: [(&str, Dialect); 2] = [("docker", Dialect::Oci), 
 
 pub(crate) const ONLY_WRITTEN: &str = "names of cross compilers are only written";
 
+/// Why a triple has no name in a dialect. `Display` says it, and what would help.
+#[derive(Clone, Copy, Debug, PartialEq, Eq, Hash)]
+#[non_exhaustive]
+pub enum WriteError {
+    /// The tool has no name for the system.
+    NoSystem,
+    /// The tool has names for the system, and none for this machine.
+    NoMachine,
+    /// The tool has no name for this machine on any system.
+    NoMachineOnAnySystem,
+    /// The tool has names for the machine and the system, and none with this C library or ABI.
+    NoAbi,
+    /// The tool's names for it are only read: they are old, or several, or of no release.
+    OnlyReadNames,
+    /// Names of this tool are only read.
+    OnlyRead,
+    /// It depends on the C library: say glibc or musl.
+    NeedsCLibrary,
+    /// It depends on the ABI of Windows: say msvc, mingw or gnullvm.
+    NeedsWindowsAbi,
+    /// It depends on the version of Arm: say armv5te, armv6 or armv7 as the machine.
+    NeedsArmVersion,
+    /// The name states a version: say that of the system or C library, such as 11.0 of macOS.
+    NeedsVersion,
+    /// It depends on the version of WASI: say wasm32-wasip1, which rustc named wasm32-wasi before, or wasm32-wasip2.
+    NeedsWasiVersion,
+    /// No version of its system or C library has these numbers: glibc has 2.x, musl 1.x, and macOS 10.x or later.
+    OtherVersion,
+    /// Packages and targets of the tool are for another version of the machine: armhf of Debian is for Armv7 and armel for Armv5, x86 of Alpine is for the i586.
+    Baseline,
+    /// The tool's name without `sim` is that of the simulator: say the triple without it.
+    Simulator,
+    /// Its vendor says that it is another target, such as `uwp`, or a system that no triple has: say the usual vendor if that is meant.
+    OtherTarget,
+}
+
+/// The reasons, in the order of the variants.
+pub(crate) const WRITE_REASONS: [&str; 15] = [
+    "the tool has no name for the system",
+    "the tool has names for the system, and none for this machine",
+    "the tool has no name for this machine on any system",
+    "the tool has names for the machine and the system, and none with this C library or ABI",
+    "the tool's names for it are only read: they are old, or several, or of no release",
+    "names of this tool are only read",
+    "it depends on the C library: say glibc or musl",
+    "it depends on the ABI of Windows: say msvc, mingw or gnullvm",
+    "it depends on the version of Arm: say armv5te, armv6 or armv7 as the machine",
+    "the name states a version: say that of the system or C library, such as 11.0 of macOS",
+    "it depends on the version of WASI: say wasm32-wasip1, which rustc named wasm32-wasi before, or wasm32-wasip2",
+    "no version of its system or C library has these numbers: glibc has 2.x, musl 1.x, and macOS 10.x or later",
+    "packages and targets of the tool are for another version of the machine: armhf of Debian is for Armv7 and armel for Armv5, x86 of Alpine is for the i586",
+    "the tool's name without `sim` is that of the simulator: say the triple without it",
+    "its vendor says that it is another target, such as `uwp`, or a system that no triple has: say the usual vendor if that is meant",
+];
+
+/// The C library of a target.
+#[non_exhaustive]
+#[derive(Clone, Copy, Debug, PartialEq, Eq, Hash)]
+pub enum CLibrary {
+    /// Android's.
+    Bionic,
+    /// The GNU C library.
+    Glibc,
+    /// MinGW, over a library of Windows.
+    Mingw,
+    /// Microsoft's Visual C++.
+    Msvc,
+    /// musl.
+    Musl,
+    /// Newlib, of embedded systems.
+    Newlib,
+    /// That of Redox.
+    Relibc,
+    /// The system's own, which no other system has.
+    System,
+    /// uClibc.
+    Uclibc,
+}
+
+impl CLibrary {
+    /// The name.
+    ///
+    /// # Examples
+    ///
+    /// ```
+    /// assert_eq!(target_names::CLibrary::Bionic.name(), "bionic");
+    /// ```
+    #[must_use]
+    #[inline]
+    pub const fn name(self) -> &'static str {
+        match self {
+            CLibrary::Bionic => "bionic",
+            CLibrary::Glibc => "glibc",
+            CLibrary::Mingw => "mingw",
+            CLibrary::Msvc => "msvc",
+            CLibrary::Musl => "musl",
+            CLibrary::Newlib => "newlib",
+            CLibrary::Relibc => "relibc",
+            CLibrary::System => "system",
+            CLibrary::Uclibc => "uclibc",
+        }
+    }
+}
+
+/// How floating-point arguments are passed.
+#[non_exhaustive]
+#[derive(Clone, Copy, Debug, PartialEq, Eq, Hash)]
+pub enum FloatAbi {
+    /// In integer registers. The processor may have floating-point registers.
+    Soft,
+    /// In floating-point registers.
+    Hard,
+}
+
+impl FloatAbi {
+    /// The name.
+    ///
+    /// # Examples
+    ///
+    /// ```
+    /// assert_eq!(target_names::FloatAbi::Soft.name(), "soft");
+    /// ```
+    #[must_use]
+    #[inline]
+    pub const fn name(self) -> &'static str {
+        match self {
+            FloatAbi::Soft => "soft",
+            FloatAbi::Hard => "hard",
+        }
+    }
+}
+
+/// Whether C's `char` has a sign.
+#[non_exhaustive]
+#[derive(Clone, Copy, Debug, PartialEq, Eq, Hash)]
+pub enum Signedness {
+    /// As `signed char`.
+    Signed,
+    /// As `unsigned char`.
+    Unsigned,
+}
+
+impl Signedness {
+    /// The name.
+    ///
+    /// # Examples
+    ///
+    /// ```
+    /// assert_eq!(target_names::Signedness::Signed.name(), "signed");
+    /// ```
+    #[must_use]
+    #[inline]
+    pub const fn name(self) -> &'static str {
+        match self {
+            Signedness::Signed => "signed",
+            Signedness::Unsigned => "unsigned",
+        }
+    }
+}
+
+/// The profile of a 32-bit Arm architecture: for what its processors are made.
+#[non_exhaustive]
+#[derive(Clone, Copy, Debug, PartialEq, Eq, Hash)]
+pub enum ArmProfile {
+    /// Applications, such as phones and servers.
+    Application,
+    /// Real-time systems.
+    RealTime,
+    /// Microcontrollers.
+    Microcontroller,
+}
+
+impl ArmProfile {
+    /// The name.
+    ///
+    /// # Examples
+    ///
+    /// ```
+    /// assert_eq!(target_names::ArmProfile::Application.name(), "A");
+    /// ```
+    #[must_use]
+    #[inline]
+    pub const fn name(self) -> &'static str {
+        match self {
+            ArmProfile::Application => "A",
+            ArmProfile::RealTime => "R",
+            ArmProfile::Microcontroller => "M",
+        }
+    }
+}
+
+/// A C library of Linux or Windows, which gives a triple its environment. On Windows it is an ABI too.
+#[derive(Clone, Copy, Debug, PartialEq, Eq, Hash)]
+pub enum LinuxLibc {
+    /// Linux, with the GNU C library.
+    Glibc,
+    /// Linux, with musl.
+    Musl,
+    /// Windows, with the ABI of Visual C++.
+    Msvc,
+    /// Windows, with MinGW.
+    Mingw,
+    /// Windows, with MinGW and the tools of LLVM.
+    Gnullvm,
+}
+
+impl LinuxLibc {
+    /// The name.
+    ///
+    /// # Examples
+    ///
+    /// ```
+    /// assert_eq!(target_names::LinuxLibc::Glibc.name(), "glibc");
+    /// ```
+    #[must_use]
+    #[inline]
+    pub const fn name(self) -> &'static str {
+        match self {
+            LinuxLibc::Glibc => "glibc",
+            LinuxLibc::Musl => "musl",
+            LinuxLibc::Msvc => "msvc",
+            LinuxLibc::Mingw => "mingw",
+            LinuxLibc::Gnullvm => "gnullvm",
+        }
+    }
+}
+
 /// Why a string isn't read that has such a system, by its name.
 macro_rules! systems {
     ($($word:literal)*) => {

@@ -2,63 +2,13 @@
 //!
 //! This is the composition of reading, completing and writing, and the reason where a triple has no name.
 use crate::dialect::{has_version, is_written, Row, Way, MAX_LENGTH};
-use crate::shape::is_another_target;
-use crate::{Dialect, LinuxLibc, Name, NameError, TargetInfo};
+use crate::shape::{is_another_target, version};
+use crate::table::WRITE_REASONS;
+use crate::{Dialect, LinuxLibc, Name, NameError, TargetInfo, WriteError};
 use core::fmt;
 use target_lexicon::{
-    Architecture, ArmArchitecture, DeploymentTarget, Environment, OperatingSystem, TripleRef,
-    X86_32Architecture,
+    Architecture, ArmArchitecture, Environment, OperatingSystem, TripleRef, X86_32Architecture,
 };
-
-/// Why a triple has no name in a dialect. `Display` says it, and what would help.
-///
-/// # Examples
-///
-/// ```
-/// use target_lexicon::TripleRef;
-/// use target_names::{Dialect, WriteError};
-///
-/// let triple = TripleRef::from_str("x86_64-unknown-linux").unwrap();
-/// let error = Dialect::Debian.write_with(&triple, None).unwrap_err();
-/// assert_eq!(error, WriteError::NeedsCLibrary);
-/// assert_eq!(error.to_string(), "It depends on the C library: say glibc or musl");
-/// ```
-#[derive(Clone, Copy, Debug, PartialEq, Eq, Hash)]
-#[non_exhaustive]
-pub enum WriteError {
-    // written by tools/names/write: the reasons
-    /// The tool has no name for the system.
-    NoSystem,
-    /// The tool has names for the system, and none for this machine.
-    NoMachine,
-    /// The tool has no name for this machine on any system.
-    NoMachineOnAnySystem,
-    /// The tool has names for the machine and the system, and none with this C library or ABI.
-    NoAbi,
-    /// The tool's names for it are only read: they are old, or several, or of no release.
-    OnlyReadNames,
-    /// Names of this tool are only read.
-    OnlyRead,
-    /// It depends on the C library: say glibc or musl.
-    NeedsCLibrary,
-    /// It depends on the ABI of Windows: say msvc, mingw or gnullvm.
-    NeedsWindowsAbi,
-    /// It depends on the version of Arm: say armv5te, armv6 or armv7 as the machine.
-    NeedsArmVersion,
-    /// The name states a version: say that of the system or C library, such as 11.0 of macOS.
-    NeedsVersion,
-    /// It depends on the version of WASI: say wasm32-wasip1, which rustc named wasm32-wasi before, or wasm32-wasip2.
-    NeedsWasiVersion,
-    /// No version of its system or C library has these numbers: glibc has 2.x, musl 1.x, and macOS 10.x or later.
-    OtherVersion,
-    /// Packages and targets of the tool are for another version of the machine: armhf of Debian is for Armv7 and armel for Armv5, x86 of Alpine is for the i586.
-    Baseline,
-    /// The tool's name without `sim` is that of the simulator: say the triple without it.
-    Simulator,
-    /// Its vendor says that it is another target, such as `uwp`, or a system that no triple has: say the usual vendor if that is meant.
-    OtherTarget,
-    // end of what is written
-}
 
 impl WriteError {
     /// The reason, and what would help, as the start of a sentence in lower case.
@@ -66,60 +16,17 @@ impl WriteError {
     /// # Examples
     ///
     /// ```
-    /// use target_names::WriteError;
+    /// use target_lexicon::TripleRef;
+    /// use target_names::{Dialect, WriteError};
     ///
-    /// assert_eq!(WriteError::OnlyRead.reason(), "names of this tool are only read");
+    /// let triple = TripleRef::from_str("x86_64-unknown-linux").unwrap();
+    /// let error = Dialect::Debian.write_with(&triple, None).unwrap_err();
+    /// assert_eq!(error, WriteError::NeedsCLibrary);
+    /// assert_eq!(error.reason(), "it depends on the C library: say glibc or musl");
+    /// assert_eq!(error.to_string(), "It depends on the C library: say glibc or musl");
     /// ```
     pub fn reason(self) -> &'static str {
-        match self {
-            // written by tools/names/write: the texts of reasons
-            WriteError::NoSystem => {
-                "the tool has no name for the system"
-            }
-            WriteError::NoMachine => {
-                "the tool has names for the system, and none for this machine"
-            }
-            WriteError::NoMachineOnAnySystem => {
-                "the tool has no name for this machine on any system"
-            }
-            WriteError::NoAbi => {
-                "the tool has names for the machine and the system, and none with this C library or ABI"
-            }
-            WriteError::OnlyReadNames => {
-                "the tool's names for it are only read: they are old, or several, or of no release"
-            }
-            WriteError::OnlyRead => {
-                "names of this tool are only read"
-            }
-            WriteError::NeedsCLibrary => {
-                "it depends on the C library: say glibc or musl"
-            }
-            WriteError::NeedsWindowsAbi => {
-                "it depends on the ABI of Windows: say msvc, mingw or gnullvm"
-            }
-            WriteError::NeedsArmVersion => {
-                "it depends on the version of Arm: say armv5te, armv6 or armv7 as the machine"
-            }
-            WriteError::NeedsVersion => {
-                "the name states a version: say that of the system or C library, such as 11.0 of macOS"
-            }
-            WriteError::NeedsWasiVersion => {
-                "it depends on the version of WASI: say wasm32-wasip1, which rustc named wasm32-wasi before, or wasm32-wasip2"
-            }
-            WriteError::OtherVersion => {
-                "no version of its system or C library has these numbers: glibc has 2.x, musl 1.x, and macOS 10.x or later"
-            }
-            WriteError::Baseline => {
-                "packages and targets of the tool are for another version of the machine: armhf of Debian is for Armv7 and armel for Armv5, x86 of Alpine is for the i586"
-            }
-            WriteError::Simulator => {
-                "the tool's name without `sim` is that of the simulator: say the triple without it"
-            }
-            WriteError::OtherTarget => {
-                "its vendor says that it is another target, such as `uwp`, or a system that no triple has: say the usual vendor if that is meant"
-            }
-            // end of what is written
-        }
+        WRITE_REASONS[self as usize]
     }
 }
 
@@ -133,17 +40,6 @@ impl fmt::Display for WriteError {
 }
 
 /// Why a name isn't translated: which step fails, and why.
-///
-/// # Examples
-///
-/// ```
-/// use target_names::{Dialect, NameError, TranslateError, WriteError};
-///
-/// let to_debian = |platform| Dialect::Oci.translate(platform, None, Dialect::Debian).unwrap_err();
-/// assert_eq!(to_debian("linux/foo"), TranslateError::Read(NameError::Unknown));
-/// assert_eq!(to_debian("linux/amd64"), TranslateError::Write(WriteError::NeedsCLibrary));
-/// assert_eq!(to_debian("windows/amd64"), TranslateError::Write(WriteError::NoSystem));
-/// ```
 #[derive(Clone, Copy, Debug, PartialEq, Eq, Hash)]
 pub enum TranslateError {
     /// The name isn't read.
@@ -267,7 +163,7 @@ impl Dialect {
     /// # Examples
     ///
     /// ```
-    /// use target_names::{LinuxLibc, Dialect};
+    /// use target_names::{Dialect, LinuxLibc, TranslateError, WriteError};
     ///
     /// let name = Dialect::Oci.translate("linux/arm64/v8", Some(LinuxLibc::Glibc), Dialect::Gnu);
     /// assert_eq!(name.unwrap().as_str(), "aarch64-linux-gnu");
@@ -275,6 +171,8 @@ impl Dialect {
     /// assert_eq!(name.unwrap().as_str(), "x86_64-pc-windows-msvc");
     /// let name = Dialect::Debian.translate("arm64", None, Dialect::Oci);
     /// assert_eq!(name.unwrap().as_str(), "linux/arm64");
+    /// let error = Dialect::Oci.translate("linux/amd64", None, Dialect::Debian).unwrap_err();
+    /// assert_eq!(error, TranslateError::Write(WriteError::NeedsCLibrary));
     /// ```
     #[inline]
     pub fn translate(
@@ -319,36 +217,30 @@ impl Dialect {
     /// The reason, if with a C library the triple has a name. It is given why without one it has none.
     #[inline]
     fn why_c_library(self, triple: &TripleRef<'_>, why: WriteError) -> Option<WriteError> {
-        if triple.environment != Environment::Unknown {
-            return None;
-        }
+        use LinuxLibc::*;
+        let arm = |version| Architecture::Arm(version);
         let (c_libraries, reason) = match triple.operating_system {
-            OperatingSystem::Linux => (
-                [LinuxLibc::Glibc, LinuxLibc::Musl],
-                WriteError::NeedsCLibrary,
-            ),
+            _ if triple.environment != Environment::Unknown => return None,
+            OperatingSystem::Linux if triple.architecture == arm(ArmArchitecture::Arm) => {
+                ([Glibc, Musl], WriteError::NeedsArmVersion)
+            }
+            OperatingSystem::Linux => ([Glibc, Musl], WriteError::NeedsCLibrary),
             // The name would be that of a row with this machine and system. On Linux a C library may change the machine.
-            OperatingSystem::Windows if why != WriteError::NoMachine => (
-                [LinuxLibc::Msvc, LinuxLibc::Mingw],
-                WriteError::NeedsWindowsAbi,
-            ),
+            OperatingSystem::Windows if why != WriteError::NoMachine => {
+                ([Msvc, Mingw], WriteError::NeedsWindowsAbi)
+            }
             _ => return None,
         };
         // An Arm without a version has no environment with a C library.
-        let is_arm = triple.architecture == Architecture::Arm(ArmArchitecture::Arm)
-            && triple.operating_system == OperatingSystem::Linux;
-        let versioned = match is_arm {
-            true => TripleRef {
-                architecture: Architecture::Arm(ArmArchitecture::Armv7),
-                ..*triple
-            },
-            false => *triple,
+        let architecture = match reason {
+            WriteError::NeedsArmVersion => arm(ArmArchitecture::Armv7),
+            _ => triple.architecture,
+        };
+        let versioned = TripleRef {
+            architecture,
+            ..*triple
         };
         let is_helped = |libc: &LinuxLibc| self.has_name(versioned.with_c_library(*libc));
-        let reason = match is_arm {
-            true => WriteError::NeedsArmVersion,
-            false => reason,
-        };
         c_libraries.iter().any(is_helped).then_some(reason)
     }
 
@@ -388,11 +280,7 @@ impl Dialect {
             };
             self.has_name(other)
         };
-        let version = Some(DeploymentTarget {
-            major: 11,
-            minor: 0,
-            patch: 0,
-        });
+        let version = Some(version(11, 0));
         let is_preview_1 = |row: &Row| row.1 == "wasm32-wasip1" && is_written(row);
         let (is_helped, reason) = match triple.operating_system {
             OperatingSystem::Wasi => (

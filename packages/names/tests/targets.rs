@@ -107,7 +107,7 @@ fn table() -> String {
     text
 }
 
-/// With the variable `WRITE` it writes the file.
+/// With the variable `WRITE` it writes the file, for `tools/write`.
 #[test]
 fn the_table_of_targets_is_what_the_library_answers() {
     let table = table();
@@ -119,10 +119,7 @@ fn the_table_of_targets_is_what_the_library_answers() {
         std::fs::write(PATH, &table).unwrap();
     }
     let known = std::fs::read_to_string(PATH).unwrap_or_default();
-    assert!(
-        known == table,
-        "with the variable WRITE this test writes {PATH}"
-    );
+    assert!(known == table, "tools/write writes {PATH}");
 }
 
 /// From each platform of OCI that has an architecture in Debian there is a row.

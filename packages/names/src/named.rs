@@ -1,8 +1,20 @@
-//! Orders: values are in the order of their names.
-use crate::{CLibrary, Dialect, FloatAbi, LinuxLibc, Name, Signedness};
+//! Values are displayed as their names, and most are in the order of these.
+use crate::{ArmProfile, CLibrary, Dialect, FloatAbi, LinuxLibc, Name, NameOf, Signedness};
 use core::cmp::Ordering;
+use core::fmt;
 
-macro_rules! order {
+macro_rules! named {
+    ($($type:ty, $name:ident;)*) => {$(
+        impl fmt::Display for $type {
+            #[inline]
+            fn fmt(&self, f: &mut fmt::Formatter<'_>) -> fmt::Result {
+                f.pad(self.$name())
+            }
+        }
+    )*};
+}
+
+macro_rules! ordered {
     ($($type:ty, $name:ident;)*) => {$(
         impl Ord for $type {
             #[inline]
@@ -17,10 +29,16 @@ macro_rules! order {
                 Some(self.cmp(other))
             }
         }
+
+        named! { $type, $name; }
     )*};
 }
 
-order! {
+named! {
+    ArmProfile, name;
+    NameOf, name;
+}
+ordered! {
     CLibrary, name;
     Dialect, name;
     FloatAbi, name;
