@@ -92,11 +92,6 @@ vendor-gives a =
     step BinaryFormat binary_format_of (λ p. refl) [] refl _ (λ f ps gs t. t ≡ values a v s e f)
     (λ x p ps gs t h. h) (λ f. final_reading (values a v s e f)) (λ f. final_reading-gives (values a v s e f))))) Architecture
 
--- the refusal of the parts after an architecture is of the first that is left
-pub vendor-left : (a : AnyArchitecture) (ps : List (List ℕ)) (x : Refusal) → reading_from_vendor a ps ≡ Err x
-    → (q : List ℕ) × (rest : List (List ℕ)) × (unread after_architecture ps ≡ q ∷ rest) × (x ≡ refusal_with (expected_after (last_field Architecture (filled after_architecture ps))) q)
-vendor-left a ps x is = subst (λ found. Gives after_architecture Architecture ps (HasVendor a) found) is (vendor-gives a ps)
-
 -- what holds for a string: the function gives what it reads as, or how it is refused
 abbrev pub Holds : List ℕ → Result Values Refusal → Type 0
 Holds text found = MatchResult found (λ t. ReadsAs text t) (λ refusal. IsRefusedAs text refusal)

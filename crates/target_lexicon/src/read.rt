@@ -131,7 +131,7 @@ impl Triple {
         ensures plain { IfOk result (λ triple. is_plain (vendor_value triple.vendor) ≡ true) }
         ensures err { IfErr result (λ error. IsErrorOf text.now error) }
     {
-        match explain(text).triple {
+        match TripleRef::from_str(text) {
             Ok(triple) => Ok(triple.to_triple(alloc)?),
             Err(refusal) => Err(refusal.to_error(alloc)?),
         }

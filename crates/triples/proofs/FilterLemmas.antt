@@ -1,10 +1,8 @@
 -- Answers in a buffer, and the lines that were answered so far.
-use Rattle.std.proofs.Common.{◌≡◌, ◌∙◌, ℕ, suc, ◌+◌, ◌-◌, ◌<◌, ◌≤◌, ◌==◌, Bool, true, false, List, [], ◌∷◌, ◌++◌, codes, length, take, drop, get_or, Option, Some, None, inl, inr, ◌⊎◌, refl, sym, ap, subst, append_assoc, add-one, lit≤, option_map, arith}
-use Rattle.std.proofs.lemmas.Bool.{ne_eqb}
-use Rattle.std.proofs.lemmas.List.{append-nil, get_or-take, get_or_default, length-append, length-drop, length-take, take_all, take-append-drop, drop-drop}
+use Rattle.std.proofs.Common.{◌≡◌, ◌∙◌, ℕ, ◌+◌, ◌-◌, ◌<◌, ◌≤◌, ◌==◌, Bool, true, false, List, [], ◌∷◌, ◌++◌, codes, length, take, drop, Option, Some, None, inl, inr, ◌⊎◌, refl, sym, ap, subst, append_assoc, lit≤, option_map, arith}
+use Rattle.std.proofs.lemmas.List.{append-nil, length-append, length-drop, length-take, take_all, drop-drop}
 use Rattle.std.proofs.lemmas.List.Elements.{All-append}
 use Rattle.std.proofs.lemmas.List.Splits.{slice_split_at, slice_split_none, length-slice_split}
-use Rattle.std.proofs.Math.Seq.{drop-cons}
 use Rattle.std.specs.List.{AllZip, AllByRecursion, slice_split}
 use Rattle.std.specs.Str.{IsUtf8}
 use Rattle.lexicon_fields.specs.{declared.endianness.Endianness.Endianness, declared.pointer_width.PointerWidth.PointerWidth}
@@ -101,18 +99,9 @@ shown-short printed canonical Print line t reads = omega (arith, printed line t 
 shown-short printed canonical Show line t reads = omega (arith, printed line t reads, facts-short t, length-append (text_of t) (facts_of t))
 shown-short printed canonical Settle line t reads = omega (arith, canonical line t reads)
 
--- no line feed, by index
-pub no-feed : (bytes : List ℕ) → ((k : ℕ) → k < length bytes → get_or bytes k 0 ≡ 10 → ⊥) → HasNoFeed bytes
-no-feed bytes none k d below = ne_eqb _ line_feed (λ is. none k below (get_or_default bytes k 0 d below ∙ is))
-
-pub no-feed-take : (bytes : List ℕ) (n : ℕ) → n ≤ length bytes → ((k : ℕ) → k < n → get_or bytes k 0 ≡ 10 → ⊥) → HasNoFeed (take n bytes)
-no-feed-take bytes n within none =
-    no-feed (take n bytes) (λ k below is. let less : k < n = omega (arith, length-take n bytes, below) in none k less (sym (get_or-take n bytes k 0 less) ∙ is))
-
-pub cut-at : (bytes : List ℕ) (n : ℕ) → n < length bytes → get_or bytes n 0 ≡ 10 → bytes ≡ take n bytes ++ (line_feed ∷ drop (n + 1) bytes)
-cut-at bytes n below is =
-    sym (take-append-drop n bytes)
-    ∙ ap (λ (t : List ℕ). take n bytes ++ t) (drop-cons bytes n 0 below ∙ ap (λ (b : ℕ). b ∷ drop (suc n) bytes) is ∙ ap (λ (m : ℕ). line_feed ∷ drop m bytes) (sym (add-one n)))
+-- no byte is no line feed
+pub no-bytes : HasNoFeed []
+no-bytes k d below = absurd (omega (arith, below))
 
 -- lists of lines
 zip-push : {A B : Type 0} (R : A → B → Type 0) (xs : List A) (ys : List B) (x : A) (y : B) → AllZip R xs ys → R x y → AllZip R (xs ++ x ∷ []) (ys ++ y ∷ [])
@@ -298,9 +287,6 @@ rest-answered mode true bytes answer some is = record {
 rest-answered mode false bytes answer some is = record {
   rest = λ size before less fits. inr (omega (arith, some refl, length-append before bytes), answer, line-answer mode false size before bytes answer fits less is, refl);
 }
-
-pub rest-none : (mode : LineMode) (bytes : List ℕ) → bytes ≡ [] → AnswersRest mode false bytes []
-rest-none mode bytes none = record { rest = λ size before less fits. inl (ap (λ (t : List ℕ). t ++ bytes) fits ∙ none, refl) }
 
 -- an answer was put after what is used of the buffer, of which a part may have gone to the writer first
 pub used-more : (gone more written old new : List ℕ) (used now end : ℕ) → more ++ take now old ≡ take used old → take end new ≡ take now old ++ written

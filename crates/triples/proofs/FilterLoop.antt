@@ -15,7 +15,7 @@ use Rattle.triples.specs.declared.filter_error.FilterError.{FilterError}
 use Rattle.triples.specs.declared.filter_error.FilterError.TheVariants as filter_error
 use Rattle.triples.specs.declared.line_mode.LineMode.{LineMode}
 use Rattle.target_lexicon.specs.Laws.{EveryTextHasOneOutcome}
-use Rattle.triples.proofs.FilterLemmas.{filtered-none, filtered-then, filtered-more, filtered-end, filtered-part, filtered-so-far, late-no-feed}
+use Rattle.triples.proofs.FilterLemmas.{filtered-none, filtered-then, filtered-more, filtered-end, filtered-part, filtered-so-far, late-no-feed, no-bytes}
 use Rattle.triples.proofs.UseLemmas.{gives-kept, gives-none, gives-then, takes-none, takes-part, takes-then}
 
 -- the lines that have ended were answered, and of the next line the buffer holds what is not late
@@ -39,9 +39,6 @@ beginning n bytes more =
     sym (take-append_seam (take n bytes) (drop n bytes ++ more))
     ∙ ap (λ (t : List ℕ). take (length (take n bytes)) t)
     (sym (append_assoc (take n bytes) (drop n bytes) more) ∙ ap (λ (t : List ℕ). t ++ more) (take-append-drop n bytes))
-
-no-bytes : HasNoFeed []
-no-bytes k d below = absurd (omega (arith, below))
 
 longer : (late : Bool) (size : ℕ) (held before : List ℕ) → (late ≡ true) ⊎ (size ≤ length held) → IsLate late size before → size ≤ length (before ++ held)
 longer true size held before long is = omega (arith, is.0, length-append before held)
@@ -215,6 +212,11 @@ read-piece held n k xs ys within count =
     let size : length front ≡ held = omega (arith, length-take held xs, within) in
     ap (λ (m : ℕ). take (m + n) (put_mid held k xs ys)) (sym size) ∙ take-append-add front (ys ++ post_of held k xs) n
     ∙ ap (λ (t : List ℕ). front ++ t) (take-append-le n ys (post_of held k xs) count)
+
+-- what was searched before a read stays so
+pub searched-front : (n : ℕ) (front more piece : List ℕ) → length front ≡ n → piece ≡ front ++ more → HasNoFeed front → HasNoFeed (take n piece)
+searched-front n front more piece size is none =
+    subst (λ (t : List ℕ). HasNoFeed t) (sym (ap (λ (t : List ℕ). take n t) is ∙ ap (λ (m : ℕ). take m (front ++ more)) (sym size) ∙ take-append_seam front more)) none
 
 -- a reader gave the bytes of a read that didn't fail
 pub gave : {A : Type 0} (rem : A → Option (List ℕ)) (r1 r2 : Counted A) (bytes : List ℕ) → moved r2 ≡ moved r1 ++ bytes → Consumes (rem (inner r1)) (rem (inner r2)) bytes → Gives (use_of rem r1 r2) bytes

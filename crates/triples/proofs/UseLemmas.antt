@@ -1,34 +1,17 @@
 -- What reads gave and writes took, call after call; and which input and output that makes.
-use Rattle.std.proofs.Common.{◌≡◌, ◌∙◌, ℕ, ◌+◌, ◌==◌, Bool, true, false, ◌&&◌, not, if◌then◌else◌, ◌≤◌, inl, inr, List, [], ◌++◌, length, take, drop, Option, Some, None, Result, Ok, Err, refl, sym, ap, subst, append_assoc, arith}
-use Rattle.std.proofs.{lemmas.Bool.eqb-true, lemmas.List.append-nil, lemmas.List.append_cancel_left, lemmas.List.length-append, lemmas.List.take-append-drop}
+use Rattle.std.proofs.Common.{◌≡◌, ◌∙◌, ℕ, ◌+◌, ◌≤◌, inl, inr, List, [], ◌++◌, length, take, drop, Option, Some, None, sym, ap, subst, append_assoc, arith}
+use Rattle.std.proofs.{lemmas.List.append-nil, lemmas.List.append_cancel_left, lemmas.List.length-append, lemmas.List.take-append-drop}
 use Rattle.std.proofs.{KnownBytes.Appends-nil, KnownBytes.Appends-trans, KnownBytes.Appends-kept, KnownBytes.Consumes-nil, KnownBytes.Consumes-trans, KnownBytes.Consumes-kept}
 use Rattle.std.proofs.Math.Seq.{take-append-add, take-append_seam}
-use Rattle.std.specs.Io.KnownBytes.{Appends, Consumes, IsAtEnd, Keeps, WriteAppends}
+use Rattle.std.specs.Io.KnownBytes.{Appends, Consumes, IsAtEnd, Keeps}
 use Rattle.triples.specs.Run.{Use, Gives, Takes, TakesBeginning, IsReadWhole, IsUnfailed, HasFailed, use_of}
 use Rattle.triples.specs.RunLaws.{IsInput, IsWritten}
-use Rattle.triples.specs.Streams.{inner, moved, write_failures_of}
+use Rattle.triples.specs.Streams.{inner, moved}
 use Rattle.triples.specs.declared.counted.Counted.{Counted}
 
 -- a call that didn't fail has not failed
 pub not-both : (it : Use) → IsUnfailed it → HasFailed it → ⊥
 not-both it unfailed failed = omega (arith, unfailed, failed)
-
--- a write that failed took no byte
-took-none : (is_none is_empty : Bool) (count : ℕ) → (is_none ≡ true → count ≡ 0) → ◌≡◌ {A = ℕ} (if is_none && not is_empty then 1 else 0) 1 → count ≡ 0
-took-none true is_empty count none failed = none refl
-took-none false is_empty count none failed = absurd (let bad : ◌≡◌ {A = ℕ} 0 1 = failed in omega (arith, bad))
-
-Keeps-none : (u v : Option (List ℕ)) (bytes : List ℕ) → bytes ≡ [] → Appends u v bytes → Keeps u v
-Keeps-none None v bytes none appends = tt
-Keeps-none (Some xs) None bytes none appends = appends
-Keeps-none (Some xs) (Some ys) bytes none appends = appends ∙ ap (λ (t : List ℕ). xs ++ t) none ∙ append-nil xs
-
-pub Keeps-failed_write : {E : Type 0} (u v : Option (List ℕ)) (answer : Result ℕ E) (piece : List ℕ)
-    → write_failures_of answer piece ≡ 1 → WriteAppends u v answer piece → Keeps u v
-Keeps-failed_write u v (Ok count) piece failed appends =
-    let none = took-none (count == 0) (length piece == 0) count (eqb-true count 0) failed in
-    Keeps-none u v (take count piece) (ap (λ (n : ℕ). take n piece) none) appends
-Keeps-failed_write u v (Err e) piece failed appends = appends
 
 -- one call after the other
 module _ {D : Type 0} (bytes : D → Option (List ℕ)) (a b c : Counted D) where

@@ -1,14 +1,13 @@
 -- What a mode writes for an input.
-use Rattle.std.specs.Prelude.{ℕ, ◌≡◌, ◌<◌, Bool, true, false, not, if◌then◌else◌, List, length, [], ◌∷◌, ◌++◌, codes}
+use Rattle.std.specs.Prelude.{ℕ, ◌≡◌, Bool, true, false, not, if◌then◌else◌, List, [], ◌∷◌, ◌++◌, codes}
 use Rattle.std.specs.List.{AllZip, list_any}
 use Rattle.std.specs.Str.{bytes_eq}
 use Rattle.target_lexicon.specs.{FixedPoints.canonical_text, Printing.text_of, Reading.ReadsAs, Reading.IsRefusedAs, Refusal.Refusal, Refusal.refusal_line, Values.Values}
 use Rattle.triples.specs.{declared.line_mode.LineMode.LineMode, declared.mode.Mode.Mode, Facts.text_with_facts}
 use Rattle.triples.specs.declared.line_mode.LineMode.TheVariants as line_mode
 use Rattle.triples.specs.declared.mode.Mode.TheVariants.{Print, Show, Settle, Json, Matrix}
-use Rattle.triples.specs.{declared.run_error.RunError.RunError, declared.run_error.RunError.TheVariants.OutOfMemory}
 use Rattle.triples.specs.Lines.{line_feed, lines_of}
-use Rattle.triples.specs.JsonOutput.{IsJsonOutput, IsJsonInputErrorOf}
+use Rattle.triples.specs.JsonOutput.{IsJsonOutput}
 
 -- the answer to a line: what is shown of its triple, or the line of its refusal
 pub data Answer : Type 0 where
@@ -76,8 +75,3 @@ IsOutput Show input output = IsLineOutput (shown_by line_mode.Show) (lines_of in
 IsOutput Settle input output = IsLineOutput (shown_by line_mode.Settle) (lines_of input) output
 IsOutput Matrix input output = IsMatrix (lines_of input) output
 IsOutput Json input output = IsJsonOutput input output
-
--- why an input has no output in a mode; in a line mode only an allocation can fail, and none is made for an empty input
-abbrev pub IsInputErrorOf : Mode → List ℕ → RunError → Type 0
-IsInputErrorOf Json input e = IsJsonInputErrorOf input e
-IsInputErrorOf _ input e = (e ≡ OutOfMemory) × (0 < length input)

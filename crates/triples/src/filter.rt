@@ -7,7 +7,7 @@ ghost use Rattle.target_lexicon.specs.Refusal.{refusal_line};
 ghost use Rattle.target_lexicon.specs.ValuesRef.{refusal_value, values_of_ref};
 ghost use Rattle.triples.specs.Facts.{facts_of, spaced_word};
 ghost use Rattle.triples.specs.Filter.{FilterEndsAs};
-ghost use Rattle.triples.specs.FilterSteps.{AnswersRest, IsKept, IsLineAnswer, IsLineEnd, IsShortAnswer, LinesAnswered, MakesRoom, Pushes, PushesAnswer, RestAnswered};
+ghost use Rattle.triples.specs.FilterSteps.{AnswersRest, HasNoFeed, IsKept, IsLineAnswer, IsLineEnd, IsShortAnswer, LinesAnswered, MakesRoom, Pushes, PushesAnswer, RestAnswered};
 ghost use Rattle.triples.specs.Output.{shown_by};
 ghost use Rattle.triples.specs.Run.{use_of};
 
@@ -60,7 +60,8 @@ pub fn filter<R: Read, W: Write>(
             return finish(mode, is_late, &input[..held], output, w);
         }
         let end = held + taken;
-        let Ok((start, late)) = answer_lines(mode, is_late, &input[..end], output, w) else {
+        let Ok((start, late)) = answer_lines(mode, is_late, &input[..end], held, output, w)
+        else {
             return Err(FilterError::Write);
         };
         (held, is_late) = keep_rest(input, start, end, late);
@@ -68,28 +69,34 @@ pub fn filter<R: Read, W: Write>(
     Err(FilterError::Endless)
 }
 
-/// Writes the answers to the lines that end in the bytes. The first of them is too long if it `is_late`. Returns where
-/// the line begins that doesn't end, and whether that is still the first, and too long.
+/// Writes the answers to the lines that end in the bytes, the first `searched` of which have no line feed. The first line
+/// is too long if it `is_late`. Returns where the line begins that doesn't end, and whether that is still the first, and too
+/// long.
 fn answer_lines<W: Write>(
     mode: LineMode,
     is_late: bool,
     bytes: &[u8],
+    searched: usize,
     output: &mut [u8],
     w: &mut Counted<W>,
 ) -> Result<(usize, bool), FilterError>
-    requires { length bytes.now + ANSWER_ROOM ≤ length output.old }
+    requires room { length bytes.now + ANSWER_ROOM ≤ length output.old }
+    requires within { searched ≤ length bytes.now }
+    requires searched { HasNoFeed (take searched bytes.now) }
     ensures lines { LinesAnswered mode is_late bytes.now (use_of W.contents w.old w.new) result }
     ensures same_length { length output.new ≡ length output.old }
 {
     let mut start = 0;
     let mut late = is_late;
     let mut used = 0;
-    while let Some(at) = line_end(&bytes[start..]) {
+    let mut from = searched;
+    while let Some(at) = line_end(&bytes[start..], from) {
         let Ok(free) = make_room(output, used, at + ANSWER_ROOM, w) else {
             return Err(FilterError::Write);
         };
         used = push_line(mode, late, &bytes[start..start + at], output, free);
         late = false;
+        from = 0;
         start = start + at + 1;
     }
     match write_all(w, &output[..used]) {
@@ -184,12 +191,14 @@ fn push_line(mode: LineMode, is_late: bool, line: &[u8], out: &mut [u8], at: usi
     push_answer(mode, line, out, at)
 }
 
-/// Where the first line ends, if it does.
-fn line_end(bytes: &[u8]) -> Option<usize>
+/// Where the first line ends, if it does. No byte before `from` is a line feed.
+fn line_end(bytes: &[u8], from: usize) -> Option<usize>
+    requires within { from ≤ length bytes.now }
+    requires searched { HasNoFeed (take from bytes.now) }
     ensures { IsLineEnd bytes.now result }
 {
-    for (i, byte) in bytes.iter().enumerate() {
-        if *byte == b'\n' {
+    for i in from..bytes.len() {
+        if bytes[i] == b'\n' {
             return Some(i);
         }
     }

@@ -1,13 +1,15 @@
-use Rattle.std.proofs.Common.{◌∙◌, ◌++◌, ℕ, List, [], length, take, drop, refl, ap, subst, arith, rules}
+use Rattle.std.proofs.Common.{◌∙◌, ◌++◌, ◌≤◌, ℕ, List, [], length, take, drop, refl, sym, ap, subst, arith, rules}
 use Rattle.std.proofs.lemmas.List.{length-drop}
 use Rattle.triples.specs.{FilterSteps.HasNoFeed}
-use Rattle.triples.proofs.FilterLemmas.{answers-none, rest-of, line-step, pushed-within}
+use Rattle.triples.proofs.FilterLemmas.{answers-none, no-bytes, rest-of, line-step, pushed-within}
 use Rattle.triples.proofs.UseLemmas.{takes-none, takes-then, takes-part}
 use Rattle.triples.proofs.filter.answer_lines.Goals as goal
 
 pub loop-at-init : goal.loop-at-init
 loop-at-init g c = record {
   start = search rules;
+  from = c.requires.within;
+  searched = c.requires.searched;
   used = search rules;
   unfailed = refl;
   written = ([], takes-none g.W.Write.contents c.args.w.now, answers-none c.args.mode c.args.is_late c.args.bytes.now);
@@ -22,6 +24,8 @@ loop-at-preserved g c =
     let rest = drop c.loop-at.start c.args.bytes.now in
     record {
       start = omega (arith, found.0, inv.start, length-drop c.loop-at.start c.args.bytes.now, rest-of c.args.bytes.now c.loop-at.start, ap (λ (t : List ℕ). length t) (rest-of c.args.bytes.now c.loop-at.start));
+      from = omega arith;
+      searched = no-bytes;
       used = pushed-within _ c.loop-at.output c.push_line-used.new.out c.in-Ok.free c.push_line-used.result (omega (arith, room.1)) pushed.pushed;
       unfailed = room.0 ∙ inv.unfailed;
       written = (
@@ -31,6 +35,16 @@ loop-at-preserved g c =
             c.loop-at.used c.in-Ok.free c.push_line-used.result inv.written.2 inv.start found pushed room.4,
       );
     }
+
+pub line_end-requires-clause-within : goal.line_end-requires-clause-within
+line_end-requires-clause-within g c =
+    let inv = c.loop-at.invariant in
+    subst (λ (t : List ℕ). c.loop-at.from ≤ length t) (sym (rest-of c.args.bytes.now c.loop-at.start)) inv.from
+
+pub line_end-requires-clause-searched : goal.line_end-requires-clause-searched
+line_end-requires-clause-searched g c =
+    let inv = c.loop-at.invariant in
+    subst (λ (t : List ℕ). HasNoFeed (take c.loop-at.from t)) (sym (rest-of c.args.bytes.now c.loop-at.start)) inv.searched
 
 pub returns-in_default-make_room-clause-lines : goal.returns-in_default-make_room-clause-lines
 returns-in_default-make_room-clause-lines g c =

@@ -4,7 +4,7 @@ use Rattle.std.proofs.lemmas.Slice.{take-put_mid_below}
 use borrow.Rule.Slice.PartMut.{put_mid}
 use Rattle.triples.specs.Run.{use_of}
 use Rattle.triples.specs.FilterSteps.{IsKept, RestAnswered}
-use Rattle.triples.proofs.FilterLoop.{between-none, between-more, between-kept, ends-read, ends-rest, ends-write, ends-endless, read-piece, gave, length-read, none-is-end, part-length, some-is-no-end, unfailed-read}
+use Rattle.triples.proofs.FilterLoop.{between-none, between-more, between-kept, ends-read, ends-rest, ends-write, ends-endless, read-piece, gave, length-read, none-is-end, part-length, searched-front, some-is-no-end, unfailed-read}
 use Rattle.triples.proofs.filter.filter.Goals as goal
 
 pub loop-init : goal.loop-init
@@ -43,6 +43,14 @@ loop-preserved g c =
           between-kept g.R.Read.remaining g.W.Write.contents c.args.mode size c.in-Ok-answer_lines.late c.keep_rest.result.1 (drop c.in-Ok-answer_lines.start piece) c.keep_rest.new.buffer
           c.keep_rest.result.0 (use_of g.R.Read.remaining c.args.r.now c.read.new.self) (use_of g.W.Write.contents c.args.w.now c.answer_lines.new.w) (c.loop.counter + 1) keeps next;
     }
+
+pub answer_lines-requires-clause-searched : goal.answer_lines-requires-clause-searched
+answer_lines-requires-clause-searched g c =
+    let read = c.in-Ok.ensures in
+    let inv = c.loop.invariant in
+    let front = take c.loop.held c.loop.input in
+    let is = read-piece c.loop.held c.in-Ok.taken (length c.loop.input - c.loop.held) c.loop.input c.read.new.buf (omega (arith, inv.held)) read.bound.0 in
+    searched-front c.loop.held front (take c.in-Ok.taken c.read.new.buf) _ (omega (arith, length-take c.loop.held c.loop.input, inv.held)) is inv.state.none
 
 pub returns-in_default : goal.returns-in_default
 returns-in_default g c =

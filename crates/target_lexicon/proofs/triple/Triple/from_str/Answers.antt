@@ -13,9 +13,9 @@ refused-error text x h (Err error) same = rw same (inl (x, h))
 refused-error text x h (Ok triple) same = absurd same
 
 pub returns-in_err-to_error-in-Err-clause-err : goal.returns-in_err-to_error-in-Err-clause-err
-returns-in_err-to_error-in-Err-clause-err c = refused-error c.args.text.now _ (rw c.in-Err.is at c.explain.ensures.error) _ c.from_residual-in_err-to_error-in-Err.ensures.1
+returns-in_err-to_error-in-Err-clause-err c = refused-error c.args.text.now _ c.in-Err.ensures.err _ c.from_residual-in_err-to_error-in-Err.ensures.1
 
 pub returns-in_ok-to_triple-in-Ok-clause-plain : goal.returns-in_ok-to_triple-in-Ok-clause-plain
 returns-in_ok-to_triple-in-Ok-clause-plain c =
     let read = c.in_ok-to_triple-in-Ok in
-    read_plain c.args.text.now (values_of read.field-0) (rw read.ensures.values (rw c.in-Ok.is at c.explain.ensures.triple))
+    read_plain c.args.text.now (values_of read.field-0) (rw read.ensures.values c.in-Ok.ensures.ok)
