@@ -125,6 +125,7 @@ impl Triple {
     /// The first part that no field takes is refused, as the architecture or as the field after the
     /// last one taken; after the binary format it is an `UnrecognizedField`. `OutOfMemory` says that
     /// allocating a custom vendor or the refused part failed; nothing else is allocated.
+    #[inline(always)]
     pub fn from_str(alloc: Global, text: &str) -> Result<Triple, ParseError>
         ensures ok { IfOk result (λ triple. ReadsAs text.now (values_of triple)) }
         ensures owned { IfOk result (λ triple. OwnsCustomText triple.vendor) }

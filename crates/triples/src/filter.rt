@@ -60,8 +60,7 @@ pub fn filter<R: Read, W: Write>(
             return finish(mode, is_late, &input[..held], output, w);
         }
         let end = held + taken;
-        let Ok((start, late)) = answer_lines(mode, is_late, &input[..end], held, output, w)
-        else {
+        let Ok((start, late)) = answer_lines(mode, is_late, &input[..end], held, output, w) else {
             return Err(FilterError::Write);
         };
         (held, is_late) = keep_rest(input, start, end, late);
@@ -191,7 +190,9 @@ fn push_line(mode: LineMode, is_late: bool, line: &[u8], out: &mut [u8], at: usi
     push_answer(mode, line, out, at)
 }
 
-/// Where the first line ends, if it does. No byte before `from` is a line feed.
+/// Where the first line ends, if it does. No byte before `from` is a line feed. Not inlined, since then the loop takes an
+/// instruction less a byte.
+#[inline(never)]
 fn line_end(bytes: &[u8], from: usize) -> Option<usize>
     requires within { from ≤ length bytes.now }
     requires searched { HasNoFeed (take from bytes.now) }
