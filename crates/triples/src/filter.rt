@@ -174,6 +174,9 @@ fn keep_rest(buffer: &mut [u8], start: usize, end: usize, is_late: bool) -> (usi
     if end - start == buffer.len() {
         return (0, true);
     }
+    if start == 0 {
+        return (end, false);
+    }
     buffer.copy_within(start..end, 0);
     (end - start, false)
 }

@@ -13,6 +13,9 @@ kept old start end order within =
     ∙ take-paste old 0 (drop start old) n (omega arith) (omega (arith, length-drop start old, order, within))
     ∙ sym (drop-take start n old) ∙ ap (λ (m : ℕ). drop start (take m old)) whole
 
+pub returns-then-start-eq0-clause-kept : goal.returns-then-start-eq0-clause-kept
+returns-then-start-eq0-clause-kept c = inr (refl, c.if-is_late.false, ap (λ (n : ℕ). drop n (take c.args.end c.args.buffer.now)) (sym c.if-start-eq0.true))
+
 pub returns-clause-kept : goal.returns-clause-kept
 returns-clause-kept c =
     inr (
