@@ -1,4 +1,14 @@
 //! The fields of a target triple.
+//!
+//! `architecture` (with its families in a folder), `vendor`, `operating_system`, `environment` and `binary_format` are
+//! the five fields, which `field` names. A custom vendor is owned or static in `vendor` and borrowed in `vendor_ref`;
+//! `known_vendor` has the others. `deployment_target` is the version of a system, and `decimal` writes its numbers.
+//! `endianness` and `pointer_width` are what an architecture answers.
+//!
+//! `table` has all names in one sorted list, where each `from_str` looks first, and `steps` counts its comparisons.
+//! `laws` has what holds of all values.
+//!
+//! The examples are those of the Rust crate that `tools/erase` makes of this source.
 #![tactic(auto)]
 
 mod architecture;
