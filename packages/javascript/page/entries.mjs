@@ -22,14 +22,28 @@ export function factsEntry({ FIELDS, Triple }, text) {
   return { ...place(text), ...Object.fromEntries(Object.entries(facts).map(([name, fact]) => [snakeCase(name), fact])) };
 }
 
-/** Of what a name means; `completed` gives a triple with what is chosen, and `written` has the dialects whose names are written. */
-export function namesEntry({ DIALECTS, meanings }, text, written, completed) {
+/**
+ * The names of a triple in the dialects `written`, and the reasons of those without one. An Arm without a version gets no C library: where one
+ * of Linux is chosen, it has no name in a dialect whose names state that.
+ */
+export function namesAndReasons(triple, written, hasChosenLibc) {
+  const all = triple.names(), names = {}, reasons = {}, isBareArm = triple.architecture === "arm" && triple.operatingSystem === "linux" && triple.environment === "unknown";
+  const others = hasChosenLibc && isBareArm ? triple.with({ environment: "gnu" }).names() : all;
+  for (const dialect of written) {
+    const isMissing = all[dialect] === null;
+    names[dialect] = all[dialect] === others[dialect] ? all[dialect] : null;
+    if (names[dialect] === null) reasons[dialect] = triple.reasonWithoutName(isMissing ? dialect : "rust");
+  }
+  return { names, reasons };
+}
+
+/** Of what a name means; `completed` gives a triple with what is chosen. */
+export function namesEntry({ DIALECTS, meanings }, text, written, completed, hasChosenLibc) {
   const { meanings: found, withoutTriple } = meanings(text), merged = new Map(), order = ["triple", ...DIALECTS, "spelling"];
   for (const { triple, tools } of found) {
-    const it = completed(triple), { canonical } = it, names = it.names(), none = written.filter((dialect) => names[dialect] === null);
+    const it = completed(triple), { canonical } = it;
     const all = [...merged.get(canonical)?.tools ?? [], ...tools].sort((one, other) => order.indexOf(one) - order.indexOf(other));
-    merged.set(canonical, { canonical, tools: all, names: Object.fromEntries(written.map((dialect) => [dialect, names[dialect]])),
-      reasons: Object.fromEntries(none.map((dialect) => [dialect, it.reasonWithoutName(dialect)])) });
+    merged.set(canonical, { canonical, tools: all, ...namesAndReasons(it, written, hasChosenLibc) });
   }
   if (!found.length && !Object.keys(withoutTriple).length) return { ...place(text), error: "no tool has the name" };
   return { ...place(text), meanings: [...merged.values()], without_triple: withoutTriple };

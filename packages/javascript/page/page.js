@@ -1,7 +1,7 @@
 // The page: shows the targets and names of the text field in the table. `build` puts target-lexicon.js, the module, entries.mjs and this file into one script.
 import { DIALECTS, WRITTEN } from "../src/names.js";
 import { FIELDS, ParseError, Triple, load, meanings } from "../src/target-lexicon.js";
-import { factsEntry, namesEntry, versionOf } from "./entries.mjs";
+import { factsEntry, namesAndReasons, namesEntry, versionOf } from "./entries.mjs";
 
 const LABELS = {
   architecture: "Architecture", vendor: "Vendor", operatingSystem: "System", environment: "Environment", binaryFormat: "Format",
@@ -146,13 +146,14 @@ const toolsOf = (tools) => listOf(tools.map(toolName));
 
 /** A triple with the environment that is chosen for those that state none. */
 const CHOICES = ["linux", "windows"];
+const hasChosenLibc = () => byId("linux").value !== "";
 const completed = (triple) => CHOICES.map((id) => byId(id).value).filter(Boolean).reduce((it, library) => it.complete(library), triple);
 
 const pair = (term, ...answer) => element("div", {}, element("dt", {}, term), element("dd", {}, ...answer));
 
 /** What each tool calls a triple, and for those that have no name why. */
 function toolNames(triple) {
-  const names = triple.names(), without = grouped(WRITTEN.filter((dialect) => names[dialect] === null).map((dialect) => [triple.reasonWithoutName(dialect), dialect]));
+  const { names, reasons } = namesAndReasons(triple, WRITTEN, hasChosenLibc()), without = grouped(Object.entries(reasons).map(([dialect, reason]) => [reason, dialect]));
   const list = element("dl", {}, ...WRITTEN.filter((dialect) => names[dialect] !== null).map((dialect) => pair(toolName(dialect), code(names[dialect]))));
   return [list, ...[...without].map(([reason, tools]) => element("p", {}, dim(`None in ${toolsOf(tools)}: `), `${reason}.`))];
 }
@@ -542,7 +543,7 @@ async function begin() {
     show();
   });
   const lexicon = { DIALECTS, FIELDS, Triple, meanings };
-  for (const [id, entryOf] of [["copy_names", (text) => namesEntry(lexicon, text, WRITTEN, completed)], ["copy_facts", (text) => factsEntry(lexicon, text)]]) byId(id).addEventListener("click", ({ currentTarget }) => copyJson(currentTarget, entryOf));
+  for (const [id, entryOf] of [["copy_names", (text) => namesEntry(lexicon, text, WRITTEN, completed, hasChosenLibc())], ["copy_facts", (text) => factsEntry(lexicon, text)]]) byId(id).addEventListener("click", ({ currentTarget }) => copyJson(currentTarget, entryOf));
   byId("copy_link").addEventListener("click", ({ currentTarget }) => copyLink(currentTarget));
   const query = new URLSearchParams(location.search);
   for (const id of CHOICES) {

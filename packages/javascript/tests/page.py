@@ -480,12 +480,12 @@ def takes_time_in_proportion(page):
 
 def copies_what_the_command_writes(command, page):
     """The answers of `target-lexicon facts` and `what` with --json, without notes. tests/compare.mjs compares more of them."""
-    targets = ["arm64-apple-ios17.1", "x86_64-pc-linx", "x86_64-\u4e2d\u6587-linux", *NAMES]
+    targets = ["arm64-apple-ios17.1", "x86_64-pc-linx", "x86_64-\u4e2d\u6587-linux", "linux/arm", *NAMES]
     typed(page, "\n".join(targets))
     choose(page, linux="glibc")
     for button, words in ("#copy_facts", ["facts"]), ("#copy_names", ["what", "--libc", "glibc"]):
         press(page, button)
-        page.until(f"{STATUS} === 'Copied 9 targets as JSON.'")
+        page.until(f"{STATUS} === 'Copied 10 targets as JSON.'")
         copied = json.loads(page.run("navigator.clipboard.readText()"))
         page.run("document.getElementById('status').textContent = ''")
         wanted = json.loads(subprocess.run([command, *words, "--json", *targets], capture_output=True, check=False).stdout)
