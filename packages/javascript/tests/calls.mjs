@@ -247,6 +247,20 @@ const tests = {
     assert.throws(() => hostOf(undefined, undefined), /Node/);
     assert.equal(host().facts().endianness, "little");
   },
+  "what Node says of itself is a name, or has a reason": () => {
+    const without = [];
+    for (const [platform, system, machines] of [
+      ["aix", "aix", "ppc ppc64"], ["android", "linux", "arm arm64 ia32 riscv64 x64"], ["darwin", "darwin", "arm64 ia32 x64"], ["freebsd", "freebsd", "arm arm64 ia32 ppc64 riscv64 x64"],
+      ["haiku", "haiku", "ia32 x64"], ["linux", "linux", "arm arm64 ia32 loong64 mips mipsel mips64el ppc ppc64 riscv64 s390 s390x x64"], ["netbsd", "netbsd", "arm arm64 ia32 x64"],
+      ["openbsd", "openbsd", "arm arm64 ia32 ppc64 riscv64 x64"], ["sunos", null, "ia32 x64"], ["win32", "windows", "arm64 ia32 x64"],
+    ]) {
+      for (const name of machines.split(" ").map((machine) => `${platform}-${machine}`)) {
+        if (meanings(name).withoutTriple.node) without.push(name);
+        else assert.equal(Triple.read(name, "node").operatingSystem, system, name);
+      }
+    }
+    assert.deepEqual(without, ["freebsd-ppc64", "linux-ppc", "linux-s390", "sunos-ia32", "sunos-x64"]);
+  },
   "strings of any length": () => {
     for (const size of [60, 64, 65, 128, 65535, 65536, 300000, 30000000]) {
       const vendor = "a".repeat(size), it = Triple.parse(`x86_64-${vendor}-linux`);
