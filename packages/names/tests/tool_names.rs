@@ -670,3 +670,10 @@ fn a_star_is_a_number_in_decimal() {
         );
     }
 }
+
+#[test]
+fn unknown_is_no_vendor_before_a_binary_format() {
+    let count = |text| target_names::changes(text).count();
+    assert_eq!(count("x86_64-none-unknown-elf"), 0);
+    assert_eq!(count("x86_64-none-unknown-eabi"), 2);
+}
