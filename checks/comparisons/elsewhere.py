@@ -41,7 +41,7 @@ SYSTEM_WORDS = {"android": "linux", "win32": "windows", "win": "windows", "manyl
                 **dict.fromkeys(("ubuntu", "debian", "rhel", "fedora", "centos", "opensuse", "sles", "ol", "almalinux", "linuxmint", "rocky"), "linux")}
 # The lists of the table that are no dialects, the dialects whose names are spelled like triples, and those whose names are a machine's word.
 # The names of each other dialect have a word for the system.
-LISTS = ("first", "second", "hard", "later", "maker", "kernel", "system")
+LISTS = ("first", "second", "hard", "later")
 OF_TRIPLES, OF_MACHINES = ("gnu", "rust"), ("rpm", "apk", "pacman")
 # The architecture of a machine's word that only one name has, so that no other name of a dialect says what it means.
 ONLY_ONCE = {"arm64ilp32": "aarch64", "powerpcspe": "powerpc", "x32": "x86_64", "amd64/v1": "x86_64", "arm/v5": "armv5te", "arm/v8": "armv8",
@@ -116,7 +116,7 @@ class Comparison(Report):
     def __init__(self, options, folder):
         super().__init__(options, folder)
         lines = upstream.read(f"{built.ROOT}/packages/names/elsewhere.tsv").splitlines()
-        self.rows, self.folder = [Row(*line.split("\t")) for line in lines if not line.startswith("#")], folder
+        self.rows, self.folder = [Row(*line.split("\t")) for line in lines if not line.startswith("#") and line.count("\t") > 1], folder
         self.dialects = [it for it in dict.fromkeys(row.dialect for row in self.rows) if it not in (*LISTS, *OF_TRIPLES)]
 
     def rows_of(self, dialect, ways=("rw", "r", "w")):

@@ -104,6 +104,8 @@ def read_line(found, line, known, cited):
         add_line(found, last, word[1], line.split("\t")[1:])
     elif re.match(r"# (why|note|reason|refusal|versions|source|from) ", line) and (last or found.sources):
         raise Mistake("after the first word of such a line comes a tab, and tabs are between its columns")
+    elif (words := line.split("\t"))[0] in found.words:
+        add_words(found.words[words[0]], *columns(words[1:], ["words"]))
     elif not line.startswith("#"):
         add_row(found, columns(line, ["a dialect", "a name", "a triple", "the ways", "a note"], 4), known, cited)
     elif last and not last.about:
@@ -163,13 +165,15 @@ def add_line(found, last, word, cells):
         last.sources[source] = patterns
 
 
+def add_words(known, words):
+    for word in words.split(" "):
+        if not word or word in known:
+            raise Mistake(f"a list has each word once, with a space between two, and not `{word}`")
+        known.append(word)
+
+
 def add_row(found, cells, known, cited):
     dialect, name, triple, ways, *note = cells
-    if dialect in found.words:
-        if (triple, ways) != ("-", "-") or name in found.words[dialect]:
-            raise Mistake("a word of config.sub is there once, with `-` as its triple and its ways")
-        found.words[dialect].append(name)
-        return
     of = found.dialects.get(dialect)
     if not of and dialect not in found.parts:
         raise Mistake(f"`{dialect}` is no dialect yet: its rows follow a line `# dialect {dialect}`")

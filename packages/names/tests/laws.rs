@@ -29,13 +29,14 @@ fn names() -> Vec<String> {
     let rows = include_str!("../elsewhere.tsv")
         .lines()
         .filter(|it| !it.starts_with('#'));
-    let name = |row: &str| {
-        row.split('\t')
-            .nth(1)
-            .unwrap_or("")
-            .replace(['*', '+', '!'], "11")
+    let names = |row: &'static str| {
+        let mut cells = row.split('\t').skip(1);
+        let name = cells.next().unwrap_or("");
+        // A list has words, and no other column.
+        name.split(if cells.next().is_some() { '\t' } else { ' ' })
     };
-    rows.map(name).collect()
+    let names = rows.flat_map(names);
+    names.map(|it| it.replace(['*', '+', '!'], "11")).collect()
 }
 
 /// Known names, other spellings, words of names, and words that nobody knows.
