@@ -658,8 +658,8 @@ LEXICON_CHECKED LEXICON_NONNULL(2)
 enum lexicon_status lexicon_write_versioned(uint32_t dialect, const struct lexicon_triple *triple, uint32_t major, uint32_t minor,
                                             char *out, size_t out_size, size_t *length);
 
-/* Gives a triple of Linux, whose environment is unknown, the usual one of a C library: gnueabihf, gnu and so on. Only the
-   environment changes; any other triple stays as it is. */
+/* Gives a triple of Linux or Windows, whose environment is unknown, the usual one of a C library: gnueabihf, gnu and so on. Only the
+   environment changes. Any other triple stays as it is, and so does arm-unknown-linux, which may be gnueabi or gnueabihf. */
 LEXICON_CHECKED LEXICON_NONNULL(1)
 enum lexicon_status lexicon_complete(struct lexicon_triple *triple, uint32_t linux_libc);
 

@@ -218,7 +218,8 @@ static void try_triple(const struct lexicon_triple *triple) {
     struct lexicon_triple completed = *triple;
     CHECK(lexicon_complete(&completed, libc) == LEXICON_OK && has_zeros(&completed));
     uint8_t system = libc <= LEXICON_LINUX_LIBC_MUSL ? LEXICON_OPERATING_SYSTEM_LINUX : LEXICON_OPERATING_SYSTEM_WINDOWS;
-    bool is_open = triple->operating_system == system && triple->environment == LEXICON_ENVIRONMENT_UNKNOWN;
+    bool is_open = triple->operating_system == system && triple->environment == LEXICON_ENVIRONMENT_UNKNOWN &&
+                   (system != LEXICON_OPERATING_SYSTEM_LINUX || triple->architecture != LEXICON_ARCHITECTURE_ARM);
     CHECK((completed.environment != triple->environment) == is_open);
     completed.environment = triple->environment;
     CHECK(are_equal(&completed, triple));
