@@ -63,12 +63,12 @@ fn cases(variables: &[(&str, &str)]) -> Cases {
 /// Laws of which a case takes long, since they search: they are tried with an eighth of the cases.
 const SLOW: [&str; 4] = ["EqualTextsEqualTriples", "EveryTextHasOneOutcome", "ReadingIsComputed", "RefusedPartsDoNotGrow"];
 
-/// Runs each law on some of its cases, as many as these at least if it has so many. Prints the claims that matter.
-pub fn run(r: &mut Report, chosen: Chosen, at_least: usize) {
+/// Runs each law on some of its cases, as many as the step at least if it has so many. Prints the claims that matter.
+pub fn run(r: &mut Report, chosen: Chosen) {
     for (title, variables, law, claims) in LAWS {
         let (first, all, case) = cases(variables);
         let count = all - first;
-        let at_least = if SLOW.iter().any(|it| title.contains(it)) { at_least / 8 } else { at_least };
+        let at_least = if SLOW.iter().any(|it| title.contains(it)) { chosen.step / 8 } else { chosen.step };
         let step = if count > at_least { inputs::prime_before(count / at_least) } else { 1 };
         let mut open: Vec<usize> = claims.to_vec();
         for i in (Chosen { step: 1, ..chosen }).of(first).chain((Chosen { step, ..chosen }).of(count).map(|i| first + i)) {

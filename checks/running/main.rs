@@ -1,13 +1,11 @@
 //! Compares the definitions with a crate: `running PART SHARD OF STEP` takes each OF-th case, from the SHARD-th on, of each STEP-th one.
-//! With the feature `port` the crate is this repository's; without it, one that has upstream's calls only. `running parts` names the parts,
-//! and `running ask DEFINITION WORD..` says what a definition says.
+//! With the feature `port` the crate is this repository's; without it, one that has upstream's calls only. `running ask DEFINITION WORD..` says
+//! what a definition says.
 #![allow(non_upper_case_globals)]
 #[cfg(feature = "port")]
 mod ask;
 #[cfg(feature = "port")]
 mod by_value;
-#[cfg(feature = "port")]
-mod c;
 #[cfg(feature = "port")]
 mod calls;
 mod common;
@@ -27,34 +25,32 @@ use inputs::{Chosen, Fields, Strings};
 use report::Report;
 use target_lexicon::Triple;
 
-const PARTS: &[&str] = if cfg!(feature = "port") {
-    &["values", "words", "source", "special", "strings", "families", "vendors", "triples", "owned", "relations", "by_value", "json", "c_strings", "c_triples", "laws"]
-} else {
-    &["values", "words", "source", "special", "strings", "families", "vendors", "triples"]
-};
+/// Calls with each chosen number below this one. What a case took in memory is given back after it.
+fn each(chosen: Chosen, count: usize, mut call: impl FnMut(usize)) {
+    for i in chosen.of(count) {
+        call(i);
+        forget();
+    }
+}
 
-/// The cases of a part. What a case took in memory is given back after it.
+fn words(chosen: Chosen, words: Vec<String>, r: &mut Report, call: fn(&mut Report, &str)) {
+    each(chosen, words.len(), |i| call(r, &words[i]));
+}
+
+fn strings(chosen: Chosen, r: &mut Report, call: fn(&mut Report, &str)) {
+    let all = Strings::parsed();
+    each(chosen, all.count(), |i| call(r, &all.string(i)));
+}
+
+fn triples(chosen: Chosen, fields: Fields, r: &mut Report, call: fn(&mut Report, V, &Triple)) {
+    each(chosen, fields.count(), |i| {
+        let (t, triple) = fields.triple(i);
+        call(r, t, &triple);
+    });
+}
+
+/// Compares the cases of a part.
 fn run(part: &str, chosen: Chosen, r: &mut Report) {
-    fn strings(chosen: Chosen, r: &mut Report, call: impl Fn(&mut Report, &str)) {
-        let strings = Strings::parsed();
-        for i in chosen.of(strings.count()) {
-            call(r, &strings.string(i));
-            forget();
-        }
-    }
-    fn triples(chosen: Chosen, fields: Fields, r: &mut Report, call: impl Fn(&mut Report, V, &Triple)) {
-        for i in chosen.of(fields.count()) {
-            let (t, triple) = fields.triple(i);
-            call(r, t, &triple);
-            forget();
-        }
-    }
-    fn words(chosen: Chosen, words: Vec<String>, r: &mut Report, call: impl Fn(&mut Report, &str)) {
-        for i in chosen.of(words.len()) {
-            call(r, &words[i]);
-            forget();
-        }
-    }
     match part {
         "values" | "library" if chosen.shard > 0 => {}
         "values" => calls::values(r),
@@ -66,9 +62,10 @@ fn run(part: &str, chosen: Chosen, r: &mut Report) {
         "special" => words(chosen, inputs::near_special(), r, |r, string| {
             calls::string(r, string);
             #[cfg(feature = "port")]
-            calls::owned(r, string);
-            #[cfg(feature = "port")]
-            calls::relations(r, string);
+            {
+                calls::owned(r, string);
+                calls::relations(r, string);
+            }
         }),
         "strings" => strings(chosen, r, calls::string),
         "families" => triples(chosen, inputs::near_families(), r, calls::triple),
@@ -84,10 +81,7 @@ fn run(part: &str, chosen: Chosen, r: &mut Report) {
                 by_value::values(r);
             }
             let fields = inputs::fields();
-            for i in chosen.of(fields.count()) {
-                by_value::triples(r, i, &fields);
-                forget();
-            }
+            each(chosen, fields.count(), |i| by_value::triples(r, i, &fields));
         }
         #[cfg(feature = "json")]
         "json" => {
@@ -95,29 +89,16 @@ fn run(part: &str, chosen: Chosen, r: &mut Report) {
                 json::fields(r);
             }
             let (all, fields) = (Strings::parsed(), inputs::fields());
-            for i in chosen.of(all.count()) {
+            each(chosen, all.count(), |i| {
                 json::string(r, &all, i);
-                forget();
                 let (t, triple) = fields.triple(i % fields.count());
                 json::triple(r, t, &triple);
-                forget();
-            }
-        }
-        #[cfg(feature = "port")]
-        "c_strings" => {
-            let (special, all) = (inputs::near_special(), Strings::parsed());
-            c::compare(r, "answers", Chosen { step: 1, ..chosen }.of(special.len()), |i| c::string(special[i].clone()));
-            c::compare(r, "answers", chosen.of(all.count()), |i| c::string(all.string(i)));
-        }
-        #[cfg(feature = "port")]
-        "c_triples" => {
-            let fields = inputs::fields();
-            c::compare(r, "fields", chosen.of(fields.count()), |i| c::triple(fields.triple(i).0));
+            });
         }
         #[cfg(feature = "port")]
         "library" => library::run(r),
         #[cfg(feature = "port")]
-        "laws" => laws::run(r, Chosen { step: 1, ..chosen }, chosen.step),
+        "laws" => laws::run(r, chosen),
         _ => panic!("no part {part}"),
     }
 }
@@ -125,7 +106,6 @@ fn run(part: &str, chosen: Chosen, r: &mut Report) {
 fn main() {
     let words: Vec<String> = std::env::args().skip(1).collect();
     match words[0].as_str() {
-        "parts" => println!("{}", PARTS.join(" ")),
         #[cfg(feature = "port")]
         "ask" => match ask::answer(&words[1..]) {
             Ok(answer) => println!("{answer}"),

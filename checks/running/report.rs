@@ -11,8 +11,6 @@ pub struct Report {
     pub same: u64,
     pub differ: u64,
     kinds: BTreeMap<&'static str, u64>,
-    /// Of the triples that don't come back: why, how many, and what one prints.
-    families: BTreeMap<String, (u64, String)>,
     /// Rows that the definitions don't have.
     rows: BTreeSet<String>,
     specified: String,
@@ -50,10 +48,6 @@ impl Report {
         }
     }
 
-    pub fn family(&mut self, why: String, printed: &str) {
-        self.families.entry(why).or_insert((0, printed.to_string())).0 += 1;
-    }
-
     pub fn row(&mut self, field: &str, word: &str, name: &str, value: &str) {
         let kind = if word == name { "is" } else { "is another name of" };
         self.rows.insert(format!("{field}: {word:?} {kind} {value}"));
@@ -61,9 +55,6 @@ impl Report {
 
     /// The lines for the script: at the end how many answers are the same and differ.
     pub fn end(self) {
-        for (why, (count, printed)) in self.families {
-            println!("family: {why}\t{count}\t{printed}");
-        }
         self.rows.iter().for_each(|it| println!("row: {it}"));
         println!("answers: {} {}", self.same, self.differ);
     }
