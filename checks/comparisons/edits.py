@@ -4,7 +4,7 @@ with --exhaustive all that could get another suggestion, which takes half an hou
 import subprocess
 
 import built
-from comparisons.tools import output
+from comparisons.tools import output, rows_of_names
 
 # The triples in which a name is edited: of an architecture, and of each later field on machines that have other ABIs.
 FIELDS = {"architecture": ["{}-unknown-none"], "alias": ["{}-unknown-none"], "operating_system": ["x86_64-unknown-{}", "armv7-unknown-{}"],
@@ -36,8 +36,7 @@ def names():
                 yield f"field {field}", text, text
     for target in output("rustc", "--print", "target-list").split():
         yield "triple", target, target
-    for line in open(f"{built.ROOT}/packages/names/elsewhere.tsv", encoding="utf-8"):
-        dialect, name, triple, ways, *_ = [*line.rstrip("\n").split("\t"), "", "", ""]
+    for dialect, name, triple, ways, _ in rows_of_names():
         if dialect == "first":
             yield "word", name.rstrip("!"), f"{triple}-unknown"
         elif ways in ("r", "w", "rw") and triple != "-" and "*" not in name and dialect not in ("second", "hard", "later"):

@@ -27,7 +27,7 @@ import subprocess
 import built
 import upstream
 from comparisons import python_platforms, rustc_cfg
-from comparisons.tools import Report, order_and_width, output, rustc_answers, rustc_specs
+from comparisons.tools import Report, order_and_width, output, rows_of_names, rustc_answers, rustc_specs
 
 # The word of each dialect for a system, where it isn't the library's. A word that means another system in every row of a
 # dialect is found by nothing else.
@@ -109,14 +109,10 @@ UNAME = """#!/bin/sh
 case "$1" in -m) echo "$TOLD_MACHINE";; -p) echo unknown;; -r) echo 7.1;; *) echo "$TOLD_SYSTEM";; esac
 """
 
-Row = collections.namedtuple("Row", "dialect name triple ways note", defaults=[""])
-
-
 class Comparison(Report):
     def __init__(self, options, folder):
         super().__init__(options, folder)
-        lines = upstream.read(f"{built.ROOT}/packages/names/elsewhere.tsv").splitlines()
-        self.rows, self.folder = [Row(*line.split("\t")) for line in lines if not line.startswith("#") and line.count("\t") > 1], folder
+        self.rows, self.folder = rows_of_names(), folder
         self.dialects = [it for it in dict.fromkeys(row.dialect for row in self.rows) if it not in (*LISTS, *OF_TRIPLES)]
 
     def rows_of(self, dialect, ways=("rw", "r", "w")):

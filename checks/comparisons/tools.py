@@ -1,4 +1,5 @@
 """What the comparisons with other tools share: the answers of the Python package, and a report of what was asked and what differs."""
+import collections
 import json
 import os
 import re
@@ -6,6 +7,18 @@ import subprocess
 import sys
 
 import built
+
+
+# A row of packages/names/elsewhere.tsv.
+Row = collections.namedtuple("Row", "dialect name triple ways note", defaults=[""])
+
+
+def rows_of_names():
+    """The rows of packages/names/elsewhere.tsv, one for each name of a line."""
+    with open(f"{built.ROOT}/packages/names/elsewhere.tsv", encoding="utf-8") as file:
+        lines = [line.rstrip("\n").split("\t") for line in file if not line.startswith("#")]
+    return [Row(dialect, name, name if triple == "=" else triple, *rest)
+            for dialect, names, triple, *rest in (line for line in lines if len(line) > 2) for name in names.split(", ")]
 
 
 def output(*command, **more):

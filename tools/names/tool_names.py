@@ -107,7 +107,9 @@ def read_line(found, line, known, cited):
     elif (words := line.split("\t"))[0] in found.words:
         add_words(found.words[words[0]], *columns(words[1:], ["words"]))
     elif not line.startswith("#"):
-        add_row(found, columns(line, ["a dialect", "a name", "a triple", "the ways", "a note"], 4), known, cited)
+        dialect, names, triple, *rest = columns(line, ["a dialect", "its names", "a triple", "the ways", "a note"], 4)
+        for name in names.split(", "):
+            add_row(found, [dialect, name, name if triple == "=" else triple, *rest], known, cited)
     elif last and not last.about:
         last.about = line[2:]
 

@@ -33,7 +33,7 @@ fn names() -> Vec<String> {
         let mut cells = row.split('\t').skip(1);
         let name = cells.next().unwrap_or("");
         // A list has words, and no other column.
-        name.split(if cells.next().is_some() { '\t' } else { ' ' })
+        name.split(if cells.next().is_some() { ", " } else { " " })
     };
     let names = rows.flat_map(names);
     names.map(|it| it.replace(['*', '+', '!'], "11")).collect()

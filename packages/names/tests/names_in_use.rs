@@ -161,14 +161,10 @@ fn targets_of_rustc_are_themselves() {
 /// The targets of rustc's list, which `checks/compare elsewhere` compares with the table: without what older ones had.
 fn rustc_targets() -> impl Iterator<Item = &'static str> {
     let rows = include_str!("../elsewhere.tsv").lines();
-    let mut names: Vec<&str> = rows
-        .filter_map(|line| {
-            let mut cells = line.split('\t');
-            let name = (cells.next()? == "rust").then(|| cells.next()).flatten()?;
-            (!line.contains("rustc's name ") && !name.starts_with("universal2")).then_some(name)
-        })
-        .collect();
-    names.dedup();
+    let rows = rows.filter(|it| !it.contains("rustc's name ") && !it.contains("several"));
+    let names = rows.filter_map(|it| it.strip_prefix("rust\t")?.split('\t').next());
+    // The row that only says how a triple is written comes after that of the same name.
+    let names: BTreeSet<_> = names.flat_map(|it| it.split(", ")).collect();
     names.into_iter()
 }
 

@@ -9,10 +9,12 @@ const PATH: &str = concat!(env!("CARGO_MANIFEST_DIR"), "/targets.csv");
 /// The names of the table without a version or a custom vendor, and what they mean.
 fn names() -> impl Iterator<Item = (Dialect, &'static str, TripleRef<'static>)> {
     let rows = include_str!("../elsewhere.tsv").lines();
-    rows.filter_map(|line| {
+    let rows = rows.filter_map(|line| {
         let mut cells = line.split('\t');
-        let dialect = cells.next()?.parse::<Dialect>().ok()?;
-        let name = cells.next().filter(|it| !it.contains('*'))?;
+        Some((cells.next()?.parse::<Dialect>().ok()?, cells.next()?))
+    });
+    let names = rows.flat_map(|(dialect, names)| names.split(", ").map(move |it| (dialect, it)));
+    names.filter_map(|(dialect, name)| {
         let triple = dialect.read(name).ok()?;
         (!triple.vendor.is_custom()).then_some((dialect, name, triple))
     })
