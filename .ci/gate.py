@@ -29,7 +29,7 @@ import time
 import traceback
 
 # Debian's packages of the tools: commands, modules of Debian's Python, and paths.
-MODULES = {it: f"python3-{it}" for it in "hypothesis pip venv hatchling build installer pandas distributed packaging selenium jsonschema markdown".split()} | {"ensurepip": "python3-venv"}
+MODULES = {it: f"python3-{it}" for it in "hypothesis pip venv hatchling build installer pandas packaging selenium jsonschema markdown".split()} | {"ensurepip": "python3-venv"}
 PACKAGES = {it: it for it in "git clang valgrind cmake meson cbindgen jq pkg-config mypy pypy3 shellcheck pyflakes3 chromium npm esbuild lintian rpm makepkg zsh fish".split()} | MODULES | {
     "cargo": "cargo-web", "rustc": "rustc-web", "rustfmt": "rustfmt-web", "cargo-clippy": "rust-web-clippy", "cc": "gcc", "c++": "g++", "nm": "binutils",
     "man": "man-db", "cram3": "python3-cram", "chromedriver": "chromium-driver", "node": "nodejs", "tsc": "node-typescript", "dpkg-buildpackage": "dpkg-dev",

@@ -98,51 +98,22 @@ def given_library(name):
 # ---- the platform that a library is for
 
 MACHINES = {62: "x86_64", 183: "aarch64"}
-DYNAMIC, DYNAMIC_SYMBOLS, NEEDED_VERSIONS = 6, 11, 0x6FFFFFFE
-DT_NEEDED, DT_SONAME = 1, 14
-MANYLINUX_LIBRARIES = {"libc.so.6", "libgcc_s.so.1", "libm.so.6", "libpthread.so.0", "libdl.so.2", "librt.so.1",
-                       "ld-linux-x86-64.so.2", "ld-linux-aarch64.so.1"}
+MANYLINUX_LIBRARIES = {b"libc.so.6", b"libgcc_s.so.1", b"libm.so.6", b"libpthread.so.0", b"libdl.so.2", b"librt.so.1",
+                       b"ld-linux-x86-64.so.2", b"ld-linux-aarch64.so.1"}
 
 
 def linux_platform(content):
     """The tag of the Linux platforms that a shared library is for, by what it needs of the C library, or None.
 
-    A library that needs other ones than the C library is for `linux_x86_64`, for which nothing is promised.
+    A library that needs other ones than the C library is for `linux_x86_64`, for which nothing is promised. What it needs are strings
+    in the file that end in a zero byte. Others may look the same: then the tag is of fewer platforms than would do.
     """
     machine = MACHINES.get(struct.unpack_from("<H", content, 18)[0]) if content[:6] == b"\x7fELF\x02\x01" else None
     if machine is None:
         return None
-    libraries, versions = needs_of(content)
-    glibc = [tuple(map(int, it[6:].split(".")[:2])) for it in versions if re.fullmatch(r"GLIBC_[\d.]+", it)]
-    if not libraries <= MANYLINUX_LIBRARIES or "GLIBC_PRIVATE" in versions:
+    libraries = {it for it in re.findall(rb"(?<=\0)[^\0]+\.so[.\d]*(?=\0)", content) if not it.startswith(b"libtarget_lexicon.so")}
+    versions = re.findall(rb"GLIBC_(\d+)\.(\d+)[^\0]*\0", content)
+    if not libraries <= MANYLINUX_LIBRARIES or b"GLIBC_PRIVATE\0" in content:
         return f"linux_{machine}"
-    major, minor = max([*glibc, (2, 17)])
+    major, minor = max([(2, 17), *((int(major), int(minor)) for major, minor in versions)])
     return f"manylinux_{major}_{minor}_{machine}"
-
-
-def needs_of(content):
-    """The names of the libraries that an ELF file needs, and those of the versions of their symbols."""
-    start, = struct.unpack_from("<Q", content, 40)
-    size, count = struct.unpack_from("<HH", content, 58)
-    sections = [struct.unpack_from("<IIQQQQIIQQ", content, start + i * size) for i in range(count)]
-
-    def text(section, at):
-        begin = sections[section[6]][4] + at
-        return content[begin:content.index(b"\0", begin)].decode()
-
-    libraries, versions = set(), set()
-    for section in sections:
-        if section[1] == DYNAMIC:
-            entries = struct.iter_unpack("<QQ", content[section[4]:section[4] + section[5]])
-            libraries |= {text(section, value) for kind, value in entries if kind == DT_NEEDED}
-        elif section[1] == NEEDED_VERSIONS:
-            at = section[4]
-            for _ in range(section[7]):
-                _, entries, _, first, following = struct.unpack_from("<HHIII", content, at)
-                entry = at + first
-                for _ in range(entries):
-                    _, _, _, name, next_entry = struct.unpack_from("<IHHII", content, entry)
-                    versions.add(text(section, name))
-                    entry += next_entry
-                at += following
-    return libraries, versions

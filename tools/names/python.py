@@ -1,4 +1,4 @@
-"""The files of the Python package that are written whole: the values of the fields, and the answers."""
+"""The files of the Python package that are written whole: the names of other lists, the values of the fields, and the answers."""
 from answers import ENUMS
 from facts import KNOWN
 
@@ -23,15 +23,53 @@ ANSWERS = {
     "arm_profile": "The profile of a 32-bit Arm architecture: for what its processors are made.",
     "signedness": "Whether C's `char` has a sign.",
 }
+# The file of the lists that the others need.
+NAMES = '''"""The statuses of the library for C, the names of its facts, and the tools and C libraries that callers name."""
+from typing import List, Literal, Optional
+
+from ._named import NamedValue
+
+# The statuses of `enum lexicon_status`. From 1 to 5, a field was expected where a string is refused.
+OK = 0
+{statuses}
+
+#: The names of the facts, in the order of C.
+FACT_NAMES = (
+{facts}
+)
+{dialects}
+
+    @classmethod
+    def _missing_(cls, value: object) -> "Optional[Dialect]":
+        """The dialect of another name, such as `docker`."""
+        if isinstance(value, str) and value in OTHER_NAMES:
+            return cls(OTHER_NAMES[value])
+        super()._missing_(value)  # which raises the error
+        return None
+
+
+#: The names of the dialects; the other names; and those that are only read, or only written.
+{names}
+{libcs}
+
+
+#: The names of the C libraries.
+LinuxLibcName = Literal[{libc_names}]
+'''
 # The answers about a target that come before and after the facts.
 FIRST = ("architecture", "vendor", "operating_system", "version", "environment", "binary_format")
 LAST = ("llvm_target", "multiarch_tuple", "printed", "canonical")
+# What callers name.
+GIVEN = {
+    "Dialect": "A tool, or a group of tools, that names targets in its own way.",
+    "LinuxLibc": "A C library of Linux or Windows, which the caller says where a name doesn't state it.",
+}
 # The file of the answers.
 FACTS = '''"""What a compiler asks of a triple."""
 from typing import Dict, NamedTuple, Optional, Tuple, Type, Union
 
 from ._library import FactsStruct
-from ._named import NamedValue, members
+from ._named import NamedValue
 from ._values import BinaryFormat, Family
 {enumerations}
 
@@ -87,6 +125,16 @@ def enumeration(name, base, about, members):
     return lines
 
 
+def names(lists, dialects, libcs):
+    """The file of the lists that the others need, which are removed from `lists`, and of what callers name."""
+    members = ([(it.constant, it.name, it.about) for it in of] for of in (dialects, libcs))
+    classes = ["\n".join(enumeration(name, "NamedValue", about, of)) for (name, about), of in zip(GIVEN.items(), members)]
+    return HEAD.format("answers.tsv and packages/names/elsewhere.tsv") + NAMES.format(
+        statuses="\n".join(lists.pop("the statuses for Python")), facts="\n".join(f"    {it}" for it in lists.pop("the names of facts for Python")),
+        dialects=classes[0], names="\n".join(lists.pop("the dialects' names for Python")), libcs=classes[1],
+        libc_names=", ".join(f'"{it.name}"' for it in libcs))
+
+
 def values(members):
     """The file of the values, from the members of each class: their names, values, and what is said of them."""
     lines = ['"""The values of each field, in the order of their numbers."""', "from __future__ import annotations", "",
@@ -115,7 +163,7 @@ def answers(answered, facts, reasons):
     """The file of the answers, from those of each kind, the facts, and why one has no answer."""
     members = {kind: [(it.constant, it.name, it.about) for it in answered[kind]] for kind in ANSWERS}
     enumerations = [line for kind, about in ANSWERS.items() for line in enumeration(ENUMS[kind], "NamedValue", about, members[kind])]
-    by_number = {True: "(None, *members({}))", False: "members({})"}
+    by_number = {True: "(None, *{})", False: "tuple({})"}
     tables = {table_of(it): f"Tuple[{python_type(it)}, ...] = {by_number[it.is_optional].format(it.words)}" for it in facts if it.words}
     columns = dict.fromkeys(FIRST, "str") | {it.name: "str" if it.words else plain_type(it) for it in facts} | dict.fromkeys(LAST, "str")
     return HEAD.format("answers.tsv") + FACTS.format(

@@ -278,7 +278,6 @@ def lists(tables):
         "the dialects for the manual": [f"the tool whose names are read or written: {', '.join(words[:-1])} or {words[-1]}.",
                                         f"{' and '.join(f'{name} is {it.name}' for name, it in others)}.",
                                         f"Names of {' and '.join(it.name for it in dialects if not it.is_written)} are only read."],
-        "the dialects for Python": [line for it in dialects for line in (f"#: {it.about}", f'{it.constant} = "{it.name}"')],
         "the dialects' names for Python": [f"DialectName = {literal([*words, *(name for name, _ in others)])}",
                                            f"OTHER_NAMES = {{{', '.join(f'{chr(34)}{name}{chr(34)}: {chr(34)}{it.name}{chr(34)}' for name, it in others)}}}",
                                            f"ONLY_READ = [{', '.join(f'Dialect.{it.constant}' for it in dialects if not it.is_written)}]",

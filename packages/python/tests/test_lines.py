@@ -1,10 +1,10 @@
 """Generated lines compared with the program `triples`, columns, threads, and memory."""
+import concurrent.futures
 import os
 import shutil
 import subprocess
 import sys
 import tempfile
-import threading
 import unittest
 
 import target_lexicon
@@ -117,41 +117,28 @@ class Threads(unittest.TestCase):
         self.addCleanup(sys.setswitchinterval, sys.getswitchinterval())
         sys.setswitchinterval(1e-6)
 
-    def run_at_once(self, work, count=8):
-        """Runs the work in many threads that begin at once, and returns their answers."""
-        barrier, answers = threading.Barrier(count), [None] * count
-
-        def run(number):
-            barrier.wait()
-            answers[number] = work(number)
-        threads = [threading.Thread(target=run, args=(number,)) for number in range(count)]
-        for it in threads:
-            it.start()
-        for it in threads:
-            it.join()
-        return answers
+    def run_at_once(self, work, values):
+        """The answers to all values, in the order of these. Each has a thread of its own."""
+        with concurrent.futures.ThreadPoolExecutor(len(values)) as pool:
+            return list(pool.map(work, values))
 
     def test_each_call_has_its_own_memory(self):
+        def work(lines):
+            return [(answer("show", it), answer("settle", it)) for it in lines]
         lines = lists.generated_lines(400)
-        expected = [(answer("show", it), answer("settle", it)) for it in lines]
-
-        def work(number):
-            first = number * 40
-            order, wanted = lines[first:] + lines[:first], expected[first:] + expected[:first]
-            return all([(answer("show", it), answer("settle", it)) for it in order] == wanted for _ in range(3))
-        self.assertEqual(self.run_at_once(work), [True] * 8)
+        orders = [lines[first:] + lines[:first] for first in range(0, 320, 40)] * 3
+        self.assertTrue(self.run_at_once(work, orders) == list(map(work, orders)))
 
     def test_each_column_has_its_own_memory(self):
         columns = [[f"x86_64-apple-ios{number}.{line % 250}.{line // 250}" for line in range(2000)] for number in range(8)]
-        expected = list(map(target_lexicon.settle_all, columns))
-        self.assertTrue(self.run_at_once(lambda number: target_lexicon.settle_all(columns[number])) == expected)
+        for call in Columns.CALLS:
+            self.assertTrue(self.run_at_once(call, columns) == list(map(call, columns)))
 
     def test_a_triple_is_asked_by_all_at_once(self):
         for number in range(50):
             it = Triple(f"x86_64-vendor{number}-linux")
-            answers = self.run_at_once(lambda _, it=it: (answer("show", str(it)), str(it.vendor), it.canonical, hash(it)), 4)
-            self.assertEqual(len(set(answers)), 1, answers)
-            self.assertEqual(answers[0][1:3], (f"vendor{number}", str(it)))
+            answers = self.run_at_once(lambda it: (answer("show", str(it)), str(it.vendor), it.canonical, hash(it)), [it] * 4)
+            self.assertEqual(set(answers), {(answers[0][0], f"vendor{number}", str(it), hash(it))})
 
 
 @unittest.skipUnless(sys.implementation.name == "cpython", "not CPython, which frees memory at once")

@@ -39,21 +39,14 @@ def refusal(call, *arguments):
         return str(error), error.line, error.field, error.suggestion, error.reason, error.start, error.end
 
 
-def sizes(it):
-    return it.short_size, it.int_size, it.long_size, it.long_long_size, it.float_size, it.double_size
-
-
 CALLS = {
     "parse": lambda: Triple("arm64-apple-ios17"),
     "parse a custom vendor": lambda: Triple("x86_64-acme-linux-gnu"),
-    "parse a long one": lambda: Triple(LONG),
     "print": lambda: list(map(str, fresh())),
     "print a long one": lambda: str(Triple(LONG)),
     "show": lambda: [repr(LINUX), repr(OTHER), f"{CUSTOM:>30}", repr(CUSTOM.vendor)],
     "compare": lambda: [fresh()[0] == fresh()[0], fresh()[0] < fresh()[1], fresh()[0] >= fresh()[1], hash(fresh()[1]) == hash(fresh()[1])],
-    "sort": lambda: sorted(fresh() + fresh()),
-    "fields": lambda: (CUSTOM.architecture, CUSTOM.vendor, CUSTOM.operating_system, CUSTOM.environment, CUSTOM.binary_format, OTHER.version),
-    "facts": lambda: [(it.endianness, it.pointer_width, it.data_model, it.family, it.object_format, sizes(it)) for it in fresh()],
+    "facts": lambda: [(it.endianness, it.pointer_width, it.data_model, it.family, it.object_format) for it in fresh()],
     "all facts": lambda: [it.to_dict() for it in fresh()],
     "canonical": lambda: [LINUX.canonical, CUSTOM.settle(), OTHER.settle(), OTHER.comes_back(), LINUX.same_target(OTHER)],
     "from fields": lambda: Triple.from_fields(Architecture.X86_64, Vendor.APPLE, OperatingSystem.IOS, version=(17, 1)),
@@ -86,42 +79,27 @@ def tried(call, number):
     """What comes of a call while the allocation with this number fails, and whether it came to that one."""
     try:
         fail_allocation(number)
-    except Exception:  # pylint: disable=broad-exception-caught
-        return MemoryError, True
-    try:
         outcome = call()
-    except MemoryError:
-        outcome = MemoryError
     except Exception as error:  # pylint: disable=broad-exception-caught
         outcome = error
     return outcome, allocations() >= number
-
-
-def outcomes(call, usual):
-    """What comes of a call that isn't usual, with the number of the allocation that failed; and how many trials there were."""
-    found, number = [], 0
-    while number < MOST:
-        number += 1
-        outcome, got_there = tried(call, number)
-        if outcome is not MemoryError and outcome != usual:
-            found.append((number, outcome))
-        elif call() != usual:
-            found.append((number, "another answer afterwards"))
-        if not got_there:
-            break
-    return found, number
 
 
 def main():
     gc.disable()
     trials = 0
     for name, call in CALLS.items():
-        is_of_python = name.startswith("refusal") and sys.version_info >= (3, 10)
-        found, number = outcomes(call, [call() for _ in range(3)][-1])
-        trials += number
-        for number, outcome in found:
-            if not (is_of_python and isinstance(outcome, SystemError)):
+        accepted = (MemoryError, SystemError) if name.startswith("refusal") and sys.version_info >= (3, 10) else MemoryError
+        usual = [call() for _ in range(3)][-1]
+        for number in range(1, MOST):
+            outcome, got_there = tried(call, number)
+            if outcome != usual and not isinstance(outcome, accepted):
                 print(f"{name}, allocation {number}: {outcome!r:.200}", file=sys.stderr)
+            elif call() != usual:
+                print(f"{name}, allocation {number}: another answer afterwards", file=sys.stderr)
+            trials += 1
+            if not got_there:
+                break
     print(f"{trials} trials", file=sys.stderr)
 
 

@@ -10,13 +10,13 @@ field. `Triple.read` and `Triple.name_in` know the names of other tools, `transl
 whose name a string is. `settle_all` and `facts_all` answer for a column of targets.
 """
 from ._columns import facts_all, settle_all
-from ._dialects import Dialect, LinuxLibc
 from ._errors import ParseError
 from ._explain import Explanation, Origin, Source, explain
 from ._facts import ArmProfile, CallingConvention, CLibrary, DataModel, Endianness, Facts, FloatAbi, Signedness
 from ._fields import CustomVendor
 from ._library import LIBRARY_PATH, LIBRARY_VERSION, LibraryError
 from ._library import VERSION as __version__
+from ._names import Dialect, LinuxLibc
 from ._translation import Change, Meaning, TranslationError, changes, meanings, translate
 from ._triple import Keep, Triple
 from ._values import Architecture, BinaryFormat, Environment, Family, OperatingSystem, Vendor

@@ -14,10 +14,11 @@ from contextlib import suppress
 from typing import Any, Dict, Iterator, List, NoReturn, Optional, Tuple, Union
 
 from . import LIBRARY_VERSION, Dialect, LinuxLibc, OperatingSystem, ParseError, Triple, explain, meanings, settle_all
-from ._dialects import OTHER_NAMES, READ, WRITTEN
+from ._dialects import READ, WRITTEN
 from ._errors import other_calls
 from ._facts import NO_ANSWER
 from ._named import shown
+from ._names import OTHER_NAMES
 from ._triple import _version_text
 
 # What is answered for a target, with the keys of JSON. Of one that is refused there is an `error`.

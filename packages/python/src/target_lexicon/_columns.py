@@ -8,9 +8,9 @@ from itertools import islice
 from operator import getitem, itemgetter
 from typing import Any, Callable, Dict, Iterable, List, Literal, Optional, Sequence, Tuple, Type, TypeVar, Union
 
-from . import _library
+from . import _library, _names
 from ._facts import FACTS, Facts
-from ._named import NamedValue, members
+from ._named import NamedValue
 from ._triple import Triple
 from ._values import Architecture, BinaryFormat, Environment, Family, OperatingSystem, Vendor
 
@@ -23,20 +23,20 @@ _AT_ONCE, _REMEMBERED = 1 << 12, 1 << 16
 
 # The names of values by number.
 _ARCHITECTURES, _VENDORS, _SYSTEMS, _ENVIRONMENTS, _FORMATS = (
-    [it.value for it in members(of)] for of in (Architecture, Vendor, OperatingSystem, Environment, BinaryFormat))
+    [it.value for it in of] for of in (Architecture, Vendor, OperatingSystem, Environment, BinaryFormat))
 
 
 def _by_number(of: Type[Union[int, NamedValue]]) -> Sequence[Any]:
     """The plain values of a fact by their numbers. A number is itself, or None if it is 0, except for a truth."""
     if not issubclass(of, NamedValue):
         return (False, True) if of is bool else (None, *range(1, 256))
-    names: List[Optional[str]] = [it.value for it in members(of)]
+    names: List[Optional[str]] = [it.value for it in of]
     return names if of in (BinaryFormat, Family) else [None, *names]
 
 
 # The plain values of each fact, in the order of the answers; and what gives the numbers of C in this order.
 _VALUES = tuple(map(_by_number, FACTS.values()))
-_in_order = itemgetter(*map(_library.FACT_NAMES.index, FACTS))
+_in_order = itemgetter(*map(_names.FACT_NAMES.index, FACTS))
 _value_of: Callable[[Sequence[Any], int], Any] = getitem
 
 
@@ -145,7 +145,7 @@ def _facts_of_texts(targets: Sequence[str]) -> List[Facts]:
         printed = out.value.decode()
         _library.check(_llvm_target(to_triple, to_out, room, None))
         llvm_target = out.value.decode()
-        multiarch_tuple = None if _multiarch_tuple(to_triple, to_out, room, None) == _library.TRIPLE_WITHOUT_NAME else out.value.decode()
+        multiarch_tuple = None if _multiarch_tuple(to_triple, to_out, room, None) == _names.TRIPLE_WITHOUT_NAME else out.value.decode()
         answers.append(_facts_from(_NUMBERS.unpack_from(answered), None, llvm_target, multiarch_tuple, printed, canonical))
     return answers
 

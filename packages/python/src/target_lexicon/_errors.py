@@ -4,9 +4,10 @@ from __future__ import annotations
 import ctypes
 from typing import Callable, Optional, Tuple, Union
 
-from . import _library
-from ._dialects import Dialect, DialectName, dialect_number
-from ._named import members, shown
+from . import _library, _names
+from ._dialects import dialect_number
+from ._named import shown
+from ._names import Dialect, DialectName
 
 #: The names of the fields, in their order.
 FIELDS = ("architecture", "vendor", "operating_system", "environment", "binary_format")
@@ -14,12 +15,8 @@ FIELDS = ("architecture", "vendor", "operating_system", "environment", "binary_f
 # How many characters of a string, and of the refused part, a message shows.
 _SHOWN_BEFORE, _SHOWN_PART, _SHOWN_AFTER = 40, 60, 20
 
-# The status in Python for a string that UTF-8 can't encode.
-_LONE_SURROGATE = 7
-
-# The statuses that the library gives for a refused string in UTF-8, and those for a name in a dialect.
-_NAMES = (_library.UNKNOWN_NAME, _library.NAME_WITHOUT_TRIPLE)
-_REFUSALS = (*range(1, _library.UNRECOGNIZED_FIELD + 1), *_NAMES)
+# The statuses that the library gives for a refused string in UTF-8: without a dialect, and for a name in one.
+_REFUSALS = range(1, _names.UNRECOGNIZED_FIELD + 1), (_names.UNKNOWN_NAME, _names.NAME_WITHOUT_TRIPLE)
 
 
 class ParseError(ValueError):
@@ -67,15 +64,7 @@ class ParseError(ValueError):
             raise ValueError(f"the text doesn't have the part {part!a} at {start}")
         self._number = 0 if dialect is None else dialect_number(dialect)
         super().__init__(text, field, start, part, dialect and str(dialect))
-        #: The whole string that is refused.
-        self.text = text
-        #: The name of the field that was expected, as a triple has it. None if no field was.
-        self.field = field
-        #: Where the refused part begins in the string, as an index of the `str`.
-        self.start = start
-        #: The refused part.
-        self.part = part
-        #: The name of the dialect in which the string isn't read; None if it isn't read as a name in one.
+        self.text, self.field, self.start, self.part = text, field, start, part
         self.dialect: Optional[str] = self.args[4]
 
     @property
@@ -94,21 +83,21 @@ class ParseError(ValueError):
         if self._number:
             return _library.name_suggestion(self._number, self.text.encode())
         status = self._status
-        if status == _LONE_SURROGATE:
+        if status == _names.NOT_UTF8:
             return None
         before, part, after = (it.encode(errors="replace") for it in (self.text[:self.start], self.part, self.text[self.end:]))
         return _library.suggestion(status, before + part + after, len(before), len(before + part))
 
     @property
     def _status(self) -> int:
-        """The status of the library, or that of a lone surrogate."""
+        """The status of the library, which is that of bytes that aren't UTF-8 for a lone surrogate."""
         try:
             self.part.encode()
         except UnicodeEncodeError:
-            return _LONE_SURROGATE
+            return _names.NOT_UTF8
         if self._number:
-            return _library.UNKNOWN_NAME if self.reason is None else _library.NAME_WITHOUT_TRIPLE
-        return _library.UNRECOGNIZED_FIELD if self.field is None else FIELDS.index(self.field) + 1
+            return _names.UNKNOWN_NAME if self.reason is None else _names.NAME_WITHOUT_TRIPLE
+        return _names.UNRECOGNIZED_FIELD if self.field is None else FIELDS.index(self.field) + 1
 
     @property
     def line(self) -> str:
@@ -117,7 +106,7 @@ class ParseError(ValueError):
 
     def _line(self, part: str) -> str:
         status = self._status
-        return f"Lone surrogate: {part}" if status == _LONE_SURROGATE else _library.error_line(status, part.encode())
+        return f"Lone surrogate: {part}" if status == _names.NOT_UTF8 else _library.error_line(status, part)
 
     def __str__(self) -> str:
         note = other_calls(self, lambda it: f"Triple.read(text, {it.value!r})" if it else "Triple.read(text)")
@@ -126,7 +115,7 @@ class ParseError(ValueError):
     @property
     def report(self) -> str:
         """The message without the note that names the calls that read the string, where it is a name of another tool."""
-        part = shown(_cut(self.part))
+        part = shown(self.part if len(self.part) <= _SHOWN_PART else self.part[:_SHOWN_PART] + "...")
         before, after = self.text[: self.start], self.text[self.end:]
         begin = shown(before if len(before) <= _SHOWN_BEFORE else "..." + before[-_SHOWN_BEFORE:])
         end = shown(after if len(after) <= _SHOWN_AFTER else after[:_SHOWN_AFTER] + "...")
@@ -140,7 +129,7 @@ def other_calls(error: ParseError, call: Callable[[Optional[Dialect]], str]) -> 
     if error.dialect is not None or error.start > 0:  # what begins with an architecture has a suggestion
         return None
     utf8 = error.text.encode(errors="replace")
-    dialects, calls, reasons = (None, *members(Dialect)), [], []
+    dialects, calls, reasons = (None, *Dialect), [], []
     for number, triple in _library.meanings(ctypes.create_string_buffer(utf8, len(utf8))):
         dialect = dialects[number]
         if triple is None:
@@ -148,10 +137,6 @@ def other_calls(error: ParseError, call: Callable[[Optional[Dialect]], str]) -> 
         elif dialect is not Dialect.GNU:  # whose names are spelled like triples
             calls.append(call(dialect))
     return f"it is a name of another tool: use {' or '.join(calls)}" if calls else reasons[0] if reasons else None
-
-
-def _cut(part: str) -> str:
-    return part if len(part) <= _SHOWN_PART else part[:_SHOWN_PART] + "..."
 
 
 def encoded(text: object, what: str) -> bytes:
@@ -172,7 +157,7 @@ def range_in(utf8: bytes, start: int, end: int) -> Tuple[int, str]:
 def refusal(text: str, utf8: bytes, error: _library.ErrorStruct, dialect: Union[Dialect, DialectName, None] = None) -> ParseError:
     """The error that the library wrote of a string, which is a name in the dialect, if there is one."""
     status = error.status
-    if status not in _REFUSALS or (status in _NAMES) != (dialect is not None):
+    if status not in _REFUSALS[dialect is not None]:
         raise _library.LibraryError(f"a refusal with the status {status}")
     field = FIELDS[status - 1] if status <= len(FIELDS) else None
     return ParseError(text, field, *range_in(utf8, error.start, error.end), dialect)

@@ -3,9 +3,9 @@
 import ctypes
 from typing import Iterator, NamedTuple, Optional, Tuple
 
-from . import _library
+from . import _library, _names
 from ._errors import FIELDS, encoded, range_in, refusal
-from ._named import NamedValue, members
+from ._named import NamedValue
 from ._triple import Triple, _triple_of, _version_text
 
 
@@ -23,7 +23,7 @@ class Origin(NamedValue):
 
 
 #: By their numbers in C.
-_ORIGINS = members(Origin)
+_ORIGINS = tuple(Origin)
 
 
 class Source(NamedTuple):
@@ -100,7 +100,7 @@ def explain(text: str) -> Explanation:
     utf8 = encoded(text, "the text of a triple")
     owner = ctypes.create_string_buffer(utf8, len(utf8))
     struct, sources, error = _library.TripleStruct(), _library.SourcesStruct(), _library.ErrorStruct()
-    if _library.explain(owner, len(utf8), struct, sources, error) != _library.OK:
+    if _library.explain(owner, len(utf8), struct, sources, error) != _names.OK:
         raise refusal(text, utf8, error)
     triple = _triple_of(struct, owner)
     return Explanation(text, triple, *_sources(triple, utf8, sources))

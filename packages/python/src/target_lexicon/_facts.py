@@ -3,7 +3,7 @@
 from typing import Dict, NamedTuple, Optional, Tuple, Type, Union
 
 from ._library import FactsStruct
-from ._named import NamedValue, members
+from ._named import NamedValue
 from ._values import BinaryFormat, Family
 
 
@@ -145,15 +145,15 @@ NO_ANSWER = {
 # The answers by their numbers, of which 0 is none. A number is itself.
 _NUMBERS: Tuple[Optional[int], ...] = (None, *range(1, 256))
 _TRUTH: Tuple[bool, ...] = (False, True)
-_ENDIANNESS: Tuple[Optional[Endianness], ...] = (None, *members(Endianness))
-_CALLING_CONVENTION: Tuple[Optional[CallingConvention], ...] = (None, *members(CallingConvention))
-_DATA_MODEL: Tuple[Optional[DataModel], ...] = (None, *members(DataModel))
-_FORMAT: Tuple[BinaryFormat, ...] = members(BinaryFormat)
-_FAMILY: Tuple[Family, ...] = members(Family)
-_C_LIBRARY: Tuple[Optional[CLibrary], ...] = (None, *members(CLibrary))
-_FLOAT_ABI: Tuple[Optional[FloatAbi], ...] = (None, *members(FloatAbi))
-_ARM_PROFILE: Tuple[Optional[ArmProfile], ...] = (None, *members(ArmProfile))
-_SIGNEDNESS: Tuple[Optional[Signedness], ...] = (None, *members(Signedness))
+_ENDIANNESS: Tuple[Optional[Endianness], ...] = (None, *Endianness)
+_CALLING_CONVENTION: Tuple[Optional[CallingConvention], ...] = (None, *CallingConvention)
+_DATA_MODEL: Tuple[Optional[DataModel], ...] = (None, *DataModel)
+_FORMAT: Tuple[BinaryFormat, ...] = tuple(BinaryFormat)
+_FAMILY: Tuple[Family, ...] = tuple(Family)
+_C_LIBRARY: Tuple[Optional[CLibrary], ...] = (None, *CLibrary)
+_FLOAT_ABI: Tuple[Optional[FloatAbi], ...] = (None, *FloatAbi)
+_ARM_PROFILE: Tuple[Optional[ArmProfile], ...] = (None, *ArmProfile)
+_SIGNEDNESS: Tuple[Optional[Signedness], ...] = (None, *Signedness)
 
 
 class Facts(NamedTuple):

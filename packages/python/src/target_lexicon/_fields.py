@@ -1,16 +1,14 @@
 """What the values of fields have in common, and the custom vendor."""
 from __future__ import annotations
 
-from typing import TYPE_CHECKING, Any, Tuple, Type, TypeVar, Union, cast
+from typing import Tuple, Type, TypeVar, Union
 
-from . import _library
+from . import _library, _names
 from ._errors import FIELDS, ParseError, encoded
-from ._named import NamedValue, members
-
-if TYPE_CHECKING:
-    from ._values import Vendor
+from ._named import Immutable, NamedValue, members
 
 Value = TypeVar("Value", bound="FieldValue")
+KnownVendor = TypeVar("KnownVendor", bound="VendorValue")
 
 # The numbers of the fields, by the names of their classes.
 _FIELDS = {name.title().replace("_", ""): number for number, name in enumerate(FIELDS)}
@@ -29,36 +27,36 @@ class FieldValue(NamedValue):
         >>> OperatingSystem.parse("ios17.2")
         OperatingSystem.IOS
         """
-        return members(cls)[_number_of(_FIELDS[cls.__name__], text)]
+        value: Value = members(cls)[_number_of(_FIELDS[cls.__name__], text)]
+        return value
 
 
 class VendorValue(NamedValue):
     """A known vendor. The subclass has the members."""
 
     @classmethod
-    def parse(cls, text: str) -> Union[Vendor, CustomVendor]:
+    def parse(cls: Type[KnownVendor], text: str) -> Union[KnownVendor, CustomVendor]:
         """The vendor that a string is, outside any triple.
 
         >>> Vendor.parse("pc"), Vendor.parse("acme")
         (Vendor.PC, CustomVendor('acme'))
         """
         number = _number_of(_VENDOR, text)
-        if number == _library.CUSTOM_VENDOR:
-            return CustomVendor._of(text)
-        return cast("Vendor", members(cls)[number])
+        vendor: Union[KnownVendor, CustomVendor] = CustomVendor._of(text) if number == _library.CUSTOM_VENDOR else members(cls)[number]
+        return vendor
 
 
 def _number_of(field: int, text: str) -> int:
     """The number of the value that a string is in the field, or a ParseError."""
     status, number = _library.number(field, encoded(text, "the name of a value"))
-    if status == _library.OK:
+    if status == _names.OK:
         return number
     if status != field + 1:
         raise _library.LibraryError(f"unexpected status {status}")
     raise ParseError(text, FIELDS[field])
 
 
-class CustomVendor(str):
+class CustomVendor(Immutable, str):
     """A vendor that has no name of its own in the library: a string that parses as a vendor, and as nothing else.
 
     It is a `str`, as known vendors are, and equal to its string. A string that is no vendor raises a ParseError, a known vendor
@@ -97,18 +95,6 @@ class CustomVendor(str):
 
     def __repr__(self) -> str:
         return f"CustomVendor({self.text!r})"
-
-    def __copy__(self) -> CustomVendor:
-        return self
-
-    def __deepcopy__(self, memo: object) -> CustomVendor:
-        return self
-
-    @classmethod
-    def __get_pydantic_core_schema__(cls, source: Any, handler: Any) -> Any:
-        from ._pydantic import schema_of
-
-        return schema_of(cls)
 
     def __reduce__(self) -> Tuple[Type[CustomVendor], Tuple[str]]:
         return CustomVendor, (self.text,)

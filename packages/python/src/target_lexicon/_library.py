@@ -12,6 +12,10 @@ import os
 from ctypes import POINTER, Structure, c_bool, c_char, c_char_p, c_size_t, c_uint8, c_uint16, c_uint32, c_void_p
 from typing import TYPE_CHECKING, Any, Callable, Iterator, List, Optional, Sequence, Tuple
 
+from ._names import (
+    FACT_NAMES, NAME_WITHOUT_TRIPLE, NEEDS_C_LIBRARY, NO_SUCH_CHANGE, NO_SUCH_MEANING, NO_SUGGESTION, OK, TOO_SMALL, TRIPLE_WITHOUT_NAME,
+)
+
 #: The version of this package.
 VERSION = "0.5.0"
 
@@ -22,89 +26,19 @@ _PACKAGE_FILE = os.path.join(os.path.dirname(os.path.abspath(__file__)), _NAME)
 
 CUSTOM_VENDOR = 255
 
-# The statuses of `enum lexicon_status`. From 1 to 5, a field was expected where a string is refused.
-OK = 0
-# written by tools/names/write: the statuses for Python
-UNRECOGNIZED_FIELD = 6
-NOT_UTF8 = 7
-TOO_SMALL = 8
-NO_SUCH_FIELD = 9
-NO_SUCH_VALUE = 10
-NO_SUCH_VENDOR = 11
-UNKNOWN_NAME = 12
-NAME_WITHOUT_TRIPLE = 13
-TRIPLE_WITHOUT_NAME = 14
-NO_SUCH_DIALECT = 15
-TOO_LARGE = 16
-NEEDS_C_LIBRARY = 17
-NO_SUCH_C_LIBRARY = 18
-NO_SUCH_CHANGE = 19
-NO_SUGGESTION = 20
-NO_ANSWER = 21
-NO_SUCH_MEANING = 22
-# end of what is written
+#: `LEXICON_MAX_GROWTH`: no canonical string is longer by more than its target.
+MAX_GROWTH = 22
+
+#: The size of the first buffer for a string, which has room for every printed triple without a long custom vendor.
+FIRST_SIZE = 128
+TextBuffer = c_char * FIRST_SIZE
+
+# The statuses by which a call says that it has no string.
+_WITHOUT_STRING = (TRIPLE_WITHOUT_NAME, NEEDS_C_LIBRARY, NO_SUCH_CHANGE, NO_SUGGESTION)
 
 
-class TripleStruct(Structure):
-    """`struct lexicon_triple`. That of a `Triple` isn't changed."""
-
-    architecture: int
-    vendor: int
-    operating_system: int
-    environment: int
-    binary_format: int
-    has_version: int
-    minor: int
-    patch: int
-    major: int
-    custom_vendor: Optional[int]
-    custom_vendor_size: int
-    _fields_ = [
-        ("architecture", c_uint16), ("vendor", c_uint8), ("operating_system", c_uint8), ("environment", c_uint8),
-        ("binary_format", c_uint8), ("has_version", c_uint8), ("minor", c_uint8), ("patch", c_uint8), ("major", c_uint16),
-        ("custom_vendor", c_void_p), ("custom_vendor_size", c_size_t),
-    ]
-
-
-class ErrorStruct(Structure):
-    """`struct lexicon_error`."""
-
-    status: int
-    start: int
-    end: int
-    _fields_ = [("status", c_uint32), ("start", c_size_t), ("end", c_size_t)]
-
-
-class SourceStruct(Structure):
-    """`struct lexicon_source`."""
-
-    origin: int
-    start: int
-    end: int
-    _fields_ = [("origin", c_uint32), ("start", c_size_t), ("end", c_size_t)]
-
-
-class SourcesStruct(Structure):
-    """`struct lexicon_sources`."""
-
-    _fields_ = [(name, SourceStruct) for name in ("architecture", "vendor", "operating_system", "environment", "binary_format")]
-
-
-#: The names of the facts, in the order of C.
-FACT_NAMES = (
-    # written by tools/names/write: the names of facts for Python
-    "endianness", "pointer_width", "default_calling_convention", "data_model", "short_size", "int_size", "long_size",
-    "long_long_size", "float_size", "double_size", "is_thumb", "is_like_darwin", "has_custom_vendor", "implied_format",
-    "object_format", "family", "c_library", "float_abi", "is_unix", "long_double_size", "long_double_alignment",
-    "wchar_size", "wchar_alignment", "arm_version", "arm_profile", "char_signedness", "has_emulated_tls", "has_comdat",
-    # end of what is written
-)
-
-
-class FactsStruct(Structure):
-    """`struct lexicon_triple_facts`, all of whose members are bytes."""
-
-    _fields_ = [(name, c_uint8) for name in FACT_NAMES]
+class Struct(Structure):
+    """A struct of C, whose members are numbers."""
 
     if TYPE_CHECKING:
 
@@ -112,11 +46,43 @@ class FactsStruct(Structure):
             ...
 
 
-class ChangeStruct(Structure):
+class TripleStruct(Struct):
+    """`struct lexicon_triple`. That of a `Triple` isn't changed."""
+
+    _fields_ = [
+        ("architecture", c_uint16), ("vendor", c_uint8), ("operating_system", c_uint8), ("environment", c_uint8),
+        ("binary_format", c_uint8), ("has_version", c_uint8), ("minor", c_uint8), ("patch", c_uint8), ("major", c_uint16),
+        ("custom_vendor", c_void_p), ("custom_vendor_size", c_size_t),
+    ]
+
+
+class ErrorStruct(Struct):
+    """`struct lexicon_error`."""
+
+    _fields_ = [("status", c_uint32), ("start", c_size_t), ("end", c_size_t)]
+
+
+class SourceStruct(Struct):
+    """`struct lexicon_source`."""
+
+    _fields_ = [("origin", c_uint32), ("start", c_size_t), ("end", c_size_t)]
+
+
+class SourcesStruct(Struct):
+    """`struct lexicon_sources`."""
+
+    _fields_ = [(name, SourceStruct) for name in ("architecture", "vendor", "operating_system", "environment", "binary_format")]
+
+
+class FactsStruct(Struct):
+    """`struct lexicon_triple_facts`, all of whose members are bytes."""
+
+    _fields_ = [(name, c_uint8) for name in FACT_NAMES]
+
+
+class ChangeStruct(Struct):
     """`struct lexicon_change`."""
 
-    start: int
-    end: int
     _fields_ = [("start", c_size_t), ("end", c_size_t)]
 
 
@@ -176,14 +142,34 @@ def _or_memory_error(call: Callable[..., Any]) -> Callable[..., Any]:
     return checked
 
 
-def _declare_string(name: str, *arguments: Any) -> Callable[..., Optional[str]]:
-    """A call that returns a string or none. Where C takes a string and its size, it takes the string."""
+def _returning(name: str, *arguments: Any) -> Callable[..., Optional[str]]:
+    """A call that returns a string, or None. Where C takes a string and its size, it takes the string."""
     call = _declare(name, *arguments, result=c_char_p)
 
     def decoded(*values: Any) -> Optional[str]:
         found = call(*(part for it in values for part in ((it, len(it)) if isinstance(it, bytes) else (it,))))
         return None if found is None else found.decode()
     return decoded
+
+
+def _writing(name: str, *arguments: Any) -> Callable[..., Any]:
+    """A call that writes a string into a buffer, which follows these arguments. It returns the string, which has no zero byte, or None if there is none."""
+    call = _declare(name, *arguments, c_void_p, c_size_t, _SIZE)
+
+    def written(*values: Any) -> Optional[str]:
+        out = TextBuffer()
+        status = call(*values, out, FIRST_SIZE, None)
+        if status == TOO_SMALL:
+            length = c_size_t()
+            call(*values, None, 0, length)
+            out = ctypes.create_string_buffer(length.value + 1)
+            status = call(*values, out, length.value + 1, None)
+        if status == OK:
+            return out.value.decode()
+        if status not in _WITHOUT_STRING:
+            check(status)
+        return None
+    return written
 
 
 def undeclared(name: str) -> Callable[..., int]:
@@ -202,44 +188,37 @@ comes_back = _declare("lexicon_comes_back", _TRIPLE, POINTER(c_bool))
 equal = _declare("lexicon_equal", _TRIPLE, _TRIPLE, POINTER(c_bool))
 same_target = _declare("lexicon_same_target", _TRIPLE, _TRIPLE, POINTER(c_bool))
 facts = _declare("lexicon_facts", _TRIPLE, POINTER(FactsStruct), c_size_t)
-print_into = _declare("lexicon_print", _TRIPLE, c_void_p, c_size_t, _SIZE)
-_llvm_target = _declare("lexicon_llvm_target", _TRIPLE, c_void_p, c_size_t, _SIZE)
-_multiarch_tuple = _declare("lexicon_multiarch_tuple", _TRIPLE, c_void_p, c_size_t, _SIZE)
-_rustc_cfg = _declare("lexicon_rustc_cfg", _TRIPLE, c_void_p, c_size_t, _SIZE)
+printed: Callable[[TripleStruct], str] = _writing("lexicon_print", _TRIPLE)
+llvm_target: Callable[[TripleStruct], str] = _writing("lexicon_llvm_target", _TRIPLE)
+multiarch_tuple: Callable[[TripleStruct], Optional[str]] = _writing("lexicon_multiarch_tuple", _TRIPLE)
+rustc_cfg: Callable[[TripleStruct], str] = _writing("lexicon_rustc_cfg", _TRIPLE)
 read = _declare("lexicon_read", c_uint32, c_char_p, c_size_t, _TRIPLE, _ERROR)
-_write = _declare("lexicon_write", c_uint32, _TRIPLE, c_void_p, c_size_t, _SIZE)
-_write_versioned = _declare("lexicon_write_versioned", c_uint32, _TRIPLE, c_uint32, c_uint32, c_void_p, c_size_t, _SIZE)
+_write = _writing("lexicon_write", c_uint32, _TRIPLE)
+_write_versioned = _writing("lexicon_write_versioned", c_uint32, _TRIPLE, c_uint32, c_uint32)
 complete = _declare("lexicon_complete", _TRIPLE, c_uint32)
 _translate = _declare("lexicon_translate", c_uint32, c_char_p, c_size_t, c_uint32, c_uint32, c_void_p, c_size_t, _SIZE, _ERROR)
-_changes = _declare("lexicon_changes", c_char_p, c_size_t, c_size_t, POINTER(ChangeStruct), c_void_p, c_size_t, _SIZE)
+_change = _writing("lexicon_changes", c_char_p, c_size_t, c_size_t, POINTER(ChangeStruct))
 _meaning = _declare("lexicon_meaning", c_char_p, c_size_t, c_size_t, POINTER(c_uint32), _TRIPLE)
 _number = _declare("lexicon_number", c_uint32, c_char_p, c_size_t, POINTER(c_uint32))
-_error_line = _declare("lexicon_error_line", c_char_p, c_size_t, _ERROR, c_void_p, c_size_t, _SIZE)
-_suggestion = _declare("lexicon_suggestion", c_char_p, c_size_t, _ERROR, c_void_p, c_size_t, _SIZE)
-_vendor_suggestion = _declare("lexicon_vendor_suggestion", _TRIPLE, c_void_p, c_size_t, _SIZE)
+_error_line = _writing("lexicon_error_line", c_char_p, c_size_t, _ERROR)
+_suggestion = _writing("lexicon_suggestion", c_char_p, c_size_t, _ERROR)
+vendor_suggestion: Callable[[TripleStruct], Optional[str]] = _writing("lexicon_vendor_suggestion", _TRIPLE)
 
 # Why a name of a dialect has no triple, or None if it has one, or if it is no name.
-reason = _declare_string("lexicon_reason", c_uint32, c_char_p, c_size_t)
-_write_reason = _declare_string("lexicon_write_reason", c_uint32, _TRIPLE)
-_write_versioned_reason = _declare_string("lexicon_write_versioned_reason", c_uint32, _TRIPLE, c_uint32, c_uint32)
+reason = _returning("lexicon_reason", c_uint32, c_char_p, c_size_t)
+_write_reason = _returning("lexicon_write_reason", c_uint32, _TRIPLE)
+_write_versioned_reason = _returning("lexicon_write_versioned_reason", c_uint32, _TRIPLE, c_uint32, c_uint32)
 # Why `translate` has no name, and what would help; None if it has one, or if the text isn't read.
-translate_reason = _declare_string("lexicon_translate_reason", c_uint32, c_char_p, c_size_t, c_uint32, c_uint32)
+translate_reason = _returning("lexicon_translate_reason", c_uint32, c_char_p, c_size_t, c_uint32, c_uint32)
 # The nearest of the names that a dialect reads, if it doesn't know this one; None if it does, or if none is near.
-name_suggestion = _declare_string("lexicon_name_suggestion", c_uint32, c_char_p, c_size_t)
+name_suggestion = _returning("lexicon_name_suggestion", c_uint32, c_char_p, c_size_t)
 # The name of the value of a field with this number, or None if there is none.
-name = _declare_string("lexicon_name", c_uint32, c_uint32)
+name = _returning("lexicon_name", c_uint32, c_uint32)
 
 #: The version of the library, and the commit that it was built from if that is known.
 LIBRARY_VERSION = _version().decode()
 if not LIBRARY_VERSION.startswith(f"{_CALLS_VERSION}."):
     raise ImportError(f"{LIBRARY_PATH} isn't libtarget_lexicon {_CALLS_VERSION}: its version is {LIBRARY_VERSION}")
-
-#: `LEXICON_MAX_GROWTH`: no canonical string is longer by more than its target.
-MAX_GROWTH = 22
-
-#: The size of the first buffer for a string, which has room for every printed triple without a long custom vendor.
-FIRST_SIZE = 128
-TextBuffer = c_char * FIRST_SIZE
 
 
 class LibraryError(RuntimeError):
@@ -254,78 +233,26 @@ def check(status: int) -> None:
         raise LibraryError(f"{LIBRARY_PATH}: unexpected status {status}")
 
 
-def text_of(call: Callable[..., int], *arguments: object) -> bytes:
-    """The string that a call writes into a buffer, which follows its other arguments."""
-    out, length = TextBuffer(), c_size_t()
-    status = call(*arguments, out, FIRST_SIZE, length)
-    if status == TOO_SMALL:
-        large = ctypes.create_string_buffer(length.value + 1)
-        check(call(*arguments, large, length.value + 1, None))
-        return large.raw[: length.value]
-    check(status)
-    return out.raw[: length.value]
-
-
-def printed(triple: TripleStruct) -> str:
-    """The printed string of a triple, which has no zero byte."""
-    out = TextBuffer()
-    if print_into(triple, out, FIRST_SIZE, None) == OK:
-        return out.value.decode()
-    return text_of(print_into, triple).decode()
-
-
-def llvm_target(triple: TripleStruct) -> str:
-    """The string that LLVM takes for a triple."""
-    return text_of(_llvm_target, triple).decode()
-
-
-def multiarch_tuple(triple: TripleStruct) -> Optional[str]:
-    """Debian's multiarch tuple of a triple, which has at most 36 bytes, or None if it has none."""
-    out = TextBuffer()
-    status = _multiarch_tuple(triple, out, FIRST_SIZE, None)
-    if status == TRIPLE_WITHOUT_NAME:
-        return None
-    check(status)
-    return out.value.decode()
-
-
-def rustc_cfg(triple: TripleStruct) -> str:
-    """The lines of `rustc --print cfg` for a triple."""
-    return text_of(_rustc_cfg, triple).decode()
-
-
-def error_line(status: int, part: bytes) -> str:
-    """The line of an error: what was expected, and the part that was refused."""
-    return text_of(_error_line, part, len(part), ErrorStruct(status, 0, len(part))).decode()
+def error_line(status: int, part: str) -> str:
+    """The line of an error: what was expected, and the part that was refused, which may have any character."""
+    return f"{_error_line(None, 0, ErrorStruct(status))}{part}"
 
 
 def suggestion(status: int, text: bytes, start: int, end: int) -> Optional[str]:
     """What may have been meant by the part of a text that is refused with this status."""
-    return _suggestion_of(_suggestion, text, len(text), ErrorStruct(status, start, end))
-
-
-def vendor_suggestion(triple: TripleStruct) -> Optional[str]:
-    """What may have been meant by a custom vendor."""
-    return _suggestion_of(_vendor_suggestion, triple)
-
-
-def _suggestion_of(call: Callable[..., int], *arguments: object) -> Optional[str]:
-    if call(*arguments, None, 0, None) == NO_SUGGESTION:
-        return None
-    return text_of(call, *arguments).decode()
+    found: Optional[str] = _suggestion(text, len(text), ErrorStruct(status, start, end))
+    return found
 
 
 def write(dialect: int, triple: TripleStruct, version: Optional[Tuple[int, int]] = None) -> Optional[str]:
-    """The name of a triple in a dialect, which has at most 36 bytes. If it is None, `write_reason` says why."""
-    out = TextBuffer()
-    if version is None:
-        status = _write(dialect, triple, out, FIRST_SIZE, None)
-    else:
-        status = _write_versioned(dialect, triple, *version, out, FIRST_SIZE, None)
-    if status in (TRIPLE_WITHOUT_NAME, NEEDS_C_LIBRARY):
-        return None
-    check(status)
-    return out.value.decode()
+    """The name of a triple in a dialect. If it is None, `write_reason` says why."""
+    found: Optional[str] = _write(dialect, triple) if version is None else _write_versioned(dialect, triple, *version)
+    return found
+
+
+def write_reason(dialect: int, triple: TripleStruct, version: Optional[Tuple[int, int]] = None) -> Optional[str]:
+    """Why `write` has no name, and what would help; None if it has one."""
+    return _write_reason(dialect, triple) if version is None else _write_versioned_reason(dialect, triple, *version)
 
 
 def translate(text: bytes, from_dialect: int, libc: int, to_dialect: int) -> Tuple[int, str]:
@@ -348,16 +275,12 @@ def meanings(text: ctypes.Array[c_char]) -> Iterator[Tuple[int, Optional[TripleS
 
 def changes(text: bytes) -> Iterator[Tuple[int, int, str]]:
     """The range in bytes of each part that is read as other names, and these names."""
-    change, number = ChangeStruct(), 0
-    while _changes(text, len(text), number, change, None, 0, None) == TOO_SMALL:
-        names = text_of(_changes, text, len(text), number, change)
-        yield change.start, change.end, names.decode()
-        number += 1
-
-
-def write_reason(dialect: int, triple: TripleStruct, version: Optional[Tuple[int, int]] = None) -> Optional[str]:
-    """Why `write` has no name, and what would help; None if it has one."""
-    return _write_reason(dialect, triple) if version is None else _write_versioned_reason(dialect, triple, *version)
+    for number in itertools.count():
+        change = ChangeStruct()
+        names = _change(text, len(text), number, change)
+        if names is None:
+            return
+        yield change.start, change.end, names
 
 
 def number(field: int, text: bytes) -> Tuple[int, int]:

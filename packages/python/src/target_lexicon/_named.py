@@ -1,11 +1,12 @@
-"""What all enumerations have in common."""
+"""What all enumerations have in common, and what all values have that are made from strings."""
 from __future__ import annotations
 
 import enum
 import functools
+from importlib import import_module
 from typing import TYPE_CHECKING, Any, Optional, Tuple, Type, TypeVar
 
-Member = TypeVar("Member", bound="NamedValue")
+Value = TypeVar("Value", bound="Immutable")
 
 
 class NamedValue(str, enum.Enum):
@@ -39,19 +40,35 @@ class NamedValue(str, enum.Enum):
         return f"{type(self).__name__}.{self.name}"
 
 
+@functools.lru_cache(maxsize=None)
+def members(of: Type[NamedValue]) -> Tuple[Any, ...]:
+    """The members of an enumeration, by number."""
+    return tuple(of)
+
+
+class Immutable:
+    """A value that is made from a string, and never changes."""
+
+    __slots__ = ()
+
+    def __copy__(self: Value) -> Value:
+        return self
+
+    def __deepcopy__(self: Value, memo: object) -> Value:
+        return self
+
+    @classmethod
+    def __get_pydantic_core_schema__(cls, source: Any, handler: Any) -> Any:
+        """For pydantic 2: a value is taken as it is, and a string is what the class makes of it. In JSON it is a string."""
+        schema = import_module("pydantic_core").core_schema
+        from_string = schema.chain_schema([schema.str_schema(strict=True), schema.no_info_plain_validator_function(cls)])
+        return schema.no_info_wrap_validator_function(
+            lambda value, read: value if type(value) is cls else read(value), from_string, serialization=schema.to_string_ser_schema())
+
+
 def shown(text: str) -> str:
     """The string as a message shows it: every character that isn't printable ASCII is escaped, so that columns are characters."""
     text = str.__str__(text)
     if text.isascii() and text.isprintable():
         return text
     return "".join(it if " " <= it <= "~" else it.encode("unicode_escape").decode() for it in text)
-
-
-def members(of: Type[Member]) -> Tuple[Member, ...]:
-    """The members of an enumeration, by number."""
-    return _members(of)
-
-
-@functools.lru_cache(maxsize=None)
-def _members(of: Type[NamedValue]) -> Tuple[Any, ...]:
-    return tuple(of.__members__.values())

@@ -1,13 +1,13 @@
 """From the name of one tool to that of another, what a name means to each, and what is read as other names."""
 import ctypes
-from typing import List, NamedTuple, Optional, Union
+from typing import List, NamedTuple, Optional, Tuple, Union
 
-from . import _library
-from ._dialects import NO_DIALECT, Dialect, DialectName, LinuxLibc, LinuxLibcName, dialect_number, libc_number
+from . import _library, _names
+from ._dialects import NO_DIALECT, dialect_number, libc_number
 from ._errors import encoded, range_in
-from ._named import members, shown
+from ._named import shown
+from ._names import Dialect, DialectName, LinuxLibc, LinuxLibcName
 from ._triple import Triple, _triple_of
-
 
 # How many characters of a name a message shows.
 _SHOWN = 60
@@ -28,22 +28,12 @@ class TranslationError(ValueError):
     __module__ = "target_lexicon"
 
     def __init__(self, text: str, source: Optional[str], target: str, needs_libc: bool, reason: str) -> None:
-        text = str.__str__(text)
-        super().__init__(text, source, target, needs_libc, reason)
-        #: The name that is read.
-        self.text = text
-        #: The dialect in which it is read, or None.
-        self.source = source
-        #: The dialect that has no name for it.
-        self.target = target
-        #: Whether it has one with a C library that is said.
-        self.needs_libc = needs_libc
-        #: Why there is none, and what would help.
-        self.reason = reason
+        self.text, self.source, self.target, self.needs_libc, self.reason = str.__str__(text), source, target, needs_libc, reason
+        super().__init__(self.text, source, target, needs_libc, reason)
 
     def __str__(self) -> str:
         name = self.text if len(self.text) <= _SHOWN else self.text[:_SHOWN] + "..."
-        return f"{_library.error_line(_library.TRIPLE_WITHOUT_NAME, shown(name).encode())}: {shown(self.reason)}"
+        return f"{_library.error_line(_names.TRIPLE_WITHOUT_NAME, shown(name))}: {shown(self.reason)}"
 
 
 def translate(
@@ -63,13 +53,13 @@ def translate(
     numbers = from_number, 0 if libc is None else libc_number(libc), dialect_number(target)
     utf8 = encoded(name, "the name of a target")
     status, translated = _library.translate(utf8, *numbers)
-    if status == _library.OK:
+    if status == _names.OK:
         return translated
-    if status not in (_library.TRIPLE_WITHOUT_NAME, _library.NEEDS_C_LIBRARY):
+    if status not in (_names.TRIPLE_WITHOUT_NAME, _names.NEEDS_C_LIBRARY):
         Triple.read(name, source)  # which says why it isn't read
         _library.check(status)
     reason = _library.translate_reason(from_number, utf8, *numbers[1:]) or ""
-    raise TranslationError(name, source and str(source), str(target), status == _library.NEEDS_C_LIBRARY, reason)
+    raise TranslationError(name, source and str(source), str(target), status == _names.NEEDS_C_LIBRARY, reason)
 
 
 class Meaning(NamedTuple):
@@ -93,12 +83,10 @@ def meanings(text: str) -> List[Meaning]:
     The list is empty if nobody means a target by the string.
     """
     utf8 = encoded(text, "the name of a target")
-    owner, dialects, found = ctypes.create_string_buffer(utf8, len(utf8)), members(Dialect), []
-    for number, struct in _library.meanings(owner):
-        dialect = dialects[number - 1] if number != NO_DIALECT else None
-        triple = None if struct is None else _triple_of(struct, owner)
-        found.append(Meaning(dialect, triple, _library.reason(number, utf8)))
-    return found
+    owner = ctypes.create_string_buffer(utf8, len(utf8))
+    dialects: Tuple[Optional[Dialect], ...] = (None, *Dialect)
+    return [Meaning(dialects[number], None if struct is None else _triple_of(struct, owner), _library.reason(number, utf8))
+            for number, struct in _library.meanings(owner)]
 
 
 class Change(NamedTuple):

@@ -9,12 +9,13 @@ from contextlib import suppress
 from struct import Struct
 from typing import TYPE_CHECKING, Any, Callable, Dict, Mapping, Optional, Sequence, Tuple, Type, Union, final
 
-from . import _library
-from ._dialects import NO_DIALECT, Dialect, DialectName, LinuxLibc, LinuxLibcName, dialect_number, libc_number
+from . import _library, _names
+from ._dialects import NO_DIALECT, dialect_number, libc_number
 from ._errors import FIELDS, ParseError, encoded, refusal
 from ._facts import Facts, FactsOfTriple
 from ._fields import CustomVendor
-from ._named import NamedValue, members, shown
+from ._named import Immutable, NamedValue, shown
+from ._names import Dialect, DialectName, LinuxLibc, LinuxLibcName
 from ._values import Architecture, BinaryFormat, Environment, OperatingSystem, Vendor
 
 if TYPE_CHECKING:
@@ -24,11 +25,11 @@ if TYPE_CHECKING:
 Version = Tuple[int, int, int]
 
 # The values by number.
-_ARCHITECTURES: Tuple[Architecture, ...] = members(Architecture)
-_VENDORS: Tuple[Vendor, ...] = members(Vendor)
-_SYSTEMS: Tuple[OperatingSystem, ...] = members(OperatingSystem)
-_ENVIRONMENTS: Tuple[Environment, ...] = members(Environment)
-_FORMATS: Tuple[BinaryFormat, ...] = members(BinaryFormat)
+_ARCHITECTURES: Tuple[Architecture, ...] = tuple(Architecture)
+_VENDORS: Tuple[Vendor, ...] = tuple(Vendor)
+_SYSTEMS: Tuple[OperatingSystem, ...] = tuple(OperatingSystem)
+_ENVIRONMENTS: Tuple[Environment, ...] = tuple(Environment)
+_FORMATS: Tuple[BinaryFormat, ...] = tuple(BinaryFormat)
 
 for _field, _values in enumerate((_ARCHITECTURES, _VENDORS, _SYSTEMS, _ENVIRONMENTS, _FORMATS)):
     _library.check_names(_field, [str(it) for it in _values])
@@ -53,7 +54,7 @@ _KEEP = Keep.KEEP
 
 @final
 @functools.total_ordering
-class Triple(FactsOfTriple):
+class Triple(FactsOfTriple, Immutable):
     """A target triple such as `x86_64-unknown-linux-gnu`.
 
     >>> triple = Triple("arm64-apple-macosx13.2")
@@ -117,7 +118,7 @@ class Triple(FactsOfTriple):
         utf8 = encoded(text, "the name of a target")
         owner = ctypes.create_string_buffer(utf8, len(utf8))
         struct, error = _library.TripleStruct(), _library.ErrorStruct()
-        if _library.read(number, owner, len(utf8), struct, error) != _library.OK:
+        if _library.read(number, owner, len(utf8), struct, error) != _names.OK:
             raise refusal(text, utf8, error, dialect)
         return _triple_of(struct, owner)
 
@@ -193,7 +194,7 @@ class Triple(FactsOfTriple):
         """
         from . import _host
 
-        return cls.from_fields(*_host.fields_of(_host.machine()))
+        return cls.from_fields(*_host.fields())
 
     @property
     def architecture(self) -> Architecture:
@@ -453,18 +454,6 @@ class Triple(FactsOfTriple):
         if one is None or two is None:
             one, two = one or self._ordered(), two or other._ordered()
         return one < two
-
-    def __copy__(self) -> Triple:
-        return self
-
-    def __deepcopy__(self, memo: object) -> Triple:
-        return self
-
-    @classmethod
-    def __get_pydantic_core_schema__(cls, source: Any, handler: Any) -> Any:
-        from ._pydantic import schema_of
-
-        return schema_of(cls)
 
     def __reduce__(self) -> Tuple[Any, ...]:
         return Triple.from_fields, (self.architecture, self.vendor, self.operating_system, self.environment, self.binary_format, self.version)
