@@ -1,6 +1,6 @@
 // The page: shows the targets and names of the text field in the table. `build` puts target-lexicon.js, the module, entries.mjs and this file into one script.
-import { DIALECTS, WRITTEN } from "../src/names.js";
-import { FIELDS, ParseError, Triple, load, meanings } from "../src/target-lexicon.js";
+import { DIALECTS, FIELDS, WRITTEN } from "../src/names.js";
+import { ParseError, Triple, load, meanings } from "../src/target-lexicon.js";
 import { factsEntry, namesAndReasons, namesEntry, versionOf } from "./entries.mjs";
 
 const LABELS = {

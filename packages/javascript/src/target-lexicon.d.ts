@@ -2,7 +2,7 @@
 //
 // SPDX-License-Identifier: Apache-2.0 WITH LLVM-exception
 
-export type Field = "architecture" | "vendor" | "operatingSystem" | "environment" | "binaryFormat";
+export type Field = (typeof FIELDS)[number];
 
 /** A known vendor, or any other lower-case word. */
 export type Vendor = KnownVendor | (string & {});
@@ -15,12 +15,6 @@ export interface Values {
   environment: Environment;
   binaryFormat: BinaryFormat;
 }
-
-/** The names of the fields, in the order of their numbers. */
-export const FIELDS: readonly ["architecture", "vendor", "operatingSystem", "environment", "binaryFormat"];
-
-/** The families of architectures, by their numbers. */
-export const FAMILIES: readonly Family[];
 
 /** The version of an operating system. As an argument it has a `major`, and what else is left out is 0: `{ major: 17, minor: 1 }`. */
 export interface Version {
@@ -46,10 +40,8 @@ export type Given = { [Name in Exclude<Field, "architecture">]?: Values[Name] | 
  * of the part is in units of UTF-16, as text.slice takes it.
  */
 export type Explained<Value> =
-  /** This part of the string is the value, as it is printed. */
-  | { value: Value; origin: "given"; part: string; start: number; end: number }
-  /** This part of the string is another spelling of the value. */
-  | { value: Value; origin: "alias"; part: string; start: number; end: number }
+  /** This part of the string is the value, as it is printed, or as an alias another spelling of it. */
+  | { value: Value; origin: "given" | "alias"; part: string; start: number; end: number }
   /** No part of the string is of this field, which is unknown. The value is null if the string is refused. */
   | { value: Value | null; origin: "not given"; part: null }
   /** The binary format that the other fields imply. */

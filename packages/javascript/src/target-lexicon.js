@@ -4,9 +4,6 @@
 //
 // SPDX-License-Identifier: Apache-2.0 WITH LLVM-exception
 
-/** The names of the fields, in the order of their numbers. */
-export const FIELDS = Object.freeze(["architecture", "vendor", "operatingSystem", "environment", "binaryFormat"]);
-
 const OK = 0;
 const REFUSED = UNRECOGNIZED_FIELD; // the last status of a refused string
 const CUSTOM = 255; // the number of every vendor that has none of its own
@@ -277,9 +274,6 @@ function givenValues(values) {
   return Object.fromEntries(Object.entries(values).filter(([, value]) => value !== undefined));
 }
 
-/** The method that Node asks how a value is shown. */
-const INSPECT = Symbol.for("nodejs.util.inspect.custom");
-
 function tripleOf(value) {
   if (!(value instanceof Triple)) throw new TypeError(`only a Triple can be compared with a Triple, not ${kindOf(value)}`);
   return value;
@@ -297,14 +291,7 @@ export class ParseError extends Error {
     Error.stackTraceLimit = 0; // the one that is taken below is enough
     super(message);
     Error.stackTraceLimit = stackTraceLimit;
-    this.name = "ParseError";
-    this.field = FIELDS[status - 1] ?? null;
-    this.text = text;
-    this.part = text.slice(start, end);
-    this.start = start;
-    this.end = end;
-    this.reason = reason;
-    this.needsLibc = status === NEEDS_C_LIBRARY;
+    Object.assign(this, { name: "ParseError", field: FIELDS[status - 1] ?? null, text, part: text.slice(start, end), start, end, reason, needsLibc: status === NEEDS_C_LIBRARY });
     this.#status = status;
     this.#range = range;
     this.#dialect = dialect;
@@ -449,7 +436,7 @@ export class Triple {
   }
 
   /** What `console.log` of Node shows: the call that makes the triple, on one line. */
-  [INSPECT]() {
+  [Symbol.for("nodejs.util.inspect.custom")]() {
     return this.comesBack() ? `Triple.parse(${JSON.stringify(this.toString())})` : `Triple.of(${JSON.stringify({ ...this, numbers: undefined, hasCustomVendor: undefined })})`;
   }
 
