@@ -86,45 +86,29 @@ fn family(architecture: Architecture) -> &'static str {
 impl Said<'_> {
     /// Checks a triple that is an answer. The name of a tool may say more of floating-point arguments and of the C library, and a triple that
     /// parses is itself.
-    fn check(
-        &self,
-        triple: &TripleRef<'_>,
-        is_own: bool,
-        name: &str,
-        what: &dyn std::fmt::Display,
-    ) {
+    fn check(&self, triple: &TripleRef<'_>, is_own: bool, name: &str, what: &str) {
         let why = format!("{name}: {what}: {triple}");
         let (ours, theirs) = (self.architecture, triple.architecture);
         let is_little = name.starts_with(LITTLE_ENDIAN) && theirs == Architecture::Powerpc64le;
-        assert!(family(ours) == family(theirs) || is_little, "{why}");
-        assert!(
-            ours.endianness() == theirs.endianness() || is_little,
-            "{why}"
-        );
+        let is_machine = (family(ours), ours.endianness()) == (family(theirs), theirs.endianness());
+        assert!(is_machine || is_little, "{why}");
         assert_eq!(triple.pointer_width().ok(), self.width, "{why}");
         let floats = triple.float_abi();
-        if !is_own {
-            assert!(
-                floats.is_none() || floats == self.floats || is_always(triple),
-                "{why}"
-            );
-        }
-        let is_android = |it: &TripleRef<'_>| {
-            matches!(
-                it.environment,
-                Environment::Android | Environment::Androideabi
-            )
-        };
+        let is_said = floats.is_none() || floats == self.floats || is_always(triple);
+        assert!(is_own || is_said, "{why}");
         let is_same = match (self.system.operating_system, triple.operating_system) {
             (OperatingSystem::Darwin(_), OperatingSystem::MacOSX(_)) => true,
             (OperatingSystem::Linux, OperatingSystem::Unknown) => is_android(triple),
             (ours, theirs) => ours == theirs,
         };
-        assert!(
-            is_same && is_android(&self.system) == is_android(triple),
-            "{why}"
-        );
+        assert!(is_same, "{why}");
+        assert_eq!(is_android(&self.system), is_android(triple), "{why}");
     }
+}
+
+fn is_android(triple: &TripleRef<'_>) -> bool {
+    use Environment::{Android, Androideabi};
+    matches!(triple.environment, Android | Androideabi)
 }
 
 /// Systems on which floating-point arguments are passed in one way.
@@ -137,15 +121,17 @@ fn is_always(triple: &TripleRef<'_>) -> bool {
 #[test]
 fn answers_say_what_the_words_say() {
     let (mut names, mut answers) = (0, 0);
-    let join = |name: [&str; 3], form: &str| {
-        let [system, machine, abi] = name;
-        let dash = if abi.is_empty() { "" } else { "-" };
+    let join = |[system, machine, abi]: [&str; 3], form: &str| {
+        let joined = |first: &str, second: &str, sign: &str| match abi {
+            "" => format!("{first}{sign}{second}"),
+            _ => format!("{first}{sign}{second}{sign}{abi}"),
+        };
         match form {
-            "os-arch" => format!("{system}-{machine}{dash}{abi}"),
-            "os_arch" => format!("{system}_{machine}{}{abi}", dash.replace('-', "_")),
-            "arch-os" => format!("{machine}-{system}{dash}{abi}"),
-            "os/arch" => format!("{system}/{machine}{}{abi}", dash.replace('-', "/")),
-            _ => format!("tool-1.2.3-{system}-{machine}{dash}{abi}{form}"),
+            "os-arch" => joined(system, machine, "-"),
+            "os_arch" => joined(system, machine, "_"),
+            "arch-os" => joined(machine, system, "-"),
+            "os/arch" => joined(system, machine, "/"),
+            _ => format!("tool-1.2.3-{}{form}", joined(system, machine, "-")),
         }
     };
     for (system_word, system) in pairs(SYSTEMS) {
@@ -168,34 +154,28 @@ fn answers_say_what_the_words_say() {
                     floats: floats.or(stated),
                     width,
                 };
-                let forms = [
-                    "os-arch", "os_arch", "arch-os", "os/arch", ".tar.gz", ".zip", ".exe",
-                ];
-                for form in forms {
+                for form in "os-arch os_arch arch-os os/arch .tar.gz .zip .exe".split(' ') {
                     let name = join([system_word, machine, abi], form);
                     names += 1;
                     for meaning in meanings(&name) {
-                        if let (NameOf::Dialect(_), Ok(triple)) = (meaning.of, meaning.triple) {
-                            said.check(&triple, true, &name, &meaning.of);
+                        if let (NameOf::Dialect(it), Ok(triple)) = (meaning.of, meaning.triple) {
+                            said.check(&triple, true, &name, it.name());
                             answers += 1;
                         }
                     }
                     if let Some(Hint::Triple(triple)) = hint(&name) {
-                        said.check(&triple, false, &name, &"hint");
+                        said.check(&triple, false, &name, "hint");
                         answers += 1;
                     }
                     // Suggestions take longer: of each machine and system, with some ABIs.
                     let is_asked = ["", "gnueabihf", "muslx32"].contains(&abi);
                     let is_asked = is_asked && ["os-arch", "arch-os", "os/arch"].contains(&form);
                     for dialect in Dialect::ALL.iter().filter(|_| is_asked) {
-                        let Some(meant) = dialect.suggestion(&name) else {
-                            continue;
-                        };
-                        let Ok(triple) = dialect.read(meant) else {
-                            continue;
-                        };
-                        said.check(&triple, true, &name, &format!("{dialect}'s {meant}"));
-                        answers += 1;
+                        let meant = dialect.suggestion(&name);
+                        if let Some(triple) = meant.and_then(|it| dialect.read(it).ok()) {
+                            said.check(&triple, true, &name, dialect.name());
+                            answers += 1;
+                        }
                     }
                 }
             }

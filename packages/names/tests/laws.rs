@@ -44,26 +44,10 @@ fn words() -> Vec<String> {
     let known = FIELDS.iter().flat_map(|it| it.names()).copied();
     let spelled = FIRST_RULES.iter().chain(LATER_RULES).map(|it| it.1);
     let mut words: Vec<String> = known.chain(spelled).map(String::from).collect();
-    words.extend(
-        names()
-            .iter()
-            .flat_map(|it| it.split(['-', '_', '/', ' ']))
-            .map(String::from),
-    );
-    let others = [
-        "",
-        "foo",
-        "w",
-        "none",
-        "kfreebsd",
-        "é",
-        "11.0",
-        "\u{202e}",
-        "PC",
-        "linux5",
-        "macos11.0",
-        "gnu2.17",
-    ];
+    for name in names() {
+        words.extend(name.split(['-', '_', '/', ' ']).map(String::from));
+    }
+    let others = " foo w none kfreebsd é 11.0 \u{202e} PC linux5 macos11.0 gnu2.17".split(' ');
     words.extend(others.map(String::from));
     words
 }

@@ -1,54 +1,29 @@
 //! The traits of names, dialects and errors.
 use std::collections::{BTreeSet, HashSet};
 use target_lexicon::TripleRef;
-use target_names::{CLibrary, Dialect, FloatAbi, LinuxLibc, Name, ParseNameError, UnknownWord};
+use target_names::{CLibrary, Dialect, FloatAbi, Name, ParseNameError, UnknownWord};
 
 #[test]
 fn names_have_the_width_that_is_asked_for() {
     let triple = TripleRef::from_str("x86_64-unknown-linux-gnu").unwrap();
     let name = Dialect::Debian.write(triple).unwrap();
-    assert_eq!(
-        format!(
-            "{:>6}|{:<6}|{:^7}|{name:>7}|{:6}|",
-            Dialect::Go,
-            LinuxLibc::Musl,
-            CLibrary::Glibc,
-            FloatAbi::Hard
-        ),
-        "    go|musl  | glibc |  amd64|hard  |"
-    );
+    let (dialect, library, floats) = (Dialect::Go, CLibrary::Glibc, FloatAbi::Hard);
+    let padded = format!("{dialect:>6}|{library:^7}|{name:>7}|{floats:6}|");
+    assert_eq!(padded, "    go| glibc |  amd64|hard  |");
 }
 
 #[test]
 fn a_name_is_compared_like_a_string() {
     let triple = TripleRef::from_str("x86_64-unknown-linux-gnu").unwrap();
-    let names: Vec<Name> = Dialect::ALL
-        .iter()
-        .filter_map(|it| it.write(triple))
-        .collect();
-    assert!(names
-        .iter()
-        .any(|it| *it == "linux/amd64" && *it == *"linux/amd64"));
-    let texts = names.iter().map(|it| it.as_ref().to_string());
-    assert_eq!(
-        texts.collect::<HashSet<String>>().len(),
-        names.iter().collect::<HashSet<_>>().len()
-    );
-    let sorted: Vec<&str> = names
-        .iter()
-        .map(Name::as_str)
-        .collect::<BTreeSet<_>>()
-        .into_iter()
-        .collect();
-    assert_eq!(
-        names
-            .iter()
-            .collect::<BTreeSet<_>>()
-            .into_iter()
-            .map(Name::as_str)
-            .collect::<Vec<_>>(),
-        sorted
-    );
+    let names = Dialect::ALL.iter().filter_map(|it| it.write(triple));
+    let names: Vec<Name> = names.collect();
+    let mut written = names.iter();
+    assert!(written.any(|it| *it == "linux/amd64" && *it == *"linux/amd64"));
+    let texts: BTreeSet<&str> = names.iter().map(|it| it.as_ref()).collect();
+    let hashed: HashSet<_> = names.iter().collect();
+    assert_eq!(hashed.len(), texts.len());
+    let sorted: BTreeSet<_> = names.iter().collect();
+    assert!(sorted.into_iter().map(Name::as_str).eq(texts));
 }
 
 #[test]
@@ -68,34 +43,19 @@ fn an_error_of_a_name_leaves_the_function_that_owns_it() {
 
 #[test]
 fn a_word_that_is_no_dialect_is_named() {
-    fn of(word: &str) -> Result<Dialect, Box<dyn std::error::Error>> {
-        Ok(word.parse()?)
-    }
+    let of = |word: &str| {
+        word.parse::<Dialect>()
+            .map_err(Box::<dyn std::error::Error>::from)
+    };
     assert_eq!(of("docker").unwrap(), Dialect::Oci);
-    let error = *of("golang").unwrap_err().downcast::<UnknownWord>().unwrap();
+    let error = of("golang").unwrap_err().downcast::<UnknownWord>().unwrap();
     assert_eq!((error.word(), error.suggestion()), ("golang", Some("go")));
     let none = of("\u{202e}x").unwrap_err().to_string();
     assert!(none.starts_with("Unknown dialect: \\u{202e}x; it is one of debian go oci "));
     for dialect in Dialect::ALL {
-        assert_eq!(dialect.name().parse(), Ok(*dialect));
-        assert_eq!(
-            dialect
-                .name()
-                .to_uppercase()
-                .parse::<Dialect>()
-                .unwrap_err()
-                .suggestion(),
-            Some(dialect.name())
-        );
+        let name = dialect.name();
+        assert_eq!(name.parse(), Ok(*dialect));
+        let error = name.to_uppercase().parse::<Dialect>().unwrap_err();
+        assert_eq!(error.suggestion(), Some(name));
     }
-}
-
-#[test]
-fn a_word_that_is_no_c_library_is_named() {
-    assert_eq!("musl".parse(), Ok(LinuxLibc::Musl));
-    let error = "gnu".parse::<LinuxLibc>().unwrap_err();
-    assert_eq!(
-        error.to_string(),
-        "Unknown C library: gnu; it is glibc, musl, msvc, mingw or gnullvm"
-    );
 }
