@@ -5,17 +5,13 @@ use target_lexicon::{Architecture, BinaryFormat, Environment, OperatingSystem, T
 use target_names::TargetInfo;
 
 pub fn linker(triple: &TripleRef<'_>) -> &'static str {
-    match (
-        triple.object_format(),
-        triple.operating_system,
-        triple.architecture,
-    ) {
+    let (format, system) = (triple.object_format(), triple.operating_system);
+    match (format, system, triple.architecture) {
         (_, OperatingSystem::Emscripten, _) => "em",
         (_, OperatingSystem::Cuda, _) => "llbc",
         (_, _, Architecture::Bpfeb | Architecture::Bpfel) => "bpf",
-        (_, OperatingSystem::Aix | OperatingSystem::Illumos | OperatingSystem::Solaris, _) => {
-            "unix"
-        }
+        (_, OperatingSystem::Aix, _) => "unix",
+        (_, OperatingSystem::Illumos | OperatingSystem::Solaris, _) => "unix",
         (_, OperatingSystem::Uefi, _) => "msvc",
         (BinaryFormat::Coff, ..) if triple.environment == Environment::Msvc => "msvc",
         (BinaryFormat::Macho, ..) => "darwin",
@@ -27,11 +23,10 @@ pub fn linker(triple: &TripleRef<'_>) -> &'static str {
 fn main() {
     for target in std::env::args().skip(1) {
         match TripleRef::parse(&target) {
-            Ok(triple) => println!(
-                "{target}: {}, program{}",
-                linker(&triple),
-                triple.program_suffix()
-            ),
+            Ok(triple) => {
+                let (linker, suffix) = (linker(&triple), triple.program_suffix());
+                println!("{target}: {linker}, program{suffix}");
+            }
             Err(error) => eprintln!("{error}"),
         }
     }

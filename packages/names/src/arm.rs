@@ -10,20 +10,17 @@ impl ArmProfile {
         let Architecture::Arm(sub) = triple.architecture else {
             return None;
         };
-        match sub {
-            Armv7a | Armv7k | Armv7s | Armv7ve | Thumbv7a | Thumbv7neon => {
-                Some(ArmProfile::Application)
-            }
+        Some(match sub {
+            Armv7a | Armv7k | Armv7s | Armv7ve | Thumbv7a | Thumbv7neon => ArmProfile::Application,
             Armv8a | Armv8_1a | Armv8_2a | Armv8_3a | Armv8_4a | Armv8_5a => {
-                Some(ArmProfile::Application)
+                ArmProfile::Application
             }
-            Armv7r | Armebv7r | Armv8r => Some(ArmProfile::RealTime),
-            Armv6m | Armv7m | Armv8mBase | Armv8mMain => Some(ArmProfile::Microcontroller),
-            Thumbv6m | Thumbv7em | Thumbv7m | Thumbv8mBase | Thumbv8mMain => {
-                Some(ArmProfile::Microcontroller)
-            }
-            _ => None,
-        }
+            Armv7r | Armebv7r | Armv8r => ArmProfile::RealTime,
+            Armv6m | Armv7m | Armv8mBase | Armv8mMain => ArmProfile::Microcontroller,
+            Thumbv6m | Thumbv7em | Thumbv7m => ArmProfile::Microcontroller,
+            Thumbv8mBase | Thumbv8mMain => ArmProfile::Microcontroller,
+            _ => return None,
+        })
     }
 }
 

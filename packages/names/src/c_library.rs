@@ -31,16 +31,10 @@ impl LinuxLibc {
 
 /// The answer of [`TargetInfo::with_c_library`].
 pub(crate) fn complete<'a>(triple: &TripleRef<'a>, c_library: LinuxLibc) -> TripleRef<'a> {
-    match (
-        triple.environment,
-        c_library.environment(triple.architecture),
-    ) {
-        (Environment::Unknown, (system, environment)) if system == triple.operating_system => {
-            TripleRef {
-                environment,
-                ..*triple
-            }
-        }
-        _ => *triple,
+    let (system, environment) = c_library.environment(triple.architecture);
+    let mut completed = *triple;
+    if triple.environment == Environment::Unknown && triple.operating_system == system {
+        completed.environment = environment;
     }
+    completed
 }

@@ -7,6 +7,7 @@ use crate::shape::{is_another_target, unversioned, version, AbiRule, Rules};
 use crate::table::refusals::SEVERAL;
 use crate::table::{Dialect, DIALECT_NAMES, ONLY_WRITTEN, TABLES, VERSION_RANGES};
 use core::cmp::Ordering;
+use core::str::FromStr;
 use target_lexicon::{DeploymentTarget, OperatingSystem, TripleRef};
 
 /// How a name is used.
@@ -73,6 +74,14 @@ impl Dialect {
     #[inline]
     pub(crate) fn rows(self) -> &'static [Row] {
         self.table().rows
+    }
+
+    /// The rows of names without a version that are read: first those that are written, too.
+    #[inline]
+    pub(crate) fn rows_read(self) -> impl Iterator<Item = &'static Row> + Clone {
+        let rows = self.rows().iter().filter(|row| star_count(row.0) == 0);
+        let of = |way| rows.clone().filter(move |row| row.2 == way);
+        of(Way::Both).chain(of(Way::Read))
     }
 
     /// The triple that a name of this dialect means. It is canonical, and has a known vendor, except that a target of rustc that parses
@@ -148,11 +157,8 @@ impl Dialect {
     /// assert_eq!(Dialect::Go.read_each("linux/amd64").count(), 1);
     /// ```
     pub fn read_each(self, name: &str) -> impl Iterator<Item = TripleRef<'static>> + Clone {
-        let tag = if self == Dialect::Python {
-            last_tag(name)
-        } else {
-            name
-        };
+        let is_tag = self == Dialect::Python;
+        let tag = if is_tag { last_tag(name) } else { name };
         let (several, numbers) = match self.row_of(tag) {
             Some((row, numbers)) if row.2 == Way::Several => (row.1, numbers),
             _ => ("", None),
@@ -256,7 +262,7 @@ impl Dialect {
     pub(crate) fn row_written(self, triple: &TripleRef<'_>) -> Option<&'static str> {
         let name = self.name_of(triple, None)?;
         let mut rows = self.rows().iter().filter(|row| is_written(row));
-        rows.find(|row| row.0 == name.as_str()).map(|row| row.0)
+        rows.find(|row| name == row.0).map(|row| row.0)
     }
 
     /// The row that means just this triple, with its vendor.
@@ -264,9 +270,9 @@ impl Dialect {
         let mut buffer = [0; MAX_LENGTH];
         let length = triple.write_to(&mut buffer);
         let text = buffer.get(..length)?;
-        let rows = self.rows().iter().filter(|_| self.table().rules.itself);
-        let mut rows = rows.filter(|row| row.1.as_bytes() == text && is_read(row));
-        rows.next()
+        let is_itself = |row: &&Row| row.1.as_bytes() == text && is_read(row);
+        let mut rows = self.rows().iter().filter(|_| self.table().rules.itself);
+        rows.find(is_itself)
     }
 
     /// The triple without what the dialect doesn't name: the vendor, which is the usual one of the system; the version
@@ -319,13 +325,12 @@ fn key(byte: u8, tags: bool) -> u8 {
 
 /// What a name with some numbers means by its row.
 fn meaning(row: &Row, numbers: Numbers) -> Result<TripleRef<'static>, NameError> {
-    match row.2 {
-        Way::Both | Way::Read => {}
-        Way::Written => return Err(NameError::WithoutTriple(ONLY_WRITTEN)),
-        Way::NoTriple => return Err(NameError::WithoutTriple(row.1)),
-        Way::Several => return Err(NameError::WithoutTriple(SEVERAL)),
-    }
-    with_numbers(row.1, numbers)
+    Err(NameError::WithoutTriple(match row.2 {
+        Way::Both | Way::Read => return with_numbers(row.1, numbers),
+        Way::Written => ONLY_WRITTEN,
+        Way::NoTriple => row.1,
+        Way::Several => SEVERAL,
+    }))
 }
 
 /// The triple of a row's text with some numbers.
@@ -350,29 +355,20 @@ fn version_in(system: &mut OperatingSystem) -> Option<&mut Option<DeploymentTarg
 /// The numbers that a name, or its tag, has where a pattern has stars. `None` if it doesn't have the pattern.
 #[inline]
 pub(super) fn numbers_of(pattern: &str, name: &str, tags: bool) -> Option<Numbers> {
-    let (pattern, mut rest) = (pattern.as_bytes(), name.as_bytes());
-    // Most patterns differ in length, or at their ends.
-    let ends_alike = match (pattern.last(), rest.last()) {
-        (Some(b'*'), _) => true,
-        (Some(last), Some(byte)) => *last == key(*byte, tags),
-        _ => false,
-    };
-    if !ends_alike || rest.len().wrapping_sub(pattern.len()) > MOST_DIGITS {
-        return None;
-    }
+    let mut rest = name.as_bytes();
     let mut numbers = None;
-    for byte in pattern {
-        if *byte == b'*' {
+    for byte in pattern.bytes() {
+        if byte == b'*' {
             let (digits, after) =
                 rest.split_at(rest.iter().take_while(|it| it.is_ascii_digit()).count());
             numbers = Some(match numbers {
                 None => (number(digits)?, 0),
-                Some((major, _)) => (major, u8::try_from(number(digits)?).ok()?),
+                Some((major, _)) => (major, number(digits)?),
             });
             rest = after;
         } else {
             match rest {
-                [first, after @ ..] if *byte == key(*first, tags) => rest = after,
+                [first, after @ ..] if byte == key(*first, tags) => rest = after,
                 _ => return None,
             }
         }
@@ -380,17 +376,12 @@ pub(super) fn numbers_of(pattern: &str, name: &str, tags: bool) -> Option<Number
     rest.is_empty().then_some(numbers)
 }
 
-/// How many bytes longer than its pattern a name is at most: two stars are eight digits.
-const MOST_DIGITS: usize = 6;
-
 /// The number of some digits, of which the first is 0 only if it is the only one.
-fn number(digits: &[u8]) -> Option<u16> {
-    if digits.is_empty() || digits.len() > 1 && digits[0] == b'0' {
-        return None;
+fn number<N: FromStr>(digits: &[u8]) -> Option<N> {
+    match digits {
+        [b'0', _, ..] => None,
+        _ => core::str::from_utf8(digits).ok()?.parse().ok(),
     }
-    let add =
-        |number: u16, digit: &u8| number.checked_mul(10)?.checked_add(u16::from(digit - b'0'));
-    digits.iter().try_fold(0, add)
 }
 
 /// How many stars a pattern has.
@@ -414,42 +405,8 @@ pub(crate) fn has_version(major: u16, minor: u8, pattern: &str) -> bool {
         1 => minor == 0,
         _ => false,
     };
-    has_places
-        && VERSION_RANGES.iter().any(|(text, least, most)| {
-            (pattern.starts_with(text) || pattern.ends_with(text))
-                && (*least..=*most).contains(&major)
-        })
-}
-
-impl Dialect {
-    /// The rows of names without a version that are read: first those that are written, too.
-    #[inline]
-    pub(crate) fn rows_read(self) -> impl Iterator<Item = &'static Row> + Clone {
-        let of = move |way| {
-            let rows = self.rows().iter();
-            rows.filter(move |row| row.2 == way && star_count(row.0) == 0)
-        };
-        of(Way::Both).chain(of(Way::Read))
-    }
-}
-
-impl AsRef<str> for Name {
-    #[inline]
-    fn as_ref(&self) -> &str {
-        self.as_str()
-    }
-}
-
-impl PartialEq<str> for Name {
-    #[inline]
-    fn eq(&self, text: &str) -> bool {
-        self.as_str() == text
-    }
-}
-
-impl PartialEq<&str> for Name {
-    #[inline]
-    fn eq(&self, text: &&str) -> bool {
-        self.as_str() == *text
-    }
+    let is_in = |(text, least, most): &(&str, u16, u16)| {
+        (pattern.starts_with(text) || pattern.ends_with(text)) && (*least..=*most).contains(&major)
+    };
+    has_places && VERSION_RANGES.iter().any(is_in)
 }

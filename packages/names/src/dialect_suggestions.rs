@@ -6,10 +6,9 @@ use crate::spelled::may_be_versioned;
 use crate::table::SYSTEMS;
 use crate::{changes, read, Dialect, FloatAbi, NameError};
 use core::ops::Range;
-use target_lexicon::spellings::meant;
-use target_lexicon::spellings::{architecture_of, machine_of, Abi, Machine};
+use target_lexicon::spellings::{architecture_of, machine_of, meant, Abi, Machine};
 use target_lexicon::{
-    Architecture, PointerWidth, Riscv32Architecture, Riscv64Architecture, TripleRef, VendorRef,
+    Architecture, PointerWidth, Riscv32Architecture, Riscv64Architecture, TripleRef,
 };
 
 impl Dialect {
@@ -71,19 +70,15 @@ impl Dialect {
         if let Some(word) = &stated.machine {
             let mut others = read.clone().filter(|row| word.is_in(name, row));
             // A machine of Arm's says nothing of floating-point arguments by itself.
-            let says_no_more = |row: &Row| match word.architecture {
-                Architecture::Arm(_) => {
-                    Said::of(row).map_or(false, |it| it.floats == stated.floats)
-                }
-                _ => true,
-            };
+            let is_arm = matches!(word.architecture, Architecture::Arm(_));
+            let has_floats = |said: Said| said.floats == stated.floats;
+            let says_no_more = |row: &Row| !is_arm || Said::of(row).map_or(false, has_floats);
             if let Some(row) = others.find(|row| stated.allows(row) && says_no_more(row)) {
                 return Some(row.0);
             }
         }
         // A triple of known parts isn't misspelled.
-        let is_known =
-            TripleRef::from_str(name).map_or(false, |it| matches!(it.vendor, VendorRef::Known(_)));
+        let is_known = TripleRef::from_str(name).map_or(false, |it| !it.vendor.is_custom());
         // the lengths first: all others are farther than a misspelling
         let is_near = |row: &&Row| row.0.len().abs_diff(name.len()) <= 2;
         let only_written = self.rows().iter().filter(|row| row.2 == Way::Written);
@@ -134,9 +129,8 @@ fn has_number_of_abi(name: &str) -> bool {
 #[inline]
 pub fn suggestions(name: &str) -> impl Iterator<Item = (Dialect, &'static str)> + '_ {
     let stated = within_longest(name).map(Stated::of);
-    Dialect::ALL
-        .iter()
-        .filter_map(move |dialect| Some((*dialect, dialect.suggestion_of(name, stated.as_ref()?)?)))
+    let all = Dialect::ALL.iter().copied();
+    all.filter_map(move |it| Some((it, it.suggestion_of(name, stated.as_ref()?)?)))
 }
 
 /// Whether each word of a name for a system that no triple has, such as `lynx`, is one of another name too.
@@ -161,17 +155,11 @@ struct Said {
     floats: Option<FloatAbi>,
 }
 
-/// The triple of a row.
-#[inline(never)]
-fn triple_of(row: &Row) -> Option<TripleRef<'static>> {
-    TripleRef::from_str(row.1).ok()
-}
-
 impl Said {
     /// What the triple of a row says.
     #[inline]
     fn of(row: &Row) -> Option<Said> {
-        let triple = triple_of(row)?;
+        let triple = TripleRef::from_str(row.1).ok()?;
         let (machine, _, order) = machine_of(triple.architecture);
         Some(Said {
             machine: (machine, triple.pointer_width().ok(), order),
@@ -194,10 +182,9 @@ impl Stated {
         Stated {
             machine: words(name).find_map(|range| MachineWord::at(range, name)),
             floats: Stated::floats_in(name),
-            is_other: words(name).any(|range| {
-                name.get(range)
-                    .map_or(false, |it| OTHER_MACHINES.contains(&it))
-            }),
+            is_other: words(name)
+                .filter_map(|range| name.get(range))
+                .any(|it| OTHER_MACHINES.contains(&it)),
         }
     }
 
@@ -231,13 +218,10 @@ impl MachineWord {
         let word = name.get(range.clone())?;
         let known = found_in(WORDS, word).unwrap_or(word);
         let architecture = architecture_of(known).filter(|it| *it != Architecture::Unknown)?;
-        let (machine, width, order) = machine_of(architecture);
-        let width = if word == "x32" {
-            Some(PointerWidth::U32)
-        } else {
-            width
-        };
-        let machine = (machine, width, order);
+        let mut machine = machine_of(architecture);
+        if word == "x32" {
+            machine.1 = Some(PointerWidth::U32);
+        }
         Some(MachineWord {
             range,
             architecture,
@@ -261,24 +245,23 @@ impl MachineWord {
         // A version of Arm or x86 is a machine of its own.
         let is_version = |word: &str| found_in(WORDS, word).is_none();
         let are_versions = is_version(word) && is_version(&name[self.range.clone()]);
-        match (triple_of(row), self.architecture) {
-            (Some(triple), Architecture::Arm(_)) => triple.architecture == self.architecture,
-            // No profile or extension that the name doesn't state.
-            (Some(triple), Architecture::Riscv32(_) | Architecture::Riscv64(_)) => {
-                let is_usual = matches!(
-                    triple.architecture,
-                    Architecture::Riscv32(Riscv32Architecture::Riscv32gc)
-                        | Architecture::Riscv64(Riscv64Architecture::Riscv64gc)
-                );
-                is_usual || triple.architecture == self.architecture
-            }
-            (Some(triple), Architecture::X86_32(_)) => {
-                !are_versions || triple.architecture == self.architecture
-            }
-            (triple, _) => triple.is_some(),
-        }
+        let is_same = |own: Architecture| {
+            own == self.architecture
+                || match self.architecture {
+                    Architecture::Arm(_) => false,
+                    // No profile or extension that the name doesn't state.
+                    Architecture::Riscv32(_) => own == RISCV32GC,
+                    Architecture::Riscv64(_) => own == RISCV64GC,
+                    Architecture::X86_32(_) => !are_versions,
+                    _ => true,
+                }
+        };
+        TripleRef::from_str(row.1).map_or(false, |it| is_same(it.architecture))
     }
 }
+
+const RISCV32GC: Architecture = Architecture::Riscv32(Riscv32Architecture::Riscv32gc);
+const RISCV64GC: Architecture = Architecture::Riscv64(Riscv64Architecture::Riscv64gc);
 
 /// The words of a name, and two of them with `_` or `-` between, as in `x86_64`: two before the first of them, which isn't a word
 /// by itself before a number.

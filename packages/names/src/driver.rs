@@ -1,12 +1,10 @@
 //! What a compiler's driver asks of a triple besides the queries. `checks/compare llvm` asks rustc and clang of each of rustc's targets.
-
-use crate::object_format::object_format;
 use crate::rustc_cfg::unlisted_system;
 use crate::{CLibrary, FloatAbi, Signedness};
 use target_lexicon::{
-    Aarch64Architecture, Architecture, BinaryFormat, CDataModel, Endianness, Environment,
-    Mips32Architecture, Mips64Architecture, OperatingSystem, PointerWidth, Riscv32Architecture,
-    Riscv64Architecture, TripleRef,
+    Aarch64Architecture, Architecture, CDataModel, Endianness, Environment, Mips32Architecture,
+    Mips64Architecture, OperatingSystem, PointerWidth, Riscv32Architecture, Riscv64Architecture,
+    TripleRef,
 };
 
 /// The size and the alignment of a type of C, in bytes.
@@ -123,13 +121,6 @@ pub(crate) const fn has_emulated_tls(triple: &TripleRef<'_>) -> bool {
         (triple.operating_system, triple.environment),
         (Cygwin | Openbsd, _) | (Linux, Android | Androideabi | Ohos)
     )
-}
-
-/// The answer of [`TargetInfo::has_comdat`].
-#[inline]
-pub(crate) const fn has_comdat(triple: &TripleRef<'_>) -> bool {
-    use BinaryFormat::*;
-    matches!(object_format(triple), Coff | Elf | Wasm)
 }
 
 /// The answer of [`TargetInfo::program_suffix`].
@@ -294,24 +285,32 @@ impl TypeLayout {
     /// The answer of [`TargetInfo::long_double_layout`].
     #[inline]
     pub(crate) const fn of_long_double(triple: &TripleRef<'_>) -> Option<TypeLayout> {
-        use {Architecture::*, OperatingSystem::*};
-        let (size, alignment) = match (triple.architecture, triple.operating_system) {
-            (_, Uefi | VxWorks) => return None,
-            (_, Windows) => return windows_long_double(triple),
-            (Aarch64(_), system) if system.is_like_darwin() => (8, 8),
-            (X86_32(_) | X86_64 | X86_64h, system) if system.is_like_darwin() => (16, 16),
-            (_, system) if system.is_like_darwin() => return None,
-            (Arm(_) | Hexagon | Mips32(_), _) => (8, 8),
-            (Aarch64(_) | LoongArch64 | Riscv32(_) | Riscv64(_), _) => (16, 16),
-            (Sparc64 | Sparcv9 | X86_64 | X86_64h, _) => (16, 16),
-            (Mips64(_), Linux) => (16, 16),
-            (Msp430, _) => (8, 2),
-            (Powerpc | Powerpc64 | Powerpc64le, _) => return powerpc_long_double(triple),
-            (S390x, _) => (16, 8),
-            (Wasm32 | Wasm64, Emscripten) => (16, 8),
-            (Wasm32 | Wasm64, _) => (16, 16),
-            (X86_32(_), _) if matches!(triple.environment, Environment::Android) => (8, 4),
-            (X86_32(_), _) => (12, 4),
+        use {Architecture::*, Environment as With, OperatingSystem::*};
+        let system = triple.operating_system;
+        let is_darwin = system.is_like_darwin();
+        let (size, alignment) = match (triple.architecture, system, triple.environment) {
+            (_, Uefi | VxWorks, _) => return None,
+            (Arm(_) | Aarch64(_), Windows, With::Msvc | With::Gnu | With::GnuLlvm) => (8, 8),
+            (X86_32(_) | X86_64, Windows, With::Msvc) => (8, 8),
+            (X86_32(_), Windows, With::Gnu | With::GnuLlvm) => (12, 4),
+            (X86_64, Windows, With::Gnu | With::GnuLlvm) => (16, 16),
+            (_, Windows, _) => return None,
+            (Aarch64(_), ..) if is_darwin => (8, 8),
+            (X86_32(_) | X86_64 | X86_64h, ..) if is_darwin => (16, 16),
+            _ if is_darwin => return None,
+            (Arm(_) | Hexagon | Mips32(_), ..) => (8, 8),
+            (Aarch64(_) | LoongArch64 | Riscv32(_) | Riscv64(_), ..) => (16, 16),
+            (Sparc64 | Sparcv9 | X86_64 | X86_64h, ..) => (16, 16),
+            (Mips64(_), Linux, _) => (16, 16),
+            (Msp430, ..) => (8, 2),
+            (Powerpc | Powerpc64 | Powerpc64le, Linux, With::Gnu | With::Gnuspe) => (16, 16),
+            (Powerpc | Powerpc64 | Powerpc64le, Linux, With::Musl) => (8, 8),
+            (Powerpc | Powerpc64 | Powerpc64le, Freebsd | Netbsd | Openbsd, _) => (8, 8),
+            (S390x, ..) => (16, 8),
+            (Wasm32 | Wasm64, Emscripten, _) => (16, 8),
+            (Wasm32 | Wasm64, ..) => (16, 16),
+            (X86_32(_), _, With::Android) => (8, 4),
+            (X86_32(_), ..) => (12, 4),
             _ => return None,
         };
         Some(TypeLayout { size, alignment })
@@ -393,32 +392,4 @@ impl TypeSizes {
             _ => None,
         }
     }
-}
-
-#[inline]
-const fn windows_long_double(triple: &TripleRef<'_>) -> Option<TypeLayout> {
-    use {Architecture::*, Environment::*};
-    let (size, alignment) = match (triple.environment, triple.architecture) {
-        (Msvc, Arm(_) | Aarch64(_) | X86_32(_) | X86_64) => (8, 8),
-        (Gnu | GnuLlvm, Arm(_) | Aarch64(_)) => (8, 8),
-        (Gnu | GnuLlvm, X86_32(_)) => (12, 4),
-        (Gnu | GnuLlvm, X86_64) => (16, 16),
-        _ => return Option::None,
-    };
-    Some(TypeLayout { size, alignment })
-}
-
-#[inline]
-const fn powerpc_long_double(triple: &TripleRef<'_>) -> Option<TypeLayout> {
-    use {Environment::*, OperatingSystem::*};
-    let size = match (triple.operating_system, triple.environment) {
-        (Linux, Gnu | Gnuspe) => 16,
-        (Linux, Musl) => 8,
-        (Freebsd | Netbsd | Openbsd, _) => 8,
-        _ => return Option::None,
-    };
-    Some(TypeLayout {
-        size,
-        alignment: size,
-    })
 }

@@ -154,18 +154,12 @@ fn why_refused(refusal: &Refusal<'_>) -> NameError {
 fn complete(triple: &TripleRef<'_>, parts: &Parts<'_>) -> Result<TripleRef<'static>, NameError> {
     use {Environment::*, OperatingSystem as System};
     let is_format = |it: &str| it.parse::<BinaryFormat>().is_ok();
-    let (operating_system, environment) = match (
-        triple.operating_system,
-        triple.environment,
-        parts.kernel.is_some(),
-    ) {
-        (.., true) if parts.system.map_or(false, is_format) => {
-            return Err(NameError::WithoutTriple(refusals::KERNEL))
-        }
+    let refused = |why| Err(NameError::WithoutTriple(why));
+    let (system, has_kernel) = (triple.operating_system, parts.kernel.is_some());
+    let (operating_system, environment) = match (system, triple.environment, has_kernel) {
+        (.., true) if parts.system.map_or(false, is_format) => return refused(refusals::KERNEL),
         (System::Linux, Unknown, _) => (System::Linux, Gnu),
-        (System::Linux, Environment::None | Spe, _) => {
-            return Err(NameError::WithoutTriple(refusals::KERNEL))
-        }
+        (System::Linux, Environment::None | Spe, _) => return refused(refusals::KERNEL),
         (System::Unknown, none @ (Unknown | Eabi | Eabihf), _) => (System::None_, none),
         (System::Unknown, Gnu, false) => (System::Hurd, Gnu),
         (System::Unknown, android @ (Android | Androideabi), false) => (System::Linux, android),
@@ -173,13 +167,13 @@ fn complete(triple: &TripleRef<'_>, parts: &Parts<'_>) -> Result<TripleRef<'stat
             System::Unknown,
             Musl | Musleabi | Musleabihf | Muslabi64 | Newlib | Uclibc | Uclibceabi | Uclibceabihf,
             false,
-        ) => return Err(NameError::WithoutTriple(refusals::C_LIBRARY)),
-        (System::Unknown, ..) => return Err(NameError::WithoutTriple(refusals::ABI)),
+        ) => return refused(refusals::C_LIBRARY),
+        (System::Unknown, ..) => return refused(refusals::ABI),
         (system @ System::Linux, other, true) => (system, other),
         (system @ System::VxWorks, spe @ Spe, true) => (system, spe),
         (system, abi @ (Eabi | Eabihf | Gnueabi | Gnueabihf), true) => (system, abi),
         (system, other, false) => (system, other),
-        (.., true) => return Err(NameError::WithoutTriple(refusals::KERNEL)),
+        (.., true) => return refused(refusals::KERNEL),
     };
     Ok(TripleRef {
         architecture: triple.architecture,

@@ -6,8 +6,8 @@ use crate::{read, FloatAbi, LinuxLibc, TargetInfo};
 use core::fmt::{self, Write};
 use target_lexicon::spellings::{machine_of, Abi};
 use target_lexicon::{
-    Architecture, ArmArchitecture, Environment, Field, OperatingSystem, PointerWidth, TripleRef,
-    VendorRef, X86_32Architecture,
+    Architecture, ArmArchitecture, Environment, Field, Named as _, OperatingSystem, PointerWidth,
+    TripleRef, VendorRef, X86_32Architecture,
 };
 
 /// What the words of a name say, in whatever order they are: [`hint`] returns it. `Display` says it.
@@ -33,17 +33,17 @@ pub enum Hint {
 impl fmt::Display for Hint {
     #[inline]
     fn fmt(&self, f: &mut fmt::Formatter<'_>) -> fmt::Result {
-        match self {
-            Hint::Triple(triple) => write!(f, "its words name {triple}"),
-            Hint::NoMachine => f.write_str("it names a system, and no single machine known here"),
-            Hint::NoSystem => f.write_str("it names a machine, and no system"),
-            Hint::UnknownSystem => f.write_str("it names a machine, and no system known here"),
-            Hint::SeveralMachines => f.write_str("it names several machines"),
-            Hint::SeveralSystems => f.write_str("it names several systems"),
-            Hint::NoTriple => f.write_str(
-                "it names a machine and a system, and an ABI that no triple of them states",
-            ),
-        }
+        f.write_str(match self {
+            Hint::Triple(triple) => return write!(f, "its words name {triple}"),
+            Hint::NoMachine => "it names a system, and no single machine known here",
+            Hint::NoSystem => "it names a machine, and no system",
+            Hint::UnknownSystem => "it names a machine, and no system known here",
+            Hint::SeveralMachines => "it names several machines",
+            Hint::SeveralSystems => "it names several systems",
+            Hint::NoTriple => {
+                "it names a machine and a system, and an ABI that no triple of them states"
+            }
+        })
     }
 }
 
@@ -288,31 +288,17 @@ impl Said {
             }
             other => other,
         };
-        let mut text = Buffer::<64>::new();
-        write!(text, "{architecture}-{system}").ok()?;
-        let found = read(text.as_str()).ok()?;
-        let VendorRef::Known(vendor) = found.vendor else {
-            return None;
-        };
-        let environment = self.environment_on(&found)?;
-        let mut text = Buffer::<64>::new();
-        let system = found.operating_system;
-        write!(text, "{architecture}-{vendor}-{system}-{environment}").ok()?;
-        let binary_format = match environment {
-            Environment::Unknown => found.binary_format,
-            _ => TripleRef::from_str(text.as_str()).ok()?.binary_format,
-        };
-        let triple = TripleRef {
-            vendor: VendorRef::Known(vendor),
+        let on_system = triple_on(architecture, system)?;
+        let environment = self.environment_on(&on_system)?;
+        let mut triple = TripleRef {
             environment,
-            binary_format,
-            ..found
+            ..on_system
         };
+        triple.binary_format = triple.default_binary_format();
         let keeps_floats = self.floats.is_none() || self.floats == FloatAbi::of(&triple);
         let keeps_width = self.width.is_none() || self.width == triple.pointer_width().ok();
-        let mut abi = Buffer::<16>::new();
-        write!(abi, "{environment}").ok()?;
-        let is_possible = Abi::of(abi.as_str()).map_or(true, |it| it.is_on(Some(architecture)));
+        let abi = Abi::of(environment.name());
+        let is_possible = abi.map_or(true, |it| it.is_on(Some(architecture)));
         (keeps_floats && keeps_width && is_possible).then_some(triple)
     }
 
@@ -327,18 +313,15 @@ impl Said {
             machine_of(it).0 == machine.0 && machine_of(it).2 == machine.2
         });
         let has_width = width.is_none() || width == triple.pointer_width().ok();
+        let is_same = |own: TripleRef<'_>| {
+            let systems = (own.operating_system, triple.operating_system);
+            // Tools say `wasi` of its first preview.
+            let is_wasi = systems == (OperatingSystem::Wasi, OperatingSystem::WasiP1);
+            (is_wasi || unversioned(systems.0) == unversioned(systems.1))
+                && is_android(&own) == is_android(triple)
+        };
         let has_system = self.system.map_or(true, |system| {
-            let mut text = Buffer::<64>::new();
-            let is_written = write!(text, "x86_64-{system}").is_ok();
-            let own = read(text.as_str()).ok().filter(|_| is_written);
-            let is_same = |own: TripleRef<'_>| {
-                let systems = (own.operating_system, triple.operating_system);
-                // Tools say `wasi` of its first preview.
-                let is_wasi = systems == (OperatingSystem::Wasi, OperatingSystem::WasiP1);
-                (is_wasi || unversioned(systems.0) == unversioned(systems.1))
-                    && is_android(&own) == is_android(triple)
-            };
-            own.map_or(false, is_same)
+            triple_on(Architecture::X86_64, system).map_or(false, is_same)
         });
         let floats = FloatAbi::of(triple);
         let has_floats = floats.is_none() || self.floats.is_none() || floats == self.floats;
@@ -387,6 +370,18 @@ impl Said {
             _ => return None,
         })
     }
+}
+
+/// The triple of a machine, and of how triples go on after it.
+fn triple_on(machine: Architecture, system: &str) -> Option<TripleRef<'static>> {
+    let mut text = Buffer::<64>::new();
+    write!(text, "{machine}-{system}").ok()?;
+    let found = read(text.as_str()).ok()?;
+    let VendorRef::Known(vendor) = found.vendor else {
+        return None;
+    };
+    let vendor = VendorRef::Known(vendor);
+    Some(TripleRef { vendor, ..found })
 }
 
 fn is_digit(letter: char) -> bool {
@@ -526,40 +521,4 @@ fn is_of_abi(word: &str) -> bool {
     let abi = |library: &&str| word.strip_prefix(*library);
     let mut abis = C_LIBRARIES.iter().filter_map(abi);
     abis.any(|it| ABIS.contains(&it))
-}
-
-#[cfg(all(test, feature = "alloc"))]
-mod tests {
-    use crate::Dialect;
-    use crate::{hint, Hint};
-    use alloc::vec::Vec;
-    use target_lexicon::TripleRef;
-
-    /// Names of which a word says another machine than the whole: little-endian ones of Node, and programs of 32 bits.
-    const OTHERS: [&str; 6] = [
-        "linux-ppc64",
-        "linux-ppc64-gnu",
-        "linux-ppc64-musl",
-        "linux-ppc64-glibc",
-        "linuxmusl-ppc64",
-        "MINGW32_NT-10.0 x86_64",
-    ];
-
-    #[test]
-    fn hints_name_the_machine_that_tools_mean() {
-        let machine =
-            |triple: TripleRef<'_>| (triple.endianness().ok(), triple.pointer_width().ok());
-        let rows = Dialect::ALL.iter().flat_map(|dialect| dialect.rows_read());
-        let (mut hinted, mut others) = (0, Vec::new());
-        for row in rows {
-            if let Some(Hint::Triple(found)) = hint(row.0) {
-                hinted += 1;
-                if machine(found) != machine(TripleRef::from_str(row.1).unwrap()) {
-                    others.push(row.0);
-                }
-            }
-        }
-        assert!(hinted > 500, "{hinted}");
-        assert_eq!(others, OTHERS);
-    }
 }

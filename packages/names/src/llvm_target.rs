@@ -1,5 +1,4 @@
 //! The string that rustc gives to LLVM for a target. `checks/compare llvm` asks rustc for that of each of its targets.
-
 use crate::apple_versions::macos_version;
 use crate::rustc_cfg::{is_simulator, unlisted_system};
 use core::fmt;
@@ -12,15 +11,7 @@ use target_lexicon::{
 /// The string that LLVM and clang take for a target, which is displayed. It is rustc's `llvm-target` for each of its targets that
 /// parses. That of any other triple has the same words for its machine and its system.
 #[derive(Clone, Copy, Debug, PartialEq, Eq, Hash)]
-pub struct LlvmTarget<'a>(TripleRef<'a>);
-
-impl<'a> LlvmTarget<'a> {
-    /// The answer of [`TargetInfo::llvm_target`].
-    #[inline]
-    pub(crate) fn of(triple: &TripleRef<'a>) -> LlvmTarget<'a> {
-        LlvmTarget(*triple)
-    }
-}
+pub struct LlvmTarget<'a>(pub(crate) TripleRef<'a>);
 
 impl fmt::Display for LlvmTarget<'_> {
     #[inline]
@@ -59,14 +50,10 @@ fn machine(architecture: Architecture) -> Architecture {
 /// The vendor, unless it says what LLVM isn't told.
 #[inline]
 fn vendor<'a>(triple: &TripleRef<'a>) -> VendorRef<'a> {
+    use {OperatingSystem::*, VendorRef::*};
     match (triple.operating_system, triple.vendor) {
-        (
-            OperatingSystem::Windows,
-            VendorRef::Known(KnownVendor::Uwp) | VendorRef::Custom("win7"),
-        ) => VendorRef::Known(KnownVendor::Pc),
-        (OperatingSystem::Linux, VendorRef::Custom("openwrt" | "unikraft")) => {
-            VendorRef::Known(KnownVendor::Unknown)
-        }
+        (Windows, Known(KnownVendor::Uwp) | Custom("win7")) => Known(KnownVendor::Pc),
+        (Linux, Custom("openwrt" | "unikraft")) => Known(KnownVendor::Unknown),
         (_, vendor) => vendor,
     }
 }

@@ -55,11 +55,7 @@ impl Dialect {
             Err(NameError::WithoutTriple(why)) => OF_CONFIG_SUB.contains(&why),
             found => found == Err(NameError::Unknown),
         };
-        let within = if is_unknown {
-            self.read_within(text)
-        } else {
-            None
-        };
+        let within = is_unknown.then(|| self.read_within(text)).flatten();
         within.unwrap_or(found)
     }
 
@@ -121,9 +117,8 @@ impl Dialect {
     #[inline]
     fn read_end(self, text: &str, signs: [char; 3]) -> Option<Found> {
         let places = text.match_indices(signs).map(|(at, _)| at + 1);
-        let ends = core::iter::once(0)
-            .chain(places)
-            .map(|start| &text[start..]);
+        let starts = core::iter::once(0).chain(places);
+        let ends = starts.map(|start| &text[start..]);
         let may_be_name = |end: &&str| {
             end.len() <= LONGEST_NAME && !end.starts_with(|it: char| it.is_ascii_digit())
         };
@@ -147,10 +142,8 @@ impl Dialect {
             _ => machine,
         };
         // The `armhf` of container images is Armv7, and that of others isn't.
-        if machine
-            .split(['_', '-'])
-            .any(|word| floats_of(word).is_some())
-        {
+        let mut words = machine.split(['_', '-']);
+        if words.any(|it| floats_of(it).is_some()) {
             return None;
         }
         let has_capital = system.starts_with(|it: char| it.is_ascii_uppercase());
@@ -214,10 +207,8 @@ impl Dialect {
         let (system, library) = rest.split_at(rest.find('-').unwrap_or(rest.len()));
         let (system, versions) = system.split_once('.')?;
         let (least, most) = versions.split_once("...").unwrap_or((versions, versions));
-        let are_versions = [least, most]
-            .iter()
-            .all(|it| it.starts_with("win") || is_version(it));
-        if !are_versions {
+        let is_bound = |it: &str| it.starts_with("win") || is_version(it);
+        if !is_bound(least) || !is_bound(most) {
             return None;
         }
         match self.read_written(format_args!("{machine}-{system}.{least}{library}"))? {
@@ -237,9 +228,8 @@ impl Dialect {
         }
         let found = || platforms.split('.').map(|platform| self.read(platform));
         let first = found().find(Result::is_err).or_else(|| found().next())?;
-        found()
-            .all(|it| it == first || first.is_err())
-            .then_some(first)
+        let is_one = first.is_err() || found().all(|it| it == first);
+        is_one.then_some(first)
     }
 
     /// The words of `uname -s` and `uname -m`, with one space between them, and any version of Windows as Windows 10. Of more words the
@@ -352,9 +342,8 @@ pub(crate) fn last_tag(text: &str) -> &str {
 /// Whether a text begins with the tag of a version of Python, such as `cp311` or `py3`.
 #[inline]
 fn is_python(text: &str) -> bool {
-    let version = ["cp", "py", "pp"]
-        .iter()
-        .find_map(|word| text.strip_prefix(word));
+    let mut words = ["cp", "py", "pp"].iter();
+    let version = words.find_map(|word| text.strip_prefix(word));
     version.map_or(false, |it| it.starts_with(|c: char| c.is_ascii_digit()))
 }
 

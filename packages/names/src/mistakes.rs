@@ -32,18 +32,14 @@ impl fmt::Display for Mistake<'_> {
             Mistake::Space => f.write_str("it has a space"),
             Mistake::OtherTool(name) => {
                 f.write_str("it is a name of ")?;
-                let mut dialects = Dialect::all_with(name).peekable();
-                let mut separator = "";
-                while let Some(dialect) = dialects.next() {
-                    write!(f, "{separator}{dialect}")?;
-                    let mut others = dialects.clone();
-                    separator = if others.nth(1).is_some() {
-                        ", "
-                    } else {
-                        " and "
-                    };
-                }
-                Ok(())
+                let count = Dialect::all_with(name).count();
+                Dialect::all_with(name)
+                    .enumerate()
+                    .try_for_each(|(at, dialect)| match at {
+                        0 => write!(f, "{dialect}"),
+                        _ if at + 1 < count => write!(f, ", {dialect}"),
+                        _ => write!(f, " and {dialect}"),
+                    })
             }
             Mistake::Path => f.write_str("it has a path"),
             Mistake::Part(name) => write!(f, "it is a part of a name, such as `{name}`"),
@@ -168,14 +164,10 @@ impl Dialect {
         }
         let slashes = text.match_indices(['/', '\\']).map(|(at, _)| at + 1);
         let ends = core::iter::once(0).chain(slashes).map(|at| &text[at..]);
-        let found = ends.flat_map(|end| {
-            self.names().filter(move |name| {
-                let after = end.strip_prefix(*name);
-                after.map_or(false, |it| {
-                    it.is_empty() || it.starts_with(['/', '\\']) && !self.has_slashes()
-                })
-            })
-        });
+        let may_follow =
+            |after: &str| after.is_empty() || after.starts_with(['/', '\\']) && !self.has_slashes();
+        let is_at = |end: &str, name: &str| end.strip_prefix(name).map_or(false, may_follow);
+        let found = ends.flat_map(|end| self.names().filter(move |name| is_at(end, name)));
         found.max_by_key(|name| name.len())
     }
 }

@@ -1,17 +1,15 @@
 //! The object format that toolchains write.
 use target_lexicon::{Architecture, BinaryFormat, OperatingSystem, TripleRef};
 
-/// The format of the object files that rustc and LLVM write for a target. It differs from the field `binary_format`,
-/// which is upstream's answer, on UEFI, Cygwin, WebAssembly and the system `none`, and where that one is unknown.
+/// The answer of [`TargetInfo::object_format`].
 #[inline]
 pub(crate) const fn object_format(triple: &TripleRef<'_>) -> BinaryFormat {
+    use OperatingSystem::{Cygwin, Uefi};
     let implied = triple.default_binary_format();
     let given = triple.binary_format;
     match (implied, triple.operating_system, triple.architecture) {
         _ if !matches!(given, BinaryFormat::Unknown) && given as u8 != implied as u8 => given,
-        (BinaryFormat::Elf, OperatingSystem::Uefi | OperatingSystem::Cygwin, _) => {
-            BinaryFormat::Coff
-        }
+        (BinaryFormat::Elf, Cygwin | Uefi, _) => BinaryFormat::Coff,
         (BinaryFormat::Unknown, _, Architecture::Unknown) => BinaryFormat::Unknown,
         (BinaryFormat::Elf | BinaryFormat::Unknown, _, machine) => {
             wasm_or(BinaryFormat::Elf, machine)

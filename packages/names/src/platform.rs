@@ -30,25 +30,17 @@ pub(super) fn row_of_platform(rows: &'static [Row], name: &str) -> Option<&'stat
     let is = |word: &str, other: &str| word.eq_ignore_ascii_case(other);
     let (system, rest) = name.split_once('/').unwrap_or((name, ""));
     let (machine, variant) = rest.split_at(rest.find('/').unwrap_or(rest.len()));
-    let system = if is(system, "macos") {
-        "darwin"
-    } else {
-        system
-    };
+    let is_darwin = is(system, "macos");
+    let system = if is_darwin { "darwin" } else { system };
     let other = MACHINES.iter().find(|it| is(it.0, machine));
     let (machine, variant) = other.map_or((machine, variant), |it| (it.1, it.2.unwrap_or(variant)));
-    let other = VARIANTS
-        .iter()
-        .find(|it| is(it.0, machine) && is(it.1, variant));
+    let mut variants = VARIANTS.iter();
+    let other = variants.find(|it| is(it.0, machine) && is(it.1, variant));
     let variant = other.map_or(variant, |it| it.2);
-    let slash = if machine.is_empty() && variant.is_empty() {
-        ""
-    } else {
-        "/"
-    };
     let mut normal = Buffer::<40>::new();
-    for word in [system, slash, machine, variant] {
-        normal.write_str(word).ok()?;
+    match (machine, variant) {
+        ("", "") => normal.write_str(system).ok()?,
+        _ => write!(normal, "{system}/{machine}{variant}").ok()?,
     }
     let normal = normal.as_str();
     let mut named = rows.iter().filter(|row| is(row.0, normal));

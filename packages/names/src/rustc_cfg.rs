@@ -1,6 +1,4 @@
 //! The values of rustc's cfg options for a triple. `checks/compare elsewhere` asks rustc for those of each of its targets.
-
-use crate::dialect::Way;
 use crate::Dialect;
 use core::fmt;
 use target_lexicon::{
@@ -270,11 +268,7 @@ fn target_vendor<'a>(triple: &TripleRef<'a>) -> &'a str {
 /// ```
 #[must_use]
 pub fn is_vendor_of_rustc(vendor: &str) -> bool {
-    let mut rows = Dialect::Rust
-        .rows()
-        .iter()
-        .filter(|row| row.2 != Way::NoTriple);
-    rows.any(|row| {
-        TripleRef::from_str(row.1).map_or(false, |it| it.vendor == VendorRef::Custom(vendor))
-    })
+    let has = |triple: TripleRef<'_>| triple.vendor == VendorRef::Custom(vendor);
+    let mut names = Dialect::Rust.names();
+    names.any(|it| Dialect::Rust.read(it).map_or(false, has))
 }

@@ -66,20 +66,15 @@ pub(super) const USUAL: Rules = Rules {
 impl Rules {
     /// The triple without what isn't stated.
     pub(super) fn shape(self, triple: &TripleRef<'_>) -> TripleRef<'static> {
-        let system = triple.operating_system;
+        use OperatingSystem::{MacOSX, IOS};
+        let (machine, system) = (self.machine, triple.operating_system);
         let environment = self.abi.environment(system, triple.environment);
         TripleRef {
-            architecture: self
-                .machine
-                .architecture(system, environment, triple.architecture),
+            architecture: machine.architecture(system, environment, triple.architecture),
             vendor: VendorRef::Known(usual_vendor(system)),
             operating_system: match system {
-                OperatingSystem::MacOSX(version) if self.versions => {
-                    OperatingSystem::MacOSX(two_numbers_of(version))
-                }
-                OperatingSystem::IOS(version) if self.versions => {
-                    OperatingSystem::IOS(two_numbers_of(version))
-                }
+                MacOSX(version) if self.versions => MacOSX(two_numbers_of(version)),
+                IOS(version) if self.versions => IOS(two_numbers_of(version)),
                 other => unversioned(other),
             },
             environment,
@@ -225,12 +220,11 @@ pub(super) const fn version(major: u16, minor: u8) -> DeploymentTarget {
 
 /// The vendor that triples on a system usually have.
 pub(super) fn usual_vendor(system: OperatingSystem) -> KnownVendor {
+    use OperatingSystem::{Aix, Cygwin, Solaris, Windows};
     match system {
         _ if system.is_like_darwin() => KnownVendor::Apple,
-        OperatingSystem::Windows | OperatingSystem::Cygwin | OperatingSystem::Solaris => {
-            KnownVendor::Pc
-        }
-        OperatingSystem::Aix => KnownVendor::Ibm,
+        Windows | Cygwin | Solaris => KnownVendor::Pc,
+        Aix => KnownVendor::Ibm,
         _ => KnownVendor::Unknown,
     }
 }

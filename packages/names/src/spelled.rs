@@ -142,11 +142,6 @@ pub(crate) fn is_like_system(part: &str) -> bool {
 
 /// Whether a part is this name, or the name with what may be its version: it begins with a digit or a dot.
 pub(crate) fn may_be_versioned(part: &str, name: &str) -> bool {
-    let begins = part.as_bytes().first() == name.as_bytes().first();
-    let version = if begins {
-        part.strip_prefix(name)
-    } else {
-        None
-    };
+    let version = part.strip_prefix(name);
     version.map_or(false, |it| it.bytes().next().map_or(true, is_digit_or_dot))
 }

@@ -2,7 +2,7 @@
 use crate::dialect::{has_version, Row, Way};
 use crate::shape::{version, AbiRule, Rules};
 use crate::table::{refusals, KERNELS, MAKERS, SYSTEMS};
-use crate::{changes, read, Dialect, LinuxLibc, NameError, TargetInfo};
+use crate::{changes, hint, read, Dialect, Hint, LinuxLibc, NameError, TargetInfo};
 use alloc::{format, string::String, string::ToString, vec::Vec};
 use core::str::FromStr;
 use target_lexicon::spellings::{fit_alone, Form, Place, FIRST_RULES, LATER_RULES};
@@ -354,4 +354,31 @@ fn words_of_config_sub_are_makers_kernels_and_systems() {
         assert!(why.ends_with(system));
     }
     assert_eq!(read("x86_64-foo".into()), Err(NameError::Unknown));
+}
+
+/// Names of which a word says another machine than the whole: little-endian ones of Node, and programs of 32 bits.
+const OTHERS: [&str; 6] = [
+    "linux-ppc64",
+    "linux-ppc64-gnu",
+    "linux-ppc64-musl",
+    "linux-ppc64-glibc",
+    "linuxmusl-ppc64",
+    "MINGW32_NT-10.0 x86_64",
+];
+
+#[test]
+fn hints_name_the_machine_that_tools_mean() {
+    let machine = |it: TripleRef<'_>| (it.endianness().ok(), it.pointer_width().ok());
+    let (mut hinted, mut others) = (0, Vec::new());
+    for row in Dialect::ALL.iter().flat_map(|dialect| dialect.rows_read()) {
+        let Some(Hint::Triple(found)) = hint(row.0) else {
+            continue;
+        };
+        hinted += 1;
+        if machine(found) != machine(TripleRef::from_str(row.1).unwrap()) {
+            others.push(row.0);
+        }
+    }
+    assert!(hinted > 500, "{hinted}");
+    assert_eq!(others, OTHERS);
 }

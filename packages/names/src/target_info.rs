@@ -24,18 +24,6 @@ pub trait TargetInfo<'a>: Copy + Into<TripleRef<'a>> {
     /// for line in triple.rustc_cfg().to_string().lines() {
     ///     println!("cargo:rustc-cfg=guest_{line}");
     /// }
-    ///
-    /// for (string, os, env, abi, vendor) in [
-    ///     ("arm-linux-androideabi", "android", "", "eabi", "unknown"),
-    ///     ("armv7-unknown-linux-musleabihf", "linux", "musl", "eabihf", "unknown"),
-    ///     ("x86_64-apple-ios", "ios", "sim", "sim", "apple"),
-    ///     ("x86_64-uwp-windows-gnu", "windows", "gnu", "uwp", "uwp"),
-    /// ] {
-    ///     let triple = triple!(string);
-    ///     let cfg = triple.rustc_cfg();
-    ///     let values = (cfg.target_os, cfg.target_env, cfg.target_abi, cfg.target_vendor);
-    ///     assert_eq!(values, (os, env, abi, vendor), "{string}");
-    /// }
     /// ```
     #[must_use]
     fn rustc_cfg(self) -> RustcCfg<'a> {
@@ -64,7 +52,7 @@ pub trait TargetInfo<'a>: Copy + Into<TripleRef<'a>> {
     /// ```
     #[must_use]
     fn llvm_target(self) -> LlvmTarget<'a> {
-        LlvmTarget::of(&self.into())
+        LlvmTarget(self.into())
     }
 
     /// Debian's multiarch tuple. `None` if Debian has no architecture for the triple, or it depends on a C library that the triple doesn't
@@ -336,7 +324,8 @@ pub trait TargetInfo<'a>: Copy + Into<TripleRef<'a>> {
     /// ```
     #[must_use]
     fn has_comdat(self) -> bool {
-        driver::has_comdat(&self.into())
+        use BinaryFormat::{Coff, Elf, Wasm};
+        matches!(self.object_format(), Coff | Elf | Wasm)
     }
 
     /// What ends the name of a program, as rustc names it for each of its targets that parses.

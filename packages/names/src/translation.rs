@@ -101,7 +101,7 @@ impl Dialect {
             environment: Environment::Gnu,
             ..*triple
         };
-        triple.architecture == Architecture::Arm(ArmArchitecture::Arm)
+        triple.architecture == ARM
             && triple.operating_system == OperatingSystem::Linux
             && triple.environment == Environment::Unknown
             && self.shape(&completed) != self.shape(triple)
@@ -208,20 +208,21 @@ impl Dialect {
         if is_unknown && !has_other_name {
             return why;
         }
-        self.why_c_library(triple, why)
-            .or_else(|| self.why_machine(triple))
-            .or_else(|| self.why_system(triple))
-            .unwrap_or(why)
+        let helped = self.why_c_library(triple, why);
+        let helped = helped.or_else(|| self.why_machine(triple));
+        helped.or_else(|| self.why_system(triple)).unwrap_or(why)
     }
 
     /// The reason, if with a C library the triple has a name. It is given why without one it has none.
     #[inline]
     fn why_c_library(self, triple: &TripleRef<'_>, why: WriteError) -> Option<WriteError> {
         use LinuxLibc::*;
-        let arm = |version| Architecture::Arm(version);
+        let mut versioned = *triple;
         let (c_libraries, reason) = match triple.operating_system {
             _ if triple.environment != Environment::Unknown => return None,
-            OperatingSystem::Linux if triple.architecture == arm(ArmArchitecture::Arm) => {
+            // An Arm without a version has no environment with a C library.
+            OperatingSystem::Linux if triple.architecture == ARM => {
+                versioned.architecture = ARMV7;
                 ([Glibc, Musl], WriteError::NeedsArmVersion)
             }
             OperatingSystem::Linux => ([Glibc, Musl], WriteError::NeedsCLibrary),
@@ -231,40 +232,22 @@ impl Dialect {
             }
             _ => return None,
         };
-        // An Arm without a version has no environment with a C library.
-        let architecture = match reason {
-            WriteError::NeedsArmVersion => arm(ArmArchitecture::Armv7),
-            _ => triple.architecture,
-        };
-        let versioned = TripleRef {
-            architecture,
-            ..*triple
-        };
-        let is_helped = |libc: &LinuxLibc| self.has_name(versioned.with_c_library(*libc));
+        let is_helped = |libc: &LinuxLibc| self.write(versioned.with_c_library(*libc)).is_some();
         c_libraries.iter().any(is_helped).then_some(reason)
     }
 
     /// The reason, if another version of the machine has a name.
     #[inline]
     fn why_machine(self, triple: &TripleRef<'_>) -> Option<WriteError> {
-        let is_named = |architecture| {
-            let other = TripleRef {
-                architecture,
-                ..*triple
-            };
-            self.has_name(other)
-        };
+        let has = |architecture| self.has_name_with(triple, |it| it.architecture = architecture);
         let is_helped = match triple.architecture {
-            Architecture::Arm(_) => {
-                is_named(Architecture::Arm(ArmArchitecture::Armv7))
-                    || is_named(Architecture::Arm(ArmArchitecture::Armv5te))
-            }
-            Architecture::X86_32(_) => is_named(Architecture::X86_32(X86_32Architecture::I686)),
+            Architecture::Arm(_) => has(ARMV7) || has(Architecture::Arm(ArmArchitecture::Armv5te)),
+            Architecture::X86_32(_) => has(Architecture::X86_32(X86_32Architecture::I686)),
             _ => false,
         };
         match triple.architecture {
             _ if !is_helped => None,
-            Architecture::Arm(ArmArchitecture::Arm) => Some(WriteError::NeedsArmVersion),
+            it if it == ARM => Some(WriteError::NeedsArmVersion),
             _ => Some(WriteError::Baseline),
         }
     }
@@ -272,36 +255,20 @@ impl Dialect {
     /// The reason, if a version of the system, or another name of it, has a name.
     #[inline]
     fn why_system(self, triple: &TripleRef<'_>) -> Option<WriteError> {
-        let is_named = |operating_system, environment| {
-            let other = TripleRef {
-                operating_system,
-                environment,
-                ..*triple
-            };
-            self.has_name(other)
-        };
+        use OperatingSystem::{Darwin, MacOSX, Wasi, IOS};
+        let has = |system| self.has_name_with(triple, |it| it.operating_system = system);
         let version = Some(version(11, 0));
         let is_preview_1 = |row: &Row| row.1 == "wasm32-wasip1" && is_written(row);
-        let (is_helped, reason) = match triple.operating_system {
-            OperatingSystem::Wasi => (
-                self.rows().iter().any(is_preview_1),
-                WriteError::NeedsWasiVersion,
-            ),
-            OperatingSystem::Darwin(_) | OperatingSystem::MacOSX(_) => (
-                is_named(OperatingSystem::MacOSX(version), triple.environment),
-                WriteError::NeedsVersion,
-            ),
-            OperatingSystem::IOS(None)
-                if is_named(OperatingSystem::IOS(version), triple.environment) =>
-            {
-                (true, WriteError::NeedsVersion)
-            }
-            system => (
-                triple.environment == Environment::Sim && is_named(system, Environment::Unknown),
-                WriteError::Simulator,
-            ),
-        };
-        is_helped.then_some(reason)
+        let is_simulator = triple.environment == Environment::Sim;
+        let without = |it: &mut TripleRef<'_>| it.environment = Environment::Unknown;
+        match triple.operating_system {
+            Wasi if self.rows().iter().any(is_preview_1) => Some(WriteError::NeedsWasiVersion),
+            Darwin(_) | MacOSX(_) if has(MacOSX(version)) => Some(WriteError::NeedsVersion),
+            IOS(None) if has(IOS(version)) => Some(WriteError::NeedsVersion),
+            Wasi | Darwin(_) | MacOSX(_) => None,
+            _ if is_simulator && self.has_name_with(triple, without) => Some(WriteError::Simulator),
+            _ => None,
+        }
     }
 
     /// The reason, by the machines and systems of the dialect's rows. Of the rows that are written one that begins as the
@@ -356,12 +323,16 @@ impl Dialect {
             .any(|major| self.write_versioned(triple, *major, 0).is_some())
     }
 
-    /// Whether the triple has a name.
-    #[inline(never)]
-    fn has_name(self, triple: TripleRef<'_>) -> bool {
-        self.write(triple).is_some()
+    /// Whether a triple has a name with a change.
+    fn has_name_with(self, triple: &TripleRef<'_>, change: impl Fn(&mut TripleRef<'_>)) -> bool {
+        let mut other = *triple;
+        change(&mut other);
+        self.write(other).is_some()
     }
 }
+
+const ARM: Architecture = Architecture::Arm(ArmArchitecture::Arm);
+const ARMV7: Architecture = Architecture::Arm(ArmArchitecture::Armv7);
 
 /// First numbers of versions, of which each system and C library has one.
 const FIRST_NUMBERS: [u16; 4] = [1, 2, 11, 10240];

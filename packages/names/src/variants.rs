@@ -116,14 +116,12 @@ fn environment_on(triple: &TripleRef<'_>, architecture: Architecture) -> Environ
         Architecture::Arm(ArmArchitecture::Arm) => Architecture::Arm(ArmArchitecture::Armv7),
         other => other,
     };
-    let usual = |c_library| {
-        let without = TripleRef {
-            architecture,
-            environment: Unknown,
-            ..*triple
-        };
-        without.with_c_library(c_library).environment
+    let without = TripleRef {
+        architecture,
+        environment: Unknown,
+        ..*triple
     };
+    let usual = |c_library| without.with_c_library(c_library).environment;
     match triple.environment {
         Gnu | Gnuabi64 | Gnueabi | Gnueabihf | Gnuspe | Gnux32 | GnuIlp32 => {
             usual(LinuxLibc::Glibc)

@@ -16,13 +16,11 @@ const FIELDS: [Field; 5] = [
     Field::Environment,
     Field::BinaryFormat,
 ];
-const LIBRARIES: [LinuxLibc; 5] = [
-    LinuxLibc::Glibc,
-    LinuxLibc::Musl,
-    LinuxLibc::Msvc,
-    LinuxLibc::Mingw,
-    LinuxLibc::Gnullvm,
-];
+
+fn libraries() -> impl Iterator<Item = LinuxLibc> {
+    let names = "glibc musl msvc mingw gnullvm".split(' ');
+    names.map(|it| it.parse().unwrap())
+}
 
 /// The names of each row, a number for each star.
 fn names() -> Vec<String> {
@@ -186,7 +184,7 @@ proptest! {
                     Err(why) => prop_assert_ne!(why, NameError::Unknown),
                 }
             }
-            for library in LIBRARIES {
+            for library in libraries() {
                 let full = it.with_c_library(library);
                 prop_assert_eq!(full.endianness(), it.endianness());
                 prop_assert_eq!(full.pointer_width().ok(), full.with_c_library(LinuxLibc::Glibc).pointer_width().ok());
@@ -208,7 +206,7 @@ proptest! {
         for dialect in Dialect::ALL {
             let _ = dialect.parse(&text).map_err(|it| it.to_string());
             let _ = dialect.mistake(&text).map(|it| it.to_string());
-            for library in LIBRARIES {
+            for library in libraries() {
                 let _ = dialect.translate(&text, Some(library), Dialect::Rust).map_err(|it| it.to_string());
             }
         }

@@ -26,10 +26,8 @@ fn completed(triple: TripleRef<'static>) -> Vec<TripleRef<'static>> {
         (OperatingSystem::Windows, Environment::Unknown) => &[LinuxLibc::Msvc, LinuxLibc::Mingw],
         _ => &[],
     };
-    let mut found: Vec<_> = libraries
-        .iter()
-        .map(|it| triple.with_c_library(*it))
-        .collect();
+    let found = libraries.iter().map(|it| triple.with_c_library(*it));
+    let mut found: Vec<_> = found.collect();
     found.dedup();
     if found.is_empty() {
         found.push(triple);

@@ -31,14 +31,10 @@ fn an_error_of_a_name_leaves_the_function_that_owns_it() {
     fn read(name: String) -> Result<String, Box<dyn std::error::Error + Send + Sync>> {
         Ok(Dialect::Oci.parse(&name)?.to_string())
     }
-    assert_eq!(read("linux/arm64".into()).unwrap(), "aarch64-unknown-linux");
     let error = read("linux/\u{202e}".into()).unwrap_err();
-    assert_eq!(error.to_string(), "Unknown name of oci: linux/\\u{202e}");
     let error = error.downcast::<ParseNameError>().unwrap();
-    assert_eq!(
-        (error.dialect(), error.name(), error.suggestion()),
-        (Dialect::Oci, "linux/\u{202e}", None)
-    );
+    assert_eq!(error.to_string(), "Unknown name of oci: linux/\\u{202e}");
+    assert_eq!((error.name(), error.suggestion()), ("linux/\u{202e}", None));
 }
 
 #[test]
