@@ -95,7 +95,7 @@ LAST = [
     ("no message and no output has what isn't printable ASCII of a hostile string", "checks/visible", "cargo cc"),
     ("each allocation fails in turn", "checks/fail_allocations", "rt cc"),
     ("names, rules and tables are upstream's, by its kept answers", "checks/compare answers", "cargo"),
-    ("the mode json: the proved program answers as Rust's serde_json does", "/usr/bin/python3 checks/compare json --inputs 200 --of proved cargo",
+    ("the mode json: the proved program answers as Rust's serde_json does", "/usr/bin/python3 checks/compare json --inputs 200",
      "rt cargo hypothesis"),
 ]
 

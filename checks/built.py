@@ -41,6 +41,14 @@ def cargo_program(check, name, status=1):
     return f"{os.environ.get('CARGO_TARGET_DIR', COMMANDS_TARGET)}/release/{name}"
 
 
+def c_library(folder):
+    """Where the library for C is installed: the tree BUILT, or else one in this folder."""
+    if BUILT and os.path.exists(f"{BUILT}/lib/libtarget_lexicon.so"):
+        return BUILT
+    subprocess.run([f"{ROOT}/packages/c/install", f"{folder}/tree"], check=True, stdout=subprocess.DEVNULL)
+    return f"{folder}/tree"
+
+
 def program(check, name, status=1, words=()):
     """The path of a program: of a proved crate, if there is one of its name, otherwise of packages/command.
 

@@ -19,13 +19,6 @@ from names_table import FIELDS, table_of
 # The names by their fields, systems that may have a version, all names and texts that are none, and known triples.
 Names = collections.namedtuple("Names", "architectures vendors systems environments formats versioned each foreign known")
 
-# Versions at the limits 65535 and 255, beyond them, and in another spelling.
-VERSIONS = ["0", "10.4", "65535.255.255", "65536", "1.256", "1.2.256", "1.2.3.4", "007.+1"]
-CUSTOM_VENDORS = ["acme", "esp", "x86_65"]
-# Texts that are neither a name nor a custom vendor, two of them after a custom vendor's beginning; the end of a special
-# text; and the empty text.
-NO_NAMES = ["", "X86_64", "7up", "e\u0301", "gnu!", "+elf", "3ds"]
-
 VENDOR_CHARACTERS = string.ascii_lowercase + string.digits + "_."
 
 # Parts of a version: numbers at and around the limits 255 and 65535, other spellings of digits, and texts that are no

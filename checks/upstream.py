@@ -1,19 +1,14 @@
 """The programs that are compared with upstream's crate, and how they are compared: the proved one, and one over the Rust crate with its modes."""
-import collections
 import glob
 import json
 import os
 import re
-import shutil
 import subprocess
 
 import built
 
 SOURCES = f"{built.ROOT}/checks/comparisons"
 LINE_MODES = ("print", "show", "settle", "matrix")
-
-# A program: its command, and the one who answers.
-Program = collections.namedtuple("Program", "command name")
 
 
 def write(path, text):
@@ -57,22 +52,11 @@ def quoted_texts(crate, form):
     return sorted(set(re.findall(f'"({form})"', sources(crate))))
 
 
-def program_of(name):
-    """One of the programs."""
-    if name == "proved":
-        return Program([built.program("compare", "triples", 2)], "the proved program")
-    return Program([built.cargo_program("compare", "lines", 2)], "the Rust crate")
+def programs(*names):
+    """The paths of these programs, by who answers: `proved`, the program `triples`, and `cargo`, that over the Rust crate with its modes."""
+    found = {"the proved program": built.program("compare", "triples", 2)} if "proved" in names else {}
+    return found | ({"the Rust crate": built.cargo_program("compare", "lines", 2)} if "cargo" in names else {})
 
-
-def programs(options):
-    """The programs that are compared: those that the options name, otherwise all that are available."""
-    names = ["proved"] * bool(shutil.which("rt") or os.path.exists(f"{built.BUILT}/bin/triples")) + ["cargo"] if options.of is None else options.of
-    found = [Program([path], path) for path in options.program] + [program_of(name) for name in names]
-    print(f"compared: {', '.join(program.name for program in found)}", flush=True)
-    return found
-
-
-# ---- comparing
 
 def answers(command, given):
     """What a command writes for an input, both as bytes."""

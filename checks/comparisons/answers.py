@@ -13,7 +13,7 @@ Each line of the file has words with tabs between them: what was asked, and the 
 - `triple`, for known triples and a few other strings: what is printed, the canonical string and the four answers; or the line of the
   error.
 
-The same program asks upstream's crate and the Rust crate of this repository, whose source is the proved one. The other programs are
+The same program asks upstream's crate and the Rust crate of this repository, whose source is the proved one. The proved program is
 asked for the strings of `triple`, in each mode. A name of the table that upstream doesn't have differs.
 """
 import os
@@ -115,11 +115,10 @@ def main(options, _folder):
     parsed, outputs = [row for row in rows if len(row) > 2], mode_outputs(rows)
     inputs = dict.fromkeys(outputs, "".join(f"{row[0]}\n" for row in rows)) | {"json": json_list(row[0] for row in parsed)}
     outputs["json"] = [json_list(row[1] for row in parsed)]
-    options.of = options.of or ["proved"]
-    for program in upstream.programs(options):
+    for name, program in upstream.programs("proved").items():
         for mode in (*upstream.LINE_MODES, "json"):
-            said = upstream.answers([*program.command, mode], inputs[mode].encode()).decode().splitlines()
-            wrong += difference(f"{program.name}, mode {mode}", said, outputs[mode])
+            said = upstream.answers([program, mode], inputs[mode].encode()).decode().splitlines()
+            wrong += difference(f"{name}, mode {mode}", said, outputs[mode])
     for line in wrong[:None if options.all else 20]:
         print("   ", line)
     return 1 if wrong else 0

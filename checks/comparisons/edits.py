@@ -1,6 +1,5 @@
 """Asks what the Rust crate suggests for edits of one letter and of two letters of each known name, of each name of a dialect, and of
-rustc's targets: it must have its place, and keep machine, width, byte order and float ABI. Of two letters only some edits are asked,
-with --exhaustive all that could get another suggestion, which takes half an hour."""
+rustc's targets: it must have its place, and keep machine, width, byte order and float ABI. Of two letters only some edits are asked."""
 import subprocess
 
 import built
@@ -15,10 +14,6 @@ ONLY = {"eabi": "armv7 powerpc", "hf": "armv7", "abi64": "mips64", "x32": "x86_6
 
 # More words for machines.
 WORDS = {"386": "i386", "x86": "i386", "ia32": "i386", "mipsle": "mipsel", "mips64le": "mips64el", "loong64": "loongarch64", "aarch64be": "aarch64_be", "armv7b": "armeb"}
-
-
-def add_arguments(parser):
-    parser.add_argument("--exhaustive", action="store_true")
 
 
 def fits(text, name):
@@ -44,12 +39,12 @@ def names():
     yield from (("word", name, f"{machine}-unknown") for name, machine in WORDS.items())
 
 
-def main(options, _folder):
+def main(_options, _folder):
     program = built.cargo_program("compare", "lines", 2)
     known = output(program, "print", input="".join(f"{triple}\n" for _, _, triple in names())).splitlines()
     # A string that parses is what it prints as, and so is known.
     lines = [f"{kind}\t{name}\t{triple}\n" for (kind, name, triple), it in zip(names(), known) if not it.startswith("error: ")]
-    ran = subprocess.run([program, "edits", "1" if options.exhaustive else "31"], input="".join(lines), text=True, capture_output=True, check=True)
+    ran = subprocess.run([program, "edits"], input="".join(lines), text=True, capture_output=True, check=True)
     print(ran.stdout, end="")
     found = sum(int(line.split()[-2]) for line in ran.stdout.splitlines() if line.endswith(" wrong"))
     return 1 if found or not ran.stdout else 0

@@ -1,12 +1,15 @@
-"""Compares programs with upstream in each line mode.
+"""Compares the proved program, if it is available, and the Rust crate with upstream in each line mode.
 
 The lines are made from a seed, by checks/target_lines.py: the names and triples in upstream's sources, the targets of
 `rustc --print target-list`, every architecture with every system and every environment, and generated lines.
 """
 import concurrent.futures
 import itertools
+import os
+import shutil
 import subprocess
 
+import built
 import target_lines
 import upstream
 
@@ -28,7 +31,7 @@ def names_in(crate):
 
 def compare(theirs, program, mode, given):
     """How many answers upstream has in a mode, and those of a program that are others: what was asked, its answer, and upstream's."""
-    their, our = (upstream.answers([*command, mode], given).decode().split("\n") for command in ([theirs], program.command))
+    their, our = (upstream.answers([command, mode], given).decode().split("\n") for command in (theirs, program))
     if mode != "matrix" and len(their) - 1 != given.count(b"\n"):
         raise RuntimeError(f"upstream has {len(their) - 1} answers to {given.count(bytes([10]))} lines")
     rows = itertools.zip_longest(given.decode().split("\n"), our, their)
@@ -40,10 +43,11 @@ def compare(theirs, program, mode, given):
 def main(options, _folder):
     print(f"{options.lines} lines of seed {options.seed}", flush=True)
     given = "".join(f"{line}\n" for line in target_lines.lines(names_in(options.upstream), options.lines, options.seed)).encode()
-    theirs, programs = upstream.rust_program(options.upstream, "lines_upstream"), upstream.programs(options)
+    has_proved = shutil.which("rt") or os.path.exists(f"{built.BUILT}/bin/triples")
+    theirs, programs = upstream.rust_program(options.upstream, "lines_upstream"), upstream.programs("cargo", *["proved"] * bool(has_proved))
     compared = differ = 0
     with concurrent.futures.ThreadPoolExecutor() as pool:
-        runs = [(program.name, mode, pool.submit(compare, theirs, program, mode, given)) for program in programs for mode in upstream.LINE_MODES]
+        runs = [(name, mode, pool.submit(compare, theirs, program, mode, given)) for name, program in programs.items() for mode in upstream.LINE_MODES]
         for name, mode, run in runs:
             count, found = run.result()
             print(f"{name}, {mode + ':':7} {count:9,} answers compared, {len(found):,} differ", flush=True)

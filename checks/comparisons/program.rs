@@ -76,34 +76,23 @@ fn driver(triple: &TripleRef) -> String {
 
 fn main() -> io::Result<ExitCode> {
     match std::env::args().nth(1).as_deref() {
-        Some("json") => {}
-        Some("cfg") => {
-            each(|triple| triple.rustc_cfg().to_string(), "\n")?;
-            return Ok(ExitCode::SUCCESS);
+        Some("json") => {
+            let mut input = Vec::new();
+            io::stdin().read_to_end(&mut input)?;
+            let answer = json(input);
+            match answer {
+                Ok(ref line) => println!("{line}"),
+                Err(why) => println!("fault: {why}"),
+            }
+            return Ok(ExitCode::from(u8::from(answer.is_err())));
         }
-        Some("driver") => {
-            each(driver, "")?;
-            return Ok(ExitCode::SUCCESS);
-        }
-        Some("edits") => {
-            let step = std::env::args().nth(2).and_then(|it| it.parse().ok());
-            edits::check(&io::read_to_string(io::stdin())?, step.unwrap_or(1));
-            return Ok(ExitCode::SUCCESS);
-        }
-        _ => {
-            lines::answer(
-                |output, triple| write!(output, "{triple}").expect("memory"),
-                |triple| triple.settle().ok(),
-            )?;
-            return Ok(ExitCode::SUCCESS);
-        }
+        Some("cfg") => each(|triple| triple.rustc_cfg().to_string(), "\n")?,
+        Some("driver") => each(driver, "")?,
+        Some("edits") => edits::check(&io::read_to_string(io::stdin())?),
+        _ => lines::answer(
+            |output, triple| write!(output, "{triple}").expect("memory"),
+            |triple| triple.settle().ok(),
+        )?,
     }
-    let mut input = Vec::new();
-    io::stdin().read_to_end(&mut input)?;
-    let answer = json(input);
-    match answer {
-        Ok(ref line) => println!("{line}"),
-        Err(why) => println!("fault: {why}"),
-    }
-    Ok(ExitCode::from(u8::from(answer.is_err())))
+    Ok(ExitCode::SUCCESS)
 }

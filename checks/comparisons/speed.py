@@ -41,15 +41,6 @@ def of_call(program, who, call, path):
     return [(number - other) / int(calls) for number, other in zip(numbers, own)]
 
 
-def program_with_calls(options, folder):
-    """The program speed.rs."""
-    tree = options.tree
-    if not os.path.exists(f"{tree}/lib/libtarget_lexicon.a"):
-        tree = f"{folder}/tree"
-        subprocess.run([f"{built.ROOT}/packages/c/install", tree], check=True, stdout=subprocess.DEVNULL)
-    return upstream.rust_program(options.upstream, "speed", flags=f"-L native={os.path.realpath(tree)}/lib -l static=target_lexicon")
-
-
 def main(options, folder):
     head, *rows = [line.split("\t") for line in upstream.read(FIGURES).splitlines() if not line.startswith("#")]
     rows = [dict(zip(head, row, strict=True)) for row in rows]
@@ -58,7 +49,9 @@ def main(options, folder):
     for end in "", "x":
         upstream.write(f"{folder}/lines{end}", "".join(f"{line}{end}\n" for line in lines))
     upstream.write(f"{folder}/targets", "".join(f"{line}\n" for line in targets))
-    with_calls, lines_of, status = program_with_calls(options, folder), upstream.rust_program(options.upstream, "lines_upstream"), 0
+    of_c = f"-L native={os.path.realpath(built.c_library(folder))}/lib -l static=target_lexicon"
+    with_calls, lines_of = upstream.rust_program(options.upstream, "speed", of_c), upstream.rust_program(options.upstream, "lines_upstream")
+    status = 0
     for row in rows:
         part, call = row["part"], row["call"].replace("`", "")
         if options.parts and part not in options.parts:

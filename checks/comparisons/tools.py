@@ -28,12 +28,8 @@ def output(*command, **more):
 class Report:
     def __init__(self, options, folder):
         self.asked, self.failed, self.most = [], [], None if options.all else 5
-        tree = options.tree
-        if not os.path.exists(f"{tree}/lib/libtarget_lexicon.so"):
-            tree = f"{folder}/tree"
-            subprocess.run([f"{built.ROOT}/packages/c/install", tree], check=True, stdout=subprocess.DEVNULL)
-        self.tree = tree
-        os.environ["TARGET_LEXICON_LIBRARY"] = f"{tree}/lib/libtarget_lexicon.so"
+        self.tree = built.c_library(folder)
+        os.environ["TARGET_LEXICON_LIBRARY"] = f"{self.tree}/lib/libtarget_lexicon.so"
         sys.path.insert(0, f"{built.ROOT}/packages/python/src")
         import target_lexicon
         self.target_lexicon = target_lexicon
