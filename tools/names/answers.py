@@ -3,7 +3,7 @@ import re
 from dataclasses import dataclass
 
 import facts
-from names_table import Mistake, columns, filled
+from names_table import Mistake, columns, filled, read_lines
 
 PATH = "tools/names/answers.tsv"
 ENUMS = {"endianness": "Endianness", "calling_convention": "CallingConvention", "data_model": "DataModel", "c_library": "CLibrary",
@@ -29,22 +29,32 @@ class Answer:
 
 
 def answers_of(text, wrong):
-    """The answers of each kind."""
-    found = {}
-    for number, line in enumerate(text.splitlines(), 1):
-        if line.startswith(("#", "fact\t", "none\t")):
-            continue
-        try:
-            kind, variant, value, name, *about = columns(line, ["a kind", "an answer", "its number", "its name", "what it is"], 4)
-            answers = found.setdefault(kind, [])
-            if kind not in ENUMS and kind != "status":
-                raise Mistake(f"`{kind}` is no kind: {', '.join(ENUMS)}, status, fact or none. A new one is a line of ENUMS and JAVASCRIPT in tools/names/answers.py too")
-            if value != str(len(answers) + 1):
-                raise Mistake(f"the next number of {kind} is {len(answers) + 1}, not `{value}`")
-            answers.append(Answer(variant, int(value), name, *about or [""]))
-        except Mistake as mistake:
-            wrong.append(f"answers.tsv:{number}: {mistake}")
-    return found
+    """The answers of each kind; the facts; and why they have no answer: of each reason the facts, and the reason."""
+    found, of_facts, reasons = {}, [], []
+
+    def read(line):
+        kind = line.split("\t")[0]
+        if kind == "fact":
+            facts.add_fact(of_facts, line, ENUMS, JAVASCRIPT)
+        elif kind == "none":
+            facts.add_reason(reasons, line, of_facts)
+        elif not line.startswith("#"):
+            add_answer(found, line)
+
+    read_lines("answers.tsv", text, wrong, read)
+    with_reason = {name for names, _ in reasons for name in names}
+    wrong += [f"answers.tsv: the fact {it.name} may have no answer: a line `none` says why" for it in of_facts if it.is_optional and it.name not in with_reason]
+    return found, of_facts, reasons
+
+
+def add_answer(found, line):
+    kind, variant, value, name, *about = columns(line, ["a kind", "an answer", "its number", "its name", "what it is"], 4)
+    answers = found.setdefault(kind, [])
+    if kind not in ENUMS and kind != "status":
+        raise Mistake(f"`{kind}` is no kind: {', '.join(ENUMS)}, status, fact or none. A new one is a line of ENUMS and JAVASCRIPT in tools/names/answers.py too")
+    if value != str(len(answers) + 1):
+        raise Mistake(f"the next number of {kind} is {len(answers) + 1}, not `{value}`")
+    answers.append(Answer(variant, int(value), name, *about or [""]))
 
 
 def lists(answers):
@@ -77,17 +87,6 @@ def types_of_names(answers):
                     f'    /// assert_eq!(target_names::{name}::{of[0].variant}.name(), "{of[0].name}");', "    /// ```", "    #[must_use]", "    #[inline]",
                     "    pub const fn name(self) -> &'static str {", "        match self {",
                     *(f'            {name}::{it.variant} => "{it.name}",' for it in of), "        }", "    }", "}"]
-
-
-def facts_of(text, wrong):
-    """The facts, and why they have no answer."""
-    numbered = [*enumerate(text.splitlines(), 1)]
-    found = facts.facts_of([it for it in numbered if it[1].startswith("fact\t")], ENUMS, JAVASCRIPT, wrong)
-    return found, facts.reasons_of([it for it in numbered if it[1].startswith("none\t")], found, wrong)
-
-
-def lists_of_facts(found, reasons):
-    return facts.lists(found) | facts.lists_of_reasons(reasons)
 
 
 def quoted(kind, answers):

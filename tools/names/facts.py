@@ -83,29 +83,31 @@ class Fact:
         return f"{self.camel}: {of}{' | null' * self.is_optional};"
 
 
-def facts_of(lines, enums, constants, wrong):
-    found = []
-    for number, line in lines:
-        try:
-            _, name, type_, group, answer, about = columns(line, ["`fact`", "a name", "a type", "a group", "the answer in Rust", "what it is"])
-            type_, *numbers = type_.split()
-            types = ("bool", "format", "family", "bytes", "number", *enums)
-            if type_ not in types:
-                raise Mistake(f"`{type_}` is no type of a fact: {', '.join(types)}")
-            if group not in GROUPS:
-                raise Mistake(f"`{group}` is no group of facts: {', '.join(GROUPS)}")
-            if type_ == "bytes" and answer.partition(".")[0] not in PARTS:
-                raise Mistake(f"`bytes` is a member of {', '.join(PARTS)}, not {answer}")
-            if name in (it.name for it in found):
-                raise Mistake(f"the fact {name} is there already")
-            found.append(Fact(name, type_, group, answer, about, numbers, enums, constants))
-        except Mistake as mistake:
-            wrong.append(f"answers.tsv:{number}: {mistake}")
-    return found
+def add_fact(found, line, enums, constants):
+    _, name, type_, group, answer, about = columns(line, ["`fact`", "a name", "a type", "a group", "the answer in Rust", "what it is"])
+    type_, *numbers = type_.split()
+    types = ("bool", "format", "family", "bytes", "number", *enums)
+    if type_ not in types:
+        raise Mistake(f"`{type_}` is no type of a fact: {', '.join(types)}")
+    if group not in GROUPS:
+        raise Mistake(f"`{group}` is no group of facts: {', '.join(GROUPS)}")
+    if type_ == "bytes" and answer.partition(".")[0] not in PARTS:
+        raise Mistake(f"`bytes` is a member of {', '.join(PARTS)}, not {answer}")
+    if name in (it.name for it in found):
+        raise Mistake(f"the fact {name} is there already")
+    found.append(Fact(name, type_, group, answer, about, numbers, enums, constants))
 
 
-def lists(facts):
-    """The lists in each language. C has the facts by groups, and the others have them in their order."""
+def add_reason(found, line, facts):
+    _, names, reason = columns(line, ["`none`", "facts", "the reason"])
+    unknown = {*names.split()} - {*OTHERS, *(it.name for it in facts)}
+    if unknown:
+        raise Mistake(f"there is no fact {', '.join(sorted(unknown))}")
+    found.append((names.split(), reason))
+
+
+def lists(facts, reasons):
+    """The lists in each language, and why facts have no answer. C has the facts by groups, and the others have them in their order."""
     by_groups = [it for group in GROUPS for it in facts if it.group == group]
     numbers = {it.name: f"n[{number}]" for number, it in enumerate(by_groups)}
     found = {
@@ -113,6 +115,7 @@ def lists(facts):
         "the size of the facts": [f"const FACT_COUNT: usize = {len(facts)};"],
         "the facts for C++": [it.cpp for it in facts if it.name != KNOWN],
         "the facts for the command": [f'("{it.name}", {it.json}),' for it in facts],
+        "the reasons for the command": [f"""{' | '.join(f'"{name}"' for name in names)} => "{reason}",""" for names, reason in reasons],
         "the names of facts for Python": filled([f'"{it.name}",' for it in by_groups], " "),
         "the size of the facts for JavaScript": [f"const FACTS_SIZE = {len(facts)};"],
         "the facts for JavaScript": [
@@ -129,29 +132,6 @@ def lists(facts):
         # The parts are computed last, so that they are copied straight into the struct.
         found[f"the answers of {group} for the library"] = [*(f"{it.name}: {it.number}," for it in whole), *(f"{it}: {it}()," for it in parts)]
     return found
-
-
-def reasons_of(lines, facts, wrong):
-    """Why a fact has no answer, from the lines `none`: of each the facts, and the reason."""
-    found = []
-    for number, line in lines:
-        try:
-            _, names, reason = columns(line, ["`none`", "facts", "the reason"])
-            unknown = {*names.split()} - {*OTHERS, *(it.name for it in facts)}
-            if unknown:
-                raise Mistake(f"there is no fact {', '.join(sorted(unknown))}")
-            found.append((names.split(), reason))
-        except Mistake as mistake:
-            wrong.append(f"answers.tsv:{number}: {mistake}")
-    with_reason = {name for names, _ in found for name in names}
-    wrong += [f"answers.tsv: the fact {it.name} may have no answer: a line `none` says why" for it in facts if it.is_optional and it.name not in with_reason]
-    return found
-
-
-def lists_of_reasons(reasons):
-    return {
-        "the reasons for the command": [f"""{' | '.join(f'"{name}"' for name in names)} => "{reason}",""" for names, reason in reasons],
-    }
 
 
 def members(facts):

@@ -35,41 +35,43 @@ def columns(line, names, least=0, more=False):
     return found
 
 
+def read_lines(name, text, wrong, read):
+    """Reads each line of a file, and notes what is wrong with one, after its place."""
+    for number, line in enumerate(text.splitlines(), 1):
+        try:
+            read(line)
+        except Mistake as mistake:
+            wrong.append(f"{name}:{number}: {mistake}")
+
+
 def table_of(text):
     """The values of the table, those of a field in the order of their numbers, and what is wrong in it."""
     values, wrong = [], []
-    for number, line in enumerate(text.splitlines(), 1):
-        if line.startswith("#"):
-            continue
-        try:
-            cells = columns(line, ["a field", "a variant", "a name", "a number", "a family", "what it is"], 4)
-        except Mistake as mistake:
-            wrong.append(f"names.tsv:{number}: {mistake}")
-            continue
-        value = Value(*cells, *[""] * (6 - len(cells)))
-        wrong += [f"names.tsv:{number}: {it}" for it in faults_of(value, values)]
-        values.append(value)
+    read_lines("names.tsv", text, wrong, lambda line: line.startswith("#") or add_value(values, line))
     wrong = wrong or [f"names.tsv: {it}" for it in number_faults(values)]
     return values if wrong else sorted(values, key=lambda it: int(it.number or 0)), wrong
 
 
-def faults_of(value, earlier):
-    """What is wrong with a line after the earlier ones."""
-    if value.field not in (*FIELDS, "alias"):
-        yield f"`{value.field}` is no field: {', '.join(FIELDS)} or alias"
-    if not NAME.fullmatch(value.name):
-        yield f"the name `{value.name}` has a character that no name may have: it begins with a-z, and has a-z, 0-9, `_` and `.`"
-    if not VARIANT.fullmatch(value.variant):
-        yield f"`{value.variant}` is no variant: it begins with a capital letter, and has letters, digits and `_`"
-    if value.family and not (value.field in ("architecture", "alias") and VARIANT.fullmatch(value.family)
-                             or (value.field, value.family) == ("operating_system", "Darwin")):
-        yield f"`{value.family}` is no family of the field"
-    names = ("architecture", "alias") if value.field in ("architecture", "alias") else (value.field,)
-    if value.name in [it.name for it in earlier if it.field in names]:
-        yield f"the name `{value.name}` is there twice"
+def add_value(earlier, line):
+    """Adds the value of a line to the earlier ones."""
+    cells = columns(line, ["a field", "a variant", "a name", "a number", "a family", "what it is"], 4)
+    value = Value(*cells, *[""] * (6 - len(cells)))
+    is_architecture = value.field in ("architecture", "alias")
+    names = ("architecture", "alias") if is_architecture else (value.field,)
     is_there = (value.variant, value.family) in [(it.variant, it.family) for it in earlier if it.field == names[0]]
+    if value.field not in (*FIELDS, "alias"):
+        raise Mistake(f"`{value.field}` is no field: {', '.join(FIELDS)} or alias")
+    if not NAME.fullmatch(value.name):
+        raise Mistake(f"the name `{value.name}` has a character that no name may have: it begins with a-z, and has a-z, 0-9, `_` and `.`")
+    if not VARIANT.fullmatch(value.variant):
+        raise Mistake(f"`{value.variant}` is no variant: it begins with a capital letter, and has letters, digits and `_`")
+    if value.family and not (is_architecture and VARIANT.fullmatch(value.family) or (value.field, value.family) == ("operating_system", "Darwin")):
+        raise Mistake(f"`{value.family}` is no family of the field")
+    if value.name in [it.name for it in earlier if it.field in names]:
+        raise Mistake(f"the name `{value.name}` is there twice")
     if is_there != (value.field == "alias"):
-        yield f"the variant `{value.variant}` is in the field twice" if is_there else "the alias comes before its architecture"
+        raise Mistake(f"the variant `{value.variant}` is in the field twice" if is_there else "the alias comes before its architecture")
+    earlier.append(value)
 
 
 def number_faults(values):

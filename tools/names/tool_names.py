@@ -2,7 +2,7 @@
 import re
 from dataclasses import dataclass, field
 
-from names_table import Mistake, columns, filled
+from names_table import Mistake, columns, filled, read_lines
 
 PATH = "packages/names/elsewhere.tsv"
 DAY = re.compile(r"\d{4}-\d\d-\d\d")
@@ -15,6 +15,11 @@ RULES = {"machine": {"order": "MachineRule::Order", "version": "MachineRule::Ver
          "abi": {"kept": "AbiRule::Kept", "dropped": "AbiRule::Dropped", "linux": "AbiRule::KeptOnLinux",
                  "windows": "AbiRule::KeptOnLinuxAndWindows", "systems": "AbiRule::KeptOnSystems"},
          **{word: {"no": "false", "yes": "true"} for word in ("versions", "tags", "spelled", "platforms", "itself")}}
+
+# The columns of the lines that begin with `#` and one of these words.
+COLUMNS = {"why": ["the name of a reason", "the reason"], "note": ["the name of a note", "the note"], "refusal": ["a constant", "the reason"],
+           "reason": ["a variant of `WriteError`", "the reason"], "versions": ["the start or end of names", "the least number", "the most", "what it is"],
+           "source": ["a source", "its version", "Debian's package", "a file, a command in backquotes or an address", "the day"], "from": ["a source"]}
 
 
 @dataclass
@@ -81,11 +86,7 @@ class Elsewhere:
 def tables_of(text, known, wrong):
     """The tables. `known` are the names of the values: of architectures for "", and of the parts after it for "-"."""
     found, cited = Elsewhere(), set()
-    for number, line in enumerate(text.splitlines(), 1):
-        try:
-            read_line(found, line, known, cited)
-        except Mistake as mistake:
-            wrong.append(f"elsewhere.tsv:{number}: {mistake}")
+    read_lines("elsewhere.tsv", text, wrong, lambda line: read_line(found, line, known, cited))
     wrong += [f"elsewhere.tsv: no row cites the reason {it}: remove its line `# why`, or write it as the note of a row" for it in sorted(found.whys.keys() - cited)]
     for it in found.dialects.values():
         wrong += [f"elsewhere.tsv: the dialect {it.name} has no {what}" for what, there in (("line that says what it is, after `# dialect`", it.about), ("row", it.rows)) if not there]
@@ -100,9 +101,9 @@ def read_line(found, line, known, cited):
         add_dialect(found, *line.removeprefix(DIALECT).split())
     elif line.startswith(ONLY_WRITTEN):
         found.only_written = line.removeprefix(ONLY_WRITTEN)
-    elif word := re.match(r"# (why|note|reason|refusal|versions|source|from)(?=\t| *$)", line):
+    elif word := re.match(rf"# ({'|'.join(COLUMNS)})(?=\t| *$)", line):
         add_line(found, last, word[1], line.split("\t")[1:])
-    elif re.match(r"# (why|note|reason|refusal|versions|source|from) ", line) and (last or found.sources):
+    elif re.match(rf"# ({'|'.join(COLUMNS)}) ", line) and (last or found.sources):
         raise Mistake("after the first word of such a line comes a tab, and tabs are between its columns")
     elif (words := line.split("\t"))[0] in found.words:
         add_words(found.words[words[0]], *columns(words[1:], ["words"]))
@@ -134,37 +135,31 @@ def add_dialect(found, name="", *rules):
 
 def add_line(found, last, word, cells):
     """Adds what a line says that begins with `#`, this word and a tab."""
-    if word == "why":
-        why, text = columns(cells, ["the name of a reason", "the reason"])
-        if why in found.whys or text in found.whys.values():
-            raise Mistake("this reason, or its name, is there already")
-        found.whys[why] = text
-    elif word == "note":
-        name, text = columns(cells, ["the name of a note", "the note"])
-        found.notes[name] = text
-    elif word == "refusal":
-        found.refusals.append(columns(cells, ["a constant", "the reason"]))
-    elif word == "reason":
-        found.reasons.append(columns(cells, ["a variant of `WriteError`", "the reason"]))
+    first, *rest = columns(cells, COLUMNS[word], word == "from", more=word == "from")
+    if word in ("why", "note"):
+        texts = found.whys if word == "why" else found.notes
+        if first in texts or rest[0] in texts.values():
+            raise Mistake(f"this {'reason' if word == 'why' else word}, or its name, is there already")
+        texts[first] = rest[0]
+    elif word in ("reason", "refusal"):
+        (found.reasons if word == "reason" else found.refusals).append((first, *rest))
     elif word == "versions":
-        text, least, most, about = columns(cells, ["the start or end of names", "the least number", "the most", "what it is"])
+        least, most, about = rest
         if not (least + most).isdigit():
             raise Mistake(f"the least and the most number are in digits, not `{least}` and `{most}`")
-        found.versions.append((text, int(least), int(most), about))
+        found.versions.append((first, int(least), int(most), about))
     elif word == "source":
-        name, *words = columns(cells, ["a source", "its version", "Debian's package", "a file, a command in backquotes or an address", "the day"])
-        if name in found.sources:
-            raise Mistake(f"the source {name} is there already")
-        if not DAY.fullmatch(words[-1]):
-            raise Mistake(f"the day is one such as 2026-11-28, not `{words[-1]}`")
-        found.sources[name] = Source(name, *("" if it == "-" else it for it in words))
+        if first in found.sources:
+            raise Mistake(f"the source {first} is there already")
+        if not DAY.fullmatch(rest[-1]):
+            raise Mistake(f"the day is one such as 2026-11-28, not `{rest[-1]}`")
+        found.sources[first] = Source(first, *("" if it == "-" else it for it in rest))
+    elif first not in found.sources:
+        raise Mistake(f"the source {first} needs a line `# source`")
+    elif not last:
+        raise Mistake("a line `# from` comes after the line `# dialect` of its dialect")
     else:
-        source, *patterns = columns(cells, ["a source"], 1, more=True)
-        if source not in found.sources:
-            raise Mistake(f"the source {source} needs a line `# source`")
-        if not last:
-            raise Mistake("a line `# from` comes after the line `# dialect` of its dialect")
-        last.sources[source] = patterns
+        last.sources[first] = rest
 
 
 def add_words(known, words):
