@@ -1,14 +1,14 @@
 //! Answers of a crate with upstream's calls, as lines of words with tabs between them. `checks/compare answers` builds it over
 //! upstream's crate, whose answers it keeps, and over the Rust crate of this repository.
 //!
-//! Each line of the input is `word`, `parsed` or `triple`, a tab and a string. The lines of the output are, for each
+//! Each line of the input is `word` or `string`, a tab and a string. The lines of the output are, for each
 //!
 //! - `word`: what it parses as in each field, as `{:?}` shows it, or `-`;
 //! - `architecture` among the words: byte order, pointer width, whether it is Clever, and of Arm what its own type answers;
 //! - `system`: whether it is like Darwin;
 //! - `model`, `size` and `width`: their sizes;
-//! - `parsed`: the five values, as `{:?}` shows them, or the error;
-//! - `triple`: what is printed, the canonical string, byte order, width, convention and model, or the line of the error;
+//! - `string`: the five values, as `{:?}` shows them, what is printed, the canonical string, byte order, width, convention and model; or the error
+//!   and its line;
 //! - `all`, for each architecture, system and environment: a checksum of the answers of all triples that have it and no other vendor, and of what
 //!   is printed of these with some vendors and each format.
 use std::collections::BTreeMap;
@@ -67,25 +67,15 @@ fn canonical(mut triple: Triple) -> Triple {
     }
 }
 
-fn answer_parsed(text: &str) -> String {
+fn answer_string(text: &str) -> String {
     match text.parse::<Triple>() {
-        Ok(it) => format!(
-            "parsed\t{text}\t{:?}\t{:?}\t{:?}\t{:?}\t{:?}",
-            it.architecture, it.vendor, it.operating_system, it.environment, it.binary_format
-        ),
-        Err(error) => format!("parsed\t{text}\t{error:?}"),
-    }
-}
-
-fn answer_triple(text: &str) -> String {
-    match text.parse::<Triple>() {
-        Ok(triple) => {
-            let model = triple.data_model();
-            let answers = [shown(triple.endianness()), shown(triple.pointer_width()), shown(triple.default_calling_convention())];
-            let printed = triple.to_string();
-            format!("triple\t{text}\t{printed}\t{}\t{}\t{}", canonical(triple), answers.join("\t"), shown(model))
+        Ok(it) => {
+            let values = format!("{:?}\t{:?}\t{:?}\t{:?}\t{:?}", it.architecture, it.vendor, it.operating_system, it.environment, it.binary_format);
+            let answers = [shown(it.endianness()), shown(it.pointer_width()), shown(it.default_calling_convention()), shown(it.data_model())];
+            let printed = it.to_string();
+            format!("string\t{text}\t{values}\t{printed}\t{}\t{}", canonical(it), answers.join("\t"))
         }
-        Err(error) => format!("triple\t{text}\terror: {error}"),
+        Err(error) => format!("string\t{text}\t{error:?}\terror: {error}"),
     }
 }
 
@@ -138,11 +128,8 @@ fn main() {
     for width in [PointerWidth::U16, PointerWidth::U32, PointerWidth::U64] {
         println!("width\t{width:?}\t{}\t{}", width.bits(), width.bytes());
     }
-    for (_, text) in asked.iter().filter(|it| it.0 == "parsed") {
-        println!("{}", answer_parsed(text));
-    }
-    for (_, text) in asked.iter().filter(|it| it.0 == "triple") {
-        println!("{}", answer_triple(text));
+    for (_, text) in asked.iter().filter(|it| it.0 == "string") {
+        println!("{}", answer_string(text));
     }
     let mut all = BTreeMap::new();
     for system in &systems {

@@ -9,12 +9,11 @@ Each line of the file has words with tabs between them: what was asked, and the 
 - `all`, for each architecture, system and environment: a checksum of pointer width, calling convention, data model and implied format of all
   triples that have it, and of what is printed of these with the vendors unknown, pc, nintendo and espressif, and each format. An unknown
   environment with an unknown format isn't asked, since this repository prints both if another format is implied.
-- `parsed`: the five values of a string, or the error.
-- `triple`, for known triples and a few other strings: what is printed, the canonical string and the four answers; or the line of the
-  error.
+- `string`, for known triples and a few other strings: the five values, what is printed, the canonical string and the four answers; or the
+  error and its line.
 
 The same program asks upstream's crate and the Rust crate of this repository, whose source is the proved one. The proved program is
-asked for the strings of `triple`, in each mode. A name of the table that upstream doesn't have differs.
+asked for these strings, in each mode. A name of the table that upstream doesn't have differs.
 """
 import os
 import re
@@ -68,8 +67,7 @@ def known_triples(crate):
 def names_asked(more_words=()):
     """The names of the table and more words; known triples and more strings."""
     names = target_lines.table_names()
-    return dict.fromkeys([*(("word", word) for word in (*names.each, *more_words)), *(("parsed", text) for text in MORE_STRINGS),
-                          *(("triple", text) for text in (*names.known, *MORE_STRINGS))])
+    return dict.fromkeys([*(("word", word) for word in (*names.each, *more_words)), *(("string", text) for text in (*names.known, *MORE_STRINGS))])
 
 
 # ---- comparing
@@ -77,7 +75,8 @@ def names_asked(more_words=()):
 def mode_outputs(rows):
     """What each mode writes for these strings."""
     outputs = {mode: [] for mode in upstream.LINE_MODES}
-    for _, printed, *rest in rows:
+    for _, *said in rows:
+        printed, *rest = said[5:] or said[1:]
         settled, *answers = rest or [printed]
         words = [{"Little": "little", "Big": "big"}.get(word, word.removeprefix("U")) for word in answers]
         outputs["print"].append(printed)
@@ -109,12 +108,12 @@ def main(options, _folder):
         return 0
     kept = [line for line in upstream.read(PATH).splitlines() if not line.startswith("#")]
     rows = [line.split("\t") for line in kept]
-    asked = {words[:2]: None for words in map(tuple, rows) if words[0] in ("word", "parsed", "triple")}
+    asked = {words[:2]: None for words in map(tuple, rows) if words[0] in ("word", "string")}
     wrong = difference("the Rust crate", file_lines(OURS, asked | names_asked()), kept)
-    rows = [words[1:] for words in rows if words[0] == "triple"]
-    parsed, outputs = [row for row in rows if len(row) > 2], mode_outputs(rows)
+    rows = [words[1:] for words in rows if words[0] == "string"]
+    parsed, outputs = [row for row in rows if len(row) > 3], mode_outputs(rows)
     inputs = dict.fromkeys(outputs, "".join(f"{row[0]}\n" for row in rows)) | {"json": json_list(row[0] for row in parsed)}
-    outputs["json"] = [json_list(row[1] for row in parsed)]
+    outputs["json"] = [json_list(row[6] for row in parsed)]
     for name, program in upstream.programs("proved").items():
         for mode in (*upstream.LINE_MODES, "json"):
             said = upstream.answers([program, mode], inputs[mode].encode()).decode().splitlines()

@@ -342,7 +342,7 @@ class Comparison(Report):
             self.fact("and Linux has the C library of that form", (
                 (text, form, it.environment.value, form.split("-")[-1]) for text, form in said.items()
                 if (it := self.read(text, "gnu")) and form.split("-")[-2:-1] == ["linux"]), "uclibcgnu")
-            self.check_words(sub)
+            self.try_words(sub)
         crate = glob.glob("/usr/share/cargo/registry/cc-1*/src/lib.rs")
         if self.has("librust-cc-dev", crate):
             text = upstream.read(crate[0])
@@ -353,7 +353,7 @@ class Comparison(Report):
             self.fact("the crate cc's prefixes are the names of GNU's compilers", (
                 (name, it, pairs[name]) for name, it in written.items()), "musl|powerpc64|armebv7r|armv[67]--netbsdelf|-frc-|-rumprun-|-uwp-")
 
-    def check_words(self, sub):
+    def try_words(self, sub):
         """What config.sub makes of each machine of the library with each word, of its own and of the library, in each place."""
         text = upstream.read(sub)
         lexicon = self.target_lexicon
@@ -559,21 +559,8 @@ def gnu_type(tag):
 
 def main(options, folder):
     comparison = Comparison(options, folder)
-    comparison.check_systems()
-    comparison.check_machines()
-    comparison.check_libraries()
-    comparison.check_spellings()
-    comparison.check_dpkg()
-    comparison.check_go()
-    comparison.check_rpm()
-    comparison.check_uname()
-    comparison.check_host()
-    comparison.check_node()
-    comparison.check_gnu()
-    comparison.check_rust()
-    comparison.check_android()
-    comparison.check_sources()
-    comparison.check_clang()
-    comparison.check_python()
+    for name, check in vars(Comparison).items():
+        if name.startswith("check_"):
+            check(comparison)
     rustc_cfg.check(comparison)
     return comparison.conclude()

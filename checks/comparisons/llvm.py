@@ -9,7 +9,6 @@ What a tool doesn't know isn't compared.
 Debian's packages: llvm-14-dev g++ clang; and rustc.
 """
 import concurrent.futures
-import re
 import shutil
 import subprocess
 
@@ -44,8 +43,7 @@ def llvm_asked(folder):
 
 def clang_answer(target):
     """What clang's macros say of a target, or nothing if clang doesn't know it."""
-    text = output("clang", "-target", target, "-dM", "-E", "-x", "c", "/dev/null")
-    macros = dict(re.findall(r"^#define (\w+) (\w+)$", text, re.MULTILINE))
+    macros = driver.macros_of(target)
     if "__BYTE_ORDER__" not in macros:
         return {}
     order = {"__ORDER_LITTLE_ENDIAN__": "little", "__ORDER_BIG_ENDIAN__": "big"}[macros["__BYTE_ORDER__"]]

@@ -134,12 +134,6 @@ There a line that is not UTF-8, or has 65,536 bytes, is refused, and the others 
   error: Line too long
   $ long 65535 | triples stream-show | cmp - <(long 65535 | triples print)
 
-The known triples print and settle as themselves:
-
-  $ known=$TESTDIR/../known_triples.txt
-  $ triples print < $known > printed && cmp printed $known
-  $ triples settle < $known > settled && cmp settled $known
-
 ## Lines
 
 Any character but a line feed is part of a line, and an empty input has no line. `agreed` shows what the four line modes

@@ -1,9 +1,8 @@
-//! The laws: each is true in all cases, and each of its claims matters, since in some case the law is false if the claim is taken to be
-//! otherwise.
+//! The laws: each is true in all cases, and each of its forms, which say more, is false in some case.
 use crate::inputs::{self, Chosen, Strings};
 use crate::report::Report;
 use definitions::spec::{self as s, LAWS};
-use definitions::values::{con, forget, some_values, text, with, FORCED, N, TRIED, V};
+use definitions::values::{con, forget, some_values, text, with, FORM, N, TRIED, V};
 
 /// How many cases of a law there are first, which are all tried, how many in all, and one of them.
 type Cases = (usize, usize, Box<dyn Fn(usize) -> Vec<V>>);
@@ -63,29 +62,27 @@ fn cases(variables: &[(&str, &str)]) -> Cases {
 /// Laws of which a case takes long, since they search: they are tried with an eighth of the cases.
 const SLOW: [&str; 4] = ["EqualTextsEqualTriples", "EveryTextHasOneOutcome", "ReadingIsComputed", "RefusedPartsDoNotGrow"];
 
-/// Runs each law on some of its cases, as many as the step at least if it has so many. Prints the claims that matter.
+/// Runs each law on some of its cases, as many as the step at least if it has so many. Prints the forms that are false.
 pub fn run(r: &mut Report, chosen: Chosen) {
-    for (title, variables, law, claims) in LAWS {
+    for (title, variables, law, forms) in LAWS {
         let (first, all, case) = cases(variables);
         let count = all - first;
         let at_least = if SLOW.iter().any(|it| title.contains(it)) { chosen.step / 8 } else { chosen.step };
         let step = if count > at_least { inputs::prime_before(count / at_least) } else { 1 };
-        let mut open: Vec<usize> = claims.to_vec();
+        let mut open: Vec<usize> = forms.to_vec();
         for i in (Chosen { step: 1, ..chosen }).of(first).chain((Chosen { step, ..chosen }).of(count).map(|i| first + i)) {
             let values = case(i);
             unsafe { TRIED = Some(some_values()) };
             let shown = || values.iter().map(|it| definitions::values::shown(*it)).collect::<Vec<_>>().join(", ");
             let holds = law(&values).yes();
             r.holds(title, holds, &format_args!("{}", if holds { String::new() } else { shown() }));
-            open.retain(|claim| {
-                unsafe { FORCED = *claim };
+            open.retain(|form| {
+                unsafe { FORM = *form };
                 law(&values).yes()
             });
-            unsafe { FORCED = usize::MAX };
+            unsafe { FORM = usize::MAX };
             forget();
         }
-        for claim in claims.iter().filter(|it| !open.contains(it)) {
-            println!("claim: {title} {claim}");
-        }
+        forms.iter().filter(|it| !open.contains(it)).for_each(|it| println!("form: {it}"));
     }
 }

@@ -5,9 +5,8 @@ of its arguments, and a proposition a test, whose variables range over the domai
 library are those of library.txt; what has no clauses there is a function of values.rs. What isn't understood is an error that names it.
 
 A proposition is translated if a Rust file of this folder, or another translated one, names it. One without arguments is a law: a
-function of its variables, except for those that an equation or a relation before the arrow gives (`solution`). Each condition that a
-law ends in is a claim: laws.rs looks for a case in which the law is false if the claim is taken to be false. So are the forms of laws.txt,
-which say more than the law: for each there must be a case in which it is false.
+function of its variables, except for those that an equation or a relation before the arrow gives (`solution`). The forms of laws.txt say more
+than a law: laws.rs looks for a case in which each is false.
 """
 import functools
 import pathlib
@@ -376,8 +375,8 @@ class Rust:
         self.fields = {"now": None, "value": None}  # those of references and boxes; of others the definition that has one first
         self.functions, self.of, self.constants, self.fresh, self.failed = [], {}, 5, 0, []  # values.rs has the first 5 constants
         self.todo, self.definition, self.look_ups = [], None, 0
-        self.laws, self.law_definitions, self.claims, self.claims_of, self.others = [], set(), [], {}, ""
-        self.forms, self.wrong_forms = self.read_forms(), []
+        self.laws, self.law_definitions, self.others = [], set(), ""
+        self.forms, self.tried, self.wrong_forms = self.read_forms(), [], []  # tried: the law and the text of each form
 
     def read_forms(self):
         """The forms of laws.txt that say more: the law, the definition that is changed, the old text and the new one."""
@@ -391,15 +390,14 @@ class Rust:
         return found
 
     def with_forms(self, title, text, write):
-        """The code of a text, and of its forms, of which each is a claim of its law."""
-        code = write(text, True)
+        """The code of a text, or of the one of its forms that is tried."""
+        code = write(text)
         for law, old, new in self.forms.get(title, []):
             if text.count(old) != 1:
                 self.wrong_forms.append(f"{law}: {title} doesn't say this once: {old}")
                 continue
-            self.claims.append(f"{title}: {old} => {new}")
-            self.claims_of.setdefault(law, []).append(len(self.claims) - 1)
-            code = f"if forced({len(self.claims) - 1}) {{ {write(text.replace(old, new), False)} }} else {{ {code} }}"
+            code = f"if is_tried({len(self.tried)}) {{ {write(text.replace(old, new))} }} else {{ {code} }}"
+            self.tried.append((law, f"{title}: {old} => {new}"))
         return code
 
     def translate(self, cited):
@@ -477,9 +475,8 @@ class Rust:
                 parameters = [self.local(it[1]) for it in first[0]]
                 scope = {it[1]: of for it, of in zip(first[0], parameters)}
 
-                def write(text, is_own):
-                    body = definition.clause(text)[1]
-                    return self.once(*self.expression(self.claimed(body, definition) if definition.is_record and is_own else body, scope))
+                def write(text):
+                    return self.once(*self.expression(definition.clause(text)[1], scope))
 
                 code = self.with_forms(definition.title, definition.chunks[0], write)
             else:
@@ -622,18 +619,15 @@ class Rust:
 
     all_code = any_code
 
-    def claim_code(self, it, scope):
-        return f"claim({it[1]}, {str(it[2]).lower()}, || {self.expression(it[3], scope)[0]})", NO
-
     # ---- laws
 
     def law(self, definition, field, text):
         """A law becomes a function of its variables, but for those that are given by the others."""
         self.definition, title = definition, f"{definition.title}{field}"
         self.law_definitions.add(definition)
-        free = []
+        own, free = " ".join(text.split()), []
 
-        def write(text, is_own):
+        def write(text):
             parser = Parser(text)
             body, variables = parser.expression(), []
             if parser.peek():
@@ -648,9 +642,8 @@ class Rust:
                 scope[name] = self.local(name)
                 given.append((name, type, domain))
             now = [(name, type) for name, type, domain in given if not domain]
-            if is_own:
+            if text == own:
                 free.extend(now)
-                body = self.claimed(body, definition, self.claims_of.setdefault(title, []))
             elif now != free:
                 raise Untranslated(f"{text} has other variables than the law")
             code = self.once(*self.expression(body, scope))
@@ -659,43 +652,17 @@ class Rust:
             return code
 
         try:
-            code = self.with_forms(title, " ".join(text.split()), write)
+            code = self.with_forms(title, own, write)
         except Untranslated as problem:
             self.failed.append((definition, str(problem)))
             return
         lets = "".join(f"let {self.local(name)} = a[{i}]; " for i, (name, _) in enumerate(free))
         self.laws.append((title, free, f"|a| {{ reached({self.todo.index(definition)}); {lets}{code} }}"))
 
-    def claimed(self, it, definition, claims=None):
-        """A proposition in which the conditions that it ends in are claims. Those of a record that it cites are the record's. Each side of
-        an equivalence is a claim two times: it is taken to be false, and to be true."""
-        claims = self.claims_of.setdefault(definition.title, []) if claims is None else claims
-        if it[0] in ("all", "any"):
-            return (*it[:3], self.claimed(it[3], definition, claims))
-        if it[0] == "op" and it[1] in ("→", "×", "⊎", "↔"):
-            left, right = it[2] if it[1] == "→" else self.claimed(it[2], definition, claims), self.claimed(it[3], definition, claims)
-            if it[1] == "↔":
-                left, right = self.claim(left, True, definition, claims), self.claim(right, True, definition, claims)
-            return (*it[:2], left, right)
-        if it in (("var", "⊤"), ("var", "⊥")):
-            return it
-        kind, what = self.names.resolve(definition, it[1]) if it[0] == "app" and it[1][0] == "var" else ("", "")
-        if kind == "definition" and what.is_record and what.name not in GIVEN_BY:
-            claims.append(what.title)
-            return it
-        return self.claim(it, False, definition, claims)
-
-    def claim(self, it, value, definition, claims):
-        self.claims.append(definition.title)
-        claims.append(len(self.claims) - 1)
-        return ("claim", len(self.claims) - 1, value, it)
-
     def solution(self, name, body, scope, is_condition, names=None, depth=0):
         """The code of the values of a variable with which the conditions of a proposition can be true, if one of them gives these. What an
         implication ends in is no condition, unless it is an equivalence: the variable has other values too, of which it may be false."""
         names = names or {name}
-        if body[0] == "claim":
-            return self.solution(name, body[3], scope, is_condition, names, depth)
         if body[0] in ("all", "any"):
             return self.solution(name, body[3], {it: code for it, code in scope.items() if it != body[1]}, is_condition, names, depth)
         if body[0] == "op" and body[1] == "↔":
@@ -826,10 +793,10 @@ class Rust:
             out.append(f'pub fn get_{field}(v: V) -> V {{ match v {{ {arms}_ => stuck("{field}") }} }}\n')
         out.append("/// The definitions of values, the types of their arguments, and the functions.\n"
                    f"pub static ASKED: &[(&str, &[&str], fn(&[V]) -> V)] = &[{', '.join(self.asked())}];\n")
-        out.append("/// The laws, and what their variables are.\npub static LAWS: &[(&str, &[(&str, &str)], fn(&[V]) -> V, &[usize])] = &[\n")
+        out.append("/// The laws, what their variables are, and the numbers of their forms.\npub static LAWS: &[(&str, &[(&str, &str)], fn(&[V]) -> V, &[usize])] = &[\n")
         for title, free, code in self.laws:
             variables_ = ", ".join(f'("{name}", "{type}")' for name, type in free)
-            out.append(f'    ("{title}", &[{variables_}], {code}, &{sorted(set(self.all_claims(title)))}),\n')
+            out.append(f'    ("{title}", &[{variables_}], {code}, &{[i for i, (law, _) in enumerate(self.tried) if law == title]}),\n')
         out.append("];\n")
         out.append("/// The definitions of the library, the types of their arguments, and the functions: ours, and the kit's.\n"
                    "pub static LIBRARY: &[(&str, &[&str], fn(&[V]) -> V, fn(&[V]) -> V)] = &[\n")
@@ -855,11 +822,6 @@ class Rust:
         for i in range(own, count):
             code = f"apply({code}, a[{i}])"
         return code
-
-    def all_claims(self, title):
-        """The claims of a law, and those of the records that it cites."""
-        for it in self.claims_of.get(title, []):
-            yield from [it] if isinstance(it, int) else self.all_claims(it)
 
     def asked(self):
         for it in self.todo:

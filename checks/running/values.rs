@@ -96,17 +96,11 @@ pub fn once(i: usize, f: impl FnOnce() -> V) -> V {
     }
 }
 
-// ---- claims of laws
+/// The form that is tried instead of the law or definition that it is of.
+pub static mut FORM: usize = usize::MAX;
 
-/// The claim that is taken to be otherwise.
-pub static mut FORCED: usize = usize::MAX;
-
-/// Whether a condition holds; a claim that is forced has this value instead.
-pub fn claim(i: usize, value: bool, f: impl FnOnce() -> V) -> V {
-    if forced(i) { truth(value) } else { f() }
-}
-pub fn forced(i: usize) -> bool {
-    i == unsafe { FORCED }
+pub fn is_tried(form: usize) -> bool {
+    form == unsafe { FORM }
 }
 
 /// A definition was reached.
@@ -311,35 +305,27 @@ pub fn field_lists() -> V {
 pub mod library {
     use super::*;
 
-    pub fn add(a: V, b: V) -> V {
-        N(a.number().saturating_add(b.number()))
+    macro_rules! of_two_numbers {
+        ($($name:ident = |$a:ident, $b:ident| $value:expr;)*) => {$(
+            pub fn $name(a: V, b: V) -> V {
+                let ($a, $b) = (a.number(), b.number());
+                $value
+            }
+        )*};
     }
-    pub fn sub(a: V, b: V) -> V {
-        N(a.number().saturating_sub(b.number()))
-    }
-    pub fn mul(a: V, b: V) -> V {
-        N(a.number().saturating_mul(b.number()))
-    }
-    pub fn div(a: V, b: V) -> V {
-        N(a.number().checked_div(b.number()).unwrap_or(0))
-    }
-    pub fn rem(a: V, b: V) -> V {
-        N(a.number().checked_rem(b.number()).unwrap_or(0))
-    }
-    pub fn pow(a: V, b: V) -> V {
-        N(a.number().saturating_pow(b.number() as u32))
+    of_two_numbers! {
+        add = |a, b| N(a.saturating_add(b));
+        sub = |a, b| N(a.saturating_sub(b));
+        mul = |a, b| N(a.saturating_mul(b));
+        div = |a, b| N(a.checked_div(b).unwrap_or(0));
+        rem = |a, b| N(a.checked_rem(b).unwrap_or(0));
+        pow = |a, b| N(a.saturating_pow(b as u32));
+        nat_eq = |a, b| truth(a == b);
+        nat_lt = |a, b| truth(a < b);
+        nat_le = |a, b| truth(a <= b);
     }
     pub fn suc(a: V) -> V {
         add(a, N(1))
-    }
-    pub fn nat_eq(a: V, b: V) -> V {
-        truth(a.number() == b.number())
-    }
-    pub fn nat_lt(a: V, b: V) -> V {
-        truth(a.number() < b.number())
-    }
-    pub fn nat_le(a: V, b: V) -> V {
-        truth(a.number() <= b.number())
     }
     pub fn not(a: V) -> V {
         truth(!a.yes())
