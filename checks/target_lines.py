@@ -43,18 +43,13 @@ def read(path):
         return file.read()
 
 
-def table():
-    """The lines of the table of names, of which each has a field, a variant, a name, a number and a family."""
-    values, wrong = table_of(read("tools/names/names.tsv"))
-    assert not wrong, wrong
-    return values
-
-
 def table_names():
     """The names of the table, some texts that are none, and the known triples."""
-    fields = {field: [row.name for row in table() if row.field == field] for field in (*FIELDS, "alias")}
+    table, wrong = table_of(read("tools/names/names.tsv"))
+    assert not wrong, wrong
+    fields = {field: [row.name for row in table if row.field == field] for field in (*FIELDS, "alias")}
     fields["architecture"] += fields.pop("alias")
-    versioned = [row.name for row in table() if row.family == "Darwin"]
+    versioned = [row.name for row in table if row.family == "Darwin"]
     each = [name for names in fields.values() for name in names]
     return Names(*fields.values(), versioned, each, ["zilog", "bar", "gnux"], read("checks/known_triples.txt").split())
 

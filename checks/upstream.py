@@ -23,11 +23,11 @@ def read(path):
 
 # ---- building
 
-def cargo(crate, command, *words, flags=""):
-    """Runs a command of cargo for the package of comparisons/. If upstream's crate is in a folder, nothing is fetched. Returns the output."""
+def cargo(crate, command, *words, package=SOURCES, flags="", given=None):
+    """Runs a command of cargo for a package over upstream's crate. If that is in a folder, nothing is fetched. Returns the output."""
     patch = [*built.CARGO, *["--offline"] * ("--offline" not in built.CARGO), "--config", f'patch.crates-io.target-lexicon.path="{os.path.realpath(crate or "")}"']
-    words = [*(patch if crate else ["cargo"]), command, "--quiet", f"--manifest-path={SOURCES}/Cargo.toml", *words]
-    ran = subprocess.run(words, env={**os.environ, "RUSTFLAGS": f"--cap-lints allow {flags}"}, stdout=subprocess.PIPE, text=True)
+    words = [*(patch if crate else ["cargo"]), command, "--quiet", f"--manifest-path={package}/Cargo.toml", *words]
+    ran = subprocess.run(words, env={**os.environ, "RUSTFLAGS": f"--cap-lints allow {flags}"}, input=given, stdout=subprocess.PIPE, text=True)
     if ran.returncode:
         raise RuntimeError(f"that failed: {' '.join(words)}")
     return ran.stdout

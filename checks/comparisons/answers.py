@@ -15,9 +15,7 @@ Each line of the file has words with tabs between them: what was asked, and the 
 The same program asks upstream's crate and the Rust crate of this repository, whose source is the proved one. The proved program is
 asked for these strings, in each mode. A name of the table that upstream doesn't have differs.
 """
-import os
 import re
-import subprocess
 
 import built
 import target_lines
@@ -48,14 +46,7 @@ def add_arguments(parser):
 
 def file_lines(crate, asked):
     """The lines of the file, as a crate answers: that of a folder, or upstream's, which cargo fetches."""
-    cargo = built.CARGO if crate == OURS else ["cargo", *(["--offline"] if crate else [])]
-    patch = ["--config", f'patch.crates-io.target-lexicon.path="{os.path.realpath(crate)}"'] if crate else []
-    words = [*cargo, *patch, "run", "--quiet", "--release", f"--manifest-path={PACKAGE}/Cargo.toml"]
-    given = "".join(f"{kind}\t{text}\n" for kind, text in asked)
-    ran = subprocess.run(words, input=given, stdout=subprocess.PIPE, text=True, env={**os.environ, "RUSTFLAGS": "--cap-lints allow"})
-    if ran.returncode:
-        raise RuntimeError(f"that failed: {' '.join(words)}")
-    return ran.stdout.splitlines()
+    return upstream.cargo(crate, "run", "--release", package=PACKAGE, given="".join(f"{kind}\t{text}\n" for kind, text in asked)).splitlines()
 
 
 def known_triples(crate):
