@@ -70,9 +70,8 @@ class Page:
         """Each exception and error message since the last look."""
         return [it["message"] for it in self.driver.get_log("browser")]
 
-    def size(self, width, height, scheme="light"):
+    def size(self, width, height):
         self.call("Emulation.setDeviceMetricsOverride", width=width, height=height, deviceScaleFactor=1, mobile=False)
-        self.call("Emulation.setEmulatedMedia", features=[{"name": "prefers-color-scheme", "value": scheme}])
 
     def keys(self, *keys):
         """Types at the focus."""

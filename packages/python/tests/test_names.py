@@ -149,8 +149,6 @@ class Names(unittest.TestCase):
     def test_meanings(self):
         def meant(text):
             return [(it.dialect, str(it.triple) if it.triple else it.reason) for it in target_lexicon.meanings(text)]
-        self.assertEqual(meant("armhf"), [(Dialect.DEBIAN, "armv7-unknown-linux-gnueabihf"), (Dialect.APK, "armv6-unknown-linux-musleabihf")])
-        self.assertEqual(meant("plan9/amd64"), [(Dialect.GO, "Plan 9 is no known name")])
         vendor = f"x86_64-{'a' * 500}-linux"
         self.assertEqual(meant(vendor)[0], (None, vendor))
         for nobody in "", "foo/bar", "\0", "linux/\u00e9", "x" * 100_000:

@@ -1,4 +1,5 @@
 """Triples as values: fields, facts, equality, order, copies, other forms, explanations, refusals, and wrong arguments."""
+import contextlib
 import copy
 import ctypes
 import itertools
@@ -8,6 +9,7 @@ import platform
 import struct
 import sys
 import unittest
+from unittest import mock
 
 import target_lexicon
 from target_lexicon import Architecture, CustomVendor, Environment, OperatingSystem, Origin, ParseError, Triple, Vendor
@@ -16,24 +18,6 @@ LONG = f"x86_64-{'a' * 500}-linux"  # longer than the first buffer
 TEXTS = ["unknown", "x86_64-unknown-linux-gnu", "arm64-apple-macosx13.2", "arm64-apple-macosx", "arm64-apple-macosx0",
          "x86_64-acme-linux", "x86_64-acmf-linux", "armv6k-nintendo-horizon-gnu", "armv6k-nintendo-3ds", "riscv32imc-esp-espidf-elf", "clever-unknown-unknown-none",
          "x86_64-darwin65535.255.255", LONG]
-
-# The answers of `to_dict`, where - is none: the printed string is the last but one.
-FACTS = """\
-thumbv7em unknown none - eabihf elf little 32 - - 2 4 4 8 4 8 elf elf arm True False False - hard False 8 8 4 4 7 M unsigned False True \
-thumbv7em-none-eabihf - thumbv7em-none-eabihf thumbv7em-none-eabihf
-x86_64 apple ios 17.1.0 unknown macho little 64 SystemV LP64 2 4 8 8 4 8 macho macho x86_64 False True False system - True 16 16 4 4 - - signed False False \
-x86_64-apple-ios17.1.0-simulator - x86_64-apple-ios17.1.0 x86_64-apple-ios17.1.0
-x86_64 pc windows - msvc coff little 64 WindowsFastcall LLP64 2 4 4 8 4 8 coff coff x86_64 False False False msvc - False 8 8 2 2 - - signed False True \
-x86_64-pc-windows-msvc - x86_64-pc-windows-msvc x86_64-pc-windows-msvc
-avr acme unknown - unknown macho little 16 - - 2 2 4 8 4 4 elf macho avr False False True - - False - - - - - - signed False False \
-avr-acme-unknown-macho - avr-acme-unknown-macho avr-acme-unknown-macho
-armv6k nintendo horizon - gnu elf little 32 - - 2 4 4 8 4 8 elf elf arm False False False newlib hard True 8 8 4 4 6 - unsigned False True \
-armv6k-none-eabihf - armv6k-nintendo-3ds armv6k-nintendo-3ds
-i386 unknown openbsd - unknown elf little 32 SystemV ILP32 2 4 4 8 4 8 elf elf x86_32 False False False system - True 12 4 4 4 - - signed True True \
-i386-unknown-openbsd - i386-unknown-openbsd i386-unknown-openbsd
-m68k unknown linux - gnu elf big 32 SystemV ILP32 2 4 4 8 4 8 elf elf m68k False False False glibc - True - - - - - - signed False True \
-m68k-unknown-linux-gnu m68k-linux-gnu m68k-unknown-linux-gnu m68k-unknown-linux-gnu"""
-
 
 class Refused(unittest.TestCase):
     def refusal(self, call, *arguments):
@@ -44,17 +28,15 @@ class Refused(unittest.TestCase):
 
 class Values(Refused):
     def test_facts(self):
-        """In a dictionary, by their names, and in a column."""
-        for row in FACTS.split("\n"):
-            fields = dict(zip(target_lexicon.Facts._fields, (None if it == "-" else it for it in row.split())))
-            triple = Triple.from_dict({name: fields[name] for name in Triple.__match_args__})
+        """In a dictionary, by their names, and in a column. tests/test_package.py compares them with those of the command in Rust."""
+        for text in *TEXTS, "thumbv7em-none-eabihf", "x86_64-pc-windows-msvc", "avr-acme-unknown-macho", "i386-unknown-openbsd", "m68k-linux-gnu":
+            triple = Triple(text)
             answers = triple.to_dict()
-            self.assertEqual({name: None if it is None else str(it) for name, it in answers.items()}, fields)
+            self.assertEqual((answers["version"], answers["printed"]), (triple.version and "%d.%d.%d" % triple.version, str(triple)))
             for name in [it for it in answers if it not in ("version", "printed")]:
                 answer = getattr(triple, name)
                 self.assertEqual(answers[name], answer if isinstance(answer, (bool, int, type(None))) else str(answer), name)
-            if triple.comes_back():
-                self.assertEqual([it._asdict() for it in target_lexicon.facts_all([str(triple)])], [answers])
+            self.assertEqual([it._asdict() for it in target_lexicon.facts_all([text])], [answers])
             self.assertEqual((json.loads(json.dumps(answers)), Triple.from_dict(answers)), (answers, triple))
         self.assertEqual((Triple(LONG).llvm_target, Triple(LONG).multiarch_tuple, len(Triple(LONG).rustc_cfg["target_vendor"])), (LONG, None, 500))
         self.assertEqual(Triple("arm64-apple-ios17.1").version, (17, 1, 0))
@@ -63,6 +45,20 @@ class Values(Refused):
         host = Triple.host()
         self.assertEqual((host.pointer_width, host.endianness, host.operating_system),
                          (8 * struct.calcsize("P"), sys.byteorder, platform.system().lower()))
+        for system, machine, built_for, libc, bits, text in (
+            ("Linux", "x86_64", "x86_64-linux-gnu", "", 64, "x86_64-unknown-linux-gnu"), ("Linux", "x86_64", "linux-x86_64", "musl", 32, "i686-unknown-linux-musl"),
+            ("Linux", "aarch64", "arm-linux-gnueabihf", "glibc", 32, "armv7-unknown-linux-gnueabihf"), ("Darwin", "arm64", "", "", 64, "aarch64-apple-darwin"),
+            ("Linux", "armv6l", "", "glibc", 32, "armv6-unknown-linux-gnueabihf"), ("Windows", "AMD64", "", "", 64, "x86_64-pc-windows-msvc"),
+            ("Windows", "ARM64", "mingw_aarch64", "", 64, "aarch64-pc-windows-gnu"), ("SunOS", "sun4v", "", "", 64, "sparc64-sun-solaris"),
+            ("Linux", "mips64", "mips64el-linux-musl", "", 64, "mips64el-unknown-linux-musl"), ("CYGWIN_NT-10.0", "x86_64", "", "", 64, "x86_64-pc-cygwin"),
+            ("iOS", "arm64", "ios-13.0-arm64-iphonesimulator", "", 64, "aarch64-apple-ios-sim"), ("BeOS", "vax", "", "", 64, "unknown-unknown-unknown"),
+        ):
+            said = {"platform.system": system, "platform.machine": machine, "platform.libc_ver": (libc, ""), "struct.calcsize": bits // 8,
+                    "sysconfig.get_config_var": None, "sysconfig.get_platform": built_for}
+            with contextlib.ExitStack() as stack:
+                for name, value in said.items():
+                    stack.enter_context(mock.patch(name, return_value=value))
+                self.assertEqual(Triple.host(), Triple(text))
 
     def test_equality_and_order(self):
         triples = sorted(map(Triple, TEXTS))

@@ -1,5 +1,5 @@
 """A model of pydantic 2 with triples and values: from strings and to strings, in Python and in JSON, and refusals."""
-from typing import Dict, Optional, Union
+from typing import Dict, Union
 
 from target_lexicon import Architecture, CustomVendor, Triple, Vendor
 from pydantic import BaseModel, ValidationError
@@ -8,29 +8,21 @@ from pydantic import BaseModel, ValidationError
 class Release(BaseModel):
     target: Triple
     vendor: Union[Vendor, CustomVendor] = Vendor.PC
-    architecture: Optional[Architecture] = None
-    sizes: Dict[Triple, int] = {}
+    sizes: Dict[Triple, Architecture] = {}
 
 
-def refusals(**given):
-    try:
-        return Release(**given)
-    except ValidationError as error:
-        return [(it["loc"][0], it["type"], it["msg"].split("\n")[0]) for it in error.errors()]
-
-
-triple = Triple("arm64-linux")
-release = Release(target="arm64-linux", vendor="acme", architecture="arm", sizes={"arm64-linux": 3})
-assert (release.target, release.sizes, Release(target=triple).target) == (triple, {triple: 3}, triple)
-assert (release.vendor, type(release.vendor), release.architecture) == (CustomVendor("acme"), CustomVendor, Architecture.ARM)
+triple, strings = Triple("arm64-linux"), {"target": "aarch64-unknown-linux", "vendor": "acme", "sizes": {"aarch64-unknown-linux": "arm"}}
+release = Release(target=triple, vendor="acme", sizes={"arm64-linux": "arm"})
+assert (release.target, type(release.vendor), release.sizes) == (triple, CustomVendor, {triple: Architecture.ARM})
 assert Release(target="avr", vendor="pc").vendor is Vendor.PC
-assert release.model_dump(mode="json") == {"target": "aarch64-unknown-linux", "vendor": "acme", "architecture": "arm",
-                                           "sizes": {"aarch64-unknown-linux": 3}}
-assert Release.model_validate_json(release.model_dump_json()) == release == release.model_copy(deep=True)
+assert (release.model_dump(mode="json"), release.model_copy(deep=True)) == (strings, release)
+assert Release.model_validate_json(release.model_dump_json()) == Release(**strings) == release
 for mode in "validation", "serialization":
     assert Release.model_json_schema(mode=mode)["properties"]["target"]["type"] == "string"
-assert refusals(target="x86_64-pc-linx") == [("target", "value_error", "Value error, Unrecognized operating system: linx")]
-for value in 3, None, b"avr", ["avr"]:
-    assert refusals(target=value) == [("target", "string_type", "Input should be a valid string")], value
-assert [it[1] for it in refusals(target="avr", vendor="ACME")] == ["enum", "value_error"]
+for given, types in (({"target": "x86_64-pc-linx"}, ["value_error"]), ({"target": b"avr"}, ["string_type"]), ({"target": None}, ["string_type"]),
+                     ({"target": "avr", "vendor": "ACME"}, ["enum", "value_error"])):
+    try:
+        raise AssertionError(Release(**given))
+    except ValidationError as error:
+        assert [it["type"] for it in error.errors()] == types, given
 print("all well")

@@ -6,13 +6,12 @@ import struct
 from ctypes import byref, c_size_t, c_void_p
 from itertools import islice
 from operator import getitem, itemgetter
-from typing import Any, Callable, Dict, Iterable, List, Literal, Optional, Sequence, Tuple, Type, TypeVar, Union
+from typing import Any, Callable, Dict, Iterable, List, Literal, Optional, Sequence, Tuple, TypeVar
 
 from . import _library, _names
 from ._facts import FACTS, Facts
-from ._named import NamedValue
 from ._triple import Triple
-from ._values import Architecture, BinaryFormat, Environment, Family, OperatingSystem, Vendor
+from ._values import Architecture, BinaryFormat, Environment, OperatingSystem, Vendor
 
 Answer = TypeVar("Answer")
 #: What is done with a cell that is neither a string nor missing: see `settle_all`.
@@ -25,17 +24,8 @@ _AT_ONCE, _REMEMBERED = 1 << 12, 1 << 16
 _ARCHITECTURES, _VENDORS, _SYSTEMS, _ENVIRONMENTS, _FORMATS = (
     [it.value for it in of] for of in (Architecture, Vendor, OperatingSystem, Environment, BinaryFormat))
 
-
-def _by_number(of: Type[Union[int, NamedValue]]) -> Sequence[Any]:
-    """The plain values of a fact by their numbers. A number is itself, or None if it is 0, except for a truth."""
-    if not issubclass(of, NamedValue):
-        return (False, True) if of is bool else (None, *range(1, 256))
-    names: List[Optional[str]] = [it.value for it in of]
-    return names if of in (BinaryFormat, Family) else [None, *names]
-
-
 # The plain values of each fact, in the order of the answers; and what gives the numbers of C in this order.
-_VALUES = tuple(map(_by_number, FACTS.values()))
+_VALUES = [[getattr(it, "value", it) for it in answers] for answers in FACTS.values()]
 _in_order = itemgetter(*map(_names.FACT_NAMES.index, FACTS))
 _value_of: Callable[[Sequence[Any], int], Any] = getitem
 

@@ -7,10 +7,7 @@ from typing import Callable, Optional, Tuple, Union
 from . import _library, _names
 from ._dialects import dialect_number
 from ._named import shown
-from ._names import Dialect, DialectName
-
-#: The names of the fields, in their order.
-FIELDS = ("architecture", "vendor", "operating_system", "environment", "binary_format")
+from ._names import FIELDS, Dialect, DialectName
 
 # How many characters of a string, and of the refused part, a message shows.
 _SHOWN_BEFORE, _SHOWN_PART, _SHOWN_AFTER = 40, 60, 20

@@ -4,8 +4,9 @@ import ctypes
 from typing import Iterator, NamedTuple, Optional, Tuple
 
 from . import _library, _names
-from ._errors import FIELDS, encoded, range_in, refusal
+from ._errors import encoded, range_in, refusal
 from ._named import NamedValue
+from ._names import FIELDS
 from ._triple import Triple, _triple_of, _version_text
 
 

@@ -4,8 +4,9 @@ from __future__ import annotations
 from typing import Tuple, Type, TypeVar, Union
 
 from . import _library, _names
-from ._errors import FIELDS, ParseError, encoded
+from ._errors import ParseError, encoded
 from ._named import Immutable, NamedValue, members
+from ._names import FIELDS
 
 Value = TypeVar("Value", bound="FieldValue")
 KnownVendor = TypeVar("KnownVendor", bound="VendorValue")

@@ -13,7 +13,7 @@ from ctypes import POINTER, Structure, c_bool, c_char, c_char_p, c_size_t, c_uin
 from typing import TYPE_CHECKING, Any, Callable, Iterator, List, Optional, Sequence, Tuple
 
 from ._names import (
-    FACT_NAMES, NAME_WITHOUT_TRIPLE, NEEDS_C_LIBRARY, NO_SUCH_CHANGE, NO_SUCH_MEANING, NO_SUGGESTION, OK, TOO_SMALL, TRIPLE_WITHOUT_NAME,
+    FACT_NAMES, FIELDS, NAME_WITHOUT_TRIPLE, NEEDS_C_LIBRARY, NO_SUCH_CHANGE, NO_SUCH_MEANING, NO_SUGGESTION, OK, TOO_SMALL, TRIPLE_WITHOUT_NAME,
 )
 
 #: The version of this package.
@@ -71,7 +71,7 @@ class SourceStruct(Struct):
 class SourcesStruct(Struct):
     """`struct lexicon_sources`."""
 
-    _fields_ = [(name, SourceStruct) for name in ("architecture", "vendor", "operating_system", "environment", "binary_format")]
+    _fields_ = [(name, SourceStruct) for name in FIELDS]
 
 
 class FactsStruct(Struct):

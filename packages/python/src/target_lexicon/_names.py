@@ -24,6 +24,9 @@ NO_SUGGESTION = 20
 NO_ANSWER = 21
 NO_SUCH_MEANING = 22
 
+#: The names of the fields, in their order.
+FIELDS = ("architecture", "vendor", "operating_system", "environment", "binary_format")
+
 #: The names of the facts, in the order of C.
 FACT_NAMES = (
     "endianness", "pointer_width", "default_calling_convention", "data_model", "short_size", "int_size", "long_size",

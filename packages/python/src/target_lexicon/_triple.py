@@ -11,11 +11,11 @@ from typing import TYPE_CHECKING, Any, Callable, Dict, Mapping, Optional, Sequen
 
 from . import _library, _names
 from ._dialects import NO_DIALECT, dialect_number, libc_number
-from ._errors import FIELDS, ParseError, encoded, refusal
+from ._errors import ParseError, encoded, refusal
 from ._facts import Facts, FactsOfTriple
 from ._fields import CustomVendor
 from ._named import Immutable, NamedValue, shown
-from ._names import Dialect, DialectName, LinuxLibc, LinuxLibcName
+from ._names import FIELDS, Dialect, DialectName, LinuxLibc, LinuxLibcName
 from ._values import Architecture, BinaryFormat, Environment, OperatingSystem, Vendor
 
 if TYPE_CHECKING:
