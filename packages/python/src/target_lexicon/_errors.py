@@ -79,11 +79,8 @@ class ParseError(ValueError):
         """The name that may have been meant by the part, or None if there is none."""
         if self._number:
             return _library.name_suggestion(self._number, self.text.encode())
-        status = self._status
-        if status == _names.NOT_UTF8:
-            return None
         before, part, after = (it.encode(errors="replace") for it in (self.text[:self.start], self.part, self.text[self.end:]))
-        return _library.suggestion(status, before + part + after, len(before), len(before + part))
+        return _library.suggestion(self._status, before + part + after, len(before), len(before + part))
 
     @property
     def _status(self) -> int:
