@@ -42,6 +42,12 @@ impl From<Refusal<'_>> for TextError {
     }
 }
 
+impl From<TextError> for Status {
+    fn from(error: TextError) -> Status {
+        error.status
+    }
+}
+
 /// What was expected where a refusal has this status, if one has. `None` in it is no field.
 pub(crate) fn expected_at(status: Status) -> Option<Option<Field>> {
     match status {

@@ -215,10 +215,7 @@ unsafe fn text_at<'a>(text: *const u8, size: usize) -> Result<&'a str, TextError
 /// The caller's bytes and error, if there is one, for a call that says why a text is refused.
 unsafe fn refused_at<'a>(text: *const u8, size: usize, error: *const TextError) -> Result<(&'a [u8], TextError), Status> {
     // SAFETY: the arguments of the caller.
-    unsafe {
-        let bytes = bytes_at(text, size).map_err(|error| error.status)?;
-        Ok((bytes, *error.as_ref().ok_or(NO_SUCH_VALUE)?))
-    }
+    unsafe { Ok((bytes_at(text, size)?, *error.as_ref().ok_or(NO_SUCH_VALUE)?)) }
 }
 
 /// Writes an answer if there is one.
@@ -237,15 +234,8 @@ unsafe fn answer<T>(to: *mut T, answer: Result<impl Into<T>, impl Into<Status>>)
 /// Writes an answer, or the error if the caller wants it.
 #[inline(always)]
 unsafe fn answer_or_error<T>(to: *mut T, answer: Result<impl Into<T>, TextError>, error: *mut TextError) -> Status {
-    match answer {
-        Ok(it) => {
-            // SAFETY: the caller's variable.
-            unsafe { to.write(it.into()) }
-            OK
-        }
-        // SAFETY: likewise.
-        Err(it) => unsafe { refused(it, error) },
-    }
+    // SAFETY: the caller's variables.
+    unsafe { self::answer(to, answer.map_err(|it| refused(it, error))) }
 }
 
 /// Writes an error if the caller wants it.
@@ -343,10 +333,8 @@ pub unsafe extern "C" fn lexicon_settle_lines(
     out_size: usize,
     length: *mut usize,
 ) -> Status {
-    match unsafe { bytes_at(text, text_size) } {
-        Ok(text) => unsafe { Text::write(out, out_size, length, |out| Ok(settle_lines(text, out))) },
-        Err(error) => error.status,
-    }
+    let text = unsafe { bytes_at(text, text_size) };
+    unsafe { Text::write(out, out_size, length, |out| Ok(settle_lines(text?, out))) }
 }
 
 #[no_mangle]
@@ -511,8 +499,7 @@ pub unsafe extern "C" fn lexicon_write(
     out_size: usize,
     length: *mut usize,
 ) -> Status {
-    let find = |dialect: Dialect, triple: &TripleRef<'_>| dialect.write_with(triple, None).map_err(unwritten_status);
-    unsafe { write_name(dialect, triple, find, out, out_size, length) }
+    unsafe { write_name(dialect, triple, unversioned, out, out_size, length) }
 }
 
 #[no_mangle]
@@ -525,37 +512,38 @@ pub unsafe extern "C" fn lexicon_write_versioned(
     out_size: usize,
     length: *mut usize,
 ) -> Status {
-    let find = |dialect: Dialect, triple: &TripleRef<'_>| write_versioned(dialect, triple, major, minor).map_err(unwritten_status);
-    unsafe { write_name(dialect, triple, find, out, out_size, length) }
+    unsafe { write_name(dialect, triple, versioned(major, minor), out, out_size, length) }
+}
+
+/// The name of a triple.
+fn unversioned(dialect: Dialect, triple: &TripleRef<'_>) -> Result<Name, WriteError> {
+    dialect.write_with(triple, None)
 }
 
 /// The name that states a version. No version has numbers that are larger than those of Rust's call.
-fn write_versioned(dialect: Dialect, triple: &TripleRef<'_>, major: u32, minor: u32) -> Result<Name, WriteError> {
+fn versioned(major: u32, minor: u32) -> impl FnOnce(Dialect, &TripleRef<'_>) -> Result<Name, WriteError> {
     let version = u16::try_from(major).ok().zip(u8::try_from(minor).ok());
-    let (major, minor) = version.ok_or(WriteError::OtherVersion)?;
-    dialect.write_with_version(triple, major, minor)
+    move |dialect, triple| {
+        let (major, minor) = version.ok_or(WriteError::OtherVersion)?;
+        dialect.write_with_version(triple, major, minor)
+    }
 }
 
 /// Writes the name of a triple that is found in a dialect.
 unsafe fn write_name(
     dialect: u32,
     triple: *const Triple,
-    find: impl FnOnce(Dialect, &TripleRef<'_>) -> Result<Name, Status>,
+    find: impl FnOnce(Dialect, &TripleRef<'_>) -> Result<Name, WriteError>,
     out: *mut u8,
     out_size: usize,
     length: *mut usize,
 ) -> Status {
     let named = || {
-        if out_size > MAX_SIZE {
-            return Err(TOO_LARGE);
-        }
         let dialect = dialect_at(dialect).flatten().ok_or(NO_SUCH_DIALECT)?;
-        find(dialect, &unsafe { Triple::read(triple) }?)
+        find(dialect, &unsafe { Triple::read(triple) }?).map_err(unwritten_status)
     };
-    match named() {
-        Ok(name) => unsafe { write_text(out, out_size, length, |out| Ok(written(name.as_str(), out))) },
-        Err(status) => status,
-    }
+    let name = named();
+    unsafe { write_text(out, out_size, length, |out| Ok(written(name?.as_str(), out))) }
 }
 
 #[no_mangle]
@@ -600,18 +588,12 @@ pub unsafe extern "C" fn lexicon_changes(
     length: *mut usize,
 ) -> Status {
     let find = || {
-        let text = unsafe { text_at(text, text_size) }.map_err(|error| error.status)?;
-        if out_size > MAX_SIZE {
-            return Err(TOO_LARGE);
-        }
+        let text = unsafe { text_at(text, text_size) }?;
         target_names::changes(text).nth(number).ok_or(NO_SUCH_CHANGE)
     };
-    let found = match find() {
-        Ok(found) => found,
-        Err(status) => return status,
-    };
-    let status = unsafe { write_text(out, out_size, length, |out| Ok(shown(&found.names, out))) };
-    if status == OK {
+    let found = find();
+    let status = unsafe { write_text(out, out_size, length, |out| Ok(shown(&found?.names, out))) };
+    if let (OK, Ok(found)) = (status, found) {
         let range = found.part.range();
         unsafe { change.write(Change { start: range.start, end: range.end }) }
     }
@@ -627,16 +609,12 @@ pub unsafe extern "C" fn lexicon_meaning(
     triple: *mut Triple,
 ) -> Status {
     let find = || {
-        let text = unsafe { text_at(text, text_size) }.map_err(|error| error.status)?;
-        target_names::meanings(text).nth(number).ok_or(NO_SUCH_MEANING)
+        let text = unsafe { text_at(text, text_size) }?;
+        let found = target_names::meanings(text).nth(number).ok_or(NO_SUCH_MEANING)?;
+        unsafe { dialect.write(name_of_number(found.of)) }
+        found.triple.map_err(|_| NAME_WITHOUT_TRIPLE)
     };
-    match find() {
-        Ok(found) => unsafe {
-            dialect.write(name_of_number(found.of));
-            answer(triple, found.triple.map_err(|_| NAME_WITHOUT_TRIPLE))
-        },
-        Err(status) => status,
-    }
+    unsafe { answer(triple, find()) }
 }
 
 #[no_mangle]
@@ -651,22 +629,22 @@ pub unsafe extern "C" fn lexicon_reason(dialect: u32, name: *const u8, name_size
 
 #[no_mangle]
 pub unsafe extern "C" fn lexicon_write_reason(dialect: u32, triple: *const Triple) -> *const u8 {
-    unsafe { reason_of(dialect, triple, |dialect, triple| dialect.write_with(triple, None).err()) }
+    unsafe { reason_of(dialect, triple, unversioned) }
 }
 
 #[no_mangle]
 pub unsafe extern "C" fn lexicon_write_versioned_reason(dialect: u32, triple: *const Triple, major: u32, minor: u32) -> *const u8 {
-    unsafe { reason_of(dialect, triple, |dialect, triple| write_versioned(dialect, triple, major, minor).err()) }
+    unsafe { reason_of(dialect, triple, versioned(major, minor)) }
 }
 
 /// Why a triple is not written in a dialect, by a call that says so.
 unsafe fn reason_of(
     dialect: u32,
     triple: *const Triple,
-    find: impl FnOnce(Dialect, &TripleRef<'_>) -> Option<WriteError>,
+    find: impl FnOnce(Dialect, &TripleRef<'_>) -> Result<Name, WriteError>,
 ) -> *const u8 {
     let asked = dialect_at(dialect).flatten().zip(unsafe { Triple::read(triple) }.ok());
-    asked.and_then(|(dialect, triple)| find(dialect, &triple)).map_or(null(), |why| c_reason(why.reason()))
+    asked.and_then(|(dialect, triple)| find(dialect, &triple).err()).map_or(null(), |why| c_reason(why.reason()))
 }
 
 #[no_mangle]
@@ -757,10 +735,9 @@ unsafe fn write_suggestion(found: Option<Suggestion<'_>>, out: *mut u8, out_size
 #[no_mangle]
 pub unsafe extern "C" fn lexicon_number(field: u32, text: *const u8, text_size: usize, number: *mut u32) -> Status {
     let find = || {
-        let status_of = |error: TextError| error.status;
-        let bytes = unsafe { bytes_at(text, text_size) }.map_err(status_of)?;
+        let bytes = unsafe { bytes_at(text, text_size) }?;
         let named = field_at(field).ok_or(NO_SUCH_FIELD)?;
-        number_in(named, text_of(bytes).map_err(status_of)?).ok_or(1 + field)
+        number_in(named, text_of(bytes)?).ok_or(1 + field)
     };
     unsafe { answer::<u32>(number, find()) }
 }
