@@ -20,7 +20,7 @@ fn c_text(texts: &[&'static str], text: &str) -> *const u8 {
 #[cfg(test)]
 mod tests {
     use super::*;
-    use crate::values::{field_at, name_at};
+    use crate::values::field_at;
     use std::ffi::CStr;
     use target_names::Dialect;
 
@@ -31,36 +31,21 @@ mod tests {
 
     #[test]
     fn every_name_has_a_zero_byte_after_it() {
-        for field in (0..5).filter_map(field_at) {
-            let numbered: Vec<_> = (0..).map_while(|number| name_at(field, number)).collect();
-            assert!(!numbered.is_empty());
-            for name in numbered.iter().chain(field.names()) {
-                assert_eq!(text(c_name(name)), Some(*name));
-            }
+        let of_fields = (0..).map_while(field_at).flat_map(|it| it.names().iter().copied());
+        for name in of_fields.chain(Dialect::ALL.iter().flat_map(|it| it.names())) {
+            assert_eq!(text(c_name(name)), Some(name));
         }
         assert!(c_name("linx").is_null());
     }
 
     #[test]
-    fn every_name_that_is_suggested_has_a_zero_byte_after_it() {
-        let mut count = 0;
-        for name in Dialect::ALL.iter().flat_map(|it| it.names()) {
-            assert_eq!(text(c_name(name)), Some(name));
-            count += 1;
-        }
-        assert!(count > 200);
-    }
-
-    #[test]
     fn every_reason_has_a_zero_byte_after_it() {
-        let mut count = 0;
         for line in include_str!("../../names/elsewhere.tsv").lines() {
             let cells: Vec<_> = line.split('\t').collect();
             if let ["# why" | "# reason" | "# refusal", _, reason] = cells[..] {
                 assert_eq!(text(c_reason(reason)), Some(reason));
-                count += 1;
             }
         }
-        assert!(count > 40 && !c_reason("names of cross compilers are only written").is_null());
+        assert!(c_reason("linx").is_null());
     }
 }
