@@ -380,33 +380,16 @@ class Triple {
 
   // The name in a dialect, if there is one. If there is none, `reason` says why, and what would help.
   std::optional<std::string> name_in(Dialect dialect, std::string* reason = nullptr) const {
-    lexicon_triple triple = c_triple();
-    auto number = static_cast<std::uint32_t>(dialect);
-    std::string name = detail::written([&](char* out, std::size_t size, std::size_t* length) {
-      return lexicon_write(number, &triple, out, size, length);
-    });
-    if (!name.empty()) return name;
-    if (reason) *reason = detail::text_of(lexicon_write_reason(number, &triple));
-    return std::nullopt;
+    return named(lexicon_write, lexicon_write_reason, dialect, reason);
   }
 
   // Likewise the name that states a version which triples don't have, as `lexicon_write_versioned` writes it.
   std::optional<std::string> versioned_name_in(Dialect dialect, std::uint32_t major, std::uint32_t minor = 0, std::string* reason = nullptr) const {
-    lexicon_triple triple = c_triple();
-    auto number = static_cast<std::uint32_t>(dialect);
-    std::string name = detail::written([&](char* out, std::size_t size, std::size_t* length) {
-      return lexicon_write_versioned(number, &triple, major, minor, out, size, length);
-    });
-    if (!name.empty()) return name;
-    if (reason) *reason = detail::text_of(lexicon_write_versioned_reason(number, &triple, major, minor));
-    return std::nullopt;
+    return named(lexicon_write_versioned, lexicon_write_versioned_reason, dialect, reason, major, minor);
   }
 
   // The triple with the usual environment of a C library, if it is of Linux and states none; else this one.
-  Triple completed(LinuxLibc libc) const {
-    lexicon_triple triple = c_triple();
-    return lexicon_complete(&triple, static_cast<std::uint32_t>(libc)) == LEXICON_OK ? Triple(triple) : *this;
-  }
+  Triple completed(LinuxLibc libc) const { return variant(lexicon_complete, static_cast<std::uint32_t>(libc)).value_or(*this); }
 
   // The triple with the variant of its architecture whose pointers have so many bits, or that has a byte order, if there is one: with
   // 32 bits i686-pc-windows-msvc for x86_64-pc-windows-msvc. With other pointers the environment is the usual one of the same C library.
@@ -422,12 +405,12 @@ class Triple {
     std::uint32_t dialect = from ? static_cast<std::uint32_t>(*from) : std::uint32_t(LEXICON_DIALECT_NONE);
     std::uint32_t number = libc ? static_cast<std::uint32_t>(*libc) : std::uint32_t(LEXICON_LINUX_LIBC_NONE);
     lexicon_error found = {};
-    std::string translated = detail::written([&](char* out, std::size_t size, std::size_t* length) {
-      return lexicon_translate(dialect, name.data(), name.size(), number, static_cast<std::uint32_t>(to), out, size, length, &found);
+    auto into = static_cast<std::uint32_t>(to);
+    std::string translated = detail::written([&](auto... out) {
+      return lexicon_translate(dialect, name.data(), name.size(), number, into, out..., &found);
     });
     if (!translated.empty()) return translated;
-    if (error)
-      *error = name_error(dialect, name, found, lexicon_translate_reason(dialect, name.data(), name.size(), number, static_cast<std::uint32_t>(to)));
+    if (error) *error = name_error(dialect, name, found, lexicon_translate_reason(dialect, name.data(), name.size(), number, into));
     return std::nullopt;
   }
 
@@ -514,10 +497,7 @@ class Triple {
   std::string canonical() const { return settle().printed(); }
 
   // The canonical form: what the printed triple parses as.
-  Triple settle() const {
-    lexicon_triple triple = c_triple();
-    return lexicon_settle(&triple) == LEXICON_OK ? Triple(triple) : *this;
-  }
+  Triple settle() const { return variant(lexicon_settle).value_or(*this); }
   bool comes_back() const {
     lexicon_triple triple = c_triple();
     bool answer = false;
@@ -558,11 +538,22 @@ class Triple {
   // What a call writes of this triple.
   template <class Call> std::string text(Call call) const {
     lexicon_triple triple = c_triple();
-    return detail::written([&](char* out, std::size_t size, std::size_t* length) { return call(&triple, out, size, length); });
+    return detail::written([&](auto... out) { return call(&triple, out...); });
   }
   template <class Call> std::optional<std::string> text_if_any(Call call) const {
     std::string found = text(call);
     return found.empty() ? std::nullopt : std::make_optional(std::move(found));
+  }
+
+  // The name that a call writes, or why there is none.
+  template <class Call, class Reason, class... Version>
+  std::optional<std::string> named(Call call, Reason why, Dialect dialect, std::string* reason, Version... version) const {
+    lexicon_triple triple = c_triple();
+    auto number = static_cast<std::uint32_t>(dialect);
+    std::string name = detail::written([&](auto... out) { return call(number, &triple, version..., out...); });
+    if (!name.empty()) return name;
+    if (reason) *reason = detail::text_of(why(number, &triple, version...));
+    return std::nullopt;
   }
 
   // The facts that lie in the first bytes of the struct: the others aren't computed.
@@ -577,9 +568,10 @@ class Triple {
     return size == 0 ? std::nullopt : std::make_optional(TypeLayout{size, alignment});
   }
 
-  template <class Call> std::optional<Triple> variant(Call call, std::uint32_t number) const {
+  // The triple that a call makes of this one.
+  template <class Call, class... Number> std::optional<Triple> variant(Call call, Number... number) const {
     lexicon_triple triple = c_triple();
-    return call(&triple, number) == LEXICON_OK ? std::optional<Triple>(Triple(triple)) : std::nullopt;
+    return call(&triple, number...) == LEXICON_OK ? std::optional<Triple>(Triple(triple)) : std::nullopt;
   }
 
   template <class Call> std::optional<Version> version_by(Call call) const {
@@ -683,7 +675,7 @@ class Triple {
     error.end = found.end;
     error.part = std::string(text.substr(found.start, found.end - found.start));
     auto written_by = [&](auto call) {
-      return detail::written([&](char* out, std::size_t size, std::size_t* length) { return call(text.data(), text.size(), &found, out, size, length); });
+      return detail::written([&](auto... out) { return call(text.data(), text.size(), &found, out...); });
     };
     error.line = written_by(lexicon_error_line);
     error.text = written_by(lexicon_error_text);
@@ -739,9 +731,7 @@ inline std::vector<Meaning> Triple::meanings(std::string_view text) {
 inline std::vector<Change> changes(std::string_view text) {
   std::vector<Change> found;
   for (lexicon_change it = {};;) {
-    std::string names = detail::written([&](char* out, std::size_t size, std::size_t* length) {
-      return lexicon_changes(text.data(), text.size(), found.size(), &it, out, size, length);
-    });
+    std::string names = detail::written([&](auto... out) { return lexicon_changes(text.data(), text.size(), found.size(), &it, out...); });
     if (names.empty()) return found;
     found.push_back({it.start, it.end, std::string(text.substr(it.start, it.end - it.start)), std::move(names)});
   }
