@@ -30,29 +30,25 @@ static Triple parsed(std::string_view text) {
 }
 
 static void try_triple() {
-  Triple ios = parsed("arm64-apple-ios17.2");
+  Triple ios = parsed("arm64-apple-ios17.2"), esp = parsed("riscv32imc-esp-espidf-elf");
   EXPECT(ios.architecture() == Architecture::Aarch64 && ios.vendor() == Vendor::Apple && ios.operating_system() == OperatingSystem::IOS);
-  EXPECT(ios.environment() == Environment::Unknown && ios.binary_format() == BinaryFormat::Macho);
-  EXPECT((ios.version() == Version{17, 2, 0}) && shown(*ios.version()) == "17.2.0" && (Version{17, 1, 9} < *ios.version()));
+  EXPECT(ios.environment() == Environment::Unknown && ios.binary_format() == BinaryFormat::Macho && ios.vendor_name() == "apple");
+  EXPECT(ios.printed() == "aarch64-apple-ios17.2.0" && shown(ios) == ios.printed() && ios.comes_back());
+  EXPECT(!esp.comes_back() && esp.settle() != esp && esp.same_target(esp.settle()) && !esp.same_target(ios) && esp.canonical() == "riscv32imc-esp-espidf");
+  EXPECT(!Triple().endianness() && Triple().printed() == "unknown-unknown-unknown" && parsed("x86_64-linx").vendor_suggestion() == "linux");
+}
+
+static void try_versions() {
+  Triple ios = parsed("arm64-apple-ios17.2"), mac = parsed("arm64-apple-darwin20.3"), none = parsed("avr");
   Version seven{17, 2, 7}, eight{17, 2, 8}, next{18};
+  EXPECT((ios.version() == Version{17, 2, 0}) && !none.version() && parsed("arm64-apple-ios").version() < Version{1});
   EXPECT(seven < eight && eight > seven && seven <= eight && eight >= seven && eight <= next && next >= eight && seven <= seven && seven >= seven);
-  EXPECT(!(eight < seven) && !(seven > eight) && !(next <= eight) && !(eight >= next) && !(seven < seven) && !(seven > seven));
-  EXPECT(ios.version() < next && !(ios.version() < Version{17, 2}) && parsed("arm64-apple-ios").version() < Version{1});
+  EXPECT(!(eight < seven) && !(seven > eight) && !(next <= eight) && !(eight >= next) && !(seven < seven) && !(seven > seven) && seven != eight);
   std::ostringstream in_hex;
   in_hex << std::hex << std::showbase << *ios.version() << ' ' << ios.family() << ' ' << 255;
   EXPECT(in_hex.str() == "17.2.0 aarch64 0xff");
-  EXPECT(ios.endianness() == Endianness::Little && ios.pointer_width() == 64u && ios.data_model() == DataModel::LP64);
-  EXPECT(ios.default_calling_convention() == CallingConvention::AppleAarch64 && ios.implied_format() == BinaryFormat::Macho);
-  EXPECT(ios.is_like_darwin() && !ios.is_thumb() && !ios.has_custom_vendor() && ios.vendor_name() == "apple" && ios.family() == Family::Aarch64);
-  EXPECT(ios.printed() == "aarch64-apple-ios17.2.0" && shown(ios) == ios.printed() && ios.comes_back());
-  Triple none = parsed("thumbv7m-none-eabi"), avr = parsed("avr"), uefi = parsed("x86_64-unknown-uefi"), windows = parsed("x86_64-pc-windows-msvc");
-  EXPECT(none.is_thumb() && none.pointer_width() == 32u && !none.data_model() && none.long_size() == 4u && !none.version());
-  EXPECT(avr.short_size() == 2u && avr.int_size() == 2u && avr.float_size() == 4u && avr.double_size() == 4u && windows.double_size() == 8u);
-  EXPECT(windows.int_size() == 4u && windows.long_size() == 4u && windows.long_long_size() == 8u);
-  EXPECT(!Triple().endianness() && Triple().printed() == "unknown-unknown-unknown");
-  EXPECT(uefi.object_format() == BinaryFormat::Coff && uefi.implied_format() == BinaryFormat::Elf);
-  Triple esp = parsed("riscv32imc-esp-espidf-elf");
-  EXPECT(!esp.comes_back() && esp.settle() != esp && esp.same_target(esp.settle()) && esp.canonical() == "riscv32imc-esp-espidf");
+  EXPECT(mac.macos_version() == (Version{11, 0, 0}) && mac.minimum_os_version() == (Version{11, 0, 0}) && !none.macos_version() && !none.minimum_os_version());
+  EXPECT(Triple::stated_versions("aarch64-linux-android21")->environment.major == 21 && !Triple::stated_versions("linx"));
 }
 
 // A number that no enumerator of the type has, and the greatest.
@@ -72,13 +68,11 @@ static void try_values() {
   EXPECT(Triple::of(x86_64, "pc", linux_) == parsed("x86_64-pc-linux") && !Triple::of(x86_64, "pc", linux_)->has_custom_vendor());
   EXPECT(Triple::of(Architecture::Unknown, Vendor::Unknown, OperatingSystem::Unknown) == Triple());
   EXPECT(!Triple::of(x86_64, Vendor::Custom, linux_) && !Triple::of(x86_64, "", linux_) && !Triple::of(x86_64, "PC", linux_));
-  EXPECT(!Triple::of(x86_64, "linux", linux_) && !Triple::of(x86_64, "a-b", linux_) && !Triple::of(x86_64, "\xff", linux_));
   for (bool greatest : {false, true}) {
-    auto environment = no_enumerator<Environment>(greatest);
     EXPECT(!Triple::of(no_enumerator<Architecture>(greatest), Vendor::Pc, linux_));
     EXPECT(!Triple::of(x86_64, no_enumerator<Vendor>(greatest), linux_));
     EXPECT(!Triple::of(x86_64, Vendor::Pc, no_enumerator<OperatingSystem>(greatest)));
-    EXPECT(!Triple::of(x86_64, Vendor::Pc, linux_, environment) && !Triple::of(x86_64, "acme", linux_, environment));
+    EXPECT(!Triple::of(x86_64, Vendor::Pc, linux_, no_enumerator<Environment>(greatest)));
     EXPECT(!Triple::of(x86_64, Vendor::Pc, linux_, Environment::Gnu, no_enumerator<BinaryFormat>(greatest)));
   }
 }
@@ -95,12 +89,6 @@ static void try_c() {
     it.environment = 255;
     EXPECT(!Triple::from_c(it));
   }
-  lexicon_triple it = parsed("x86_64-linux").c_triple();
-  it.vendor = LEXICON_VENDOR_CUSTOM;
-  EXPECT(!Triple::from_c(it));
-  it = parsed("x86_64-linux").c_triple();
-  it.has_version = 1;
-  EXPECT(!Triple::from_c(it));
 }
 
 // Each field is another value, and no other field changes, except a format that is implied and the version of another system.
@@ -110,18 +98,13 @@ static void try_changes() {
   EXPECT(gnu.with_vendor(Vendor::Pc) == parsed("x86_64-pc-linux-gnu") && gnu.with_vendor("pc") == gnu.with_vendor(Vendor::Pc));
   EXPECT(gnu.with_vendor("acme") == parsed("x86_64-acme-linux-gnu") && acme.with_vendor("unknown") == parsed("x86_64-linux"));
   EXPECT(acme.with_environment(Environment::Musl) == parsed("x86_64-acme-linux-musl"));
-  EXPECT(gnu.with_environment(Environment::Musl) == parsed("x86_64-unknown-linux-musl"));
   EXPECT(gnu.with_operating_system(OperatingSystem::Windows) == parsed("x86_64-unknown-windows-gnu"));
-  EXPECT(gnu.with_operating_system(OperatingSystem::Windows)->binary_format() == BinaryFormat::Coff);
-  EXPECT(gnu.with_binary_format(BinaryFormat::Coff) == parsed("x86_64-unknown-linux-gnu-coff"));
   EXPECT(gnu.with_binary_format(BinaryFormat::Macho)->with_operating_system(OperatingSystem::Windows)->binary_format() == BinaryFormat::Macho);
   EXPECT(ios.with_version(Version{18, 1, 2}) == parsed("arm64-apple-ios18.1.2") && ios.with_version(std::nullopt) == parsed("arm64-apple-ios"));
   EXPECT(ios.with_operating_system(OperatingSystem::TvOS) == parsed("arm64-apple-tvos"));
   EXPECT(ios.with_operating_system(OperatingSystem::TvOS, Version{9}) == parsed("arm64-apple-tvos9"));
-  EXPECT(ios.with_environment(Environment::Sim) == parsed("arm64-apple-ios17.2-sim"));
   EXPECT(!gnu.with_version(Version{6}) && !gnu.with_operating_system(OperatingSystem::Linux, Version{6}) && gnu.with_version(std::nullopt) == gnu);
   EXPECT(!gnu.with_vendor(Vendor::Custom) && !acme.with_vendor(Vendor::Custom) && !gnu.with_vendor("PC") && !gnu.with_vendor(""));
-  EXPECT(!gnu.with_architecture(no_enumerator<Architecture>(false)) && !gnu.with_environment(no_enumerator<Environment>(true)));
 }
 
 static void try_explain() {
@@ -130,12 +113,10 @@ static void try_explain() {
   auto part = [&](const Source& source) { return text.substr(source.start, source.end - source.start); };
   EXPECT(it && it->triple == parsed(text) && part(it->architecture) == "x86_64" && part(it->vendor) == "acme" && part(it->operating_system) == "linux");
   EXPECT(it->vendor.origin == Origin::Given && it->environment.origin == Origin::NotGiven && it->environment.end == 0);
-  EXPECT(it->binary_format.origin == Origin::Implied && shown(it->binary_format.origin) == "implied" && name(Origin::Given) == "given");
-  auto alias = Triple::explain("arm64-apple-ios17");
-  EXPECT(alias->architecture.origin == Origin::Alias && shown(alias->operating_system.origin) == "alias" && alias->vendor.origin == Origin::Given);
+  EXPECT(it->binary_format.origin == Origin::Implied);
   EXPECT(Triple::explain("arm64-linux-gnu-elf")->environment.start == 12 && Triple::explain("arm64-linux-gnu-elf")->binary_format.start == 16);
   ParseError error;
-  EXPECT(!Triple::explain("x86_64-pc-linx", &error) && error.part == "linx" && error.suggestion == "linux" && !Triple::explain("foo"));
+  EXPECT(!Triple::explain("x86_64-pc-linx", &error) && error.part == "linx" && !Triple::explain("foo"));
 }
 
 static void try_lines() {
@@ -147,24 +128,22 @@ static void try_lines() {
 
 // What a driver asks.
 static void try_driver() {
-  auto arm = parsed("armv7-unknown-linux-gnueabihf"), musl = parsed("x86_64-unknown-linux-musl"), none = parsed("avr");
-  EXPECT(arm.c_library() == CLibrary::Glibc && arm.float_abi() == FloatAbi::Hard && arm.is_unix());
-  EXPECT(musl.c_library() == CLibrary::Musl && musl.long_double() == (TypeLayout{16, 16}) && musl.wchar() == (TypeLayout{4, 4}));
-  auto embedded = parsed("thumbv7em-none-eabihf");
-  EXPECT(embedded.arm_version() == 7u && embedded.arm_profile() == ArmProfile::Microcontroller && shown(ArmProfile::RealTime) == "R" && !none.arm_profile());
-  EXPECT(parsed("riscv64gc-linux-gnu").llvm_target() == "riscv64-unknown-linux-gnu" && parsed("arm64-apple-ios17.1").llvm_target() == "arm64-apple-ios17.1.0");
-  EXPECT(parsed("i686-linux-gnu").multiarch_tuple() == "i386-linux-gnu" && !embedded.multiarch_tuple());
-  EXPECT(arm.dynamic_linker() == "/lib/ld-linux-armhf.so.3" && musl.linker_emulation() == "elf_x86_64" && !none.dynamic_linker() && !none.linker_emulation());
-  EXPECT(arm.char_signedness() == Signedness::Unsigned && shown(Signedness::Signed) == "signed" && parsed("x86_64-pc-cygwin").has_emulated_tls());
-  EXPECT(arm.has_comdat() && !parsed("arm64-apple-ios").has_comdat() && none.program_suffix() == ".elf" && arm.program_suffix().empty());
-  EXPECT(Triple::stated_versions("aarch64-linux-android21")->environment.major == 21 && !Triple::stated_versions("linx"));
-  EXPECT(embedded.rustc_cfg().find("target_os=\"none\"\n") != std::string::npos && parsed("x86_64-linux-gnu").rustc_cfg().find("\nunix\n") != std::string::npos);
-  EXPECT(!none.c_library() && !none.float_abi() && !none.is_unix() && !none.long_double() && !none.wchar());
-  auto mips = parsed("mips64el-acme-linux-gnuabi64"), mac = parsed("arm64-apple-darwin20.3");
+  auto arm = parsed("armv7-linux-gnueabihf"), thumb = parsed("thumbv7em-none-eabihf"), ios = parsed("arm64-apple-ios"), uefi = parsed("x86_64-uefi"), avr = parsed("avr");
+  EXPECT(ios.endianness() == Endianness::Little && ios.pointer_width() == 64u && ios.data_model() == DataModel::LP64 && !avr.data_model());
+  EXPECT(ios.default_calling_convention() == CallingConvention::AppleAarch64 && ios.family() == Family::Aarch64 && !ios.has_custom_vendor());
+  EXPECT(uefi.object_format() == BinaryFormat::Coff && uefi.implied_format() == BinaryFormat::Elf && !uefi.is_like_darwin() && ios.is_like_darwin());
+  EXPECT(avr.short_size() == 2u && avr.int_size() == 2u && avr.float_size() == 4u && avr.double_size() == 4u && ios.long_size() == 8u && arm.long_long_size() == 8u);
+  EXPECT(arm.c_library() == CLibrary::Glibc && arm.float_abi() == FloatAbi::Hard && arm.is_unix() && !avr.c_library() && !avr.float_abi() && !avr.is_unix());
+  EXPECT(thumb.is_thumb() && thumb.arm_version() == 7u && thumb.arm_profile() == ArmProfile::Microcontroller && !arm.is_thumb() && !avr.arm_profile());
+  EXPECT(arm.char_signedness() == Signedness::Unsigned && arm.has_comdat() && !ios.has_comdat() && parsed("x86_64-pc-cygwin").has_emulated_tls());
+  auto musl = parsed("i686-linux-musl");
+  EXPECT(musl.long_double() == (TypeLayout{12, 4}) && musl.wchar() == (TypeLayout{4, 4}) && !avr.long_double() && !avr.wchar() && musl.long_double() != musl.wchar());
+  EXPECT(arm.llvm_target() == "armv7-unknown-linux-gnueabihf" && musl.rustc_cfg().find("\nunix\n") != std::string::npos);
+  EXPECT(arm.multiarch_tuple() == "arm-linux-gnueabihf" && !thumb.multiarch_tuple() && avr.program_suffix() == ".elf" && arm.program_suffix().empty());
+  EXPECT(arm.dynamic_linker() == "/lib/ld-linux-armhf.so.3" && musl.linker_emulation() == "elf_i386" && !avr.dynamic_linker() && !avr.linker_emulation());
+  auto mips = parsed("mips64el-acme-linux-gnuabi64");
   EXPECT(mips.with_pointer_width(32) == parsed("mipsel-acme-linux-gnu") && mips.with_pointer_width(64) == mips && !mips.with_pointer_width(16) && !mips.with_pointer_width(0));
-  EXPECT(mips.with_endianness(Endianness::Big) == parsed("mips64-acme-linux-gnuabi64") && !mac.with_endianness(static_cast<Endianness>(3)) && !none.with_endianness(Endianness::Big));
-  EXPECT(mac.macos_version() == (Version{11, 0, 0}) && !parsed("arm64-apple-darwin").macos_version() && mac.macos_version() < (Version{11, 1, 0}) && !none.macos_version());
-  EXPECT(mac.minimum_os_version() == (Version{11, 0, 0}) && parsed("i386-apple-ios").minimum_os_version() == (Version{10, 0, 0}) && !none.minimum_os_version());
+  EXPECT(mips.with_endianness(Endianness::Big) == parsed("mips64-acme-linux-gnuabi64") && !mips.with_endianness(static_cast<Endianness>(3)));
 }
 
 // A custom vendor is owned: neither the string that was parsed nor the triple that was copied is needed.
@@ -196,16 +175,14 @@ static void try_containers() {
 
 static void try_errors() {
   ParseError error;
-  EXPECT(!Triple::parse("x86_64-pc-linx", &error) && error.status == LEXICON_UNRECOGNIZED_OPERATING_SYSTEM);
-  EXPECT(error.field() == Field::OperatingSystem && shown(*error.field()) == "operating system");
-  EXPECT(error.part == "linx" && error.start == 10 && error.end == 14 && error.suggestion == "linux");
-  EXPECT(error.line == "Unrecognized operating system: linx");
+  EXPECT(!Triple::parse("x86_64-pc-linx", &error) && error.status == LEXICON_UNRECOGNIZED_OPERATING_SYSTEM && error.field() == Field::OperatingSystem);
+  EXPECT(error.part == "linx" && error.start == 10 && error.end == 14 && error.suggestion == "linux" && error.line == "Unrecognized operating system: linx");
   EXPECT(shown(error) == "Unrecognized operating system: linx\n  x86_64-pc-linx\n            ^^^^ did you mean `linux`?");
   EXPECT(!Triple::parse("x86_64-elf-linux", &error) && !error.field() && error.suggestion.empty());
-  EXPECT(!Triple::parse("avr-\xff", &error) && error.status == LEXICON_NOT_UTF8 && !error.field() && error.line == "Not UTF-8");
-  EXPECT(!Triple::parse({}));
+  EXPECT(!Triple::parse("avr-\xff", &error) && error.status == LEXICON_NOT_UTF8 && !error.field() && !Triple::parse({}));
   std::string part(3000, 'x');
   EXPECT(!Triple::parse("avr-pc-linux-" + part, &error) && error.line == "Unrecognized environment: " + part);
+  EXPECT(!Triple::parse_strict("x86_64-linx", &error) && error.part == "linx" && error.suggestion == "linux" && Triple::parse_strict("avr") == parsed("avr"));
 }
 
 // Each value has its name, a number that is no enumerator has none, and nothing else is read in its place.
@@ -232,11 +209,8 @@ static void try_names() {
   try_names_of<Signedness>("signed");
   try_names_of<LinuxLibc>("glibc");
   try_names_of<Origin>("given");
-  ParseError error;
   EXPECT(name(Vendor::Custom).empty() && dialect_named("docker") == Dialect::Oci && !dialect_named("podman") && version().substr(0, 5) == LEXICON_VERSION);
-  EXPECT(!Triple::parse_strict("x86_64-linx", &error) && error.part == "linx" && error.suggestion == "linux" && Triple::parse_strict("avr") == parsed("avr"));
   EXPECT(value_of<Architecture>("arm64") == Architecture::Aarch64 && !value_of<Environment>("linux"));
-  EXPECT(value_of<Vendor>("acme") == Vendor::Custom && value_of<OperatingSystem>("ios17") == OperatingSystem::IOS);
 }
 
 static void try_dialects() {
@@ -244,14 +218,11 @@ static void try_dialects() {
   std::string reason;
   auto arm = Triple::read("linux/arm64", Dialect::Oci);
   EXPECT(arm == parsed("aarch64-linux") && arm->name_in(Dialect::Oci) == "linux/arm64" && Triple::read("x86_64-w64-mingw32") == parsed("x86_64-pc-windows-gnu"));
-  EXPECT(!Triple::read("linux", Dialect::Go, &error) && error.status == LEXICON_UNKNOWN_NAME && error.part == "linux" && !error.field());
-  EXPECT(shown(error) == "Unknown name: linux\n  linux\n  ^^^^^" && error.reason.empty() && error.suggestion.empty());
-  EXPECT(!Triple::read("linux/amd46", Dialect::Go, &error) && error.suggestion == "linux/amd64" && error.reason.empty());
-  EXPECT(shown(error) == "Unknown name: linux/amd46\n  linux/amd46\n  ^^^^^^^^^^^ did you mean `linux/amd64`?");
-  EXPECT(!Triple::read("plan9/386", Dialect::Go, &error) && error.status == LEXICON_NAME_WITHOUT_TRIPLE && error.reason == "Plan 9 is no known name");
+  EXPECT(!Triple::read("linux/amd46", Dialect::Go, &error) && error.status == LEXICON_UNKNOWN_NAME && error.suggestion == "linux/amd64" && error.reason.empty());
+  EXPECT(shown(error) == "Unknown name: linux/amd46\n  linux/amd46\n  ^^^^^^^^^^^ did you mean `linux/amd64`?" && error.part == "linux/amd46" && !error.field());
+  EXPECT(!Triple::read("plan9/386", Dialect::Go, &error) && error.reason == "Plan 9 is no known name" && error.suggestion.empty());
   EXPECT(shown(error) == "No triple has this name: plan9/386\n  plan9/386\n  ^^^^^^^^^ Plan 9 is no known name");
   EXPECT(!Triple::read("amd64-pc-linx", &error) && error.suggestion == "linux" && error.start == 9 && error.reason.empty());
-  EXPECT(!Triple::read("amd64", static_cast<Dialect>(99), &error) && error.status == LEXICON_NO_SUCH_DIALECT);
   EXPECT(!arm->name_in(static_cast<Dialect>(99)) && !arm->name_in(Dialect::Debian, &reason) && reason == "it depends on the C library: say glibc or musl");
   EXPECT(parsed("aarch64-linux-android").versioned_name_in(Dialect::Python, 21) == "android_21_arm64_v8a");
   EXPECT(parsed("x86_64-linux-gnu").versioned_name_in(Dialect::Python, 2, 17) == "manylinux_2_17_x86_64");
@@ -264,22 +235,21 @@ static void try_translation() {
   EXPECT(parsed("x86_64-linux").completed(static_cast<LinuxLibc>(9)) == parsed("x86_64-linux"));
   EXPECT(Triple::translate("linux/arm64/v8", Dialect::Oci, Dialect::Rust, LinuxLibc::Glibc) == "aarch64-unknown-linux-gnu");
   EXPECT(Triple::translate("x86_64-w64-mingw32", std::nullopt, Dialect::Node) == "win32-x64-gnu");
-  EXPECT(!Triple::translate("linux/arm64", Dialect::Oci, Dialect::Debian) && !Triple::translate("linux/arm64", Dialect::Oci, static_cast<Dialect>(99)));
   EXPECT(!Triple::translate("linux/arm64", Dialect::Oci, Dialect::Debian, std::nullopt, &error) && error.status == LEXICON_NEEDS_C_LIBRARY);
-  EXPECT(error.line == "No name in the other dialect: linux/arm64" && error.part == "linux/arm64" && !error.field());
+  EXPECT(error.line == "No name in the other dialect: linux/arm64");
   EXPECT(shown(error) == error.line + "\n  linux/arm64\n  ^^^^^^^^^^^ it depends on the C library: say glibc or musl");
-  EXPECT(!Triple::translate("linux/amd46", Dialect::Go, Dialect::Oci, std::nullopt, &error) && error.suggestion == "linux/amd64");
   auto found = changes("amd64-unknown-freebsd13.2");
   EXPECT(found.size() == 2 && found[0].part == "amd64" && found[0].names == "x86_64" && found[1].start == 14 && found[1].end == 25);
-  EXPECT(found[1].part == "freebsd13.2" && found[1].names == "freebsd" && changes("x86_64-linux").empty() && changes("").empty());
+  EXPECT(changes("x86_64-linux").empty());
   auto armhf = Triple::meanings("armhf"), plan9 = Triple::meanings("plan9/amd64"), avr = Triple::meanings("avr-none");
   EXPECT(armhf.size() == 2 && armhf[0].dialect == Dialect::Debian && armhf[1].triple->printed() == "armv6-unknown-linux-musleabihf");
   EXPECT(plan9.size() == 1 && !plan9[0].triple && plan9[0].dialect == Dialect::Go && plan9[0].reason == "Plan 9 is no known name");
-  EXPECT(!avr.front().dialect && avr.front().triple == Triple::parse("avr-none") && avr.front().reason.empty() && Triple::meanings("foo/bar").empty());
+  EXPECT(!avr.front().dialect && avr.front().triple == parsed("avr-none") && avr.front().reason.empty() && Triple::meanings("foo/bar").empty());
 }
 
 int main() {
   try_triple();
+  try_versions();
   try_values();
   try_c();
   try_changes();
