@@ -18,7 +18,6 @@ pub struct TypeSizes {
 
 /// What the queries of a triple answer. Each number is 0 where there is no answer.
 #[repr(C)]
-#[derive(Clone, Copy)]
 pub struct QueryFacts {
     // written by tools/names/write: the facts of queries for the library
     pub endianness: u8,
@@ -34,7 +33,6 @@ pub struct QueryFacts {
 
 /// Binary formats, and the family of the architecture.
 #[repr(C)]
-#[derive(Clone, Copy)]
 pub struct FormatFacts {
     // written by tools/names/write: the facts of formats for the library
     pub implied_format: u8,
@@ -45,7 +43,6 @@ pub struct FormatFacts {
 
 /// The layout of a type of C in bytes; both numbers are 0 if there is no answer.
 #[repr(C)]
-#[derive(Clone, Copy)]
 pub struct LayoutNumbers {
     pub size: u8,
     pub alignment: u8,
@@ -53,7 +50,6 @@ pub struct LayoutNumbers {
 
 /// What a compiler's driver asks. Each number is 0 where there is no answer.
 #[repr(C)]
-#[derive(Clone, Copy)]
 pub struct DriverFacts {
     // written by tools/names/write: the facts of driver for the library
     pub c_library: u8,
@@ -69,22 +65,12 @@ pub struct DriverFacts {
     // end of what is written
 }
 
-/// The facts of the first two groups.
+/// Facts, and those of the next group. A later version adds a group at the end.
 #[repr(C)]
-#[derive(Clone, Copy)]
-pub struct FirstFacts {
-    pub queries: QueryFacts,
-    pub formats: FormatFacts,
-}
+pub struct Both<First, Next>(First, Next);
 
-/// All facts. A later version adds a group at the end.
-#[repr(C)]
-#[derive(Clone, Copy)]
-pub struct Facts {
-    pub queries: QueryFacts,
-    pub formats: FormatFacts,
-    pub driver: DriverFacts,
-}
+pub type FirstFacts = Both<QueryFacts, FormatFacts>;
+pub type Facts = Both<FirstFacts, DriverFacts>;
 
 impl From<&TripleRef<'_>> for QueryFacts {
     #[inline(always)]
@@ -140,17 +126,10 @@ impl From<&TripleRef<'_>> for DriverFacts {
     }
 }
 
-impl From<&TripleRef<'_>> for FirstFacts {
+impl<'a, First: From<&'a TripleRef<'a>>, Next: From<&'a TripleRef<'a>>> From<&'a TripleRef<'a>> for Both<First, Next> {
     #[inline(always)]
-    fn from(triple: &TripleRef<'_>) -> FirstFacts {
-        FirstFacts { queries: triple.into(), formats: triple.into() }
-    }
-}
-
-impl From<&TripleRef<'_>> for Facts {
-    #[inline(always)]
-    fn from(triple: &TripleRef<'_>) -> Facts {
-        Facts { queries: triple.into(), formats: triple.into(), driver: triple.into() }
+    fn from(triple: &'a TripleRef<'a>) -> Self {
+        Both(triple.into(), triple.into())
     }
 }
 
