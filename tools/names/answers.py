@@ -61,7 +61,7 @@ def lists(answers):
     statuses = answers["status"]
     found = {
         "the statuses for C": [f"LEXICON_{it.constant} = {it.number}, /* {it.about} */" for it in statuses],
-        "the statuses for the library": [f"const {it.constant}: Status = {it.number};" for it in statuses if it.number > 6],
+        "the statuses for the library": [f"pub(crate) const {it.constant}: Status = {it.number};" for it in statuses if it.number > 6],
         "the statuses for Python": [f"{it.constant} = {it.number}" for it in statuses if it.number > 5],
         "the statuses for JavaScript": [f"const {', '.join(f'{it.constant} = {it.number}' for it in part)};" for part in (statuses[5:12], statuses[12:])],
         "the answers for JavaScript": [f"const {JAVASCRIPT[kind]} = [null, {', '.join(quoted(kind, answers))}];" for kind in ENUMS],

@@ -112,7 +112,7 @@ def lists(facts, reasons):
     numbers = {it.name: f"n[{number}]" for number, it in enumerate(by_groups)}
     found = {
         "the facts for C": [f"{'bool' if it.type == 'bool' else 'uint8_t'} {it.name}; {it.c_about}" for it in by_groups],
-        "the size of the facts": [f"const FACT_COUNT: usize = {len(facts)};"],
+        "the size of the facts": [f"pub(crate) const FACT_COUNT: usize = {len(facts)};"],
         "the facts for C++": [it.cpp for it in facts if it.name != KNOWN],
         "the facts for the command": [f'("{it.name}", {it.json}),' for it in facts],
         "the reasons for the command": [f"""{' | '.join(f'"{name}"' for name in names)} => "{reason}",""" for names, reason in reasons],

@@ -1,6 +1,6 @@
 //! The facts of a triple, as numbers: where an enum has no answer, 0, and otherwise 1 more than its index. The functions return wide
 //! values, and so are inlined.
-use crate::values::{binary_format_number, family_number};
+use crate::numbers::{binary_format_number, family_number};
 use target_lexicon::{Architecture, CDataModel, PointerWidth, TripleRef};
 use target_names::{TargetInfo, TypeLayout};
 

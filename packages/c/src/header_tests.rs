@@ -1,5 +1,6 @@
 //! The numbers and names of target_lexicon.h and target_lexicon.hpp are the library's.
-use crate::values::{architecture_at, c_library_at, dialect_at, family_number, field_at, name_at};
+use crate::numbers::{architecture_at, family_number};
+use crate::values::{c_library_at, dialect_at, field_at, name_at};
 
 const HEADER: &str = include_str!("../include/target_lexicon.h");
 const CPP_HEADER: &str = include_str!("../include/target_lexicon.hpp");

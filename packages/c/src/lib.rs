@@ -18,6 +18,7 @@ mod facts;
 mod header_tests;
 mod lines;
 mod names;
+mod numbers;
 #[cfg(not(test))]
 mod runtime;
 mod sources;
@@ -34,35 +35,18 @@ use error_text::{line, line_and_caret, suggestion};
 use facts::{Facts, FirstFacts, QueryFacts};
 use lines::settle_lines;
 use names::{c_name, c_reason};
+use numbers::*;
 use sources::FieldSources;
 use target_lexicon::{DeploymentTarget, Endianness, PointerWidth, Suggestion, TripleRef};
 use target_names::{Dialect, Name, NameError, TargetInfo, TranslateError, WriteError};
 use text::{shown, write_text, written, Text};
 use triple::{NumberedTriple, TripleNumbers};
-use values::{architecture_at, c_library_at, dialect_at, environment_at, field_at, name_at, name_of_number, number_in, operating_system_at, CUSTOM_VENDOR};
+use values::{c_library_at, dialect_at, field_at, name_at, name_of_number, number_in, operating_system_at, CUSTOM_VENDOR};
 
 /// `enum lexicon_status`. From 1 to 6 a text is refused, where a value of the first to the fifth field was expected, or none.
 pub type Status = u32;
 
 const OK: Status = 0;
-// written by tools/names/write: the statuses for the library
-const NOT_UTF8: Status = 7;
-const TOO_SMALL: Status = 8;
-const NO_SUCH_FIELD: Status = 9;
-const NO_SUCH_VALUE: Status = 10;
-const NO_SUCH_VENDOR: Status = 11;
-const UNKNOWN_NAME: Status = 12;
-const NAME_WITHOUT_TRIPLE: Status = 13;
-const TRIPLE_WITHOUT_NAME: Status = 14;
-const NO_SUCH_DIALECT: Status = 15;
-const TOO_LARGE: Status = 16;
-const NEEDS_C_LIBRARY: Status = 17;
-const NO_SUCH_C_LIBRARY: Status = 18;
-const NO_SUCH_CHANGE: Status = 19;
-const NO_SUGGESTION: Status = 20;
-const NO_ANSWER: Status = 21;
-const NO_SUCH_MEANING: Status = 22;
-// end of what is written
 
 /// The greatest size of anything in memory, `PTRDIFF_MAX`. Rust has no slice that is larger.
 const MAX_SIZE: usize = isize::MAX as usize;
@@ -109,10 +93,6 @@ pub struct Change {
     start: usize,
     end: usize,
 }
-
-// written by tools/names/write: the size of the facts
-const FACT_COUNT: usize = 28;
-// end of what is written
 
 /// The sizes that the structs of target_lexicon.h have, with words of 64 bits or of 32.
 const _: () = {

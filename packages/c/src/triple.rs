@@ -1,10 +1,11 @@
 //! Triples as numbers. Functions that return a wide value are inlined where that saves a hundredth of parsing and printing, or of
 //! asking.
 use crate::error::Fault;
-use crate::values::{
+use crate::numbers::{
     architecture_at, architecture_number, binary_format_at, binary_format_number, environment_at, environment_number,
-    known_vendor_at, operating_system_at, operating_system_number, vendor_number, CUSTOM_VENDOR,
+    known_vendor_at, operating_system_number,
 };
+use crate::values::{operating_system_at, vendor_number, CUSTOM_VENDOR};
 use core::str;
 use target_lexicon::OperatingSystemExt as _;
 use target_lexicon::{DeploymentTarget, TripleRef, VendorRef};
