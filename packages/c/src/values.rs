@@ -9,50 +9,6 @@ use target_names::{Dialect, LinuxLibc, NameOf};
 /// The number that says that a vendor is a custom one.
 pub(crate) const CUSTOM_VENDOR: u8 = 255;
 
-/// The number of each value of a type, and the value of each number, from one list.
-macro_rules! numbers {
-    ($type:ident, $int:ident, $number_of:ident, $value_at:ident $(, $held:ident: $holds:ty)?;
-     $($number:literal $variant:ident $(($($inner:tt)+))?),+ $(,)?) => {
-        /// The number of a value.
-        #[allow(unused_variables)] // what a value holds
-        pub(crate) fn $number_of(value: $type) -> $int {
-            match value {
-                $($type::$variant $(($($inner)+))? => $number,)+
-                _ => 0, // there is no other one
-            }
-        }
-
-        /// The value of this number.
-        pub(crate) fn $value_at(number: $int $(, $held: $holds)?) -> Option<$type> {
-            numbers!(@at $type, number $(, $held)?; $($number [$type::$variant $(($($inner)+))?])+)
-        }
-    };
-    (@at $type:ident, $at:ident; $($number:literal [$($value:tt)+])+) => {{
-        static VALUES: &[$type] = &[$($($value)+),+];
-        VALUES.get(usize::from($at)).copied()
-    }};
-    (@at $type:ident, $at:ident, $held:ident; $($number:literal [$($value:tt)+])+) => {
-        match $at {
-            $($number => Some($($value)+),)+
-            _ => None,
-        }
-    };
-}
-
-macro_rules! families {
-    ($($number:literal $variant:ident $(($($any:tt)+))?),+ $(,)?) => {
-        /// The number of an architecture's family.
-        pub(crate) fn family_number(architecture: Architecture) -> u8 {
-            match architecture {
-                $(Architecture::$variant $(($($any)+))? => $number,)+
-                _ => 0, // there is no other one
-            }
-        }
-    };
-}
-
-pub(crate) use {families, numbers};
-
 /// The number of a vendor.
 pub(crate) fn vendor_number(vendor: VendorRef<'_>) -> u8 {
     match vendor {
