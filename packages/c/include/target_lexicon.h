@@ -409,7 +409,6 @@ enum lexicon_data_model {
   LEXICON_DATA_MODEL_ILP64 = 5,
   /* end of what is written */
 };
-/* The C library that a triple states, by its environment or by a system that has only one. */
 enum lexicon_c_library {
   LEXICON_C_LIBRARY_NONE = 0,
   /* written by tools/names/write: the answers of c_library for C */
@@ -424,8 +423,7 @@ enum lexicon_c_library {
   LEXICON_C_LIBRARY_UCLIBC = 9, /* uClibc */
   /* end of what is written */
 };
-/* How floating-point arguments are passed: in integer registers, or in floating-point registers. There is an answer for 32-bit Arm,
-   by its environment or system, and where a triple says `softfloat`; elsewhere the ABI depends on more than the triple. */
+/* How floating-point arguments are passed. Where there is no answer, the ABI depends on more than the triple. */
 enum lexicon_float_abi {
   LEXICON_FLOAT_ABI_NONE = 0,
   /* written by tools/names/write: the answers of float_abi for C */
@@ -433,7 +431,6 @@ enum lexicon_float_abi {
   LEXICON_FLOAT_ABI_HARD = 2, /* In floating-point registers */
   /* end of what is written */
 };
-/* The profile of a 32-bit Arm architecture: for what its processors are made. */
 enum lexicon_arm_profile {
   LEXICON_ARM_PROFILE_NONE = 0,
   /* written by tools/names/write: the answers of arm_profile for C */
@@ -442,8 +439,6 @@ enum lexicon_arm_profile {
   LEXICON_ARM_PROFILE_MICROCONTROLLER = 3, /* Microcontrollers */
   /* end of what is written */
 };
-
-/* Whether C's char has a sign. */
 enum lexicon_signedness {
   LEXICON_SIGNEDNESS_NONE = 0,
   /* written by tools/names/write: the answers of signedness for C */
@@ -495,8 +490,7 @@ struct lexicon_sources {
   struct lexicon_source architecture, vendor, operating_system, environment, binary_format;
 };
 
-/* What a compiler asks about a triple. 0 is no answer. The pointer width and sizes may be known where there is no data model. A later
-   version adds members at the end. */
+/* What a compiler asks about a triple. 0 is no answer. A later version adds members at the end. */
 struct lexicon_triple_facts {
   /* written by tools/names/write: the facts for C */
   uint8_t endianness; /* enum lexicon_endianness: the byte order */

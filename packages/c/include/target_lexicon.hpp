@@ -106,6 +106,7 @@ enum class Dialect : std::uint8_t {
   // end of what is written
 };
 
+// The answers of the facts, as target_lexicon.h says of each.
 enum class Endianness : std::uint8_t {
   // written by tools/names/write: the answers of endianness for C++
   Little = 1, Big = 2,
@@ -121,28 +122,21 @@ enum class DataModel : std::uint8_t {
   LP32 = 1, ILP32 = 2, LLP64 = 3, LP64 = 4, ILP64 = 5,
   // end of what is written
 };
-
-// The C library that a triple states. System is the system's own, which no other system has.
 enum class CLibrary : std::uint8_t {
   // written by tools/names/write: the answers of c_library for C++
   Bionic = 1, Glibc = 2, Mingw = 3, Msvc = 4, Musl = 5, Newlib = 6, Relibc = 7, System = 8, Uclibc = 9,
   // end of what is written
 };
-// How floating-point arguments are passed: in integer registers, or in floating-point registers.
 enum class FloatAbi : std::uint8_t {
   // written by tools/names/write: the answers of float_abi for C++
   Soft = 1, Hard = 2,
   // end of what is written
 };
-
-// The profile of a 32-bit Arm architecture: for what its processors are made.
 enum class ArmProfile : std::uint8_t {
   // written by tools/names/write: the answers of arm_profile for C++
   Application = 1, RealTime = 2, Microcontroller = 3,
   // end of what is written
 };
-
-// Whether C's char has a sign.
 enum class Signedness : std::uint8_t {
   // written by tools/names/write: the answers of signedness for C++
   Signed = 1, Unsigned = 2,
