@@ -13,6 +13,7 @@
 
 mod error;
 mod error_text;
+mod fact_groups;
 mod facts;
 #[cfg(test)]
 mod header_tests;
@@ -32,7 +33,8 @@ use core::ptr::{addr_of, null};
 use core::{slice, str};
 use error::{unwritten_status, Fault, TextError};
 use error_text::{line, line_and_caret, suggestion};
-use facts::{Facts, FirstFacts, QueryFacts};
+use fact_groups::QueryFacts;
+use facts::{Facts, FirstFacts};
 use lines::settle_lines;
 use names::{c_name, c_reason};
 use numbers::*;
