@@ -688,15 +688,12 @@ struct Explanation {
 };
 
 inline std::optional<Explanation> Triple::explain(std::string_view text, ParseError* error) {
-  lexicon_triple triple;
   lexicon_sources sources;
-  lexicon_error found;
-  if (lexicon_explain(text.data(), text.size(), &triple, &sources, &found) != LEXICON_OK) {
-    if (error) *error = error_of(text, found);
-    return std::nullopt;
-  }
+  auto call = [&](auto of, auto size, auto triple, auto found) { return lexicon_explain(of, size, triple, &sources, found); };
+  auto triple = parsed(call, text, error);
+  if (!triple) return std::nullopt;
   auto of = [](const lexicon_source& it) { return Source{static_cast<Origin>(it.origin), it.start, it.end}; };
-  return Explanation{Triple(triple), of(sources.architecture), of(sources.vendor), of(sources.operating_system), of(sources.environment),
+  return Explanation{*triple, of(sources.architecture), of(sources.vendor), of(sources.operating_system), of(sources.environment),
                      of(sources.binary_format)};
 }
 

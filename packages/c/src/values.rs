@@ -1,6 +1,7 @@
 //! The numbers of values, fields, dialects and C libraries, each by an ordered list: the number is the index, from 0.
 use crate::numbers::*;
-use core::fmt::{Display, Error, Result, Write};
+use crate::text::shown;
+use core::fmt::Display;
 use core::str::FromStr as _;
 use target_lexicon::{Architecture, BinaryFormat, DeploymentTarget, Environment, Field, OperatingSystem, VendorRef};
 use target_lexicon::{Named as _, OperatingSystemExt as _};
@@ -91,16 +92,10 @@ pub(crate) fn is_name_in(field: Field, text: &str) -> bool {
 }
 
 /// Whether a value is shown as this string.
-fn is_shown_as(value: &dyn Display, text: &str) -> bool {
-    struct Rest<'a>(&'a str);
-    impl Write for Rest<'_> {
-        fn write_str(&mut self, piece: &str) -> Result {
-            self.0 = self.0.strip_prefix(piece).ok_or(Error)?;
-            Ok(())
-        }
-    }
-    let mut rest = Rest(text);
-    write!(rest, "{value}").is_ok() && rest.0.is_empty()
+fn is_shown_as(value: &impl Display, text: &str) -> bool {
+    let mut room = [0; 64];
+    let size = shown(value, &mut room);
+    room.get(..size) == Some(text.as_bytes())
 }
 
 #[cfg(test)]
