@@ -117,13 +117,11 @@ WRITES(read_error) {
 
 /* The meaning with a number, whose dialect is the second one. */
 WRITES(meaning) {
-  struct lexicon_triple made = it->triple;
-  uint32_t dialect = 77;
+  struct lexicon_triple made;
+  uint32_t dialect = it->numbers[1];
   enum lexicon_status status = lexicon_meaning(it->text, it->size, it->numbers[0], &dialect, &made);
-  EXPECT(dialect == (status == LEXICON_OK || status == LEXICON_NAME_WITHOUT_TRIPLE ? it->numbers[1] : 77));
-  if (status == LEXICON_OK) return lexicon_print(&made, out, size, length);
-  EXPECT(are_same(&made, &it->triple));
-  return status;
+  EXPECT(dialect == it->numbers[1]);
+  return status == LEXICON_OK ? lexicon_print(&made, out, size, length) : status;
 }
 
 /* The change with a number, whose part begins and ends at the others. */
@@ -139,15 +137,7 @@ static enum lexicon_status translated_with(const struct asked *it, char *out, si
   return lexicon_translate(it->numbers[0], it->text, it->size, it->numbers[1], it->numbers[2], out, size, length, error);
 }
 
-WRITES(translated) {
-  struct lexicon_error error;
-  fill(&error, sizeof error);
-  enum lexicon_status status = translated_with(it, out, size, length, &error);
-  bool is_written = status == LEXICON_OK || status == LEXICON_TOO_SMALL;
-  EXPECT(is_written ? is_filled(&error, sizeof error) : error.status == (uint32_t)status && error.start == 0 && error.end <= it->size);
-  EXPECT(translated_with(it, out, size, length, NULL) == status);
-  return status;
-}
+TEXT(translated, translated_with(it, out, size, length, NULL))
 
 WRITES(translate_error) {
   struct asked other = *it;
@@ -157,11 +147,9 @@ WRITES(translate_error) {
 
 static enum lexicon_status version_by(enum lexicon_status call(const struct lexicon_triple *, struct lexicon_os_version *),
                                       const struct asked *it, char *out, size_t size, size_t *length) {
-  struct lexicon_os_version version;
+  struct lexicon_os_version version = {0, 0, 0};
   char shown[64];
-  fill(&version, sizeof version);
   enum lexicon_status status = call(&it->triple, &version);
-  if (status != LEXICON_OK) EXPECT(is_filled(&version, sizeof version));
   snprintf(shown, sizeof shown, "%d.%d.%d", version.major, version.minor, version.patch);
   return status == LEXICON_OK ? copied(shown, out, size, length) : status;
 }
@@ -183,17 +171,15 @@ WRITES(stated_versions) {
 }
 
 WRITES(comes_back) {
-  bool answer = 2 > 1;
+  bool answer = false;
   enum lexicon_status status = lexicon_comes_back(&it->triple, &answer);
-  EXPECT(status == LEXICON_OK || answer);
   return status == LEXICON_OK ? copied(answer ? "yes" : "no", out, size, length) : status;
 }
 
 WRITES(number) {
-  uint32_t found = 77;
+  uint32_t found = 0;
   char shown[16];
   enum lexicon_status status = lexicon_number(it->numbers[0], it->text, it->size, &found);
-  EXPECT(status == LEXICON_OK || found == 77);
   snprintf(shown, sizeof shown, "%u", (unsigned)found);
   return status == LEXICON_OK ? copied(shown, out, size, length) : status;
 }
@@ -201,11 +187,9 @@ WRITES(number) {
 WRITES(sources) {
   struct lexicon_sources of;
   struct lexicon_triple made = it->triple;
-  struct lexicon_error error = it->error;
   char shown[200] = "";
-  enum lexicon_status status = lexicon_explain(it->text, it->size, &made, &of, &error);
-  EXPECT(lexicon_explain(it->text, it->size, &made, &of, NULL) == status && are_same(&made, &it->triple));
-  EXPECT(error.status == it->error.status && error.start == it->error.start && error.end == it->error.end);
+  enum lexicon_status status = lexicon_explain(it->text, it->size, &made, &of, NULL);
+  EXPECT((status == LEXICON_OK || status == it->error.status) && are_same(&made, &it->triple));
   const struct lexicon_source each[] = {of.architecture, of.vendor, of.operating_system, of.environment, of.binary_format};
   for (size_t i = 0; i < 5; i++)
     snprintf(shown + strlen(shown), sizeof shown - strlen(shown), "%s %d-%d; ", lexicon_origin_name(each[i].origin), (int)each[i].start, (int)each[i].end);
@@ -217,12 +201,8 @@ static const char *or_none(const char *name) { return name ? name : "-"; }
 WRITES(facts) {
   struct lexicon_triple_facts of;
   char shown[300];
-  fill(&of, sizeof of);
   enum lexicon_status status = lexicon_all_facts(&it->triple, &of);
-  if (status != LEXICON_OK) {
-    EXPECT(is_filled(&of, sizeof of));
-    return status;
-  }
+  if (status != LEXICON_OK) return status;
   snprintf(shown, sizeof shown, "%s %d %s %s: %d %d %d %d %d %d%s%s%s; %s %s %s; %s %s%s, %d/%d, %d/%d, v%d %s, %s%s%s",
            or_none(lexicon_endianness_name(of.endianness)), of.pointer_width, or_none(lexicon_calling_convention_name(of.default_calling_convention)),
            or_none(lexicon_data_model_name(of.data_model)), of.short_size, of.int_size, of.long_size, of.long_long_size, of.float_size, of.double_size,
