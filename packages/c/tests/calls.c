@@ -158,16 +158,13 @@ TEXT(minimum_version, version_by(lexicon_minimum_os_version, it, out, size, leng
 
 WRITES(stated_versions) {
   struct lexicon_versions found;
-  struct lexicon_error error;
   char shown[99];
-  fill(&found, sizeof found);
-  fill(&error, sizeof error);
-  enum lexicon_status status = lexicon_stated_versions(it->text, it->size, &found, &error);
-  EXPECT(status == LEXICON_OK ? is_filled(&error, sizeof error) : error.status == (uint32_t)status && is_filled(&found, sizeof found));
+  enum lexicon_status status = lexicon_stated_versions(it->text, it->size, &found, NULL);
+  if (status != LEXICON_OK) return status;
   struct lexicon_stated_version system = found.operating_system, environment = found.environment;
   snprintf(shown, sizeof shown, "%u.%u.%u %u.%u.%u", (unsigned)system.major, (unsigned)system.minor, (unsigned)system.patch,
            (unsigned)environment.major, (unsigned)environment.minor, (unsigned)environment.patch);
-  return status == LEXICON_OK ? copied(shown, out, size, length) : status;
+  return copied(shown, out, size, length);
 }
 
 WRITES(comes_back) {

@@ -453,7 +453,6 @@ static void try_meanings(const char *text, size_t size, uint32_t parsed) {
 
 /* A text as a name of each dialect, and of none, where parsing it gave this status and, if that is LEXICON_OK, this triple. */
 static void try_read(const char *text, size_t size, uint32_t parsed, const struct lexicon_triple *same) {
-  struct lexicon_triple versioned;
   for (uint32_t dialect = LEXICON_DIALECT_NONE; dialect <= LAST_DIALECT + 1; dialect++) {
     struct lexicon_triple triple;
     struct lexicon_error error;
@@ -481,18 +480,21 @@ static void try_read(const char *text, size_t size, uint32_t parsed, const struc
     }
     if (dialect != LEXICON_DIALECT_NONE) {
       CHECK(status == LEXICON_OK || status == LEXICON_NOT_UTF8 || status >= LEXICON_UNKNOWN_NAME);
-    } else if (parsed == LEXICON_OK && same->vendor != LEXICON_VENDOR_CUSTOM) {
+      continue;
+    }
+    struct lexicon_versions versions;
+    struct lexicon_error again = error;
+    memset(&versions, 0xa5, sizeof versions);
+    CHECK((uint32_t)lexicon_stated_versions(text, size, &versions, &again) == status);
+    CHECK(again.status == error.status && again.start == error.start && again.end == error.end);
+    if (status != LEXICON_OK) CHECK(is_unchanged(&versions, sizeof versions));
+    else CHECK(versions.operating_system.major == triple.major || !triple.has_version);
+    if (parsed == LEXICON_OK && same->vendor != LEXICON_VENDOR_CUSTOM) {
       CHECK(status == LEXICON_OK && are_equal(&triple, same));
     } else {
       CHECK(status <= LEXICON_NOT_UTF8);
     }
   }
-  struct lexicon_versions versions;
-  memset(&versions, 0xa5, sizeof versions);
-  enum lexicon_status read_status = lexicon_read(LEXICON_DIALECT_NONE, text, size, &versioned, NULL);
-  CHECK(lexicon_stated_versions(text, size, &versions, NULL) == read_status);
-  if (read_status != LEXICON_OK) CHECK(is_unchanged(&versions, sizeof versions));
-  else CHECK(versions.operating_system.major == versioned.major || !versioned.has_version);
 }
 
 /* Each line of a text is settled as it is by itself. */
