@@ -483,6 +483,8 @@ static void try_struct(void) {
   it.triple.major = it.triple.minor = it.triple.patch = 7;
   EXPECT(lexicon_settle(&it.triple) == LEXICON_OK && it.triple.custom_vendor == NULL && it.triple.custom_vendor_size == 0);
   EXPECT(it.triple.major == 0 && it.triple.minor == 0 && it.triple.patch == 0);
+  it = asked_of("armv7-nintendo-horizon-newlib"); /* printed without the environment */
+  EXPECT(lexicon_settle(&it.triple) == LEXICON_OK && it.triple.environment == LEXICON_ENVIRONMENT_UNKNOWN);
   memset(&it.triple, 0, sizeof it.triple);
   char out[32];
   EXPECT(lexicon_print(&it.triple, out, sizeof out, NULL) == LEXICON_OK && strcmp(out, "unknown-unknown-unknown") == 0);
