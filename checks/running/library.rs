@@ -6,16 +6,16 @@ use definitions::values::{con, eq, forget, function, keep, library, shown, truth
 /// The bytes around digits, capitals and letters, and marks.
 const BYTES: [u64; 18] = [0, 1, 9, 42, 43, 45, 46, 47, 48, 57, 58, 64, 65, 90, 91, 97, 122, 123];
 
-/// Lists of up to three of these, and a few texts.
+/// Lists of up to three of these four.
+fn lists_of(of: [V; 4]) -> Vec<V> {
+    let list = |length: u32, i: usize| keep(|| library::seq(&(0..length).map(|k| of[i / 4_usize.pow(k) % 4]).collect::<Vec<_>>()));
+    (0..=3).flat_map(|length| (0..4_usize.pow(length)).map(move |i| list(length, i))).collect()
+}
+
+/// Lists of bytes, and a few texts.
 fn lists() -> Vec<V> {
-    let of: [u64; 4] = [43, 45, 48, 97];
-    let mut all = vec![vec![]];
-    for length in 1..=3 {
-        all.extend((0..4_usize.pow(length)).map(|i| (0..length).map(|k| of[i / 4_usize.pow(k) % 4]).collect()));
-    }
-    let lists = all.into_iter().map(|it| keep(|| library::seq(&it.iter().map(|n| N(*n)).collect::<Vec<_>>())));
     let texts = ["ios-10.3", "+65535", "AbC-xyZ", "00042", "a-b--c-"].map(|it| keep(|| text(it)));
-    lists.chain(texts).collect()
+    [lists_of([43, 45, 48, 97].map(N)), texts.to_vec()].concat()
 }
 
 fn pairs(f: fn(V, V) -> V) -> V {
@@ -52,16 +52,7 @@ fn domain(kind: &str) -> Vec<V> {
         "Bool" | "Type 0" => [true, false].map(truth).to_vec(),
         "Ordering" => [s::Ordering__Less, s::Ordering__Equal, s::Ordering__Greater].map(|it| V::C(it, &[])).to_vec(),
         "List ℕ" | "List A" | "List B" => lists(),
-        "List ( List ℕ )" => {
-            let few = [lists()[0], lists()[2], lists()[30], lists()[85]];
-            let mut all = vec![keep(|| library::seq(&[]))];
-            for a in few {
-                all.push(keep(|| library::seq(&[a])));
-                all.extend(few.map(|b| keep(|| library::seq(&[a, b]))));
-                all.extend(few.map(|b| keep(|| library::seq(&[b, a, few[1]]))));
-            }
-            all
-        }
+        "List ( List ℕ )" => lists_of([0, 2, 30, 85].map(|i| lists()[i])),
         "Data" => values(),
         "List Data" => [0, 1, 3].map(|count| keep(|| library::seq(&values()[..count]))).to_vec(),
         "Items" => domain("List Data").into_iter().map(|it| keep(|| s::items_of(it))).collect(),
