@@ -60,22 +60,6 @@ fn each_value_has_its_name(rt: HostRuntime) {
     }
 }
 
-#[test]
-fn values_become_their_names(rt: HostRuntime) {
-    assert!(rt; Architecture::X86_64h.into_str().as_str() == "x86_64h");
-    assert!(rt; ArmArchitecture::Thumbv8mBase.into_str().as_str() == "thumbv8m.base");
-    assert!(rt; Aarch64Architecture::Aarch64be.into_str().as_str() == "aarch64_be");
-    assert!(rt; CleverArchitecture::Clever1_0.into_str().as_str() == "clever1.0");
-    assert!(rt; X86_32Architecture::I586.into_str().as_str() == "i586");
-    assert!(rt; Mips32Architecture::Mipsel.into_str().as_str() == "mipsel");
-    assert!(rt; Mips64Architecture::Mipsisa64r6.into_str().as_str() == "mipsisa64r6");
-    assert!(rt; Riscv32Architecture::Riscv32imac.into_str().as_str() == "riscv32imac");
-    assert!(rt; Riscv64Architecture::Riscv64a23.into_str().as_str() == "riscv64a23");
-    assert!(rt; Z80Architecture::Rabbit2000A.into_str().as_str() == "rabbit2000a");
-    assert!(rt; Environment::GnuIlp32.into_str().as_str() == "gnu_ilp32");
-    assert!(rt; BinaryFormat::Macho.into_str().as_str() == "macho");
-}
-
 /// A string, and after `=` the values of its row in the table of names, by field; nothing if it has no row.
 const ROWS: &str = "\
 none=None None Some(None_) Some(None) None
@@ -129,16 +113,10 @@ fn names_have_rows(rt: HostRuntime) {
 }
 
 /// The number of a row, a string, and the order of the row's string against it.
-const ORDERS: [(usize, &str, Ordering); 10] = [
+const ORDERS: [(usize, &str, Ordering); 4] = [
     (0, "aarch64", Ordering::Equal),
-    (0, "aarch6", Ordering::Greater),
-    (0, "aarch64_", Ordering::Less),
-    (0, "", Ordering::Greater),
     (0, "zkasm", Ordering::Less),
-    (1, "aarch64_be", Ordering::Equal),
     (191, "zkasm", Ordering::Equal),
-    (191, "zkasn", Ordering::Less),
-    (191, "zkas\u{e9}", Ordering::Less),
     (191, "aarch64", Ordering::Greater),
 ];
 

@@ -40,25 +40,15 @@ x86_64-unknown-linux-kernel=x86_64-linux-kernel
 x86_64-none-linuxkernel=x86_64-unknown-none-linuxkernel
 wasm32-wasi-unknown-unknown=wasm32-wasi-unknown-unknown
 wasm32-unknown-wasi-unknown-unknown=wasm32-wasi-unknown-unknown
-wasm32-wasi-unknown=wasm32-wasi
 x86_64-unknown-none-unknown-unknown=x86_64-unknown-none
 wasm32-wasip1=wasm32-wasip1
-x86_64-ffi-linux=x86_64-ffi-linux
 riscv32imc-esp-espidf-unknown-unknown=riscv32imc-esp-espidf-unknown-unknown
 armv6k-nintendo-horizon-unknown-unknown=armv6k-nintendo-3ds
-riscv32imc-esp-espidf-unknown=riscv32imc-esp-espidf
 clever-unknown-unknown-none=clever-unknown-none-elf
 clever-unknown-unknown-unknown-unknown=clever-unknown-unknown-unknown-unknown
-clever-unknown-unknown=clever-unknown-elf
 x86_64-unknown-linux-unknown=x86_64-unknown-linux
 armv7a-unknown-none-eabihf-elf=armv7a-none-eabihf
 clever-pc-unknown-gnu-elf=clever-pc-gnu-elf
-armv6k-nintendo-horizon-newlib-elf=armv6k-nintendo-3ds
-riscv32imc-espressif-espidf-gnu-coff=riscv32imc-esp-espidf
-aarch64-nintendo-horizon-unknown-elf=aarch64-nintendo-horizon
-clever-unknown-unknown-none-elf=clever-unknown-none-elf
-x86_64-apple-ios-gnu-elf=x86_64-apple-ios-gnu-elf
-x86_64-apple-ios1.2-unknown-unknown=x86_64-apple-ios1.2.0-unknown-unknown
 aarch64-nintendo-horizon-newlib-coff=aarch64-nintendo-horizon-coff
 clever1.0-pc-unknown-none-coff=clever1.0-pc-none-coff
 x86_64-apple-darwin*23.*=x86_64-apple-darwin23.0.0";
@@ -112,34 +102,6 @@ fn parsed_triples_print(rt: HostRuntime) {
                 && triple.comes_back()),
             "{text}"
         );
-    }
-}
-
-/// A string, and after `=` the family of its triple.
-const FAMILIES: &str = "\
-armv6k-nintendo-3ds=None
-armv6k-nintendo-horizon-gnu-coff=Some(PrintsAsSpecial)
-riscv32imc-espressif-espidf-newlib-coff=Some(PrintsAsSpecial)
-aarch64-nintendo-horizon-newlib-unknown=Some(HidesNewlib)
-riscv64-espressif-espidf-newlib=Some(HidesNewlib)
-riscv32imc-esp-espidf-elf=Some(PrintsTheEspIdfText)
-riscv32imc-esp-espidf-unknown-unknown=None
-clever-unknown-unknown-none=Some(ShowsOnlyNone)
-clever-unknown-unknown-unknown-unknown=None
-x86_64-none-none=None
-x86_64-unknown-linux-unknown-unknown=None";
-
-#[test]
-fn triples_have_their_families(rt: HostRuntime) {
-    for row in FAMILIES.lines() {
-        let (text, expected) = row.split_once('=').unwrap_or((row, ""));
-        match Triple::from_str(rt.alloc(), text) {
-            Ok(triple) => assert!(rt;
-                writes(&format_args!("{:?}", triple.round_trip_family()), expected),
-                "{row}"
-            ),
-            Err(_) => panic!(rt; "{row}"),
-        }
     }
 }
 

@@ -12,17 +12,11 @@ esp32s2=Custom(Owned(\"esp32s2\"))
 a_b.c9=Custom(Owned(\"a_b.c9\"))
 iosfoo=Custom(Owned(\"iosfoo\"))
 darwin23.0.0.0=Custom(Owned(\"darwin23.0.0.0\"))
-ios1.=Custom(Owned(\"ios1.\"))
-pcs=Custom(Owned(\"pcs\"))
-z=Custom(Owned(\"z\"))
-customvendor=Custom(Owned(\"customvendor\"))
-foo=Custom(Owned(\"foo\"))
-owned=Custom(Owned(\"owned\"))";
+foo=Custom(Owned(\"foo\"))";
 
-/// Names of other fields, strings of another form, and letters that only look like those of a vendor, or can't be seen.
+/// Names of other fields, and strings of another form.
 const REFUSED: &str = "\
 =
-a b=
 ios17=
 linux=
 none=
@@ -34,37 +28,7 @@ arm64=
 __x=
 CustomVendor=
 a-b=
-xros65535.255.255=
-darwin+023.6=
-gnu_ilp32=
-armv8.1a=
-clever1.0=
-9=
-_a=
-.a=
--=
-a-=
-a+b=
-a/b=
-a@b=
-a[b=
-a`b=
-a{b=
-a:b=
-foO=
-PC=
-Ünix=
-fóo=
-foo\u{301}=
-f\u{3bf}o=
-\u{fb01}rm=
-fo\u{200d}o=
-\u{feff}foo=
-foo\0=
-\0=
-f\u{ad}oo=
-foo\u{663}=
-foo\u{ff11}=";
+Ünix=";
 
 /// Whether the string parses as this vendor, also without an allocator, and is its name; or is refused if this is empty.
 fn is_vendor(alloc: Global, text: &'static str, expected: &str) -> bool {

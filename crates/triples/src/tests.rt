@@ -23,16 +23,18 @@ const _: () = prove!(size_of::<Counted<Vec<u8>>>() == size_of::<Vec<u8>>());
 /// Two kinds of errors that code may treat in its own way.
 const SPECIAL_KINDS: [ErrorKind; 2] = [ErrorKind::Interrupted, ErrorKind::BrokenPipe];
 
-/// The outcome of a run, its reads, writes and flushes, and how many bytes were kept; `None` if these aren't a beginning of
-/// the output.
-type Trace = Option<(Result<(), RunError>, usize, usize, u32, usize)>;
+/// The outcome of a run or a filter, its reads, writes and flushes, and how many bytes were kept; `None` if these aren't a
+/// beginning of the output.
+type Trace<E> = Option<(Result<(), E>, usize, usize, u32, usize)>;
 
-fn trace(alloc: Global, mode: Mode, reader: Faulty<'_>, writer: Faulty<'_>, output: &str) -> Trace {
-    let mut reader = Counted::new(reader);
-    let mut writer = Counted::new(writer);
-    let outcome = run(alloc, mode, &mut reader, &mut writer);
+fn trace<E: Copy>(
+    outcome: Result<(), E>,
+    reader: Counted<Faulty<'_>>,
+    writer: Counted<Faulty<'_>>,
+    output: &[u8],
+) -> Trace<E> {
     let writer = writer.into_inner();
-    if !output.as_bytes().starts_with(&writer.kept) {
+    if !output.starts_with(&writer.kept) {
         return None;
     }
     let kept = writer.kept.len();
@@ -45,6 +47,19 @@ fn trace(alloc: Global, mode: Mode, reader: Faulty<'_>, writer: Faulty<'_>, outp
     ))
 }
 
+fn run_trace(
+    alloc: Global,
+    mode: Mode,
+    reader: Faulty<'_>,
+    writer: Faulty<'_>,
+    output: &str,
+) -> Trace<RunError> {
+    let mut reader = Counted::new(reader);
+    let mut writer = Counted::new(writer);
+    let outcome = run(alloc, mode, &mut reader, &mut writer);
+    trace(outcome, reader, writer, output.as_bytes())
+}
+
 /// The run ends at the read that fails: it reads no more and writes nothing. The last read finds the end of the input.
 #[test]
 fn each_read_fails_in_turn(rt: HostRuntime) {
@@ -53,7 +68,7 @@ fn each_read_fails_in_turn(rt: HostRuntime) {
         for kind in SPECIAL_KINDS {
             for at in 0..input.len() + 1 {
                 let reader = Faulty::new(alloc, input.as_bytes(), at, Some(kind));
-                let found = trace(alloc, *mode, reader, Faulty::sound(alloc, b""), output);
+                let found = run_trace(alloc, *mode, reader, Faulty::sound(alloc, b""), output);
                 let expected = Some((Err(RunError::Read), at.saturating_add(1), 0, 0, 0));
                 assert!(rt; found == expected, "{input}, read {at}");
             }
@@ -74,7 +89,7 @@ fn each_write_fails_in_turn(rt: HostRuntime) {
             for at in 0..output.len() + 1 {
                 let reader = Faulty::sound(alloc, input.as_bytes());
                 let writer = Faulty::new(alloc, b"", at, fault);
-                let found = trace(alloc, *mode, reader, writer, output);
+                let found = run_trace(alloc, *mode, reader, writer, output);
                 let reads = input.len().min(1) + 1;
                 let expected = if at == output.len() {
                     (Ok(()), reads, at, 1, at)
@@ -100,7 +115,7 @@ fn each_output_is_written_whole(rt: HostRuntime) {
             let reader = Faulty::new(alloc, input.as_bytes(), usize::MAX, None);
             let mut writer = Faulty::sound(alloc, b"");
             writer.flush = flush;
-            let found = trace(alloc, *mode, reader, writer, output);
+            let found = run_trace(alloc, *mode, reader, writer, output);
             let size = output.len();
             let expected = Some((outcome, input.len() + 1, size.min(1), 1, size));
             assert!(rt; found == expected, "{input}");
@@ -114,7 +129,7 @@ fn a_refused_input_is_read_whole(rt: HostRuntime) {
     let alloc = rt.alloc();
     for (mode, input, error) in &REFUSED_ROWS {
         let reader = Faulty::new(alloc, input, usize::MAX, None);
-        let found = trace(alloc, *mode, reader, Faulty::sound(alloc, b""), "");
+        let found = run_trace(alloc, *mode, reader, Faulty::sound(alloc, b""), "");
         let expected = Some((Err(*error), input.len() + 1, 0, 0, 0));
         assert!(rt; found == expected, "{mode:?} {error}");
     }

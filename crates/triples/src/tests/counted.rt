@@ -4,50 +4,14 @@ use super::faulty::Faulty;
 use crate::counted::Counted;
 use std::io::ErrorKind;
 
-/// Each kind of error.
-const KINDS: [ErrorKind; 42] = [
-    ErrorKind::NotFound,
-    ErrorKind::PermissionDenied,
-    ErrorKind::ConnectionRefused,
-    ErrorKind::ConnectionReset,
-    ErrorKind::HostUnreachable,
-    ErrorKind::NetworkUnreachable,
-    ErrorKind::ConnectionAborted,
-    ErrorKind::NotConnected,
-    ErrorKind::AddrInUse,
-    ErrorKind::AddrNotAvailable,
-    ErrorKind::NetworkDown,
-    ErrorKind::BrokenPipe,
-    ErrorKind::AlreadyExists,
-    ErrorKind::WouldBlock,
-    ErrorKind::NotADirectory,
-    ErrorKind::IsADirectory,
-    ErrorKind::DirectoryNotEmpty,
-    ErrorKind::ReadOnlyFilesystem,
-    ErrorKind::FilesystemLoop,
-    ErrorKind::StaleNetworkFileHandle,
-    ErrorKind::InvalidInput,
-    ErrorKind::InvalidData,
-    ErrorKind::TimedOut,
-    ErrorKind::WriteZero,
-    ErrorKind::StorageFull,
-    ErrorKind::NotSeekable,
-    ErrorKind::QuotaExceeded,
-    ErrorKind::FileTooLarge,
-    ErrorKind::ResourceBusy,
-    ErrorKind::ExecutableFileBusy,
-    ErrorKind::Deadlock,
-    ErrorKind::CrossesDevices,
-    ErrorKind::TooManyLinks,
-    ErrorKind::InvalidFilename,
-    ErrorKind::ArgumentListTooLong,
+/// Kinds of errors that code may treat in its own way, and another.
+const KINDS: [ErrorKind; 6] = [
     ErrorKind::Interrupted,
-    ErrorKind::Unsupported,
+    ErrorKind::BrokenPipe,
+    ErrorKind::WouldBlock,
     ErrorKind::UnexpectedEof,
-    ErrorKind::OutOfMemory,
-    ErrorKind::InProgress,
+    ErrorKind::WriteZero,
     ErrorKind::Other,
-    ErrorKind::Uncategorized,
 ];
 
 #[test]
