@@ -104,12 +104,6 @@ pub no-bytes : HasNoFeed []
 no-bytes k d below = absurd (omega (arith, below))
 
 -- lists of lines
-zip-push : {A B : Type 0} (R : A → B → Type 0) (xs : List A) (ys : List B) (x : A) (y : B) → AllZip R xs ys → R x y → AllZip R (xs ++ x ∷ []) (ys ++ y ∷ [])
-zip-push R [] [] x y all is = (is, tt)
-zip-push R [] (b ∷ ys) x y all is = absurd all
-zip-push R (a ∷ xs) [] x y all is = absurd all
-zip-push R (a ∷ xs) (b ∷ ys) x y all is = (all.0, zip-push R xs ys x y all.1 is)
-
 zip-append : {A B : Type 0} (R : A → B → Type 0) (xs us : List A) (ys vs : List B) → AllZip R xs ys → AllZip R us vs → AllZip R (xs ++ us) (ys ++ vs)
 zip-append R [] us [] vs all is = is
 zip-append R [] us (b ∷ ys) vs all is = absurd all
@@ -240,7 +234,7 @@ module _ (mode : LineMode) (size : ℕ) where
       ap lines_of far.whole ∙ lines-ended far.lines rest far.each ∙ ap (λ (t : List (List ℕ)). far.lines ++ t) (lines-last rest none end.0) in
       subst (λ (t : List (List ℕ)). AreFilterAnswers mode size t (output ++ last)) (sym lines) (
         far.answered.0 ++ end.1 ∷ [],
-        zip-push (IsFilterAnswer mode size) far.lines far.answered.0 rest end.1 far.answered.1 end.2,
+        zip-append (IsFilterAnswer mode size) far.lines (rest ∷ []) far.answered.0 (end.1 ∷ []) far.answered.1 (end.2, tt),
         ap (λ (t : List ℕ). t ++ last) far.answered.2 ∙ ap (λ (t : List ℕ). written_lines far.answered.0 ++ t) end.3 ∙ sym (written_lines-append far.answered.0 (end.1 ∷ [])),
       )
 

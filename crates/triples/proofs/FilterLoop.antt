@@ -4,7 +4,7 @@ use Rattle.std.proofs.lemmas.List.{append-nil, length-append, length-take, take-
 use Rattle.std.proofs.Math.Seq.{take-append-add, take-append_seam}
 use Rattle.std.proofs.lemmas.List.{places, length-drop}
 use borrow.Rule.Slice.PartMut.{put_mid, post_of}
-use Rattle.std.specs.Io.KnownBytes.{Consumes, IsAtEnd, Keeps}
+use Rattle.std.specs.Io.KnownBytes.{IsAtEnd, Keeps}
 use Rattle.triples.specs.{Filter.AreFilterAnswers, Filter.FilterEndsAs, Filter.complete_lines}
 use Rattle.triples.specs.FilterSteps.{HasNoFeed, IsFilteredTo, IsKept, IsLate, LinesAnswered, RestAnswered}
 use Rattle.triples.specs.Run.{Use, Gives, Takes, IsUnfailed, HasFailed, use_of}
@@ -218,10 +218,6 @@ pub searched-front : (n : ℕ) (front more piece : List ℕ) → length front �
 searched-front n front more piece size is none =
     subst (λ (t : List ℕ). HasNoFeed t) (sym (ap (λ (t : List ℕ). take n t) is ∙ ap (λ (m : ℕ). take m (front ++ more)) (sym size) ∙ take-append_seam front more)) none
 
--- a reader gave the bytes of a read that didn't fail
-pub gave : {A : Type 0} (rem : A → Option (List ℕ)) (r1 r2 : Counted A) (bytes : List ℕ) → moved r2 ≡ moved r1 ++ bytes → Consumes (rem (inner r1)) (rem (inner r2)) bytes → Gives (use_of rem r1 r2) bytes
-gave rem r1 r2 bytes same known = record { moved = same; known = known }
-
 -- the buffer keeps its length
 pub length-read : (held : ℕ) (xs ys : List ℕ) → held ≤ length xs → length ys ≡ length xs - held → length (put_mid held (length xs - held) xs ys) ≡ length xs
 length-read held xs ys within size = search (rules, places)
@@ -232,10 +228,6 @@ some-is-no-end count buffer some = rw (ne_eqb count 0 some) refl
 
 pub none-is-end : (count : ℕ) (buffer : List ℕ) → count ≡ 0 → 0 < length buffer → finds_end {E = ⊥} (Ok count) buffer ≡ true
 none-is-end count buffer none room = rw (none, ne_eqb (length buffer) 0 (λ bad. omega (arith, bad, room))) refl
-
--- a count that rose by nothing
-pub unfailed-read : (it : Use) → it.failures_after ≡ it.failures_before + 0 → IsUnfailed it
-unfailed-read it same = omega (arith, same)
 
 -- the length of a slice from an index to the end
 pub part-length : (start : ℕ) (xs : List ℕ) → length (take (length xs - start) (drop start xs)) ≡ length xs - start

@@ -1,5 +1,5 @@
 -- Each input has an outcome in each mode.
-use Rattle.std.proofs.Common.{◌≡◌, ◌≢◌, ◌⊎◌, ℕ, zero, suc, ◌<◌, Bool, true, false, List, [], ◌∷◌, ◌++◌, codes, Option, Some, None, MatchOption, inl, inr, Result, Ok, Err, refl, sym, ◌∙◌, arith}
+use Rattle.std.proofs.Common.{◌≡◌, ◌≢◌, ◌⊎◌, ℕ, zero, suc, ◌<◌, Bool, true, false, List, [], ◌∷◌, ◌++◌, codes, Option, Some, None, MatchOption, inl, inr, Result, Ok, Err, refl, sym, subst, ◌∙◌, arith}
 use Rattle.std.proofs.lemmas.List.{append-nil}
 use Rattle.std.proofs.lemmas.Str.{IsUtf8-from_is_utf8, is_utf8-from_IsUtf8}
 use Rattle.std.specs.Str.{IsUtf8, is_utf8}
@@ -122,15 +122,6 @@ ends mode text bytes (Err run_error.NotJson) is = (is.0, (refl, refl, refl), (re
 ends mode text bytes (Err run_error.NotList) is = (is.0, (refl, refl, refl), (refl, is.3), is.1, is.2)
 ends mode text bytes (Err run_error.OutOfMemory) is = absurd is
 
-memory : (mode : Mode) (text bytes : List ℕ) (result : Result (Unit {0}) RunError) → Outcome mode text result bytes → result ≢ Err run_error.OutOfMemory
-memory mode text bytes (Ok _) is bad = absurd cc
-memory mode text bytes (Err run_error.Read) is bad = absurd cc
-memory mode text bytes (Err run_error.Write) is bad = absurd cc
-memory mode text bytes (Err run_error.NotUtf8) is bad = absurd cc
-memory mode text bytes (Err run_error.NotJson) is bad = absurd cc
-memory mode text bytes (Err run_error.NotList) is bad = absurd cc
-memory mode text bytes (Err run_error.OutOfMemory) is bad = absurd is
-
 -- a run with this outcome
 run-of : (mode : Mode) (text : List ℕ) (result : Result (Unit {0}) RunError) (bytes : List ℕ) → Outcome mode text result bytes → RunGives mode text result bytes
 run-of mode text result bytes is = record {
@@ -145,7 +136,7 @@ run-of mode text result bytes is = record {
   };
   read_unfailed = refl;
   write_unfailed = refl;
-  memory = memory mode text bytes result is;
+  memory = λ out. subst (λ (r : Result (Unit {0}) RunError). Outcome mode text r bytes) out is;
   text_is = inr refl;
   bytes_are = inr ([], refl, refl);
 }

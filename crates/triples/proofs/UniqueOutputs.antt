@@ -14,8 +14,7 @@ abbrev pub IsJsonText : Option Data → List ℕ → Type 0
 IsJsonText found output = MatchOption found ⊥ (λ value. (answer : List ℕ) × IsJsonAnswer value answer × (output ≡ answer ++ line_feed ∷ []))
 
 pub text-is-json : (found : Option Data) (output : List ℕ) → IsJsonText found output → found ≡ None → ⊥
-text-is-json None output is none = is
-text-is-json (Some value) output is none = cc
+text-is-json found output is none = subst (λ (f : Option Data). IsJsonText f output) none is
 
 answer-is-list : (value : Data) (answer : List ℕ) → IsJsonAnswer value answer → as_array value ≡ None → ⊥
 answer-is-list value answer (inl list) none = subst (λ (o : Option Items). MatchOption o ⊥ (λ elements. ElementsReadAs elements list.0)) none list.1

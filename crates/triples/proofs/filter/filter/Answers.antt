@@ -4,7 +4,7 @@ use Rattle.std.proofs.lemmas.Slice.{take-put_mid_below}
 use borrow.Rule.Slice.PartMut.{put_mid}
 use Rattle.triples.specs.Run.{use_of}
 use Rattle.triples.specs.FilterSteps.{IsKept, RestAnswered}
-use Rattle.triples.proofs.FilterLoop.{between-none, between-more, between-kept, ends-read, ends-rest, ends-write, ends-endless, read-piece, gave, length-read, none-is-end, part-length, searched-front, some-is-no-end, unfailed-read}
+use Rattle.triples.proofs.FilterLoop.{between-none, between-more, between-kept, ends-read, ends-rest, ends-write, ends-endless, read-piece, length-read, none-is-end, part-length, searched-front, some-is-no-end}
 use Rattle.triples.proofs.filter.filter.Goals as goal
 
 pub loop-init : goal.loop-init
@@ -32,7 +32,7 @@ loop-preserved g c =
     let whole = length-read c.loop.held c.loop.input c.read.new.buf (omega (arith, inv.held)) given in
     let next =
     between-more g.R.Read.remaining g.W.Write.contents c.args.mode size c.args.r.now c.loop.r c.read.new.self c.args.w.now c.loop.w c.answer_lines.new.w c.loop.is_late held c.loop.counter inv.state
-    more (gave g.R.Read.remaining c.loop.r c.read.new.self more read.moved read.bytes.0) (unfailed-read (use_of g.R.Read.remaining c.loop.r c.read.new.self) read.count) (read.ended ∙ some-is-no-end c.in-Ok.taken c.read.new.buf (λ bad. omega (arith, bad, c.if-taken-eq0.false))) piece is fits
+    more (record { moved = read.moved; known = read.bytes.0 }) (omega (arith, read.count)) (read.ended ∙ some-is-no-end c.in-Ok.taken c.read.new.buf (λ bad. omega (arith, bad, c.if-taken-eq0.false))) piece is fits
     c.in-Ok-answer_lines.start c.in-Ok-answer_lines.late some c.in-Ok-answer_lines.ensures.lines in
     let keeps =
     subst (λ (n : ℕ). IsKept n c.in-Ok-answer_lines.late (drop c.in-Ok-answer_lines.start piece) c.keep_rest.new.buffer c.keep_rest.result.0 c.keep_rest.result.1) (whole ∙ inv.same_length) kept.kept in
@@ -76,8 +76,8 @@ returns-then-taken-eq0 g c =
     record {
       ends =
           ends-rest g.R.Read.remaining g.W.Write.contents c.args.mode (length c.args.input.now) c.args.r.now c.loop.r c.read.new.self c.args.w.now c.loop.w c.finish.new.w c.loop.is_late
-          held c.loop.counter inv.state more c.finish.result none (gave g.R.Read.remaining c.loop.r c.read.new.self more read.moved read.bytes.0)
-          (unfailed-read (use_of g.R.Read.remaining c.loop.r c.read.new.self) read.count)
+          held c.loop.counter inv.state more c.finish.result none (record { moved = read.moved; known = read.bytes.0 })
+          (omega (arith, read.count))
           (read.ended ∙ none-is-end c.in-Ok.taken c.read.new.buf c.if-taken-eq0.true room)
           (read.bytes.1 c.if-taken-eq0.true room) (omega (arith, length-take c.loop.held c.loop.input, inv.held, inv.same_length)) done;
     }
@@ -98,7 +98,7 @@ returns-in_default-answer_lines g c =
     record {
       ends =
           ends-write g.R.Read.remaining g.W.Write.contents c.args.mode size c.args.r.now c.loop.r c.read.new.self c.args.w.now c.loop.w c.answer_lines.new.w c.loop.is_late held c.loop.counter inv.state
-          more (gave g.R.Read.remaining c.loop.r c.read.new.self more read.moved read.bytes.0) (unfailed-read (use_of g.R.Read.remaining c.loop.r c.read.new.self) read.count)
+          more (record { moved = read.moved; known = read.bytes.0 }) (omega (arith, read.count))
           (read.ended ∙ some-is-no-end c.in-Ok.taken c.read.new.buf (λ bad. omega (arith, bad, c.if-taken-eq0.false))) piece is fits c.every_text_has_one_outcome.ensures
           c.in_default-answer_lines.field-0 c.in_default-answer_lines.ensures.lines;
     }
