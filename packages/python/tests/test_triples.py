@@ -51,6 +51,7 @@ class Values(Refused):
             ("Linux", "armv6l", "", "glibc", 32, "armv6-unknown-linux-gnueabihf"), ("Windows", "AMD64", "", "", 64, "x86_64-pc-windows-msvc"),
             ("Windows", "ARM64", "mingw_aarch64", "", 64, "aarch64-pc-windows-gnu"), ("SunOS", "sun4v", "", "", 64, "sparc64-sun-solaris"),
             ("Linux", "mips64", "mips64el-linux-musl", "", 64, "mips64el-unknown-linux-musl"), ("CYGWIN_NT-10.0", "x86_64", "", "", 64, "x86_64-pc-cygwin"),
+            ("Linux", "x86_64", "x86_64-linux-gnu x86_64-linux-musl", "", 64, "x86_64-unknown-linux-musl"), ("Linux", "sparc64", "", "", 64, "sparc64-unknown-linux"),
             ("iOS", "arm64", "ios-13.0-arm64-iphonesimulator", "", 64, "aarch64-apple-ios-sim"), ("BeOS", "vax", "", "", 64, "unknown-unknown-unknown"),
         ):
             said = {"platform.system": system, "platform.machine": machine, "platform.libc_ver": (libc, ""), "struct.calcsize": bits // 8,
