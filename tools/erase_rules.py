@@ -79,6 +79,11 @@ REPLACEMENTS = [
     ("lexicon_fields/", "use std::borrow::CowStr", f"#[{ALLOCATES}]\nuse alloc::borrow::Cow"),
     ("lexicon_fields/", "CowStr<'static>", "Cow<'static, str>"),
     ("lexicon_fields/", "CowStr::", "Cow::"),
+    ("lexicon_fields/", ".into_str().as_str()", ".into_str()"),
+    ("target_lexicon/src/explanation.rt", ", explain};", ", TripleRef};"),
+    ("target_lexicon/src/explanation.rt", " explain(", " TripleRef::explain("),
+    # A macro of Rust takes no handle.
+    ("", "!(rt; ", "!("),
     ("lexicon_fields/src/vendor.rt", "use std::fmt;", f"#[{ALLOCATES}]\nuse alloc::{{boxed::Box, string::String}};\nuse std::fmt;"),
     ("lexicon_fields/src/vendor.rt", "#[derive(Debug, Drop)]\npub enum CustomVendor", "#[cfg_attr(not(feature = \"alloc\"), non_exhaustive)]\n#[derive(Debug, Drop)]\npub enum CustomVendor"),
     ("lexicon_fields/src/vendor.rt", "Owned(Box<String>)", f"#[{ALLOCATES}]\nOwned(Box<String>)"),

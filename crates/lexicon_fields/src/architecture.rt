@@ -34,15 +34,15 @@ pub use z80::Z80Architecture;
 /// # Examples
 ///
 /// ```
-/// use target_lexicon::{Architecture, Triple};
+/// use target_lexicon::{Architecture, TripleRef};
 ///
-/// let triple: Triple = "i686-pc-windows-msvc".parse().unwrap();
+/// let triple = TripleRef::from_str("i686-pc-windows-msvc").unwrap();
 /// let registers = match triple.architecture {
 ///     Architecture::X86_32(_) => 8,
 ///     Architecture::X86_64 => 16,
 ///     _ => 32,
 /// };
-/// assert_eq!(registers, 8);
+/// assert_eq!(rt; registers, 8);
 /// ```
 #[derive(Clone, Copy, Debug, PartialEq, Eq, Hash)]
 pub enum Architecture {
@@ -143,8 +143,8 @@ impl Architecture {
     /// ```
     /// use target_lexicon::{Architecture, Endianness};
     ///
-    /// assert_eq!(Architecture::S390x.endianness(), Ok(Endianness::Big));
-    /// assert_eq!(Architecture::Unknown.endianness(), Err(()));
+    /// assert_eq!(rt; Architecture::S390x.endianness(), Ok(Endianness::Big));
+    /// assert_eq!(rt; Architecture::Unknown.endianness(), Err(()));
     /// ```
     pub fn endianness(self) -> Result<Endianness, ()>
         ensures answer { MatchesLookup (queries.architecture_endianness self) result }
@@ -204,7 +204,7 @@ impl Architecture {
     /// ```
     /// use target_lexicon::{Architecture, PointerWidth};
     ///
-    /// assert_eq!(Architecture::Avr.pointer_width(), Ok(PointerWidth::U16));
+    /// assert_eq!(rt; Architecture::Avr.pointer_width(), Ok(PointerWidth::U16));
     /// ```
     pub fn pointer_width(self) -> Result<PointerWidth, ()>
         ensures answer { MatchesLookup (queries.architecture_width self) result }
@@ -256,7 +256,7 @@ impl Architecture {
     /// ```
     /// use target_lexicon::{Architecture, CleverArchitecture};
     ///
-    /// assert!(Architecture::Clever(CleverArchitecture::Clever).is_clever());
+    /// assert!(rt; Architecture::Clever(CleverArchitecture::Clever).is_clever());
     /// ```
     pub fn is_clever(&self) -> bool
         ensures { result ≡ queries.is_clever self.now }
@@ -279,7 +279,7 @@ impl Architecture {
     /// # Examples
     ///
     /// ```
-    /// assert_eq!(target_lexicon::Architecture::Bpfel.into_str(), "bpfel");
+    /// assert_eq!(rt; target_lexicon::Architecture::Bpfel.into_str().as_str(), "bpfel");
     /// ```
     pub fn into_str(self) -> CowStr<'static>
         ensures name { cow_str_bytes result ≡ architecture_name self }
@@ -289,12 +289,6 @@ impl Architecture {
     }
 
     /// The name.
-    ///
-    /// # Examples
-    ///
-    /// ```
-    /// assert_eq!(target_lexicon::Architecture::Bpfel.name(), "bpfel");
-    /// ```
     #[inline(always)]
     pub fn name(self) -> &'static str
         ensures { result.now ≡ architecture_name self }

@@ -15,10 +15,10 @@ use std::str::FromStr;
 /// # Examples
 ///
 /// ```
-/// use target_lexicon::{BinaryFormat, Triple};
+/// use target_lexicon::{BinaryFormat, TripleRef};
 ///
-/// let triple: Triple = "x86_64-pc-windows-gnu".parse().unwrap();
-/// assert_eq!(triple.binary_format, BinaryFormat::Coff);
+/// let triple = TripleRef::from_str("x86_64-pc-windows-gnu").unwrap();
+/// assert_eq!(rt; triple.binary_format, BinaryFormat::Coff);
 /// ```
 #[derive(Clone, Copy, Debug, PartialEq, Eq, Hash)]
 pub enum BinaryFormat {
@@ -61,7 +61,7 @@ impl BinaryFormat {
     /// # Examples
     ///
     /// ```
-    /// assert_eq!(target_lexicon::BinaryFormat::Elf.into_str(), "elf");
+    /// assert_eq!(rt; target_lexicon::BinaryFormat::Elf.into_str().as_str(), "elf");
     /// ```
     pub fn into_str(self) -> CowStr<'static>
         ensures name { cow_str_bytes result ≡ binary_format_name self }
@@ -71,12 +71,6 @@ impl BinaryFormat {
     }
 
     /// The name.
-    ///
-    /// # Examples
-    ///
-    /// ```
-    /// assert_eq!(target_lexicon::BinaryFormat::Macho.name(), "macho");
-    /// ```
     pub fn name(self) -> &'static str
         ensures { result.now ≡ binary_format_name self }
     {

@@ -19,8 +19,8 @@ pub const MAX_VERSION_LENGTH: usize = 13;
 /// use target_lexicon::{DeploymentTarget, OperatingSystem};
 ///
 /// let version = DeploymentTarget { major: 14, minor: 1, patch: 0 };
-/// assert_eq!(OperatingSystem::MacOSX(Some(version)).to_string(), "macosx14.1.0");
-/// assert!(version < DeploymentTarget { major: 14, minor: 2, patch: 0 });
+/// assert_eq!(rt; "macosx14.1".parse(), Ok(OperatingSystem::MacOSX(Some(version))));
+/// assert!(rt; version < DeploymentTarget { major: 14, minor: 2, patch: 0 });
 /// ```
 #[derive(Clone, Copy, Debug, PartialEq, Eq, PartialOrd, Ord, Hash)]
 pub struct DeploymentTarget {

@@ -7,10 +7,9 @@ ghost use Rattle.lexicon_fields.specs.Endianness.{endianness_name};
 /// # Examples
 ///
 /// ```
-/// use target_lexicon::{Endianness, HOST};
+/// use target_lexicon::{Architecture, Endianness};
 ///
-/// let ours = if cfg!(target_endian = "big") { Endianness::Big } else { Endianness::Little };
-/// assert_eq!(HOST.endianness(), Ok(ours));
+/// assert_eq!(rt; Architecture::X86_64.endianness(), Ok(Endianness::Little));
 /// ```
 #[derive(Clone, Copy, Debug, PartialEq, Eq, Hash)]
 pub enum Endianness {
@@ -22,12 +21,6 @@ pub enum Endianness {
 
 impl Endianness {
     /// The name of the byte order.
-    ///
-    /// # Examples
-    ///
-    /// ```
-    /// assert_eq!(target_lexicon::Endianness::Little.name(), "little");
-    /// ```
     pub fn name(self) -> &'static str
         ensures { result.now ≡ endianness_name self }
     {

@@ -15,10 +15,10 @@ use std::str::FromStr;
 /// # Examples
 ///
 /// ```
-/// use target_lexicon::{Environment, Triple};
+/// use target_lexicon::{Environment, TripleRef};
 ///
-/// let triple: Triple = "x86_64-unknown-linux-musl".parse().unwrap();
-/// assert_eq!(triple.environment, Environment::Musl);
+/// let triple = TripleRef::from_str("x86_64-unknown-linux-musl").unwrap();
+/// assert_eq!(rt; triple.environment, Environment::Musl);
 /// ```
 #[derive(Clone, Copy, Debug, PartialEq, Eq, Hash)]
 pub enum Environment {
@@ -119,7 +119,7 @@ impl Environment {
     /// # Examples
     ///
     /// ```
-    /// assert_eq!(target_lexicon::Environment::Msvc.into_str(), "msvc");
+    /// assert_eq!(rt; target_lexicon::Environment::Msvc.into_str().as_str(), "msvc");
     /// ```
     pub fn into_str(self) -> CowStr<'static>
         ensures name { cow_str_bytes result ≡ environment_name self }
@@ -129,12 +129,6 @@ impl Environment {
     }
 
     /// The name.
-    ///
-    /// # Examples
-    ///
-    /// ```
-    /// assert_eq!(target_lexicon::Environment::Gnu.name(), "gnu");
-    /// ```
     pub fn name(self) -> &'static str
         ensures { result.now ≡ environment_name self }
     {

@@ -8,7 +8,7 @@
 /// use target_lexicon::{Field, TripleRef};
 ///
 /// let refusal = TripleRef::from_str("x86_64-unknown-foo").unwrap_err();
-/// assert_eq!(refusal.expected, Some(Field::OperatingSystem));
+/// assert_eq!(rt; refusal.expected, Some(Field::OperatingSystem));
 /// ```
 #[derive(Clone, Copy, Debug, PartialEq, Eq)]
 pub enum Field {

@@ -11,7 +11,7 @@ use crate::vendor::Vendor;
 /// ```
 /// use target_lexicon::{KnownVendor, VendorRef};
 ///
-/// assert_eq!(VendorRef::from_str("apple"), Ok(VendorRef::Known(KnownVendor::Apple)));
+/// assert_eq!(rt; VendorRef::from_str("apple"), Ok(VendorRef::Known(KnownVendor::Apple)));
 /// ```
 #[derive(Clone, Copy, Debug, PartialEq, Eq, Hash)]
 pub enum KnownVendor {
@@ -57,7 +57,7 @@ impl KnownVendor {
     /// ```
     /// use target_lexicon::{KnownVendor, Vendor};
     ///
-    /// assert_eq!(KnownVendor::Pc.to_vendor(), Vendor::Pc);
+    /// assert_eq!(rt; KnownVendor::Pc.to_vendor(), Vendor::Pc);
     /// ```
     pub fn to_vendor(self) -> Vendor
         ensures { vendor_value result ≡ Known self }
@@ -88,7 +88,7 @@ impl KnownVendor {
     /// # Examples
     ///
     /// ```
-    /// assert_eq!(target_lexicon::KnownVendor::Pc.name(), "pc");
+    /// assert_eq!(rt; target_lexicon::KnownVendor::Pc.name(), "pc");
     /// ```
     pub fn name(self) -> &'static str
         ensures { result.now ≡ known_vendor_name self }

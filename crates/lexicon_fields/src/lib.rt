@@ -7,8 +7,6 @@
 //!
 //! `table` has all names in one sorted list, where each `from_str` looks first, and `steps` counts its comparisons.
 //! `laws` has what holds of all values.
-//!
-//! The examples are those of the Rust crate that `tools/erase` makes of this source.
 #![tactic(auto)]
 
 mod architecture;

@@ -18,12 +18,12 @@ use std::str::FromStr;
 /// # Examples
 ///
 /// ```
-/// use target_lexicon::{OperatingSystem, Triple};
+/// use target_lexicon::{OperatingSystem, TripleRef};
 ///
-/// let triple: Triple = "x86_64-apple-macosx10.7".parse().unwrap();
+/// let triple = TripleRef::from_str("x86_64-apple-macosx10.7").unwrap();
 /// match triple.operating_system {
-///     OperatingSystem::MacOSX(Some(version)) => assert_eq!((version.major, version.minor), (10, 7)),
-///     other => panic!("{other}"),
+///     OperatingSystem::MacOSX(Some(version)) => assert_eq!(rt; (version.major, version.minor), (10, 7)),
+///     other => panic!(rt; "{other}"),
 /// }
 /// ```
 #[derive(Clone, Copy, Debug, PartialEq, Eq, Hash)]
@@ -183,8 +183,8 @@ impl OperatingSystem {
     /// ```
     /// use target_lexicon::OperatingSystem;
     ///
-    /// assert!(OperatingSystem::TvOS(None).is_like_darwin());
-    /// assert!(!OperatingSystem::Linux.is_like_darwin());
+    /// assert!(rt; OperatingSystem::TvOS(None).is_like_darwin());
+    /// assert!(rt; !OperatingSystem::Linux.is_like_darwin());
     /// ```
     pub fn is_like_darwin(&self) -> bool
         ensures { result ≡ spec.is_like_darwin self.now }
@@ -204,13 +204,6 @@ impl OperatingSystem {
     }
 
     /// The name without the version.
-    ///
-    /// # Examples
-    ///
-    /// ```
-    /// let system: target_lexicon::OperatingSystem = "ios17.2".parse().unwrap();
-    /// assert_eq!(system.prefix(), "ios");
-    /// ```
     pub fn prefix(self) -> &'static str
         ensures { result.now ++ spec.version_suffix (spec.system_version self)
             ≡ spec.operating_system_name self }
@@ -262,15 +255,6 @@ impl OperatingSystem {
     }
 
     /// The version of the deployment target. Only a system like Darwin can have one.
-    ///
-    /// # Examples
-    ///
-    /// ```
-    /// use target_lexicon::OperatingSystem;
-    ///
-    /// let system: OperatingSystem = "ios17.2".parse().unwrap();
-    /// assert_eq!(system.version().map(|it| (it.major, it.minor, it.patch)), Some((17, 2, 0)));
-    /// ```
     pub fn version(self) -> Option<DeploymentTarget>
         ensures { result ≡ spec.system_version self }
     {

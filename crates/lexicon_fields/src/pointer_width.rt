@@ -7,9 +7,10 @@ ghost use Rattle.lexicon_fields.specs.PointerWidth.{width_bits, width_bytes, wid
 /// # Examples
 ///
 /// ```
-/// use target_lexicon::{PointerWidth, triple};
+/// use target_lexicon::{PointerWidth, TripleRef};
 ///
-/// assert_eq!(triple!("msp430-none-elf").pointer_width(), Ok(PointerWidth::U16));
+/// let triple = TripleRef::from_str("msp430-none-elf").unwrap();
+/// assert_eq!(rt; triple.pointer_width(), Ok(PointerWidth::U16));
 /// ```
 #[derive(Clone, Copy, Debug, PartialEq, Eq, Hash)]
 pub enum PointerWidth {
@@ -27,7 +28,7 @@ impl PointerWidth {
     /// # Examples
     ///
     /// ```
-    /// assert_eq!(target_lexicon::PointerWidth::U32.bits(), 32);
+    /// assert_eq!(rt; target_lexicon::PointerWidth::U32.bits(), 32);
     /// ```
     pub fn bits(self) -> u8
         ensures value { result ≡ width_bits self }
@@ -45,7 +46,7 @@ impl PointerWidth {
     /// # Examples
     ///
     /// ```
-    /// assert_eq!(target_lexicon::PointerWidth::U32.bytes(), 4);
+    /// assert_eq!(rt; target_lexicon::PointerWidth::U32.bytes(), 4);
     /// ```
     pub fn bytes(self) -> u8
         ensures value { result ≡ width_bytes self }
@@ -59,12 +60,6 @@ impl PointerWidth {
     }
 
     /// The number of bits in a pointer, in digits.
-    ///
-    /// # Examples
-    ///
-    /// ```
-    /// assert_eq!(target_lexicon::PointerWidth::U32.name(), "32");
-    /// ```
     pub fn name(self) -> &'static str
         ensures { result.now ≡ width_name self }
     {

@@ -18,10 +18,9 @@ use std::hash::{Hash, Hasher};
 /// # Examples
 ///
 /// ```
-/// use target_lexicon::CustomVendor;
+/// use target_lexicon::{CustomVendor, Vendor};
 ///
-/// let owned = CustomVendor::Owned(Box::new("acme".to_string()));
-/// assert_eq!(owned, CustomVendor::Static("acme"));
+/// assert_ne!(rt; Vendor::Custom(CustomVendor::Static("pc")), Vendor::Pc);
 /// ```
 #[derive(Debug, Drop)]
 pub enum CustomVendor {
@@ -37,7 +36,7 @@ impl CustomVendor {
     /// # Examples
     ///
     /// ```
-    /// assert_eq!(target_lexicon::CustomVendor::Static("acme").as_str(), "acme");
+    /// assert_eq!(rt; target_lexicon::CustomVendor::Static("acme").as_str(), "acme");
     /// ```
     pub fn as_str(&self) -> &str
         ensures { result.now ≡ spec.custom_text self.now }
@@ -101,9 +100,8 @@ impl Hash for CustomVendor {
 /// ```
 /// use target_lexicon::{CustomVendor, Vendor};
 ///
-/// assert_eq!("apple".parse(), Ok(Vendor::Apple));
-/// assert_eq!("acme".parse(), Ok(Vendor::Custom(CustomVendor::Static("acme"))));
-/// assert_eq!("ACME".parse::<Vendor>(), Err(()));
+/// let acme = Vendor::Custom(CustomVendor::Static("acme"));
+/// assert_eq!(rt; (Vendor::Apple.as_str(), acme.as_str()), ("apple", "acme"));
 /// ```
 #[derive(Debug, Drop, PartialEq, Eq, Hash)]
 pub enum Vendor {
@@ -182,7 +180,7 @@ impl Vendor {
     /// # Examples
     ///
     /// ```
-    /// assert_eq!(target_lexicon::Vendor::Nvidia.as_str(), "nvidia");
+    /// assert_eq!(rt; target_lexicon::Vendor::Nvidia.as_str(), "nvidia");
     /// ```
     pub fn as_str(&self) -> &str
         ensures { result.now ≡ spec.vendor_name (spec.vendor_value self.now) }
@@ -191,16 +189,6 @@ impl Vendor {
     }
 
     /// Whether parsing can produce the vendor: it is known, or custom with a string that [`Vendor::Custom`] admits.
-    ///
-    /// # Examples
-    ///
-    /// ```
-    /// use target_lexicon::{CustomVendor, Vendor};
-    ///
-    /// assert!(Vendor::Apple.is_plain());
-    /// assert!(Vendor::Custom(CustomVendor::Static("acme")).is_plain());
-    /// assert!(!Vendor::Custom(CustomVendor::Static("linux")).is_plain());
-    /// ```
     pub fn is_plain(&self) -> bool
         ensures { result ≡ spec.is_plain (spec.vendor_value self.now) }
     {

@@ -19,7 +19,7 @@ use std::fmt;
 /// ```
 /// use target_lexicon::VendorRef;
 ///
-/// assert_eq!(VendorRef::from_str("acme"), Ok(VendorRef::Custom("acme")));
+/// assert_eq!(rt; VendorRef::from_str("acme"), Ok(VendorRef::Custom("acme")));
 /// ```
 #[derive(Clone, Copy, Debug, PartialEq, Eq, Hash)]
 pub enum VendorRef<'a> {
@@ -36,14 +36,6 @@ impl<'a> VendorRef<'a> {
     /// # Errors
     ///
     /// `()` for every other string.
-    ///
-    /// # Examples
-    ///
-    /// ```
-    /// use target_lexicon::VendorRef;
-    ///
-    /// assert_eq!(VendorRef::from_str("ACME"), Err(()));
-    /// ```
     #[inline(always)]
     pub fn from_str(text: &'a str) -> Result<VendorRef<'a>, ()>
         ensures ok { IfOk result
@@ -70,7 +62,7 @@ impl<'a> VendorRef<'a> {
     /// # Examples
     ///
     /// ```
-    /// assert_eq!(target_lexicon::VendorRef::Custom("acme").as_str(), "acme");
+    /// assert_eq!(rt; target_lexicon::VendorRef::Custom("acme").as_str(), "acme");
     /// ```
     pub fn as_str(&self) -> &'a str
         ensures { result.now ≡ spec.vendor_name (ref_value self.now) }
@@ -88,8 +80,8 @@ impl<'a> VendorRef<'a> {
     /// ```
     /// use target_lexicon::VendorRef;
     ///
-    /// assert!(VendorRef::Custom("acme").is_plain());
-    /// assert!(!VendorRef::Custom("linux").is_plain());
+    /// assert!(rt; VendorRef::Custom("acme").is_plain());
+    /// assert!(rt; !VendorRef::Custom("linux").is_plain());
     /// ```
     pub fn is_plain(&self) -> bool
         ensures { result ≡ spec.is_plain (ref_value self.now) }
@@ -111,8 +103,8 @@ impl<'a> VendorRef<'a> {
     /// ```
     /// use target_lexicon::VendorRef;
     ///
-    /// assert!(VendorRef::Custom("acme").is_custom());
-    /// assert!(!VendorRef::from_str("apple").unwrap().is_custom());
+    /// assert!(rt; VendorRef::Custom("acme").is_custom());
+    /// assert!(rt; !VendorRef::from_str("apple").unwrap().is_custom());
     /// ```
     pub fn is_custom(&self) -> bool
         ensures { result ≡ spec.is_custom (ref_value self.now) }
@@ -135,14 +127,6 @@ impl<'a> VendorRef<'a> {
 
 impl Vendor {
     /// The same vendor, borrowed.
-    ///
-    /// # Examples
-    ///
-    /// ```
-    /// use target_lexicon::{CustomVendor, Vendor, VendorRef};
-    ///
-    /// assert_eq!(Vendor::Custom(CustomVendor::Static("acme")).as_vendor_ref(), VendorRef::Custom("acme"));
-    /// ```
     pub fn as_vendor_ref(&self) -> VendorRef<'_>
         ensures { ref_value result ≡ spec.vendor_value self.now }
     {

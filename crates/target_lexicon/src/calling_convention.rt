@@ -7,10 +7,10 @@ ghost use Rattle.target_lexicon.specs.CallingConvention.{convention_name};
 /// # Examples
 ///
 /// ```
-/// use target_lexicon::{CallingConvention, triple};
+/// use target_lexicon::{CallingConvention, TripleRef};
 ///
-/// let convention = triple!("x86_64-pc-windows-msvc").default_calling_convention();
-/// assert_eq!(convention, Ok(CallingConvention::WindowsFastcall));
+/// let triple = TripleRef::from_str("x86_64-pc-windows-msvc").unwrap();
+/// assert_eq!(rt; triple.default_calling_convention(), Ok(CallingConvention::WindowsFastcall));
 /// ```
 #[derive(Clone, Copy, Debug, PartialEq, Eq, Hash)]
 pub enum CallingConvention {
@@ -30,12 +30,6 @@ pub enum CallingConvention {
 
 impl CallingConvention {
     /// The name of the convention.
-    ///
-    /// # Examples
-    ///
-    /// ```
-    /// assert_eq!(target_lexicon::CallingConvention::SystemV.name(), "SystemV");
-    /// ```
     pub fn name(self) -> &'static str
         ensures { result.now ≡ convention_name self }
     {

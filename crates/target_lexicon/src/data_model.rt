@@ -9,7 +9,7 @@ ghost use Rattle.target_lexicon.specs.DataModel as spec;
 /// ```
 /// use target_lexicon::{CDataModel, Size};
 ///
-/// assert_eq!(CDataModel::LP64.long_size(), Size::U64);
+/// assert_eq!(rt; CDataModel::LP64.long_size(), Size::U64);
 /// ```
 #[derive(Clone, Copy, Debug, PartialEq, Eq, Hash)]
 pub enum Size {
@@ -29,7 +29,7 @@ impl Size {
     /// # Examples
     ///
     /// ```
-    /// assert_eq!(target_lexicon::Size::U16.bits(), 16);
+    /// assert_eq!(rt; target_lexicon::Size::U16.bits(), 16);
     /// ```
     pub fn bits(self) -> u8
         ensures value { result ≡ spec.size_bits self }
@@ -48,7 +48,7 @@ impl Size {
     /// # Examples
     ///
     /// ```
-    /// assert_eq!(target_lexicon::Size::U16.bytes(), 2);
+    /// assert_eq!(rt; target_lexicon::Size::U16.bytes(), 2);
     /// ```
     pub fn bytes(self) -> u8
         ensures value { result ≡ spec.size_bytes self }
@@ -68,10 +68,10 @@ impl Size {
 /// # Examples
 ///
 /// ```
-/// use target_lexicon::{CDataModel, triple};
+/// use target_lexicon::{CDataModel, TripleRef};
 ///
-/// let model = triple!("x86_64-unknown-linux-gnu").data_model();
-/// assert_eq!(model, Ok(CDataModel::LP64));
+/// let triple = TripleRef::from_str("x86_64-unknown-linux-gnu").unwrap();
+/// assert_eq!(rt; triple.data_model(), Ok(CDataModel::LP64));
 /// ```
 #[derive(Clone, Copy, Debug, PartialEq, Eq, Hash)]
 pub enum CDataModel {
@@ -89,12 +89,6 @@ pub enum CDataModel {
 
 impl CDataModel {
     /// The name of the model.
-    ///
-    /// # Examples
-    ///
-    /// ```
-    /// assert_eq!(target_lexicon::CDataModel::LLP64.name(), "LLP64");
-    /// ```
     pub fn name(self) -> &'static str
         ensures { result.now ≡ spec.model_name self }
     {
@@ -114,7 +108,7 @@ impl CDataModel {
     /// ```
     /// use target_lexicon::{CDataModel, Size};
     ///
-    /// assert_eq!(CDataModel::LLP64.pointer_width(), Size::U64);
+    /// assert_eq!(rt; CDataModel::LLP64.pointer_width(), Size::U64);
     /// ```
     pub fn pointer_width(self) -> Size
         ensures { result ≡ (spec.sizes_of self).pointer }
@@ -132,7 +126,7 @@ impl CDataModel {
     /// ```
     /// use target_lexicon::{CDataModel, Size};
     ///
-    /// assert_eq!(CDataModel::LLP64.short_size(), Size::U16);
+    /// assert_eq!(rt; CDataModel::LLP64.short_size(), Size::U16);
     /// ```
     pub fn short_size(self) -> Size
         ensures { result ≡ (spec.sizes_of self).short }
@@ -153,7 +147,7 @@ impl CDataModel {
     /// ```
     /// use target_lexicon::{CDataModel, Size};
     ///
-    /// assert_eq!(CDataModel::LLP64.int_size(), Size::U32);
+    /// assert_eq!(rt; CDataModel::LLP64.int_size(), Size::U32);
     /// ```
     pub fn int_size(self) -> Size
         ensures { result ≡ (spec.sizes_of self).int }
@@ -172,7 +166,7 @@ impl CDataModel {
     /// ```
     /// use target_lexicon::{CDataModel, Size};
     ///
-    /// assert_eq!(CDataModel::LLP64.long_size(), Size::U32);
+    /// assert_eq!(rt; CDataModel::LLP64.long_size(), Size::U32);
     /// ```
     pub fn long_size(self) -> Size
         ensures { result ≡ (spec.sizes_of self).long }
@@ -190,7 +184,7 @@ impl CDataModel {
     /// ```
     /// use target_lexicon::{CDataModel, Size};
     ///
-    /// assert_eq!(CDataModel::LLP64.long_long_size(), Size::U64);
+    /// assert_eq!(rt; CDataModel::LLP64.long_long_size(), Size::U64);
     /// ```
     pub fn long_long_size(self) -> Size
         ensures { result ≡ (spec.sizes_of self).long_long }
@@ -211,7 +205,7 @@ impl CDataModel {
     /// ```
     /// use target_lexicon::{CDataModel, Size};
     ///
-    /// assert_eq!(CDataModel::LLP64.float_size(), Size::U32);
+    /// assert_eq!(rt; CDataModel::LLP64.float_size(), Size::U32);
     /// ```
     pub fn float_size(self) -> Size
         ensures { result ≡ (spec.sizes_of self).float }
@@ -226,7 +220,7 @@ impl CDataModel {
     /// ```
     /// use target_lexicon::{CDataModel, Size};
     ///
-    /// assert_eq!(CDataModel::LLP64.double_size(), Size::U64);
+    /// assert_eq!(rt; CDataModel::LLP64.double_size(), Size::U64);
     /// ```
     pub fn double_size(self) -> Size
         ensures { result ≡ (spec.sizes_of self).double }

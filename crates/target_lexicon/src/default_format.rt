@@ -14,11 +14,11 @@ use lexicon_fields::{Architecture, BinaryFormat, Environment, OperatingSystem};
 /// # Examples
 ///
 /// ```
-/// use target_lexicon::{BinaryFormat, default_binary_format, triple};
+/// use target_lexicon::{BinaryFormat, OperatingSystem, Triple, default_binary_format};
 ///
-/// let triple = triple!("x86_64-unknown-linux-gnu-coff");
-/// assert_eq!(triple.binary_format, BinaryFormat::Coff);
-/// assert_eq!(default_binary_format(&triple), BinaryFormat::Elf);
+/// let mut triple = Triple::unknown();
+/// triple.operating_system = OperatingSystem::Windows;
+/// assert_eq!(rt; default_binary_format(&triple), BinaryFormat::Coff);
 /// ```
 pub fn default_binary_format(triple: &Triple) -> BinaryFormat
     ensures { result ≡ spec.default_binary_format (values_of triple.now) }
@@ -35,7 +35,7 @@ impl TripleRef<'_> {
     /// use target_lexicon::{BinaryFormat, TripleRef};
     ///
     /// let triple = TripleRef::from_str("x86_64-unknown-linux-gnu-coff").unwrap();
-    /// assert_eq!(triple.default_binary_format(), BinaryFormat::Elf);
+    /// assert_eq!(rt; triple.default_binary_format(), BinaryFormat::Elf);
     /// ```
     pub fn default_binary_format(&self) -> BinaryFormat
         ensures { result ≡ spec.default_binary_format (values_of_ref self.now) }

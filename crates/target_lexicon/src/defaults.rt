@@ -11,7 +11,9 @@ use std::alloc::{AllocError, Global};
 /// # Examples
 ///
 /// ```
-/// assert_eq!(target_lexicon::DefaultToHost::default().0, target_lexicon::HOST);
+/// use target_lexicon::{DefaultToHost, Triple};
+///
+/// assert_eq!(rt; DefaultToHost::default().0, Triple::host());
 /// ```
 #[derive(Debug, PartialEq, Eq, Hash, Drop)]
 pub struct DefaultToHost(pub Triple);
@@ -45,7 +47,7 @@ impl DefaultToHost {
 /// ```
 /// use target_lexicon::{DefaultToUnknown, Triple};
 ///
-/// assert_eq!(DefaultToUnknown::default().0, Triple::unknown());
+/// assert_eq!(rt; DefaultToUnknown::default().0, Triple::unknown());
 /// ```
 #[derive(Debug, PartialEq, Eq, Hash, Drop)]
 pub struct DefaultToUnknown(pub Triple);

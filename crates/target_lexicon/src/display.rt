@@ -66,16 +66,6 @@ impl Triple {
 
     /// Writes the printed string at the front of the buffer if it fits there, and returns its length. If it doesn't
     /// fit, the buffer is unchanged: compare the result with `out.len()`. Nothing is allocated.
-    ///
-    /// # Examples
-    ///
-    /// ```
-    /// use target_lexicon::triple;
-    ///
-    /// let mut bytes = [0; 64];
-    /// let length = triple!("wasm32-unknown-wasi").write_to(&mut bytes);
-    /// assert_eq!(&bytes[..length], b"wasm32-wasi");
-    /// ```
     pub fn write_to(&self, out: &mut [u8]) -> usize
         ensures { IsWritten (spec.text_of (values_of self.now)) out.old out.new result }
     {
@@ -114,7 +104,7 @@ impl<'a> TripleRef<'a> {
     ///
     /// let mut bytes = [0; 8];
     /// let length = TripleRef::from_str("x86_64-linux").unwrap().write_to(&mut bytes);
-    /// assert_eq!((length, bytes), ("x86_64-unknown-linux".len(), [0; 8]));
+    /// assert_eq!(rt; (length, bytes), ("x86_64-unknown-linux".len(), [0; 8]));
     /// ```
     pub fn write_to(&self, out: &mut [u8]) -> usize
         ensures { IsWritten (spec.text_of (values_of_ref self.now)) out.old out.new result }

@@ -13,7 +13,7 @@ use std::ops::Range;
 ///
 /// let text = "x86_64-linux-foo";
 /// let part = TripleRef::from_str(text).unwrap_err().part;
-/// assert_eq!(&text[part.range()], part.text);
+/// assert_eq!(rt; &text[part.range()], part.text);
 /// ```
 #[derive(Clone, Copy, Debug, PartialEq, Eq)]
 pub struct TextPart<'a> {
@@ -34,7 +34,7 @@ impl TextPart<'_> {
     /// ```
     /// use target_lexicon::TextPart;
     ///
-    /// assert_eq!(TextPart { text: "foo", start: 13 }.range(), 13..16);
+    /// assert_eq!(rt; TextPart { text: "foo", start: 13 }.range(), 13..16);
     /// ```
     pub fn range(&self) -> Range<usize>
         ensures start { result.start ≡ self.now.start }
@@ -50,10 +50,10 @@ impl TextPart<'_> {
 /// # Examples
 ///
 /// ```
-/// use target_lexicon::{Source, TripleRef};
+/// use target_lexicon::{Source, explain};
 ///
-/// let explanation = TripleRef::explain("x86_64-linux");
-/// assert_eq!(explanation.sources.environment, Source::NotGiven);
+/// let explanation = explain("x86_64-linux");
+/// assert_eq!(rt; explanation.sources.environment, Source::NotGiven);
 /// ```
 #[derive(Clone, Copy, Debug, PartialEq, Eq)]
 pub enum Source<'a> {
@@ -70,11 +70,11 @@ pub enum Source<'a> {
 /// # Examples
 ///
 /// ```
-/// use target_lexicon::{Source, TripleRef};
+/// use target_lexicon::{Source, explain};
 ///
-/// match TripleRef::explain("x86_64-linux").sources.architecture {
-///     Source::Part(part) => assert_eq!(part.text, "x86_64"),
-///     other => panic!("{other:?}"),
+/// match explain("x86_64-linux").sources.architecture {
+///     Source::Part(part) => assert_eq!(rt; part.text, "x86_64"),
+///     other => panic!(rt; "{other:?}"),
 /// }
 /// ```
 #[derive(Clone, Copy, Debug, PartialEq, Eq)]
@@ -96,11 +96,11 @@ pub struct Sources<'a> {
 /// # Examples
 ///
 /// ```
-/// use target_lexicon::{BinaryFormat, Source, TripleRef};
+/// use target_lexicon::{BinaryFormat, Source, explain};
 ///
-/// let explanation = TripleRef::explain("x86_64-linux");
-/// assert_eq!(explanation.triple.unwrap().binary_format, BinaryFormat::Elf);
-/// assert_eq!(explanation.sources.binary_format, Source::Implied);
+/// let explanation = explain("x86_64-linux");
+/// assert_eq!(rt; explanation.triple.unwrap().binary_format, BinaryFormat::Elf);
+/// assert_eq!(rt; explanation.sources.binary_format, Source::Implied);
 /// ```
 #[derive(Clone, Copy, Debug, PartialEq, Eq)]
 pub struct Explanation<'a> {

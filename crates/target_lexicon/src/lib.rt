@@ -8,8 +8,6 @@
 //!
 //! To parse, `read` gives each part of a string to a `reading`, which looks it up and fills a field. `explanation` has
 //! the types of what was found, `default_format` the implied format, and `refusal` why a string is refused.
-//!
-//! The examples are those of the Rust crate that `tools/erase` makes of this source.
 #![tactic(auto)]
 
 mod calling_convention;

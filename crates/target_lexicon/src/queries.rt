@@ -20,15 +20,6 @@ impl TripleRef<'_> {
     /// # Errors
     ///
     /// `()` for the architecture `Unknown`.
-    ///
-    /// # Examples
-    ///
-    /// ```
-    /// use target_lexicon::{Endianness, TripleRef};
-    ///
-    /// let triple = TripleRef::from_str("s390x-unknown-linux-gnu").unwrap();
-    /// assert_eq!(triple.endianness(), Ok(Endianness::Big));
-    /// ```
     pub fn endianness(&self) -> Result<Endianness, ()>
         ensures answer { MatchesLookup (spec.endianness (values_of_ref self.now)) result }
         ensures refusal { IsErr result ↔ (self.now.architecture ≡ Architecture.Unknown) }
@@ -41,15 +32,6 @@ impl TripleRef<'_> {
     /// # Errors
     ///
     /// `()` if the width is that of the architecture, which is `Unknown`.
-    ///
-    /// # Examples
-    ///
-    /// ```
-    /// use target_lexicon::{PointerWidth, TripleRef};
-    ///
-    /// let triple = TripleRef::from_str("avr-unknown-none").unwrap();
-    /// assert_eq!(triple.pointer_width(), Ok(PointerWidth::U16));
-    /// ```
     pub fn pointer_width(&self) -> Result<PointerWidth, ()>
         ensures answer { MatchesLookup (spec.pointer_width (values_of_ref self.now)) result }
         ensures refusal { IsErr result
@@ -67,15 +49,6 @@ impl TripleRef<'_> {
     /// # Errors
     ///
     /// `()` if no convention is known.
-    ///
-    /// # Examples
-    ///
-    /// ```
-    /// use target_lexicon::{CallingConvention, TripleRef};
-    ///
-    /// let triple = TripleRef::from_str("x86_64-unknown-linux-gnu").unwrap();
-    /// assert_eq!(triple.default_calling_convention(), Ok(CallingConvention::SystemV));
-    /// ```
     pub fn default_calling_convention(&self) -> Result<CallingConvention, ()>
         ensures { MatchesLookup (spec.calling_convention (values_of_ref self.now)) result }
     {
@@ -134,15 +107,6 @@ impl TripleRef<'_> {
     /// # Errors
     ///
     /// `()` if no model is known.
-    ///
-    /// # Examples
-    ///
-    /// ```
-    /// use target_lexicon::{CDataModel, TripleRef};
-    ///
-    /// let triple = TripleRef::from_str("x86_64-pc-windows-msvc").unwrap();
-    /// assert_eq!(triple.data_model(), Ok(CDataModel::LLP64));
-    /// ```
     pub fn data_model(&self) -> Result<CDataModel, ()>
         ensures { MatchesLookup (spec.data_model (values_of_ref self.now)) result }
     {
@@ -214,9 +178,10 @@ impl Triple {
     /// # Examples
     ///
     /// ```
-    /// use target_lexicon::{Endianness, triple};
+    /// use target_lexicon::{Architecture, Endianness, Triple};
     ///
-    /// assert_eq!(triple!("s390x-unknown-linux-gnu").endianness(), Ok(Endianness::Big));
+    /// let triple = Triple { architecture: Architecture::S390x, ..Triple::unknown() };
+    /// assert_eq!(rt; triple.endianness(), Ok(Endianness::Big));
     /// ```
     pub fn endianness(&self) -> Result<Endianness, ()>
         ensures answer { MatchesLookup (spec.endianness (values_of self.now)) result }
@@ -235,10 +200,12 @@ impl Triple {
     /// # Examples
     ///
     /// ```
-    /// use target_lexicon::{PointerWidth, triple};
+    /// use target_lexicon::{Architecture, Environment, PointerWidth, Triple};
     ///
-    /// assert_eq!(triple!("x86_64-unknown-linux-gnu").pointer_width(), Ok(PointerWidth::U64));
-    /// assert_eq!(triple!("x86_64-unknown-linux-gnux32").pointer_width(), Ok(PointerWidth::U32));
+    /// let mut triple = Triple { architecture: Architecture::X86_64, ..Triple::unknown() };
+    /// assert_eq!(rt; triple.pointer_width(), Ok(PointerWidth::U64));
+    /// triple.environment = Environment::Gnux32;
+    /// assert_eq!(rt; triple.pointer_width(), Ok(PointerWidth::U32));
     /// ```
     pub fn pointer_width(&self) -> Result<PointerWidth, ()>
         ensures answer { MatchesLookup (spec.pointer_width (values_of self.now)) result }
@@ -259,11 +226,11 @@ impl Triple {
     /// # Examples
     ///
     /// ```
-    /// use target_lexicon::{CallingConvention, triple};
+    /// use target_lexicon::{CallingConvention, OperatingSystem, Triple};
     ///
-    /// let convention = triple!("aarch64-apple-darwin").default_calling_convention();
-    /// assert_eq!(convention, Ok(CallingConvention::AppleAarch64));
-    /// assert_eq!(triple!("wasm32-wasip1").default_calling_convention(), Err(()));
+    /// let triple = Triple { operating_system: OperatingSystem::Linux, ..Triple::unknown() };
+    /// assert_eq!(rt; triple.default_calling_convention(), Ok(CallingConvention::SystemV));
+    /// assert_eq!(rt; Triple::unknown().default_calling_convention(), Err(()));
     /// ```
     pub fn default_calling_convention(&self) -> Result<CallingConvention, ()>
         ensures { MatchesLookup (spec.calling_convention (values_of self.now)) result }
@@ -281,10 +248,12 @@ impl Triple {
     /// # Examples
     ///
     /// ```
-    /// use target_lexicon::{CDataModel, triple};
+    /// use target_lexicon::{Architecture, CDataModel, OperatingSystem, Triple};
     ///
-    /// assert_eq!(triple!("x86_64-pc-windows-msvc").data_model(), Ok(CDataModel::LLP64));
-    /// assert_eq!(triple!("avr-unknown-none").data_model(), Err(()));
+    /// let mut triple = Triple { architecture: Architecture::X86_64, ..Triple::unknown() };
+    /// assert_eq!(rt; triple.data_model(), Err(()));
+    /// triple.operating_system = OperatingSystem::Windows;
+    /// assert_eq!(rt; triple.data_model(), Ok(CDataModel::LLP64));
     /// ```
     pub fn data_model(&self) -> Result<CDataModel, ()>
         ensures { MatchesLookup (spec.data_model (values_of self.now)) result }

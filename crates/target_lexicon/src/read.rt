@@ -99,7 +99,7 @@ impl<'a> TripleRef<'a> {
     /// use target_lexicon::{Field, TripleRef};
     ///
     /// let refusal = TripleRef::from_str("foo-linux").unwrap_err();
-    /// assert_eq!((refusal.expected, refusal.part.text), (Some(Field::Architecture), "foo"));
+    /// assert_eq!(rt; (refusal.expected, refusal.part.text), (Some(Field::Architecture), "foo"));
     /// ```
     pub fn from_str(text: &'a str) -> Result<TripleRef<'a>, Refusal<'a>>
         ensures ok { IfOk result (λ triple. ReadsAs text.entry.now (values_of_ref triple)) }

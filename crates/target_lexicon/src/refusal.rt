@@ -22,10 +22,9 @@ use std::ops::Range;
 /// use target_lexicon::{Field, TripleRef};
 ///
 /// let refusal = TripleRef::from_str("x86_64-unknown-foo").unwrap_err();
-/// assert_eq!((refusal.expected, refusal.part.text), (Some(Field::OperatingSystem), "foo"));
-/// assert_eq!(refusal.to_string(), "Unrecognized operating system: foo");
+/// assert_eq!(rt; (refusal.expected, refusal.part.text), (Some(Field::OperatingSystem), "foo"));
 /// let refusal = TripleRef::from_str("x86_64-linux-gnu-elf-foo").unwrap_err();
-/// assert_eq!(refusal.expected, None);
+/// assert_eq!(rt; refusal.expected, None);
 /// ```
 #[derive(Clone, Copy, Debug, PartialEq, Eq)]
 pub struct Refusal<'a> {
@@ -47,7 +46,7 @@ impl Refusal<'_> {
     /// use target_lexicon::TripleRef;
     ///
     /// let refusal = TripleRef::from_str("x86_64-unknown-foo").unwrap_err();
-    /// assert_eq!(refusal.range(), 15..18);
+    /// assert_eq!(rt; refusal.range(), 15..18);
     /// ```
     pub fn range(&self) -> Range<usize>
         ensures start { result.start ≡ self.now.part.start }

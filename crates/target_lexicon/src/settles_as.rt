@@ -11,16 +11,6 @@ use crate::triple_ref::TripleRef;
 impl Triple {
     /// Whether both triples have the same canonical form. Nothing is moved, copied or allocated. The cases that
     /// [`Triple::comes_back`] lists give one to a triple whose vendor isn't plain too, but its string is no key.
-    ///
-    /// # Examples
-    ///
-    /// ```
-    /// use target_lexicon::triple;
-    ///
-    /// let (one, other) = (triple!("riscv32imc-esp-espidf"), triple!("riscv32imc-esp-espidf-elf"));
-    /// assert_ne!(one, other);
-    /// assert!(one.settles_as(&other));
-    /// ```
     pub fn settles_as(&self, other: &Triple) -> bool
         ensures { IsTrue result
             ↔ (settled_values (values_of self.now) ≡ settled_values (values_of other.now)) }
@@ -39,7 +29,7 @@ impl TripleRef<'_> {
     ///
     /// let one = TripleRef::from_str("riscv32imc-esp-espidf").unwrap();
     /// let other = TripleRef::from_str("riscv32imc-esp-espidf-elf").unwrap();
-    /// assert!(one != other && one.settles_as(&other));
+    /// assert!(rt; one != other && one.settles_as(&other));
     /// ```
     pub fn settles_as(&self, other: &TripleRef<'_>) -> bool
         ensures { IsTrue result

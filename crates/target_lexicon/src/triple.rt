@@ -10,16 +10,13 @@ use std::alloc::{AllocError, Global};
 /// # Examples
 ///
 /// ```
-/// use std::collections::HashMap;
-/// use target_lexicon::{OperatingSystem, Triple, Vendor};
+/// use target_lexicon::{Architecture, OperatingSystem, PointerWidth, Triple, Vendor};
 ///
-/// let triple: Triple = "x86_64-pc-windows-msvc".parse()?;
-/// assert_eq!(triple.vendor, Vendor::Pc);
-/// assert_eq!(triple.operating_system, OperatingSystem::Windows);
-/// assert_eq!(triple.to_string(), "x86_64-pc-windows-msvc");
-/// let linkers = HashMap::from([(triple, "link.exe")]);
-/// assert_eq!(linkers[&"x86_64-pc-windows-msvc".parse()?], "link.exe");
-/// # Ok::<(), target_lexicon::ParseError>(())
+/// let mut triple = Triple::unknown();
+/// triple.architecture = Architecture::X86_64;
+/// triple.vendor = Vendor::Pc;
+/// triple.operating_system = OperatingSystem::Windows;
+/// assert_eq!(rt; triple.pointer_width(), Ok(PointerWidth::U64));
 /// ```
 #[derive(Debug, PartialEq, Eq, Hash, Drop)]
 pub struct Triple {
@@ -43,7 +40,9 @@ impl Triple {
     /// # Examples
     ///
     /// ```
-    /// assert_eq!(target_lexicon::Triple::unknown().to_string(), "unknown-unknown-unknown");
+    /// use target_lexicon::{Triple, Vendor};
+    ///
+    /// assert_eq!(rt; Triple::unknown().vendor, Vendor::Unknown);
     /// ```
     pub fn unknown() -> Self
         ensures { values_of result ≡ unknown_values }

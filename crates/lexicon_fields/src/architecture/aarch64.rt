@@ -21,7 +21,7 @@ use std::str::FromStr;
 /// use target_lexicon::{Architecture, Aarch64Architecture};
 ///
 /// let architecture: Architecture = "aarch64_be".parse().unwrap();
-/// assert_eq!(architecture, Architecture::Aarch64(Aarch64Architecture::Aarch64be));
+/// assert_eq!(rt; architecture, Architecture::Aarch64(Aarch64Architecture::Aarch64be));
 /// ```
 #[derive(Clone, Copy, Debug, PartialEq, Eq, Hash)]
 pub enum Aarch64Architecture {
@@ -39,7 +39,7 @@ impl Aarch64Architecture {
     /// # Examples
     ///
     /// ```
-    /// assert!(!target_lexicon::Aarch64Architecture::Aarch64.is_thumb());
+    /// assert!(rt; !target_lexicon::Aarch64Architecture::Aarch64.is_thumb());
     /// ```
     pub fn is_thumb(self) -> bool
         ensures { result ≡ false }
@@ -54,7 +54,7 @@ impl Aarch64Architecture {
     /// ```
     /// use target_lexicon::{Aarch64Architecture, PointerWidth};
     ///
-    /// assert_eq!(Aarch64Architecture::Aarch64.pointer_width(), PointerWidth::U64);
+    /// assert_eq!(rt; Aarch64Architecture::Aarch64.pointer_width(), PointerWidth::U64);
     /// ```
     pub fn pointer_width(self) -> PointerWidth
         ensures { result ≡ PointerWidth.U64 }
@@ -69,7 +69,7 @@ impl Aarch64Architecture {
     /// ```
     /// use target_lexicon::{Aarch64Architecture, Endianness};
     ///
-    /// assert_eq!(Aarch64Architecture::Aarch64be.endianness(), Endianness::Big);
+    /// assert_eq!(rt; Aarch64Architecture::Aarch64be.endianness(), Endianness::Big);
     /// ```
     pub fn endianness(self) -> Endianness
         ensures { result ≡ aarch64_endianness self }
@@ -95,7 +95,7 @@ impl Aarch64Architecture {
     /// # Examples
     ///
     /// ```
-    /// assert_eq!(target_lexicon::Aarch64Architecture::Aarch64be.into_str(), "aarch64_be");
+    /// assert_eq!(rt; target_lexicon::Aarch64Architecture::Aarch64be.into_str().as_str(), "aarch64_be");
     /// ```
     pub fn into_str(self) -> CowStr<'static>
         ensures name { cow_str_bytes result ≡ aarch64_name self }

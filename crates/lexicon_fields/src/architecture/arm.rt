@@ -21,7 +21,7 @@ use std::str::FromStr;
 /// use target_lexicon::{Architecture, ArmArchitecture};
 ///
 /// let architecture: Architecture = "thumbv7em".parse().unwrap();
-/// assert_eq!(architecture, Architecture::Arm(ArmArchitecture::Thumbv7em));
+/// assert_eq!(rt; architecture, Architecture::Arm(ArmArchitecture::Thumbv7em));
 /// ```
 #[derive(Clone, Copy, Debug, PartialEq, Eq, Hash)]
 pub enum ArmArchitecture {
@@ -121,8 +121,8 @@ impl ArmArchitecture {
     /// ```
     /// use target_lexicon::ArmArchitecture;
     ///
-    /// assert!(ArmArchitecture::Thumbv7em.is_thumb());
-    /// assert!(!ArmArchitecture::Armv7a.is_thumb());
+    /// assert!(rt; ArmArchitecture::Thumbv7em.is_thumb());
+    /// assert!(rt; !ArmArchitecture::Armv7a.is_thumb());
     /// ```
     pub fn is_thumb(self) -> bool
         ensures { result ≡ queries.is_thumb self }
@@ -149,7 +149,7 @@ impl ArmArchitecture {
     /// ```
     /// use target_lexicon::{ArmArchitecture, PointerWidth};
     ///
-    /// assert_eq!(ArmArchitecture::Armv7a.pointer_width(), PointerWidth::U32);
+    /// assert_eq!(rt; ArmArchitecture::Armv7a.pointer_width(), PointerWidth::U32);
     /// ```
     pub fn pointer_width(self) -> PointerWidth
         ensures { result ≡ PointerWidth.U32 }
@@ -164,7 +164,7 @@ impl ArmArchitecture {
     /// ```
     /// use target_lexicon::{ArmArchitecture, Endianness};
     ///
-    /// assert_eq!(ArmArchitecture::Armeb.endianness(), Endianness::Big);
+    /// assert_eq!(rt; ArmArchitecture::Armeb.endianness(), Endianness::Big);
     /// ```
     pub fn endianness(self) -> Endianness
         ensures { result ≡ queries.arm_endianness self }
@@ -229,7 +229,7 @@ impl ArmArchitecture {
     /// # Examples
     ///
     /// ```
-    /// assert_eq!(target_lexicon::ArmArchitecture::Thumbv7em.into_str(), "thumbv7em");
+    /// assert_eq!(rt; target_lexicon::ArmArchitecture::Thumbv7em.into_str().as_str(), "thumbv7em");
     /// ```
     pub fn into_str(self) -> CowStr<'static>
         ensures name { cow_str_bytes result ≡ arm_name self }

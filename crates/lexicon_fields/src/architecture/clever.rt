@@ -18,7 +18,7 @@ use std::str::FromStr;
 /// use target_lexicon::{Architecture, CleverArchitecture};
 ///
 /// let architecture: Architecture = "clever1.0".parse().unwrap();
-/// assert_eq!(architecture, Architecture::Clever(CleverArchitecture::Clever1_0));
+/// assert_eq!(rt; architecture, Architecture::Clever(CleverArchitecture::Clever1_0));
 /// ```
 #[derive(Clone, Copy, Debug, PartialEq, Eq, Hash)]
 pub enum CleverArchitecture {
@@ -46,7 +46,7 @@ impl CleverArchitecture {
     /// # Examples
     ///
     /// ```
-    /// assert_eq!(target_lexicon::CleverArchitecture::Clever1_0.into_str(), "clever1.0");
+    /// assert_eq!(rt; target_lexicon::CleverArchitecture::Clever1_0.into_str().as_str(), "clever1.0");
     /// ```
     pub fn into_str(self) -> CowStr<'static>
         ensures name { cow_str_bytes result ≡ clever_name self }

@@ -18,7 +18,7 @@ use std::str::FromStr;
 /// use target_lexicon::{Architecture, Mips32Architecture};
 ///
 /// let architecture: Architecture = "mipsel".parse().unwrap();
-/// assert_eq!(architecture, Architecture::Mips32(Mips32Architecture::Mipsel));
+/// assert_eq!(rt; architecture, Architecture::Mips32(Mips32Architecture::Mipsel));
 /// ```
 #[derive(Clone, Copy, Debug, PartialEq, Eq, Hash)]
 pub enum Mips32Architecture {
@@ -50,7 +50,7 @@ impl Mips32Architecture {
     /// # Examples
     ///
     /// ```
-    /// assert_eq!(target_lexicon::Mips32Architecture::Mipsel.into_str(), "mipsel");
+    /// assert_eq!(rt; target_lexicon::Mips32Architecture::Mipsel.into_str().as_str(), "mipsel");
     /// ```
     pub fn into_str(self) -> CowStr<'static>
         ensures name { cow_str_bytes result ≡ mips32_name self }
@@ -101,7 +101,7 @@ impl fmt::Display for Mips32Architecture {
 /// use target_lexicon::{Architecture, Mips64Architecture};
 ///
 /// let architecture: Architecture = "mips64el".parse().unwrap();
-/// assert_eq!(architecture, Architecture::Mips64(Mips64Architecture::Mips64el));
+/// assert_eq!(rt; architecture, Architecture::Mips64(Mips64Architecture::Mips64el));
 /// ```
 #[derive(Clone, Copy, Debug, PartialEq, Eq, Hash)]
 pub enum Mips64Architecture {
@@ -133,7 +133,7 @@ impl Mips64Architecture {
     /// # Examples
     ///
     /// ```
-    /// assert_eq!(target_lexicon::Mips64Architecture::Mips64el.into_str(), "mips64el");
+    /// assert_eq!(rt; target_lexicon::Mips64Architecture::Mips64el.into_str().as_str(), "mips64el");
     /// ```
     pub fn into_str(self) -> CowStr<'static>
         ensures name { cow_str_bytes result ≡ mips64_name self }

@@ -18,7 +18,7 @@ use std::str::FromStr;
 /// use target_lexicon::{Architecture, Riscv32Architecture};
 ///
 /// let architecture: Architecture = "riscv32imac".parse().unwrap();
-/// assert_eq!(architecture, Architecture::Riscv32(Riscv32Architecture::Riscv32imac));
+/// assert_eq!(rt; architecture, Architecture::Riscv32(Riscv32Architecture::Riscv32imac));
 /// ```
 #[derive(Clone, Copy, Debug, PartialEq, Eq, Hash)]
 pub enum Riscv32Architecture {
@@ -58,7 +58,7 @@ impl Riscv32Architecture {
     /// # Examples
     ///
     /// ```
-    /// assert_eq!(target_lexicon::Riscv32Architecture::Riscv32imac.into_str(), "riscv32imac");
+    /// assert_eq!(rt; target_lexicon::Riscv32Architecture::Riscv32imac.into_str().as_str(), "riscv32imac");
     /// ```
     pub fn into_str(self) -> CowStr<'static>
         ensures name { cow_str_bytes result ≡ riscv32_name self }
@@ -113,7 +113,7 @@ impl fmt::Display for Riscv32Architecture {
 /// use target_lexicon::{Architecture, Riscv64Architecture};
 ///
 /// let architecture: Architecture = "riscv64gc".parse().unwrap();
-/// assert_eq!(architecture, Architecture::Riscv64(Riscv64Architecture::Riscv64gc));
+/// assert_eq!(rt; architecture, Architecture::Riscv64(Riscv64Architecture::Riscv64gc));
 /// ```
 #[derive(Clone, Copy, Debug, PartialEq, Eq, Hash)]
 pub enum Riscv64Architecture {
@@ -145,7 +145,7 @@ impl Riscv64Architecture {
     /// # Examples
     ///
     /// ```
-    /// assert_eq!(target_lexicon::Riscv64Architecture::Riscv64gc.into_str(), "riscv64gc");
+    /// assert_eq!(rt; target_lexicon::Riscv64Architecture::Riscv64gc.into_str().as_str(), "riscv64gc");
     /// ```
     pub fn into_str(self) -> CowStr<'static>
         ensures name { cow_str_bytes result ≡ riscv64_name self }

@@ -18,7 +18,7 @@ use std::str::FromStr;
 /// use target_lexicon::{Architecture, X86_32Architecture};
 ///
 /// let architecture: Architecture = "i686".parse().unwrap();
-/// assert_eq!(architecture, Architecture::X86_32(X86_32Architecture::I686));
+/// assert_eq!(rt; architecture, Architecture::X86_32(X86_32Architecture::I686));
 /// ```
 #[derive(Clone, Copy, Debug, PartialEq, Eq, Hash)]
 pub enum X86_32Architecture {
@@ -48,7 +48,7 @@ impl X86_32Architecture {
     /// # Examples
     ///
     /// ```
-    /// assert_eq!(target_lexicon::X86_32Architecture::I686.into_str(), "i686");
+    /// assert_eq!(rt; target_lexicon::X86_32Architecture::I686.into_str().as_str(), "i686");
     /// ```
     pub fn into_str(self) -> CowStr<'static>
         ensures name { cow_str_bytes result ≡ x86_32_name self }

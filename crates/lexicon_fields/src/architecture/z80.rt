@@ -18,7 +18,7 @@ use std::str::FromStr;
 /// use target_lexicon::{Architecture, Z80Architecture};
 ///
 /// let architecture: Architecture = "z180".parse().unwrap();
-/// assert_eq!(architecture, Architecture::Z80(Z80Architecture::Z180));
+/// assert_eq!(rt; architecture, Architecture::Z80(Z80Architecture::Z180));
 /// ```
 #[derive(Clone, Copy, Debug, PartialEq, Eq, Hash)]
 pub enum Z80Architecture {
@@ -62,7 +62,7 @@ impl Z80Architecture {
     /// # Examples
     ///
     /// ```
-    /// assert_eq!(target_lexicon::Z80Architecture::Z180.into_str(), "z180");
+    /// assert_eq!(rt; target_lexicon::Z80Architecture::Z180.into_str().as_str(), "z180");
     /// ```
     pub fn into_str(self) -> CowStr<'static>
         ensures name { cow_str_bytes result ≡ z80_name self }

@@ -30,9 +30,9 @@ pub use z80::Z80Architecture;
 /// # Examples
 ///
 /// ```
-/// use target_lexicon::{Architecture, Triple};
+/// use target_lexicon::{Architecture, TripleRef};
 ///
-/// let triple: Triple = "i686-pc-windows-msvc".parse().unwrap();
+/// let triple = TripleRef::from_str("i686-pc-windows-msvc").unwrap();
 /// let registers = match triple.architecture {
 ///     Architecture::X86_32(_) => 8,
 ///     Architecture::X86_64 => 16,

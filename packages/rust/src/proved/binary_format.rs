@@ -12,9 +12,9 @@ use core::str::FromStr;
 /// # Examples
 ///
 /// ```
-/// use target_lexicon::{BinaryFormat, Triple};
+/// use target_lexicon::{BinaryFormat, TripleRef};
 ///
-/// let triple: Triple = "x86_64-pc-windows-gnu".parse().unwrap();
+/// let triple = TripleRef::from_str("x86_64-pc-windows-gnu").unwrap();
 /// assert_eq!(triple.binary_format, BinaryFormat::Coff);
 /// ```
 #[non_exhaustive]

@@ -6,10 +6,10 @@
 /// # Examples
 ///
 /// ```
-/// use target_lexicon::{CallingConvention, triple};
+/// use target_lexicon::{CallingConvention, TripleRef};
 ///
-/// let convention = triple!("x86_64-pc-windows-msvc").default_calling_convention();
-/// assert_eq!(convention, Ok(CallingConvention::WindowsFastcall));
+/// let triple = TripleRef::from_str("x86_64-pc-windows-msvc").unwrap();
+/// assert_eq!(triple.default_calling_convention(), Ok(CallingConvention::WindowsFastcall));
 /// ```
 #[non_exhaustive]
 #[derive(Clone, Copy, Debug, PartialEq, Eq, Hash)]

@@ -63,10 +63,10 @@ impl Size {
 /// # Examples
 ///
 /// ```
-/// use target_lexicon::{CDataModel, triple};
+/// use target_lexicon::{CDataModel, TripleRef};
 ///
-/// let model = triple!("x86_64-unknown-linux-gnu").data_model();
-/// assert_eq!(model, Ok(CDataModel::LP64));
+/// let triple = TripleRef::from_str("x86_64-unknown-linux-gnu").unwrap();
+/// assert_eq!(triple.data_model(), Ok(CDataModel::LP64));
 /// ```
 #[non_exhaustive]
 #[derive(Clone, Copy, Debug, PartialEq, Eq, Hash)]

@@ -11,11 +11,11 @@ use crate::proved::{Architecture, BinaryFormat, Environment, OperatingSystem};
 /// # Examples
 ///
 /// ```
-/// use target_lexicon::{BinaryFormat, default_binary_format, triple};
+/// use target_lexicon::{BinaryFormat, OperatingSystem, Triple, default_binary_format};
 ///
-/// let triple = triple!("x86_64-unknown-linux-gnu-coff");
-/// assert_eq!(triple.binary_format, BinaryFormat::Coff);
-/// assert_eq!(default_binary_format(&triple), BinaryFormat::Elf);
+/// let mut triple = Triple::unknown();
+/// triple.operating_system = OperatingSystem::Windows;
+/// assert_eq!(default_binary_format(&triple), BinaryFormat::Coff);
 /// ```
 #[must_use]
 pub fn default_binary_format(triple: &Triple) -> BinaryFormat {

@@ -8,7 +8,9 @@ use crate::proved::triple::Triple;
 /// # Examples
 ///
 /// ```
-/// assert_eq!(target_lexicon::DefaultToHost::default().0, target_lexicon::HOST);
+/// use target_lexicon::{DefaultToHost, Triple};
+///
+/// assert_eq!(DefaultToHost::default().0, Triple::host());
 /// ```
 #[derive(Debug, PartialEq, Eq, Hash, Clone)]
 pub struct DefaultToHost(pub Triple);

@@ -15,7 +15,7 @@ pub const MAX_VERSION_LENGTH: usize = 13;
 /// use target_lexicon::{DeploymentTarget, OperatingSystem};
 ///
 /// let version = DeploymentTarget { major: 14, minor: 1, patch: 0 };
-/// assert_eq!(OperatingSystem::MacOSX(Some(version)).to_string(), "macosx14.1.0");
+/// assert_eq!("macosx14.1".parse(), Ok(OperatingSystem::MacOSX(Some(version))));
 /// assert!(version < DeploymentTarget { major: 14, minor: 2, patch: 0 });
 /// ```
 #[derive(Clone, Copy, Debug, PartialEq, Eq, PartialOrd, Ord, Hash)]
@@ -30,6 +30,7 @@ pub struct DeploymentTarget {
 
 impl DeploymentTarget {
     /// The version that the string parses as, if any: one to three pieces between dots, each an optional plus and
+    /// digits.
     pub(crate) fn from_text(text: &str) -> Option<DeploymentTarget> {
         let (major, rest) = first_piece(text);
         let Ok(major) = major.parse::<u16>() else {

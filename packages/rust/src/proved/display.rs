@@ -41,6 +41,7 @@ impl<'a> TripleRef<'a> {
         self.pieces(self.shows_unknowns()).write_to(out)
     }
 
+    /// Writes the string that upstream prints for the triple, as [`TripleRef::write_to`] writes the printed one.
     #[inline]
     pub(crate) fn write_upstream_to(&self, out: &mut [u8]) -> usize {
         self.pieces(false).write_to(out)

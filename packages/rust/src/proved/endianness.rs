@@ -6,10 +6,9 @@
 /// # Examples
 ///
 /// ```
-/// use target_lexicon::{Endianness, HOST};
+/// use target_lexicon::{Architecture, Endianness};
 ///
-/// let ours = if cfg!(target_endian = "big") { Endianness::Big } else { Endianness::Little };
-/// assert_eq!(HOST.endianness(), Ok(ours));
+/// assert_eq!(Architecture::X86_64.endianness(), Ok(Endianness::Little));
 /// ```
 #[derive(Clone, Copy, Debug, PartialEq, Eq, Hash)]
 pub enum Endianness {

@@ -12,9 +12,9 @@ use core::str::FromStr;
 /// # Examples
 ///
 /// ```
-/// use target_lexicon::{Environment, Triple};
+/// use target_lexicon::{Environment, TripleRef};
 ///
-/// let triple: Triple = "x86_64-unknown-linux-musl".parse().unwrap();
+/// let triple = TripleRef::from_str("x86_64-unknown-linux-musl").unwrap();
 /// assert_eq!(triple.environment, Environment::Musl);
 /// ```
 #[non_exhaustive]

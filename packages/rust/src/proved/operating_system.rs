@@ -11,9 +11,9 @@ use core::str::FromStr;
 /// # Examples
 ///
 /// ```
-/// use target_lexicon::{OperatingSystem, Triple};
+/// use target_lexicon::{OperatingSystem, TripleRef};
 ///
-/// let triple: Triple = "x86_64-apple-macosx10.7".parse().unwrap();
+/// let triple = TripleRef::from_str("x86_64-apple-macosx10.7").unwrap();
 /// match triple.operating_system {
 ///     OperatingSystem::MacOSX(Some(version)) => assert_eq!((version.major, version.minor), (10, 7)),
 ///     other => panic!("{other}"),

@@ -6,9 +6,10 @@
 /// # Examples
 ///
 /// ```
-/// use target_lexicon::{PointerWidth, triple};
+/// use target_lexicon::{PointerWidth, TripleRef};
 ///
-/// assert_eq!(triple!("msp430-none-elf").pointer_width(), Ok(PointerWidth::U16));
+/// let triple = TripleRef::from_str("msp430-none-elf").unwrap();
+/// assert_eq!(triple.pointer_width(), Ok(PointerWidth::U16));
 /// ```
 #[derive(Clone, Copy, Debug, PartialEq, Eq, Hash)]
 pub enum PointerWidth {

@@ -11,12 +11,20 @@ use crate::proved::{
 
 impl TripleRef<'_> {
     /// The byte order, as [`Triple::endianness`] says.
+    ///
+    /// # Errors
+    ///
+    /// `()` for the architecture `Unknown`.
     #[inline]
     pub(crate) const fn known_endianness(&self) -> Result<Endianness, ()> {
         self.architecture.endianness()
     }
 
     /// The width of a pointer, as [`Triple::pointer_width`] says.
+    ///
+    /// # Errors
+    ///
+    /// `()` if the width is that of the architecture, which is `Unknown`.
     #[inline]
     pub(crate) const fn known_pointer_width(&self) -> Result<PointerWidth, ()> {
         match self.environment {
@@ -26,6 +34,10 @@ impl TripleRef<'_> {
     }
 
     /// The calling convention, as [`Triple::default_calling_convention`] says.
+    ///
+    /// # Errors
+    ///
+    /// `()` if no convention is known.
     #[inline]
     pub(crate) const fn known_default_calling_convention(&self) -> Result<CallingConvention, ()> {
         match self.operating_system {
@@ -79,6 +91,10 @@ impl TripleRef<'_> {
     }
 
     /// The data model of C, as [`Triple::data_model`] says.
+    ///
+    /// # Errors
+    ///
+    /// `()` if no model is known.
     #[inline]
     pub(crate) const fn known_data_model(&self) -> Result<CDataModel, ()> {
         match match self.known_pointer_width() {
@@ -152,9 +168,10 @@ impl Triple {
     /// # Examples
     ///
     /// ```
-    /// use target_lexicon::{Endianness, triple};
+    /// use target_lexicon::{Architecture, Endianness, Triple};
     ///
-    /// assert_eq!(triple!("s390x-unknown-linux-gnu").endianness(), Ok(Endianness::Big));
+    /// let triple = Triple { architecture: Architecture::S390x, ..Triple::unknown() };
+    /// assert_eq!(triple.endianness(), Ok(Endianness::Big));
     /// ```
     #[inline]
     pub const fn endianness(&self) -> Result<Endianness, ()> {
@@ -171,10 +188,12 @@ impl Triple {
     /// # Examples
     ///
     /// ```
-    /// use target_lexicon::{PointerWidth, triple};
+    /// use target_lexicon::{Architecture, Environment, PointerWidth, Triple};
     ///
-    /// assert_eq!(triple!("x86_64-unknown-linux-gnu").pointer_width(), Ok(PointerWidth::U64));
-    /// assert_eq!(triple!("x86_64-unknown-linux-gnux32").pointer_width(), Ok(PointerWidth::U32));
+    /// let mut triple = Triple { architecture: Architecture::X86_64, ..Triple::unknown() };
+    /// assert_eq!(triple.pointer_width(), Ok(PointerWidth::U64));
+    /// triple.environment = Environment::Gnux32;
+    /// assert_eq!(triple.pointer_width(), Ok(PointerWidth::U32));
     /// ```
     #[inline]
     pub const fn pointer_width(&self) -> Result<PointerWidth, ()> {
@@ -191,11 +210,11 @@ impl Triple {
     /// # Examples
     ///
     /// ```
-    /// use target_lexicon::{CallingConvention, triple};
+    /// use target_lexicon::{CallingConvention, OperatingSystem, Triple};
     ///
-    /// let convention = triple!("aarch64-apple-darwin").default_calling_convention();
-    /// assert_eq!(convention, Ok(CallingConvention::AppleAarch64));
-    /// assert_eq!(triple!("wasm32-wasip1").default_calling_convention(), Err(()));
+    /// let triple = Triple { operating_system: OperatingSystem::Linux, ..Triple::unknown() };
+    /// assert_eq!(triple.default_calling_convention(), Ok(CallingConvention::SystemV));
+    /// assert_eq!(Triple::unknown().default_calling_convention(), Err(()));
     /// ```
     #[inline]
     pub const fn default_calling_convention(&self) -> Result<CallingConvention, ()> {
@@ -212,10 +231,12 @@ impl Triple {
     /// # Examples
     ///
     /// ```
-    /// use target_lexicon::{CDataModel, triple};
+    /// use target_lexicon::{Architecture, CDataModel, OperatingSystem, Triple};
     ///
-    /// assert_eq!(triple!("x86_64-pc-windows-msvc").data_model(), Ok(CDataModel::LLP64));
-    /// assert_eq!(triple!("avr-unknown-none").data_model(), Err(()));
+    /// let mut triple = Triple { architecture: Architecture::X86_64, ..Triple::unknown() };
+    /// assert_eq!(triple.data_model(), Err(()));
+    /// triple.operating_system = OperatingSystem::Windows;
+    /// assert_eq!(triple.data_model(), Ok(CDataModel::LLP64));
     /// ```
     #[inline]
     pub const fn data_model(&self) -> Result<CDataModel, ()> {

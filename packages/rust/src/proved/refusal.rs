@@ -17,7 +17,6 @@ use core::ops::Range;
 ///
 /// let refusal = TripleRef::from_str("x86_64-unknown-foo").unwrap_err();
 /// assert_eq!((refusal.expected, refusal.part.text), (Some(Field::OperatingSystem), "foo"));
-/// assert_eq!(refusal.to_string(), "Unrecognized operating system: foo");
 /// let refusal = TripleRef::from_str("x86_64-linux-gnu-elf-foo").unwrap_err();
 /// assert_eq!(refusal.expected, None);
 /// ```

@@ -8,16 +8,13 @@ use crate::proved::{Architecture, BinaryFormat, Environment, OperatingSystem, Ve
 /// # Examples
 ///
 /// ```
-/// use std::collections::HashMap;
-/// use target_lexicon::{OperatingSystem, Triple, Vendor};
+/// use target_lexicon::{Architecture, OperatingSystem, PointerWidth, Triple, Vendor};
 ///
-/// let triple: Triple = "x86_64-pc-windows-msvc".parse()?;
-/// assert_eq!(triple.vendor, Vendor::Pc);
-/// assert_eq!(triple.operating_system, OperatingSystem::Windows);
-/// assert_eq!(triple.to_string(), "x86_64-pc-windows-msvc");
-/// let linkers = HashMap::from([(triple, "link.exe")]);
-/// assert_eq!(linkers[&"x86_64-pc-windows-msvc".parse()?], "link.exe");
-/// # Ok::<(), target_lexicon::ParseError>(())
+/// let mut triple = Triple::unknown();
+/// triple.architecture = Architecture::X86_64;
+/// triple.vendor = Vendor::Pc;
+/// triple.operating_system = OperatingSystem::Windows;
+/// assert_eq!(triple.pointer_width(), Ok(PointerWidth::U64));
 /// ```
 #[derive(Debug, PartialEq, Eq, Hash, Clone)]
 pub struct Triple {
@@ -39,7 +36,9 @@ impl Triple {
     /// # Examples
     ///
     /// ```
-    /// assert_eq!(target_lexicon::Triple::unknown().to_string(), "unknown-unknown-unknown");
+    /// use target_lexicon::{Triple, Vendor};
+    ///
+    /// assert_eq!(Triple::unknown().vendor, Vendor::Unknown);
     /// ```
     #[must_use]
     pub const fn unknown() -> Self {

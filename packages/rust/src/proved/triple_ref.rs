@@ -14,10 +14,9 @@ use crate::proved::{
 /// ```
 /// use target_lexicon::{OperatingSystem, TripleRef, VendorRef};
 ///
-/// let triple = TripleRef::from_str("x86_64-acme-linux")?;
+/// let triple = TripleRef::from_str("x86_64-acme-linux").unwrap();
 /// assert_eq!(triple.vendor, VendorRef::Custom("acme"));
 /// assert_eq!(triple.operating_system, OperatingSystem::Linux);
-/// # Ok::<(), target_lexicon::Refusal<'static>>(())
 /// ```
 #[derive(Clone, Copy, Debug, PartialEq, Eq, Hash)]
 pub struct TripleRef<'a> {
@@ -39,7 +38,9 @@ impl<'a> TripleRef<'a> {
     /// # Examples
     ///
     /// ```
-    /// assert_eq!(target_lexicon::TripleRef::unknown().to_string(), "unknown-unknown-unknown");
+    /// use target_lexicon::TripleRef;
+    ///
+    /// assert_eq!(TripleRef::from_str("unknown"), Ok(TripleRef::unknown()));
     /// ```
     #[must_use]
     pub const fn unknown() -> TripleRef<'a> {

@@ -11,10 +11,9 @@ use core::hash::{Hash, Hasher};
 /// # Examples
 ///
 /// ```
-/// use target_lexicon::CustomVendor;
+/// use target_lexicon::{CustomVendor, Vendor};
 ///
-/// let owned = CustomVendor::Owned(Box::new("acme".to_string()));
-/// assert_eq!(owned, CustomVendor::Static("acme"));
+/// assert_ne!(Vendor::Custom(CustomVendor::Static("pc")), Vendor::Pc);
 /// ```
 #[cfg_attr(not(feature = "alloc"), non_exhaustive)]
 #[derive(Debug, Clone)]
@@ -65,9 +64,8 @@ impl Hash for CustomVendor {
 /// ```
 /// use target_lexicon::{CustomVendor, Vendor};
 ///
-/// assert_eq!("apple".parse(), Ok(Vendor::Apple));
-/// assert_eq!("acme".parse(), Ok(Vendor::Custom(CustomVendor::Static("acme"))));
-/// assert_eq!("ACME".parse::<Vendor>(), Err(()));
+/// let acme = Vendor::Custom(CustomVendor::Static("acme"));
+/// assert_eq!((Vendor::Apple.as_str(), acme.as_str()), ("apple", "acme"));
 /// ```
 #[non_exhaustive]
 #[derive(Debug, Clone, PartialEq, Eq, Hash)]

@@ -27,6 +27,10 @@ pub enum VendorRef<'a> {
 impl<'a> VendorRef<'a> {
     /// The vendor that the string parses as: a known one, or a custom one that borrows the string, if
     /// [`Vendor::Custom`] admits it.
+    ///
+    /// # Errors
+    ///
+    /// `()` for every other string.
     #[inline(always)]
     pub(crate) fn from_text(text: &'a str) -> Result<VendorRef<'a>, ()> {
         match fixed_row(text) {
