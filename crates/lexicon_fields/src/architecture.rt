@@ -44,6 +44,7 @@ pub use z80::Z80Architecture;
 /// };
 /// assert_eq!(rt; registers, 8);
 /// ```
+// In Rust: #[non_exhaustive].
 #[derive(Clone, Copy, Debug, PartialEq, Eq, Hash)]
 pub enum Architecture {
     // written by tools/names/write: the variants of Architecture
@@ -126,6 +127,7 @@ pub enum Architecture {
 
 impl Architecture {
     /// The field of the host, which is `x86_64-unknown-linux-gnu` on every machine.
+    // Not in Rust.
     pub fn host() -> Self
         ensures { result ≡ Architecture.X86_64 }
     {
@@ -146,7 +148,7 @@ impl Architecture {
     /// assert_eq!(rt; Architecture::S390x.endianness(), Ok(Endianness::Big));
     /// assert_eq!(rt; Architecture::Unknown.endianness(), Err(()));
     /// ```
-    pub fn endianness(self) -> Result<Endianness, ()>
+    pub const fn endianness(self) -> Result<Endianness, ()>
         ensures answer { MatchesLookup (queries.architecture_endianness self) result }
         ensures refusal { IsErr result ↔ (self ≡ Architecture.Unknown) }
     {
@@ -206,7 +208,7 @@ impl Architecture {
     ///
     /// assert_eq!(rt; Architecture::Avr.pointer_width(), Ok(PointerWidth::U16));
     /// ```
-    pub fn pointer_width(self) -> Result<PointerWidth, ()>
+    pub const fn pointer_width(self) -> Result<PointerWidth, ()>
         ensures answer { MatchesLookup (queries.architecture_width self) result }
         ensures refusal { IsErr result ↔ (self ≡ Architecture.Unknown) }
     {
@@ -258,7 +260,7 @@ impl Architecture {
     ///
     /// assert!(rt; Architecture::Clever(CleverArchitecture::Clever).is_clever());
     /// ```
-    pub fn is_clever(&self) -> bool
+    pub const fn is_clever(&self) -> bool
         ensures { result ≡ queries.is_clever self.now }
     {
         matches!(self, Architecture::Clever(_))
@@ -289,8 +291,9 @@ impl Architecture {
     }
 
     /// The name.
+    // In Rust: pub(crate).
     #[inline(always)]
-    pub fn name(self) -> &'static str
+    pub const fn name(self) -> &'static str
         ensures { result.now ≡ architecture_name self }
     {
         match self {

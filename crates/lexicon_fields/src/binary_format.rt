@@ -20,6 +20,7 @@ use std::str::FromStr;
 /// let triple = TripleRef::from_str("x86_64-pc-windows-gnu").unwrap();
 /// assert_eq!(rt; triple.binary_format, BinaryFormat::Coff);
 /// ```
+// In Rust: #[non_exhaustive].
 #[derive(Clone, Copy, Debug, PartialEq, Eq, Hash)]
 pub enum BinaryFormat {
     // written by tools/names/write: the variants of BinaryFormat
@@ -40,6 +41,7 @@ pub enum BinaryFormat {
 
 impl BinaryFormat {
     /// The field of the host, which is `x86_64-unknown-linux-gnu` on every machine.
+    // Not in Rust.
     pub fn host() -> Self
         ensures { result ≡ BinaryFormat.Elf }
     {
@@ -71,7 +73,8 @@ impl BinaryFormat {
     }
 
     /// The name.
-    pub fn name(self) -> &'static str
+    // In Rust: pub(crate).
+    pub const fn name(self) -> &'static str
         ensures { result.now ≡ binary_format_name self }
     {
         match self {

@@ -6,9 +6,11 @@ ghost use Rattle.lexicon_fields.specs.Put.{Puts};
 use std::str::from_utf8;
 
 /// The most digits that a 64-bit number has in decimal.
+// Not in Rust.
 pub const MAX_DECIMAL_LENGTH: usize = 20;
 
 /// A number in decimal, written into a buffer that has room for the longest.
+// Not in Rust.
 pub fn decimal_text(n: usize, buffer: &mut [u8; MAX_DECIMAL_LENGTH]) -> &str
     ensures { result.now ≡ decimal n }
 {

@@ -35,6 +35,7 @@ pub struct DeploymentTarget {
 impl DeploymentTarget {
     /// The version that the string parses as, if any: one to three pieces between dots, each an optional plus and
     /// digits.
+    // In Rust: pub(crate).
     pub fn from_text(text: &str) -> Option<DeploymentTarget>
         ensures { result ≡ spec.version_of text.now }
     {

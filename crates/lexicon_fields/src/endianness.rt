@@ -21,7 +21,8 @@ pub enum Endianness {
 
 impl Endianness {
     /// The name of the byte order.
-    pub fn name(self) -> &'static str
+    // In Rust: pub(crate).
+    pub const fn name(self) -> &'static str
         ensures { result.now ≡ endianness_name self }
     {
         match self {

@@ -20,6 +20,7 @@ use std::str::FromStr;
 /// let triple = TripleRef::from_str("x86_64-unknown-linux-musl").unwrap();
 /// assert_eq!(rt; triple.environment, Environment::Musl);
 /// ```
+// In Rust: #[non_exhaustive].
 #[derive(Clone, Copy, Debug, PartialEq, Eq, Hash)]
 pub enum Environment {
     // written by tools/names/write: the variants of Environment
@@ -98,6 +99,7 @@ pub enum Environment {
 
 impl Environment {
     /// The field of the host, which is `x86_64-unknown-linux-gnu` on every machine.
+    // Not in Rust.
     pub fn host() -> Self
         ensures { result ≡ Environment.Gnu }
     {
@@ -129,7 +131,8 @@ impl Environment {
     }
 
     /// The name.
-    pub fn name(self) -> &'static str
+    // In Rust: pub(crate).
+    pub const fn name(self) -> &'static str
         ensures { result.now ≡ environment_name self }
     {
         match self {

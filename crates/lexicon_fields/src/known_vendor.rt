@@ -13,6 +13,7 @@ use crate::vendor::Vendor;
 ///
 /// assert_eq!(rt; VendorRef::from_str("apple"), Ok(VendorRef::Known(KnownVendor::Apple)));
 /// ```
+// In Rust: #[non_exhaustive].
 #[derive(Clone, Copy, Debug, PartialEq, Eq, Hash)]
 pub enum KnownVendor {
     // written by tools/names/write: the variants of KnownVendor
@@ -59,7 +60,7 @@ impl KnownVendor {
     ///
     /// assert_eq!(rt; KnownVendor::Pc.to_vendor(), Vendor::Pc);
     /// ```
-    pub fn to_vendor(self) -> Vendor
+    pub const fn to_vendor(self) -> Vendor
         ensures { vendor_value result ≡ Known self }
     {
         match self {
@@ -90,7 +91,7 @@ impl KnownVendor {
     /// ```
     /// assert_eq!(rt; target_lexicon::KnownVendor::Pc.name(), "pc");
     /// ```
-    pub fn name(self) -> &'static str
+    pub const fn name(self) -> &'static str
         ensures { result.now ≡ known_vendor_name self }
     {
         match self {

@@ -26,6 +26,7 @@ use std::str::FromStr;
 ///     other => panic!(rt; "{other}"),
 /// }
 /// ```
+// In Rust: #[non_exhaustive].
 #[derive(Clone, Copy, Debug, PartialEq, Eq, Hash)]
 pub enum OperatingSystem {
     // written by tools/names/write: the variants of OperatingSystem
@@ -114,6 +115,7 @@ pub enum OperatingSystem {
 
 impl OperatingSystem {
     /// The field of the host, which is `x86_64-unknown-linux-gnu` on every machine.
+    // Not in Rust.
     pub fn host() -> Self
         ensures { result ≡ OperatingSystem.Linux }
     {
@@ -186,7 +188,7 @@ impl OperatingSystem {
     /// assert!(rt; OperatingSystem::TvOS(None).is_like_darwin());
     /// assert!(rt; !OperatingSystem::Linux.is_like_darwin());
     /// ```
-    pub fn is_like_darwin(&self) -> bool
+    pub const fn is_like_darwin(&self) -> bool
         ensures { result ≡ spec.is_like_darwin self.now }
     {
         matches!(
@@ -204,7 +206,8 @@ impl OperatingSystem {
     }
 
     /// The name without the version.
-    pub fn prefix(self) -> &'static str
+    // In Rust: pub(crate).
+    pub const fn prefix(self) -> &'static str
         ensures { result.now ++ spec.version_suffix (spec.system_version self)
             ≡ spec.operating_system_name self }
     {
@@ -255,7 +258,8 @@ impl OperatingSystem {
     }
 
     /// The version of the deployment target. Only a system like Darwin can have one.
-    pub fn version(self) -> Option<DeploymentTarget>
+    // In Rust: pub(crate).
+    pub const fn version(self) -> Option<DeploymentTarget>
         ensures { result ≡ spec.system_version self }
     {
         match self {

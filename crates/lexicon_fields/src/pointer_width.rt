@@ -30,7 +30,7 @@ impl PointerWidth {
     /// ```
     /// assert_eq!(rt; target_lexicon::PointerWidth::U32.bits(), 32);
     /// ```
-    pub fn bits(self) -> u8
+    pub const fn bits(self) -> u8
         ensures value { result ≡ width_bits self }
         ensures of_bytes { result ≡ 8 * width_bytes self }
     {
@@ -48,7 +48,7 @@ impl PointerWidth {
     /// ```
     /// assert_eq!(rt; target_lexicon::PointerWidth::U32.bytes(), 4);
     /// ```
-    pub fn bytes(self) -> u8
+    pub const fn bytes(self) -> u8
         ensures value { result ≡ width_bytes self }
         ensures in_bits { 8 * result ≡ width_bits self }
     {
@@ -60,7 +60,8 @@ impl PointerWidth {
     }
 
     /// The number of bits in a pointer, in digits.
-    pub fn name(self) -> &'static str
+    // In Rust: pub(crate).
+    pub const fn name(self) -> &'static str
         ensures { result.now ≡ width_name self }
     {
         match self {

@@ -103,6 +103,7 @@ impl Hash for CustomVendor {
 /// let acme = Vendor::Custom(CustomVendor::Static("acme"));
 /// assert_eq!(rt; (Vendor::Apple.as_str(), acme.as_str()), ("apple", "acme"));
 /// ```
+// In Rust: #[non_exhaustive].
 #[derive(Debug, Drop, PartialEq, Eq, Hash)]
 pub enum Vendor {
     // written by tools/names/write: the variants of Vendor
@@ -145,6 +146,7 @@ pub enum Vendor {
 
 impl Vendor {
     /// The field of the host, which is `x86_64-unknown-linux-gnu` on every machine.
+    // Not in Rust.
     pub fn host() -> Self
         ensures { result ≡ Vendor.Unknown }
     {
@@ -189,6 +191,7 @@ impl Vendor {
     }
 
     /// Whether parsing can produce the vendor: it is known, or custom with a string that [`Vendor::Custom`] admits.
+    // In Rust: pub(crate).
     pub fn is_plain(&self) -> bool
         ensures { result ≡ spec.is_plain (spec.vendor_value self.now) }
     {
@@ -219,6 +222,7 @@ impl fmt::Display for Vendor {
 }
 
 /// Why a string doesn't parse as a vendor.
+// Not in Rust.
 #[derive(Clone, Copy, Debug, PartialEq, Eq)]
 pub enum VendorError {
     /// The string is neither the name of a known vendor nor admitted as a custom vendor.

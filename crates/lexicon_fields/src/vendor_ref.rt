@@ -36,6 +36,7 @@ impl<'a> VendorRef<'a> {
     /// # Errors
     ///
     /// `()` for every other string.
+    // In Rust: pub(crate), from_text.
     #[inline(always)]
     pub fn from_str(text: &'a str) -> Result<VendorRef<'a>, ()>
         ensures ok { IfOk result
@@ -64,7 +65,7 @@ impl<'a> VendorRef<'a> {
     /// ```
     /// assert_eq!(rt; target_lexicon::VendorRef::Custom("acme").as_str(), "acme");
     /// ```
-    pub fn as_str(&self) -> &'a str
+    pub const fn as_str(&self) -> &'a str
         ensures { result.now ≡ spec.vendor_name (ref_value self.now) }
     {
         match *self {
@@ -106,7 +107,7 @@ impl<'a> VendorRef<'a> {
     /// assert!(rt; VendorRef::Custom("acme").is_custom());
     /// assert!(rt; !VendorRef::from_str("apple").unwrap().is_custom());
     /// ```
-    pub fn is_custom(&self) -> bool
+    pub const fn is_custom(&self) -> bool
         ensures { result ≡ spec.is_custom (ref_value self.now) }
     {
         matches!(self, VendorRef::Custom(_))
@@ -127,6 +128,7 @@ impl<'a> VendorRef<'a> {
 
 impl Vendor {
     /// The same vendor, borrowed.
+    // In Rust: pub(crate), #[inline].
     pub fn as_vendor_ref(&self) -> VendorRef<'_>
         ensures { ref_value result ≡ spec.vendor_value self.now }
     {

@@ -12,6 +12,7 @@ ghost use Rattle.target_lexicon.specs.CallingConvention.{convention_name};
 /// let triple = TripleRef::from_str("x86_64-pc-windows-msvc").unwrap();
 /// assert_eq!(rt; triple.default_calling_convention(), Ok(CallingConvention::WindowsFastcall));
 /// ```
+// In Rust: #[non_exhaustive].
 #[derive(Clone, Copy, Debug, PartialEq, Eq, Hash)]
 pub enum CallingConvention {
     /// "System V", on most systems like Unix. It differs by architecture: that of 32-bit x86 has nothing in common with
@@ -30,7 +31,8 @@ pub enum CallingConvention {
 
 impl CallingConvention {
     /// The name of the convention.
-    pub fn name(self) -> &'static str
+    // In Rust: pub(crate).
+    pub const fn name(self) -> &'static str
         ensures { result.now ≡ convention_name self }
     {
         match self {

@@ -31,7 +31,7 @@ impl Size {
     /// ```
     /// assert_eq!(rt; target_lexicon::Size::U16.bits(), 16);
     /// ```
-    pub fn bits(self) -> u8
+    pub const fn bits(self) -> u8
         ensures value { result ≡ spec.size_bits self }
         ensures of_bytes { result ≡ 8 * spec.size_bytes self }
     {
@@ -50,7 +50,7 @@ impl Size {
     /// ```
     /// assert_eq!(rt; target_lexicon::Size::U16.bytes(), 2);
     /// ```
-    pub fn bytes(self) -> u8
+    pub const fn bytes(self) -> u8
         ensures value { result ≡ spec.size_bytes self }
         ensures in_bits { 8 * result ≡ spec.size_bits self }
     {
@@ -73,6 +73,7 @@ impl Size {
 /// let triple = TripleRef::from_str("x86_64-unknown-linux-gnu").unwrap();
 /// assert_eq!(rt; triple.data_model(), Ok(CDataModel::LP64));
 /// ```
+// In Rust: #[non_exhaustive].
 #[derive(Clone, Copy, Debug, PartialEq, Eq, Hash)]
 pub enum CDataModel {
     /// Mostly on 16-bit Windows: `long` and pointers have 32 bits.
@@ -89,7 +90,8 @@ pub enum CDataModel {
 
 impl CDataModel {
     /// The name of the model.
-    pub fn name(self) -> &'static str
+    // In Rust: pub(crate).
+    pub const fn name(self) -> &'static str
         ensures { result.now ≡ spec.model_name self }
     {
         match self {
@@ -110,7 +112,7 @@ impl CDataModel {
     ///
     /// assert_eq!(rt; CDataModel::LLP64.pointer_width(), Size::U64);
     /// ```
-    pub fn pointer_width(self) -> Size
+    pub const fn pointer_width(self) -> Size
         ensures { result ≡ (spec.sizes_of self).pointer }
     {
         match self {
@@ -128,7 +130,7 @@ impl CDataModel {
     ///
     /// assert_eq!(rt; CDataModel::LLP64.short_size(), Size::U16);
     /// ```
-    pub fn short_size(self) -> Size
+    pub const fn short_size(self) -> Size
         ensures { result ≡ (spec.sizes_of self).short }
     {
         match self {
@@ -149,7 +151,7 @@ impl CDataModel {
     ///
     /// assert_eq!(rt; CDataModel::LLP64.int_size(), Size::U32);
     /// ```
-    pub fn int_size(self) -> Size
+    pub const fn int_size(self) -> Size
         ensures { result ≡ (spec.sizes_of self).int }
     {
         match self {
@@ -168,7 +170,7 @@ impl CDataModel {
     ///
     /// assert_eq!(rt; CDataModel::LLP64.long_size(), Size::U32);
     /// ```
-    pub fn long_size(self) -> Size
+    pub const fn long_size(self) -> Size
         ensures { result ≡ (spec.sizes_of self).long }
     {
         match self {
@@ -186,7 +188,7 @@ impl CDataModel {
     ///
     /// assert_eq!(rt; CDataModel::LLP64.long_long_size(), Size::U64);
     /// ```
-    pub fn long_long_size(self) -> Size
+    pub const fn long_long_size(self) -> Size
         ensures { result ≡ (spec.sizes_of self).long_long }
     {
         match self {
@@ -207,7 +209,7 @@ impl CDataModel {
     ///
     /// assert_eq!(rt; CDataModel::LLP64.float_size(), Size::U32);
     /// ```
-    pub fn float_size(self) -> Size
+    pub const fn float_size(self) -> Size
         ensures { result ≡ (spec.sizes_of self).float }
     {
         Size::U32
@@ -222,7 +224,7 @@ impl CDataModel {
     ///
     /// assert_eq!(rt; CDataModel::LLP64.double_size(), Size::U64);
     /// ```
-    pub fn double_size(self) -> Size
+    pub const fn double_size(self) -> Size
         ensures { result ≡ (spec.sizes_of self).double }
     {
         Size::U64

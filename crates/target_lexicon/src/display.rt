@@ -66,6 +66,7 @@ impl Triple {
 
     /// Writes the printed string at the front of the buffer if it fits there, and returns its length. If it doesn't
     /// fit, the buffer is unchanged: compare the result with `out.len()`. Nothing is allocated.
+    // Not in Rust.
     pub fn write_to(&self, out: &mut [u8]) -> usize
         ensures { IsWritten (spec.text_of (values_of self.now)) out.old out.new result }
     {
@@ -106,6 +107,7 @@ impl<'a> TripleRef<'a> {
     /// let length = TripleRef::from_str("x86_64-linux").unwrap().write_to(&mut bytes);
     /// assert_eq!(rt; (length, bytes), ("x86_64-unknown-linux".len(), [0; 8]));
     /// ```
+    // In Rust: #[inline].
     pub fn write_to(&self, out: &mut [u8]) -> usize
         ensures { IsWritten (spec.text_of (values_of_ref self.now)) out.old out.new result }
     {
@@ -115,6 +117,7 @@ impl<'a> TripleRef<'a> {
     }
 
     /// Writes the string that upstream prints for the triple, as [`TripleRef::write_to`] writes the printed one.
+    // In Rust: pub(crate), #[inline].
     pub fn write_upstream_to(&self, out: &mut [u8]) -> usize
         ensures { IsWritten (spec.upstream_text_of (values_of_ref self.now))
             out.old out.new result }
@@ -277,6 +280,7 @@ impl Pieces<'_> {
 
     /// Writes the string at the front of the buffer if it fits there, and returns its length. If it doesn't fit, the
     /// buffer is unchanged.
+    // In Rust: #[inline].
     fn write_to(&self, out: &mut [u8]) -> usize
         requires { length (pieces_text self.now) < 2 ^ 64 }
         ensures { IsWritten (pieces_text self.now) out.old out.new result }
@@ -351,6 +355,7 @@ fn optional_version_text(
 }
 
 /// The length of a dash and the name, if there is one.
+// In Rust: #[inline].
 fn piece_length(name: Option<&str>) -> usize
     requires { length (name_piece name) < 2 ^ 64 }
     ensures { result ≡ length (name_piece name.entry) }
@@ -362,6 +367,7 @@ fn piece_length(name: Option<&str>) -> usize
 }
 
 /// Writes a dash and the name, if there is one, as [`put`] writes a string.
+// In Rust: #[inline].
 fn put_piece(out: &mut [u8], at: usize, name: Option<&str>) -> usize
     requires { at + length (name_piece name) ≤ length out.old }
     ensures { Puts (name_piece name.entry) out.old at out.new result }
@@ -376,6 +382,7 @@ fn put_piece(out: &mut [u8], at: usize, name: Option<&str>) -> usize
 }
 
 /// Writes a string after what ends at `at`, into a buffer that has room for it. Returns the end of both.
+// In Rust: #[inline].
 pub(crate) fn put(out: &mut [u8], at: usize, text: &[u8]) -> usize
     requires { at + length text.now ≤ length out.old }
     ensures { Puts text.now out.old at out.new result }

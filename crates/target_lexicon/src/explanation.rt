@@ -36,7 +36,7 @@ impl TextPart<'_> {
     ///
     /// assert_eq!(rt; TextPart { text: "foo", start: 13 }.range(), 13..16);
     /// ```
-    pub fn range(&self) -> Range<usize>
+    pub const fn range(&self) -> Range<usize>
         ensures start { result.start ≡ self.now.start }
         ensures end { part_end (part_value self.now) < 2 ^ 64
             → result.end ≡ part_end (part_value self.now) }
@@ -77,6 +77,7 @@ pub enum Source<'a> {
 ///     other => panic!(rt; "{other:?}"),
 /// }
 /// ```
+// In Rust: #[non_exhaustive].
 #[derive(Clone, Copy, Debug, PartialEq, Eq)]
 pub struct Sources<'a> {
     /// Never `NotGiven` if the string parses: each string has an architecture.
@@ -102,6 +103,7 @@ pub struct Sources<'a> {
 /// assert_eq!(rt; explanation.triple.unwrap().binary_format, BinaryFormat::Elf);
 /// assert_eq!(rt; explanation.sources.binary_format, Source::Implied);
 /// ```
+// In Rust: #[non_exhaustive].
 #[derive(Clone, Copy, Debug, PartialEq, Eq)]
 pub struct Explanation<'a> {
     /// The triple that the string parses as, or why it is refused.

@@ -22,6 +22,7 @@ use lexicon_fields::{
 /// let triple = TripleRef::from_str("riscv32imc-esp-espidf-elf").unwrap();
 /// assert_eq!(rt; (triple.comes_back(), triple.round_trip_family()), (false, Some(RoundTripFamily::PrintsTheEspIdfText)));
 /// ```
+// In Rust: #[non_exhaustive].
 #[derive(Clone, Copy, Debug, PartialEq, Eq)]
 pub enum RoundTripFamily {
     /// The first three fields are those of `armv6k-nintendo-3ds` or `riscv32imc-esp-espidf`, which is printed, and
@@ -42,6 +43,7 @@ impl Triple {
     /// The first family that the triple is in. `None` if it comes back. Nothing is allocated.
     ///
     /// Only on Clever can a triple be in two: `ShowsOnlyNone` comes before `VendorIsNotPlain`.
+    // In Rust: pub(crate).
     pub fn round_trip_family(&self) -> Option<RoundTripFamily>
         ensures { result ≡ spec.family (values_of self.now) }
     {

@@ -20,7 +20,8 @@ impl TripleRef<'_> {
     /// # Errors
     ///
     /// `()` for the architecture `Unknown`.
-    pub fn endianness(&self) -> Result<Endianness, ()>
+    // In Rust: pub(crate), known_endianness.
+    pub const fn endianness(&self) -> Result<Endianness, ()>
         ensures answer { MatchesLookup (spec.endianness (values_of_ref self.now)) result }
         ensures refusal { IsErr result ↔ (self.now.architecture ≡ Architecture.Unknown) }
     {
@@ -32,7 +33,8 @@ impl TripleRef<'_> {
     /// # Errors
     ///
     /// `()` if the width is that of the architecture, which is `Unknown`.
-    pub fn pointer_width(&self) -> Result<PointerWidth, ()>
+    // In Rust: pub(crate), known_pointer_width.
+    pub const fn pointer_width(&self) -> Result<PointerWidth, ()>
         ensures answer { MatchesLookup (spec.pointer_width (values_of_ref self.now)) result }
         ensures refusal { IsErr result
             ↔ ((self.now.architecture ≡ Architecture.Unknown)
@@ -49,7 +51,8 @@ impl TripleRef<'_> {
     /// # Errors
     ///
     /// `()` if no convention is known.
-    pub fn default_calling_convention(&self) -> Result<CallingConvention, ()>
+    // In Rust: pub(crate), known_default_calling_convention.
+    pub const fn default_calling_convention(&self) -> Result<CallingConvention, ()>
         ensures { MatchesLookup (spec.calling_convention (values_of_ref self.now)) result }
     {
         match self.operating_system {
@@ -107,6 +110,7 @@ impl TripleRef<'_> {
     /// # Errors
     ///
     /// `()` if no model is known.
+    // In Rust: pub(crate), known_data_model.
     pub fn data_model(&self) -> Result<CDataModel, ()>
         ensures { MatchesLookup (spec.data_model (values_of_ref self.now)) result }
     {
@@ -156,7 +160,7 @@ impl TripleRef<'_> {
 
 impl Triple {
     /// The same triple with an unknown vendor, at which no query looks.
-    fn without_vendor(&self) -> TripleRef<'static>
+    const fn without_vendor(&self) -> TripleRef<'static>
         ensures { values_of_ref result ≡ values self.now.architecture (Known Unknown)
             self.now.operating_system self.now.environment self.now.binary_format }
     {
@@ -183,7 +187,7 @@ impl Triple {
     /// let triple = Triple { architecture: Architecture::S390x, ..Triple::unknown() };
     /// assert_eq!(rt; triple.endianness(), Ok(Endianness::Big));
     /// ```
-    pub fn endianness(&self) -> Result<Endianness, ()>
+    pub const fn endianness(&self) -> Result<Endianness, ()>
         ensures answer { MatchesLookup (spec.endianness (values_of self.now)) result }
         ensures refusal { IsErr result ↔ (self.now.architecture ≡ Architecture.Unknown) }
     {
@@ -207,7 +211,7 @@ impl Triple {
     /// triple.environment = Environment::Gnux32;
     /// assert_eq!(rt; triple.pointer_width(), Ok(PointerWidth::U32));
     /// ```
-    pub fn pointer_width(&self) -> Result<PointerWidth, ()>
+    pub const fn pointer_width(&self) -> Result<PointerWidth, ()>
         ensures answer { MatchesLookup (spec.pointer_width (values_of self.now)) result }
         ensures refusal { IsErr result
             ↔ ((self.now.architecture ≡ Architecture.Unknown)
@@ -232,7 +236,7 @@ impl Triple {
     /// assert_eq!(rt; triple.default_calling_convention(), Ok(CallingConvention::SystemV));
     /// assert_eq!(rt; Triple::unknown().default_calling_convention(), Err(()));
     /// ```
-    pub fn default_calling_convention(&self) -> Result<CallingConvention, ()>
+    pub const fn default_calling_convention(&self) -> Result<CallingConvention, ()>
         ensures { MatchesLookup (spec.calling_convention (values_of self.now)) result }
     {
         self.without_vendor().default_calling_convention()

@@ -101,6 +101,7 @@ impl<'a> TripleRef<'a> {
     /// let refusal = TripleRef::from_str("foo-linux").unwrap_err();
     /// assert_eq!(rt; (refusal.expected, refusal.part.text), (Some(Field::Architecture), "foo"));
     /// ```
+    // In Rust: #[inline].
     pub fn from_str(text: &'a str) -> Result<TripleRef<'a>, Refusal<'a>>
         ensures ok { IfOk result (λ triple. ReadsAs text.entry.now (values_of_ref triple)) }
         ensures plain { IfOk result (λ triple. is_plain (ref_value triple.vendor) ≡ true) }

@@ -14,6 +14,7 @@ use crate::triple_ref::TripleRef;
 use lexicon_fields::{Field, OperatingSystem, Steps, VendorRef, fixed_row};
 
 /// The fields that the parts so far fill, the others `Unknown`; and the first field that is still open.
+#[doc(hidden)]
 #[derive(Clone, Copy, Debug)]
 pub struct Reading<'a> {
     pub expected: Option<Field>,

@@ -26,6 +26,7 @@ use std::ops::Range;
 /// let refusal = TripleRef::from_str("x86_64-linux-gnu-elf-foo").unwrap_err();
 /// assert_eq!(rt; refusal.expected, None);
 /// ```
+// In Rust: #[non_exhaustive].
 #[derive(Clone, Copy, Debug, PartialEq, Eq)]
 pub struct Refusal<'a> {
     /// The field that was expected: this one or a later one. After a binary format none was, and it is `None`.
@@ -48,7 +49,7 @@ impl Refusal<'_> {
     /// let refusal = TripleRef::from_str("x86_64-unknown-foo").unwrap_err();
     /// assert_eq!(rt; refusal.range(), 15..18);
     /// ```
-    pub fn range(&self) -> Range<usize>
+    pub const fn range(&self) -> Range<usize>
         ensures start { result.start ≡ self.now.part.start }
         ensures end { part_end (part_value self.now.part) < 2 ^ 64
             → result.end ≡ part_end (part_value self.now.part) }
@@ -66,6 +67,8 @@ impl Refusal<'_> {
 
     /// Writes the line of the refusal, without a line feed, at the front of the buffer if it fits there, and returns
     /// its length. If it doesn't fit, the buffer is unchanged. Nothing is allocated.
+    // In Rust: #[inline].
+    #[doc(hidden)]
     pub fn write_to(&self, out: &mut [u8]) -> usize
         ensures { IsWritten (spec.refusal_line (refusal_value self.now)) out.old out.new result }
     {

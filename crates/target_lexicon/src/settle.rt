@@ -27,6 +27,7 @@ impl Triple {
     /// allocated.
     ///
     /// A triple comes back unless it is in one of five families, which [`RoundTripFamily`] lists, and [`Triple::round_trip_family`] names.
+    // In Rust: pub(crate).
     pub fn comes_back(&self) -> bool
         ensures { IsTrue result ↔ ComesBack (values_of self.now) }
     {
@@ -42,6 +43,7 @@ impl Triple {
     /// - `HidesNewlib`: the environment becomes `Unknown`, and an `Unknown` format becomes `Elf`.
     /// - `PrintsTheEspIdfText`: the vendor becomes `Espressif`, environment and format become `Newlib` and `Elf`.
     /// - `ShowsOnlyNone`: the system becomes `None_`, and the environment `Unknown`.
+    // Not in Rust.
     pub fn normal(self) -> Triple
         requires { is_plain (vendor_value self.vendor) ≡ true }
         ensures step { values_of result ≡ spec.normal_step (values_of self) }
@@ -57,6 +59,7 @@ impl Triple {
     /// nothing (law `second_step_changes_one`). The vendor must be plain, as for `normal`. A triple that comes back is
     /// unchanged. No other canonical triple has the same string (law `settled_texts_are_keys`), so the string serves as
     /// a key. Nothing is allocated.
+    // Not in Rust.
     pub fn settle(self) -> Triple
         requires { is_plain (vendor_value self.vendor) ≡ true }
         ensures steps { values_of result ≡ settled_values (values_of self) }
@@ -107,6 +110,7 @@ impl<'a> TripleRef<'a> {
     }
 
     /// The triple that the printed string parses as, as [`Triple::normal`] says. The vendor must be plain.
+    // Not in Rust.
     pub fn normal(self) -> TripleRef<'a>
         requires { is_plain (ref_value self.vendor) ≡ true }
         ensures step { values_of_ref result ≡ spec.normal_step (values_of_ref self.entry) }
@@ -120,6 +124,7 @@ impl<'a> TripleRef<'a> {
     }
 
     /// The canonical form, as [`Triple::settle`] says. The vendor must be plain.
+    // Not in Rust.
     pub fn settle(self) -> TripleRef<'a>
         requires { is_plain (ref_value self.vendor) ≡ true }
         ensures steps { values_of_ref result ≡ settled_values (values_of_ref self.entry) }
@@ -135,6 +140,7 @@ impl<'a> TripleRef<'a> {
     }
 
     /// The normal step of any triple. If the vendor is plain, it is the canonical form.
+    #[doc(hidden)]
     #[inline(always)]
     pub fn step(mut self) -> TripleRef<'a>
         ensures step { values_of_ref result ≡ spec.normal_step (values_of_ref self.entry) }

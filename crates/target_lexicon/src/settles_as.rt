@@ -11,6 +11,7 @@ use crate::triple_ref::TripleRef;
 impl Triple {
     /// Whether both triples have the same canonical form. Nothing is moved, copied or allocated. The cases that
     /// [`Triple::comes_back`] lists give one to a triple whose vendor isn't plain too, but its string is no key.
+    // Not in Rust.
     pub fn settles_as(&self, other: &Triple) -> bool
         ensures { IsTrue result
             ↔ (settled_values (values_of self.now) ≡ settled_values (values_of other.now)) }

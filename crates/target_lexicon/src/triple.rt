@@ -44,7 +44,7 @@ impl Triple {
     ///
     /// assert_eq!(rt; Triple::unknown().vendor, Vendor::Unknown);
     /// ```
-    pub fn unknown() -> Self
+    pub const fn unknown() -> Self
         ensures { values_of result ≡ unknown_values }
     {
         Triple {

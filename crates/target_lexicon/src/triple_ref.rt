@@ -47,7 +47,7 @@ impl<'a> TripleRef<'a> {
     ///
     /// assert_eq!(rt; TripleRef::from_str("unknown"), Ok(TripleRef::unknown()));
     /// ```
-    pub fn unknown() -> TripleRef<'a>
+    pub const fn unknown() -> TripleRef<'a>
         ensures { values_of_ref result ≡ unknown_values }
     {
         TripleRef {
@@ -81,6 +81,7 @@ impl Triple {
     ghost use Rattle.target_lexicon.specs.ValuesRef.{values_of_ref};
 
     /// The same triple, borrowed.
+    // In Rust: pub(crate), #[inline].
     pub fn as_triple_ref(&self) -> TripleRef<'_>
         ensures { values_of_ref result ≡ values_of self.now }
     {

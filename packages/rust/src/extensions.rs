@@ -194,7 +194,7 @@ impl TripleExt for Triple {
 
     #[inline]
     fn settles_as<'t>(&self, other: impl Into<TripleRef<'t>>) -> bool {
-        self.settles_as(other)
+        self.as_triple_ref().settles_as(other)
     }
 
     #[cfg(feature = "alloc")]

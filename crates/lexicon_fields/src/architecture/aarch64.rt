@@ -23,6 +23,7 @@ use std::str::FromStr;
 /// let architecture: Architecture = "aarch64_be".parse().unwrap();
 /// assert_eq!(rt; architecture, Architecture::Aarch64(Aarch64Architecture::Aarch64be));
 /// ```
+// In Rust: #[non_exhaustive].
 #[derive(Clone, Copy, Debug, PartialEq, Eq, Hash)]
 pub enum Aarch64Architecture {
     // written by tools/names/write: the variants of Aarch64Architecture
@@ -41,7 +42,7 @@ impl Aarch64Architecture {
     /// ```
     /// assert!(rt; !target_lexicon::Aarch64Architecture::Aarch64.is_thumb());
     /// ```
-    pub fn is_thumb(self) -> bool
+    pub const fn is_thumb(self) -> bool
         ensures { result ≡ false }
     {
         false
@@ -56,7 +57,7 @@ impl Aarch64Architecture {
     ///
     /// assert_eq!(rt; Aarch64Architecture::Aarch64.pointer_width(), PointerWidth::U64);
     /// ```
-    pub fn pointer_width(self) -> PointerWidth
+    pub const fn pointer_width(self) -> PointerWidth
         ensures { result ≡ PointerWidth.U64 }
     {
         PointerWidth::U64
@@ -71,7 +72,7 @@ impl Aarch64Architecture {
     ///
     /// assert_eq!(rt; Aarch64Architecture::Aarch64be.endianness(), Endianness::Big);
     /// ```
-    pub fn endianness(self) -> Endianness
+    pub const fn endianness(self) -> Endianness
         ensures { result ≡ aarch64_endianness self }
     {
         match self {
@@ -104,7 +105,7 @@ impl Aarch64Architecture {
         CowStr::Borrowed(self.name())
     }
 
-    pub(crate) fn name(self) -> &'static str
+    pub(crate) const fn name(self) -> &'static str
         ensures { result.now ≡ aarch64_name self }
     {
         match self {

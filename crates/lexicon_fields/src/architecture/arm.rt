@@ -23,6 +23,7 @@ use std::str::FromStr;
 /// let architecture: Architecture = "thumbv7em".parse().unwrap();
 /// assert_eq!(rt; architecture, Architecture::Arm(ArmArchitecture::Thumbv7em));
 /// ```
+// In Rust: #[non_exhaustive].
 #[derive(Clone, Copy, Debug, PartialEq, Eq, Hash)]
 pub enum ArmArchitecture {
     // written by tools/names/write: the variants of ArmArchitecture
@@ -124,7 +125,7 @@ impl ArmArchitecture {
     /// assert!(rt; ArmArchitecture::Thumbv7em.is_thumb());
     /// assert!(rt; !ArmArchitecture::Armv7a.is_thumb());
     /// ```
-    pub fn is_thumb(self) -> bool
+    pub const fn is_thumb(self) -> bool
         ensures { result ≡ queries.is_thumb self }
     {
         matches!(
@@ -151,7 +152,7 @@ impl ArmArchitecture {
     ///
     /// assert_eq!(rt; ArmArchitecture::Armv7a.pointer_width(), PointerWidth::U32);
     /// ```
-    pub fn pointer_width(self) -> PointerWidth
+    pub const fn pointer_width(self) -> PointerWidth
         ensures { result ≡ PointerWidth.U32 }
     {
         PointerWidth::U32
@@ -166,7 +167,7 @@ impl ArmArchitecture {
     ///
     /// assert_eq!(rt; ArmArchitecture::Armeb.endianness(), Endianness::Big);
     /// ```
-    pub fn endianness(self) -> Endianness
+    pub const fn endianness(self) -> Endianness
         ensures { result ≡ queries.arm_endianness self }
     {
         match self {
@@ -238,7 +239,7 @@ impl ArmArchitecture {
         CowStr::Borrowed(self.name())
     }
 
-    pub(crate) fn name(self) -> &'static str
+    pub(crate) const fn name(self) -> &'static str
         ensures { result.now ≡ arm_name self }
     {
         match self {

@@ -20,6 +20,7 @@ use std::str::FromStr;
 /// let architecture: Architecture = "clever1.0".parse().unwrap();
 /// assert_eq!(rt; architecture, Architecture::Clever(CleverArchitecture::Clever1_0));
 /// ```
+// In Rust: #[non_exhaustive].
 #[derive(Clone, Copy, Debug, PartialEq, Eq, Hash)]
 pub enum CleverArchitecture {
     // written by tools/names/write: the variants of CleverArchitecture
@@ -55,7 +56,7 @@ impl CleverArchitecture {
         CowStr::Borrowed(self.name())
     }
 
-    pub(crate) fn name(self) -> &'static str
+    pub(crate) const fn name(self) -> &'static str
         ensures { result.now ≡ clever_name self }
     {
         match self {

@@ -20,6 +20,7 @@ use std::str::FromStr;
 /// let architecture: Architecture = "mipsel".parse().unwrap();
 /// assert_eq!(rt; architecture, Architecture::Mips32(Mips32Architecture::Mipsel));
 /// ```
+// In Rust: #[non_exhaustive].
 #[derive(Clone, Copy, Debug, PartialEq, Eq, Hash)]
 pub enum Mips32Architecture {
     // written by tools/names/write: the variants of Mips32Architecture
@@ -59,7 +60,7 @@ impl Mips32Architecture {
         CowStr::Borrowed(self.name())
     }
 
-    pub(crate) fn name(self) -> &'static str
+    pub(crate) const fn name(self) -> &'static str
         ensures { result.now ≡ mips32_name self }
     {
         match self {
@@ -103,6 +104,7 @@ impl fmt::Display for Mips32Architecture {
 /// let architecture: Architecture = "mips64el".parse().unwrap();
 /// assert_eq!(rt; architecture, Architecture::Mips64(Mips64Architecture::Mips64el));
 /// ```
+// In Rust: #[non_exhaustive].
 #[derive(Clone, Copy, Debug, PartialEq, Eq, Hash)]
 pub enum Mips64Architecture {
     // written by tools/names/write: the variants of Mips64Architecture
@@ -142,7 +144,7 @@ impl Mips64Architecture {
         CowStr::Borrowed(self.name())
     }
 
-    pub(crate) fn name(self) -> &'static str
+    pub(crate) const fn name(self) -> &'static str
         ensures { result.now ≡ mips64_name self }
     {
         match self {

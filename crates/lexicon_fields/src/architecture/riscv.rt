@@ -20,6 +20,7 @@ use std::str::FromStr;
 /// let architecture: Architecture = "riscv32imac".parse().unwrap();
 /// assert_eq!(rt; architecture, Architecture::Riscv32(Riscv32Architecture::Riscv32imac));
 /// ```
+// In Rust: #[non_exhaustive].
 #[derive(Clone, Copy, Debug, PartialEq, Eq, Hash)]
 pub enum Riscv32Architecture {
     // written by tools/names/write: the variants of Riscv32Architecture
@@ -67,7 +68,7 @@ impl Riscv32Architecture {
         CowStr::Borrowed(self.name())
     }
 
-    pub(crate) fn name(self) -> &'static str
+    pub(crate) const fn name(self) -> &'static str
         ensures { result.now ≡ riscv32_name self }
     {
         match self {
@@ -115,6 +116,7 @@ impl fmt::Display for Riscv32Architecture {
 /// let architecture: Architecture = "riscv64gc".parse().unwrap();
 /// assert_eq!(rt; architecture, Architecture::Riscv64(Riscv64Architecture::Riscv64gc));
 /// ```
+// In Rust: #[non_exhaustive].
 #[derive(Clone, Copy, Debug, PartialEq, Eq, Hash)]
 pub enum Riscv64Architecture {
     // written by tools/names/write: the variants of Riscv64Architecture
@@ -154,7 +156,7 @@ impl Riscv64Architecture {
         CowStr::Borrowed(self.name())
     }
 
-    pub(crate) fn name(self) -> &'static str
+    pub(crate) const fn name(self) -> &'static str
         ensures { result.now ≡ riscv64_name self }
     {
         match self {

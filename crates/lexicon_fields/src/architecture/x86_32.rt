@@ -20,6 +20,7 @@ use std::str::FromStr;
 /// let architecture: Architecture = "i686".parse().unwrap();
 /// assert_eq!(rt; architecture, Architecture::X86_32(X86_32Architecture::I686));
 /// ```
+// In Rust: #[non_exhaustive].
 #[derive(Clone, Copy, Debug, PartialEq, Eq, Hash)]
 pub enum X86_32Architecture {
     // written by tools/names/write: the variants of X86_32Architecture
@@ -57,7 +58,7 @@ impl X86_32Architecture {
         CowStr::Borrowed(self.name())
     }
 
-    pub(crate) fn name(self) -> &'static str
+    pub(crate) const fn name(self) -> &'static str
         ensures { result.now ≡ x86_32_name self }
     {
         match self {

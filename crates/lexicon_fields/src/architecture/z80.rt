@@ -20,6 +20,7 @@ use std::str::FromStr;
 /// let architecture: Architecture = "z180".parse().unwrap();
 /// assert_eq!(rt; architecture, Architecture::Z80(Z80Architecture::Z180));
 /// ```
+// In Rust: #[non_exhaustive].
 #[derive(Clone, Copy, Debug, PartialEq, Eq, Hash)]
 pub enum Z80Architecture {
     // written by tools/names/write: the variants of Z80Architecture
@@ -71,7 +72,7 @@ impl Z80Architecture {
         CowStr::Borrowed(self.name())
     }
 
-    pub(crate) fn name(self) -> &'static str
+    pub(crate) const fn name(self) -> &'static str
         ensures { result.now ≡ z80_name self }
     {
         match self {

@@ -16,7 +16,6 @@ pub struct Reading<'a> {
 }
 
 impl<'a> Reading<'a> {
-    #[doc(hidden)]
     #[must_use]
     pub fn start() -> Reading<'a> {
         Reading {
@@ -62,7 +61,6 @@ impl<'a> Reading<'a> {
 
     /// Takes a part into the first field that is open and that it parses as. `Err` if there is none; nothing changes
     /// then. A part that has a row in the table of names is looked up once, and the comparisons aren't counted.
-    #[doc(hidden)]
     #[inline(always)]
     pub fn take(&mut self, part: TextPart<'a>) -> Result<(), Refusal<'a>> {
         let Some(expected) = self.expected else {
@@ -143,7 +141,6 @@ impl<'a> Reading<'a> {
     }
 
     /// The triple of the parts so far, and its sources. Without a binary format it has the implied one.
-    #[doc(hidden)]
     #[must_use]
     #[inline(always)]
     pub fn finish(self) -> (TripleRef<'a>, Sources<'a>) {

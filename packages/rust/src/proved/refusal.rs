@@ -47,8 +47,8 @@ impl Refusal<'_> {
 
     /// Writes the line of the refusal, without a line feed, at the front of the buffer if it fits there, and returns
     /// its length. If it doesn't fit, the buffer is unchanged. Nothing is allocated.
-    #[doc(hidden)]
     #[inline]
+    #[doc(hidden)]
     pub fn write_to(&self, out: &mut [u8]) -> usize {
         let prefix = refusal_prefix(self.expected);
         let part = self.part.text;

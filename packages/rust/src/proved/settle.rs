@@ -50,8 +50,8 @@ impl<'a> TripleRef<'a> {
     }
 
     /// The normal step of any triple. If the vendor is plain, it is the canonical form.
-    #[doc(hidden)]
     #[must_use]
+    #[doc(hidden)]
     #[inline(always)]
     pub fn step(mut self) -> TripleRef<'a> {
         match self.round_trip_family() {

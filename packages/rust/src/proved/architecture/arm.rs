@@ -227,8 +227,8 @@ impl ArmArchitecture {
     /// assert_eq!(target_lexicon::ArmArchitecture::Thumbv7em.into_str(), "thumbv7em");
     /// ```
     #[must_use]
-    #[cfg(feature = "alloc")]
     #[inline]
+    #[cfg(feature = "alloc")]
     pub fn into_str(self) -> Cow<'static, str> {
         Cow::Borrowed(self.name())
     }

@@ -48,8 +48,8 @@ impl Mips32Architecture {
     /// assert_eq!(target_lexicon::Mips32Architecture::Mipsel.into_str(), "mipsel");
     /// ```
     #[must_use]
-    #[cfg(feature = "alloc")]
     #[inline]
+    #[cfg(feature = "alloc")]
     pub fn into_str(self) -> Cow<'static, str> {
         Cow::Borrowed(self.name())
     }
@@ -122,8 +122,8 @@ impl Mips64Architecture {
     /// assert_eq!(target_lexicon::Mips64Architecture::Mips64el.into_str(), "mips64el");
     /// ```
     #[must_use]
-    #[cfg(feature = "alloc")]
     #[inline]
+    #[cfg(feature = "alloc")]
     pub fn into_str(self) -> Cow<'static, str> {
         Cow::Borrowed(self.name())
     }

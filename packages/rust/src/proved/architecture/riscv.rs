@@ -56,8 +56,8 @@ impl Riscv32Architecture {
     /// assert_eq!(target_lexicon::Riscv32Architecture::Riscv32imac.into_str(), "riscv32imac");
     /// ```
     #[must_use]
-    #[cfg(feature = "alloc")]
     #[inline]
+    #[cfg(feature = "alloc")]
     pub fn into_str(self) -> Cow<'static, str> {
         Cow::Borrowed(self.name())
     }
@@ -134,8 +134,8 @@ impl Riscv64Architecture {
     /// assert_eq!(target_lexicon::Riscv64Architecture::Riscv64gc.into_str(), "riscv64gc");
     /// ```
     #[must_use]
-    #[cfg(feature = "alloc")]
     #[inline]
+    #[cfg(feature = "alloc")]
     pub fn into_str(self) -> Cow<'static, str> {
         Cow::Borrowed(self.name())
     }

@@ -60,8 +60,8 @@ impl Z80Architecture {
     /// assert_eq!(target_lexicon::Z80Architecture::Z180.into_str(), "z180");
     /// ```
     #[must_use]
-    #[cfg(feature = "alloc")]
     #[inline]
+    #[cfg(feature = "alloc")]
     pub fn into_str(self) -> Cow<'static, str> {
         Cow::Borrowed(self.name())
     }
