@@ -5,8 +5,8 @@ FOLDER = "packages/rust/src/proved"
 CRATES = ["lexicon_fields", "target_lexicon"]
 # Public names that no package uses.
 NOT_EXPORTED = {"FixedRow", "ROW_COUNT", "row_order"}
-# The module of the layer that proved files name: what older versions of Rust lack.
-LAYER = {"compat"}
+# What proved files name of the layer: the calls that older versions of Rust lack, and the trait with those of a triple.
+LAYER = {"compat", "TripleExt"}
 
 # Modules that are left out: laws, the counter of steps, JSON, the host, the error that has an allocation's failure, and the
 # round trip, which Rust writes as `triple.to_string().parse()`.

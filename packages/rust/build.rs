@@ -1,4 +1,5 @@
-//! Writes the triple of the target that the crate is built for, which the crate's own parser finds.
+//! Writes the triple of the target that the crate is built for as an expression of Rust, which the crate's own parser finds. It isn't the compiler that parses,
+//! since a constant can't: what older versions of Rust let a `const fn` do isn't enough for the proved source.
 #![allow(dead_code, unexpected_cfgs, unknown_lints, unused_imports, clippy::all)]
 
 extern crate alloc;
@@ -7,56 +8,18 @@ extern crate alloc;
 mod compat;
 #[path = "src/hash.rs"]
 mod hash;
-
-/// What parsing needs of the proved source: the rest isn't compiled twice.
-#[path = "src/proved"]
-mod proved {
-    pub mod architecture;
-    pub mod binary_format;
-    pub mod decimal;
-    pub mod default_format;
-    pub mod deployment_target;
-    pub mod display;
-    pub mod endianness;
-    pub mod environment;
-    pub mod explanation;
-    pub mod field;
-    pub mod known_vendor;
-    pub mod operating_system;
-    pub mod pointer_width;
-    pub mod read;
-    pub mod reading;
-    pub mod refusal;
-    pub mod special;
-    pub mod table;
-    pub mod triple;
-    pub mod triple_ref;
-    pub mod vendor;
-    pub mod vendor_ref;
-
-    pub use architecture::*;
-    pub use binary_format::*;
-    pub use default_format::*;
-    pub use deployment_target::*;
-    pub use endianness::*;
-    pub use environment::*;
-    pub use explanation::*;
-    pub use field::*;
-    pub use known_vendor::*;
-    pub use operating_system::*;
-    pub use pointer_width::*;
-    pub use read::*;
-    pub use reading::*;
-    pub use refusal::*;
-    pub use table::*;
-    pub use triple::*;
-    pub use triple_ref::*;
-    pub use vendor::*;
-    pub use vendor_ref::*;
-}
+#[path = "src/proved/mod.rs"]
+mod proved;
 
 use proved::{Architecture, TripleRef, VendorRef};
 use std::{env, fs, mem, path::Path, time::Duration};
+
+/// What the proved source calls, and nothing here.
+impl proved::Triple {
+    pub fn host() -> Self {
+        unreachable!()
+    }
+}
 
 fn main() {
     println!("cargo:rerun-if-env-changed=TARGET_LEXICON_HOST");

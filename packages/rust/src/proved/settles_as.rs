@@ -1,7 +1,6 @@
 // @generated: erased from crates/target_lexicon/src/settles_as.rt by tools/erase. Don't edit it here.
 //! Whether two borrowed triples have the same canonical form.
 
-use crate::proved::triple::Triple;
 use crate::proved::triple_ref::TripleRef;
 
 impl TripleRef<'_> {
