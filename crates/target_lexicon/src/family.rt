@@ -43,7 +43,7 @@ impl Triple {
     /// The first family that the triple is in. `None` if it comes back. Nothing is allocated.
     ///
     /// Only on Clever can a triple be in two: `ShowsOnlyNone` comes before `VendorIsNotPlain`.
-    // In Rust: pub(crate).
+    // Not in Rust.
     pub fn round_trip_family(&self) -> Option<RoundTripFamily>
         ensures { result ≡ spec.family (values_of self.now) }
     {

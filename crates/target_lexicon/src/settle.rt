@@ -27,7 +27,7 @@ impl Triple {
     /// allocated.
     ///
     /// A triple comes back unless it is in one of five families, which [`RoundTripFamily`] lists, and [`Triple::round_trip_family`] names.
-    // In Rust: pub(crate).
+    // Not in Rust.
     pub fn comes_back(&self) -> bool
         ensures { IsTrue result ↔ ComesBack (values_of self.now) }
     {

@@ -16,17 +16,6 @@ mod sealed {
 use sealed::Sealed;
 
 /// The calls of a [`Triple`] that upstream doesn't have. A [`TripleRef`] has them itself.
-///
-/// # Examples
-///
-/// ```
-/// use target_lexicon::{Triple, TripleExt};
-///
-/// let triple = Triple::parse("riscv32imc-esp-espidf-elf")?;
-/// assert!(!triple.comes_back());
-/// assert_eq!(triple.settle()?.to_string(), "riscv32imc-esp-espidf");
-/// # Ok::<(), Box<dyn std::error::Error>>(())
-/// ```
 pub trait TripleExt: Sealed + Sized {
     /// The triple that a string parses as. It is that of `str::parse`, with an error that shows the place and owns the string.
     ///
@@ -76,7 +65,10 @@ pub trait TripleExt: Sealed + Sized {
     /// assert!(!triple!("armv7-nintendo-horizon-newlib").comes_back());
     /// ```
     #[must_use]
-    fn comes_back(&self) -> bool;
+    #[inline]
+    fn comes_back(&self) -> bool {
+        self.as_triple_ref().comes_back()
+    }
 
     /// The first family of triples that don't come back that the triple is in. `None` if it comes back. Nothing is allocated.
     ///
@@ -89,7 +81,10 @@ pub trait TripleExt: Sealed + Sized {
     /// assert_eq!(triple!("armv7-nintendo-horizon-newlib").round_trip_family(), Some(RoundTripFamily::HidesNewlib));
     /// ```
     #[must_use]
-    fn round_trip_family(&self) -> Option<RoundTripFamily>;
+    #[inline]
+    fn round_trip_family(&self) -> Option<RoundTripFamily> {
+        self.as_triple_ref().round_trip_family()
+    }
 
     /// The canonical form of the triple, which is what its printed string parses as. It comes back, and two canonical triples
     /// with the same string are the same, so the string serves as a key. A triple that [`comes_back`](TripleExt::comes_back)
@@ -126,7 +121,10 @@ pub trait TripleExt: Sealed + Sized {
     /// assert!(one.settles_as(&other));
     /// ```
     #[must_use]
-    fn settles_as<'t>(&self, other: impl Into<TripleRef<'t>>) -> bool;
+    #[inline]
+    fn settles_as<'t>(&self, other: impl Into<TripleRef<'t>>) -> bool {
+        self.as_triple_ref().settles_as(other)
+    }
 
     /// The string that upstream prints for the triple, whatever the features are. It differs from the printed one only if
     /// environment and format are both unknown and another format is implied.
@@ -141,7 +139,10 @@ pub trait TripleExt: Sealed + Sized {
     /// ```
     #[cfg(feature = "alloc")]
     #[must_use]
-    fn to_upstream_text(&self) -> String;
+    #[inline]
+    fn to_upstream_text(&self) -> String {
+        self.as_triple_ref().to_upstream_text()
+    }
 
     /// The name that was perhaps meant by a custom vendor, as [`TripleRef::vendor_suggestion`] says.
     ///
@@ -154,12 +155,14 @@ pub trait TripleExt: Sealed + Sized {
     /// ```
     #[cfg(feature = "alloc")]
     #[must_use]
-    fn vendor_suggestion(&self) -> Option<Suggestion<'_>>;
+    #[inline]
+    fn vendor_suggestion(&self) -> Option<Suggestion<'_>> {
+        self.as_triple_ref().vendor_suggestion()
+    }
 }
 
 impl Sealed for Triple {}
 
-// The calls of the type itself, which only this crate sees, come first.
 impl TripleExt for Triple {
     #[cfg(feature = "alloc")]
     #[inline]
@@ -169,17 +172,8 @@ impl TripleExt for Triple {
 
     #[inline]
     fn as_triple_ref(&self) -> TripleRef<'_> {
+        // The call of the type itself, which only this crate sees, comes first.
         self.as_triple_ref()
-    }
-
-    #[inline]
-    fn comes_back(&self) -> bool {
-        self.comes_back()
-    }
-
-    #[inline]
-    fn round_trip_family(&self) -> Option<RoundTripFamily> {
-        self.round_trip_family()
     }
 
     #[cfg(feature = "alloc")]
@@ -191,35 +185,9 @@ impl TripleExt for Triple {
             Err(NotPlain(self))
         }
     }
-
-    #[inline]
-    fn settles_as<'t>(&self, other: impl Into<TripleRef<'t>>) -> bool {
-        self.as_triple_ref().settles_as(other)
-    }
-
-    #[cfg(feature = "alloc")]
-    #[inline]
-    fn to_upstream_text(&self) -> String {
-        self.as_triple_ref().to_upstream_text()
-    }
-
-    #[cfg(feature = "alloc")]
-    #[inline]
-    fn vendor_suggestion(&self) -> Option<Suggestion<'_>> {
-        self.as_triple_ref().vendor_suggestion()
-    }
 }
 
 /// The name of a value.
-///
-/// # Examples
-///
-/// ```
-/// use target_lexicon::{CDataModel, Environment, Named, PointerWidth};
-///
-/// assert_eq!(Environment::Gnu.name(), "gnu");
-/// assert_eq!((CDataModel::LP64.name(), PointerWidth::U32.name()), ("LP64", "32"));
-/// ```
 pub trait Named: Sealed {
     /// The name, which is displayed too.
     ///
@@ -250,15 +218,6 @@ macro_rules! named {
 named!(Architecture Environment BinaryFormat Endianness PointerWidth CallingConvention CDataModel);
 
 /// The two pieces of an operating system's name.
-///
-/// # Examples
-///
-/// ```
-/// use target_lexicon::{OperatingSystem, OperatingSystemExt};
-///
-/// let system: OperatingSystem = "ios17.2".parse().unwrap();
-/// assert_eq!((system.prefix(), system.version()), ("ios", "17.2".parse().ok()));
-/// ```
 pub trait OperatingSystemExt: Sealed {
     /// The name without a version.
     ///
@@ -300,16 +259,6 @@ impl OperatingSystemExt for OperatingSystem {
 }
 
 /// The calls of a [`ParseError`] that upstream doesn't have. A [`ParseTripleError`] has them itself.
-///
-/// # Examples
-///
-/// ```
-/// use target_lexicon::{Field, ParseErrorExt, Triple};
-///
-/// let error = "x86_64-pc-linxu".parse::<Triple>().unwrap_err();
-/// assert_eq!((error.expected(), error.part()), (Some(Field::OperatingSystem), "linxu"));
-/// assert_eq!(error.suggestion().unwrap(), "linux");
-/// ```
 #[cfg(feature = "alloc")]
 pub trait ParseErrorExt: Sealed {
     /// The field that was expected: this one or a later one. After a binary format none was, and it is `None`.

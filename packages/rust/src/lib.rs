@@ -65,6 +65,11 @@ extern crate alloc;
 #[cfg(all(feature = "std", not(core_error)))]
 extern crate std;
 
+// What parses, prints and answers is in `proved`. By hand are, of calls, those that allocate (`owned`), those of a borrowed triple (`canonical`, `explain`, and
+// `queries`, whose error has a name), the traits of upstream's types (`extensions`) and `host`; of errors, upstream's (`parse_error`), one that owns
+// its string (`parse_triple_error`), and the impls of `Error` (`errors`); of other traits `conversions`, `display`, `hash`, `order` and `serde`.
+// `suggestions` finds the name that was perhaps meant, by the rules of `spellings` and the lists of `words`. `visible` escapes what messages show.
+// `compat` has what older versions of Rust lack.
 mod canonical;
 mod compat;
 mod conversions;

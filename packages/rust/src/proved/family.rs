@@ -1,7 +1,6 @@
 // @generated: erased from crates/target_lexicon/src/family.rt by tools/erase. Don't edit it here.
 //! The families of triples that don't come back.
 
-use crate::proved::triple::Triple;
 use crate::proved::triple_ref::TripleRef;
 use crate::proved::{
     Architecture, ArmArchitecture, BinaryFormat, Environment, KnownVendor, OperatingSystem,
@@ -33,15 +32,6 @@ pub enum RoundTripFamily {
     ShowsOnlyNone,
     /// The vendor isn't plain: no string parses as it. A triple that is in `ShowsOnlyNone` too has that family.
     VendorIsNotPlain,
-}
-
-impl Triple {
-    /// The first family that the triple is in. `None` if it comes back. Nothing is allocated.
-    ///
-    /// Only on Clever can a triple be in two: `ShowsOnlyNone` comes before `VendorIsNotPlain`.
-    pub(crate) fn round_trip_family(&self) -> Option<RoundTripFamily> {
-        self.as_triple_ref().round_trip_family()
-    }
 }
 
 impl TripleRef<'_> {

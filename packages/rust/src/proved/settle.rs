@@ -7,15 +7,6 @@ use crate::proved::triple_ref::TripleRef;
 use crate::proved::{BinaryFormat, Environment, KnownVendor, OperatingSystem, Vendor, VendorRef};
 
 impl Triple {
-    /// Whether the triple comes back: printed and parsed again, it is itself. No string is made and nothing is
-    /// allocated.
-    ///
-    /// A triple comes back unless it is in one of five families, which [`RoundTripFamily`] lists, and [`TripleExt::round_trip_family`](crate::TripleExt::round_trip_family) names.
-    #[inline]
-    pub(crate) fn comes_back(&self) -> bool {
-        self.as_triple_ref().comes_back()
-    }
-
     /// The normal step.
     #[inline]
     pub(crate) fn step(mut self) -> Triple {
