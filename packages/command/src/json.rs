@@ -16,34 +16,22 @@ pub enum Json {
 
 pub type Object = Vec<(&'static str, Json)>;
 
-impl From<&str> for Json {
-    fn from(text: &str) -> Self {
-        Json::Text(text.into())
-    }
+macro_rules! from {
+    ($($value:ty => $of:expr;)*) => {$(
+        impl From<$value> for Json {
+            fn from(value: $value) -> Self {
+                $of(value.into())
+            }
+        }
+    )*};
 }
 
-impl From<String> for Json {
-    fn from(text: String) -> Self {
-        Json::Text(text)
-    }
-}
-
-impl From<bool> for Json {
-    fn from(is_so: bool) -> Self {
-        Json::Bool(is_so)
-    }
-}
-
-impl From<usize> for Json {
-    fn from(number: usize) -> Self {
-        Json::Number(number)
-    }
-}
-
-impl From<u8> for Json {
-    fn from(number: u8) -> Self {
-        Json::Number(number.into())
-    }
+from! {
+    &str => Json::Text;
+    String => Json::Text;
+    bool => Json::Bool;
+    usize => Json::Number;
+    u8 => Json::Number;
 }
 
 impl<T: Into<Json>> From<Option<T>> for Json {

@@ -4,7 +4,7 @@
 //! isn't open for what is done: then nobody gets what was written, and nobody knows.
 
 use std::fs::File;
-use std::io::{self, Read, Write};
+use std::io::{self, Read};
 use std::path::Path;
 
 /// What is read.
@@ -18,51 +18,18 @@ pub fn file(path: &Path) -> io::Result<Input> {
     Ok(of_file(File::open(path)?))
 }
 
-#[cfg(unix)]
 fn of_file(file: File) -> Input {
     Input {
-        is_output: unix::is_output(&file),
+        is_output: system::is_output(&file),
         reader: Box::new(file),
     }
 }
 
-#[cfg(not(unix))]
-fn of_file(file: File) -> Input {
-    Input {
-        is_output: false,
-        reader: Box::new(file),
-    }
-}
+pub use system::{standard_input, standard_output};
 
 #[cfg(unix)]
-pub fn standard_input() -> io::Result<Input> {
-    unix::stream(0, io::stdin()).map(of_file)
-}
-
-#[cfg(not(unix))]
-pub fn standard_input() -> io::Result<Input> {
-    Ok(Input {
-        is_output: false,
-        reader: Box::new(io::stdin()),
-    })
-}
-
-/// Standard output, without a buffer. If it is closed, a write fails.
-#[cfg(unix)]
-pub fn standard_output() -> Box<dyn Write> {
-    match unix::stream(1, io::stdout()) {
-        Ok(file) => Box::new(file),
-        Err(why) => Box::new(unix::Failing(why)),
-    }
-}
-
-#[cfg(not(unix))]
-pub fn standard_output() -> Box<dyn Write> {
-    Box::new(io::stdout())
-}
-
-#[cfg(unix)]
-mod unix {
+mod system {
+    use super::{at_start, of_file, Input};
     use std::fs::File;
     use std::io::{self, Write};
     use std::os::unix::fs::MetadataExt;
@@ -72,11 +39,23 @@ mod unix {
     const NOT_OPEN: i32 = 9;
 
     /// A standard stream as a file, which hides no failure.
-    pub fn stream(descriptor: usize, stream: impl AsFd) -> io::Result<File> {
-        if super::at_start::was_closed(descriptor) {
+    fn stream(descriptor: usize, stream: impl AsFd) -> io::Result<File> {
+        if at_start::was_closed(descriptor) {
             return Err(io::Error::from_raw_os_error(NOT_OPEN));
         }
         Ok(stream.as_fd().try_clone_to_owned()?.into())
+    }
+
+    pub fn standard_input() -> io::Result<Input> {
+        stream(0, io::stdin()).map(of_file)
+    }
+
+    /// Standard output, without a buffer. If it is closed, a write fails, as one to a file that is open for reading does.
+    pub fn standard_output() -> Box<dyn Write> {
+        match stream(1, io::stdout()).or_else(|_| File::open("/dev/null")) {
+            Ok(file) => Box::new(file),
+            Err(_) => Box::new(io::stdout()),
+        }
     }
 
     /// Whether a file is the one to which standard output or standard error goes.
@@ -89,21 +68,27 @@ mod unix {
         let outputs = [stream(1, io::stdout()), stream(2, io::stderr())];
         input.is_some() && outputs.into_iter().any(|it| it.ok().and_then(of) == input)
     }
+}
 
-    /// An output that can't be had.
-    pub struct Failing(pub io::Error);
+#[cfg(not(unix))]
+mod system {
+    use super::Input;
+    use std::fs::File;
+    use std::io::{self, Write};
 
-    impl Write for Failing {
-        fn write(&mut self, _: &[u8]) -> io::Result<usize> {
-            match self.0.raw_os_error() {
-                Some(code) => Err(io::Error::from_raw_os_error(code)),
-                None => Err(self.0.kind().into()),
-            }
-        }
+    pub fn standard_input() -> io::Result<Input> {
+        Ok(Input {
+            is_output: false,
+            reader: Box::new(io::stdin()),
+        })
+    }
 
-        fn flush(&mut self) -> io::Result<()> {
-            Ok(())
-        }
+    pub fn standard_output() -> Box<dyn Write> {
+        Box::new(io::stdout())
+    }
+
+    pub fn is_output(_: &File) -> bool {
+        false
     }
 }
 
@@ -111,16 +96,13 @@ mod unix {
 #[cfg(unix)]
 #[allow(unsafe_code)]
 mod at_start {
-    use std::sync::atomic::{AtomicBool, Ordering};
+    use std::sync::atomic::{AtomicUsize, Ordering};
 
-    static CLOSED: [AtomicBool; 3] = [
-        AtomicBool::new(false),
-        AtomicBool::new(false),
-        AtomicBool::new(false),
-    ];
+    /// A bit for each descriptor.
+    static CLOSED: AtomicUsize = AtomicUsize::new(0);
 
     pub fn was_closed(descriptor: usize) -> bool {
-        CLOSED[descriptor].load(Ordering::Relaxed)
+        CLOSED.load(Ordering::Relaxed) >> descriptor & 1 == 1
     }
 
     extern "C" {
@@ -130,10 +112,11 @@ mod at_start {
     const F_GETFD: i32 = 1;
 
     extern "C" fn look() {
-        for (descriptor, is_closed) in (0..).zip(&CLOSED) {
+        for descriptor in 0..3 {
             // SAFETY: it asks for the flags of a descriptor, which needn't be open, and takes no pointer.
-            let flags = unsafe { fcntl(descriptor, F_GETFD) };
-            is_closed.store(flags == -1, Ordering::Relaxed);
+            if unsafe { fcntl(descriptor, F_GETFD) } == -1 {
+                CLOSED.fetch_or(1 << descriptor, Ordering::Relaxed);
+            }
         }
     }
 

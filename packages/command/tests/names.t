@@ -115,24 +115,17 @@ The names of each dialect are listed, and are read:
 
   $ cat > translations << 'END'
   > oci|linux/arm64/v8|debian|glibc|arm64
-  > oci|linux/arm64/v8|rust|glibc|aarch64-unknown-linux-gnu
   > oci|linux/arm64/v8|gnu|musl|aarch64-linux-musl
   > oci|linux/arm/v7|debian|-|it depends on the C library: use `--libc glibc` or `--libc musl`
   > oci|linux/arm/v7|go|-|linux/arm
-  > oci|windows/amd64|debian|-|the tool has no name for the system
-  > go|linux/mips64|gnu|glibc|mips64-linux-gnuabi64
   > go|linux/arm64|rust|musl|aarch64-unknown-linux-musl
-  > node|linux-x64-musl|debian|glibc|musl-linux-amd64
-  > debian|armhf|go|musl|linux/arm
   > debian|armhf|oci|musl|linux/arm/v7
   > debian|armhf|node|-|linux-arm-gnueabihf
   > oci|windows/amd64|rust|-|it depends on the ABI of Windows: use `--libc msvc`, `mingw` or `gnullvm`
   > oci|windows/amd64|rust|msvc|x86_64-pc-windows-msvc
-  > rust|armv7-unknown-linux-gnueabihf|oci|-|linux/arm/v7
   > uname|Darwin arm64|rust|glibc|aarch64-apple-darwin
   > dotnet|linux-musl-arm64|rust|msvc|aarch64-unknown-linux-musl
   > triple|armv7-unknown-linux|rust|musl|armv7-unknown-linux-musleabihf
-  > triple|aarch64-linux-gnu|docker|-|linux/arm64
   > triple|aarch64-linux-gnu|debian|-|arm64
   > END
   $ translated() {
