@@ -20,11 +20,8 @@ pub fn canonical(triple: TripleRef<'_>) -> TripleRef<'_> {
 }
 
 pub fn version(triple: &TripleRef<'_>) -> Option<String> {
-    let version = triple.operating_system.version()?;
-    Some(format!(
-        "{}.{}.{}",
-        version.major, version.minor, version.patch
-    ))
+    let version = triple.operating_system.version();
+    version.map(|it| it.to_string())
 }
 
 /// The name of the value of a field. That of a system is without its version.

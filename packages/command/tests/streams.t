@@ -25,30 +25,14 @@ A run ends without a word if its reader has closed. What can't be written is a f
   >   done
   >   for call in 'check z80' 'check foo' 'settle foo' 'settle -x'; do $program $call 2> /dev/null; echo "$call: $?" >&2; done
   > }
-  $ { calls >&-; } 2>&1 | uniq -c
-       10 3 target-lexicon: standard output: Bad file descriptor (os error 9)
-        1 check z80: 0
-        1 check foo: 1
-        1 settle foo: 1
-        1 settle -x: 2
-  $ { calls 1< /dev/null; } 2>&1 | uniq -c
-       10 3 target-lexicon: standard output: Bad file descriptor (os error 9)
-        1 check z80: 0
-        1 check foo: 1
-        1 settle foo: 1
-        1 settle -x: 2
-  $ { calls > /dev/full; } 2>&1 | uniq -c
-       10 3 target-lexicon: standard output: No space left on device (os error 28)
-        1 check z80: 0
-        1 check foo: 1
-        1 settle foo: 1
-        1 settle -x: 2
-  $ { calls 1<> /dev/null; } 2>&1 | cut -c 1-40 | uniq -c
+  $ for how in '>&-' '1< /dev/null' '> /dev/full' '1<> /dev/null'; do eval "{ calls $how; } 2>&1"; done | LC_ALL=C sort | uniq -c
        10 0 
-        1 check z80: 0
-        1 check foo: 1
-        1 settle foo: 1
-        1 settle -x: 2
+       20 3 target-lexicon: standard output: Bad file descriptor (os error 9)
+       10 3 target-lexicon: standard output: No space left on device (os error 28)
+        4 check foo: 1
+        4 check z80: 0
+        4 settle -x: 2
+        4 settle foo: 1
   $ command target-lexicon check x 2> /dev/full
   [3]
 

@@ -37,6 +37,17 @@ fn versions_are_parsed() {
 
 #[test]
 fn what_has_a_name_is_shown_as_it() {
+    let fields = [
+        Field::Architecture,
+        Field::Vendor,
+        Field::OperatingSystem,
+        Field::Environment,
+        Field::BinaryFormat,
+    ];
+    assert_eq!(
+        fields.map(|it| it.to_string()).join(", "),
+        "architecture, vendor, operating system, environment, binary format"
+    );
     assert_eq!(
         format!("{:>6}|{:<4}|", KnownVendor::Apple, PointerWidth::U64),
         " apple|64  |"

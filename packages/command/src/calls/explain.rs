@@ -31,15 +31,16 @@ impl Explained<'_> {
     /// How the value of a field came: a word for it, and the part that gave it.
     fn origin(&self, field: Field) -> (&'static str, Option<&str>) {
         let (triple, sources) = (&self.parsed.triple, &self.parsed.sources);
-        let (source, own) = match field {
-            Field::Architecture => (sources.architecture, triple.architecture.to_string()),
-            Field::Vendor => (sources.vendor, triple.vendor.to_string()),
-            Field::OperatingSystem => (
-                sources.operating_system,
-                triple.operating_system.to_string(),
-            ),
-            Field::Environment => (sources.environment, triple.environment.to_string()),
-            Field::BinaryFormat => (sources.binary_format, triple.binary_format.to_string()),
+        let source = match field {
+            Field::Architecture => sources.architecture,
+            Field::Vendor => sources.vendor,
+            Field::OperatingSystem => sources.operating_system,
+            Field::Environment => sources.environment,
+            Field::BinaryFormat => sources.binary_format,
+        };
+        let own = match field {
+            Field::OperatingSystem => triple.operating_system.to_string(),
+            _ => name_of(triple, field),
         };
         match source {
             Source::Part(part) if part.text == own => ("given", Some(part.text)),
