@@ -11,7 +11,7 @@ mod hash;
 #[path = "src/proved/mod.rs"]
 mod proved;
 
-use proved::{Architecture, TripleRef, VendorRef};
+use proved::{TripleRef, VendorRef};
 use std::{env, fs, mem, path::Path, time::Duration};
 
 /// What the proved source calls, and nothing here.
@@ -45,17 +45,17 @@ fn main() {
     fs::write(Path::new(&out).join("host.rs"), literal(host)).expect("a file in OUT_DIR");
 }
 
-/// A triple as an expression of Rust.
+/// A triple as an expression of Rust. What `Debug` writes is one, once each name has its path.
 fn literal(triple: TripleRef<'_>) -> String {
+    let architecture = format!("{:?}", triple.architecture);
+    let architecture = match architecture.split_once('(') {
+        Some((family, of_family)) => format!("{family}(crate::{family}Architecture::{of_family}"),
+        None => architecture,
+    };
     let vendor = match triple.vendor {
         VendorRef::Known(known) => format!("{known:?}"),
         VendorRef::Custom(text) => format!("Custom(crate::CustomVendor::Static({text:?}))"),
     };
-    // What `Debug` writes is Rust, once each name has its path.
-    let architecture = format!("{:?}", triple.architecture).replace(
-        '(',
-        &format!("(crate::{}Architecture::", family(triple.architecture)),
-    );
     let operating_system = format!("{:?}", triple.operating_system)
         .replace("DeploymentTarget", "crate::DeploymentTarget");
     format!(
@@ -69,12 +69,6 @@ fn literal(triple: TripleRef<'_>) -> String {
 ",
         triple.environment, triple.binary_format,
     )
-}
-
-/// The name of the family of an architecture that has one.
-fn family(architecture: Architecture) -> String {
-    let name = format!("{architecture:?}");
-    name.split('(').next().unwrap_or_default().to_string()
 }
 
 /// A call that `Duration` has of its own since Rust 1.81, in which `core` got `Error`.
