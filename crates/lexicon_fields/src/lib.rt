@@ -7,6 +7,8 @@
 //!
 //! `table` has all names in one sorted list, where each `from_str` looks first, and `steps` counts its comparisons.
 //! `laws` has what holds of all values.
+//!
+//! A comment `In Rust` or `Not in Rust` before an item is for `tools/erase`, which makes a Rust crate of this source.
 #![tactic(auto)]
 
 mod architecture;

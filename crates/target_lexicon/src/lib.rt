@@ -8,6 +8,8 @@
 //!
 //! To parse, `read` gives each part of a string to a `reading`, which looks it up and fills a field. `explanation` has
 //! the types of what was found, `default_format` the implied format, and `refusal` why a string is refused.
+//!
+//! A comment `In Rust` or `Not in Rust` before an item is for `tools/erase`, which makes a Rust crate of this source.
 #![tactic(auto)]
 
 mod calling_convention;
