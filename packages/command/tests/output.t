@@ -27,6 +27,11 @@
   $ target-lexicon cfg --json x86_64-pc-windows-msvc
   [{"target":"x86_64-pc-windows-msvc","file":null,"line":null,"target_arch":"x86_64","target_os":"windows","target_env":"msvc","target_abi":"","target_family":["windows"],"target_vendor":"pc","target_pointer_width":64,"target_endian":"little"}]
 
+A system that is written with its whole version is given as it is:
+
+  $ target-lexicon explain aarch64-apple-ios17.0.0 | grep system
+    operating_system  ios 17.0.0  given as `ios17.0.0`
+
 A fact without an answer says why:
 
   $ target-lexicon facts avr armv7-unknown-linux-gnueabihf | grep '  -  '
