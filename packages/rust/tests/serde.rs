@@ -71,4 +71,5 @@ fn a_field_is_its_string() {
     assert_eq!(borrow("acme"), Ok(VendorRef::Custom("acme")));
     assert_eq!(Written(VendorRef::Custom("acme")).to_string(), "acme");
     assert!(borrow::<VendorRef<'_>>("ACME").is_err());
+    assert!(read::<Triple>(" x86_64-linux").is_err());
 }

@@ -109,6 +109,13 @@ fn an_error_leaves_the_function_that_owns_its_string() {
 }
 
 #[test]
+fn an_error_is_about_the_part_if_the_string_is_another_one() {
+    let refusal = TripleRef::from_str("x86_64-foo-bar").unwrap_err();
+    let error = refusal.in_text("aarch64-apple-ios");
+    assert_eq!((error.text(), error.range()), ("bar", 0..3));
+}
+
+#[test]
 fn an_error_shows_printable_ascii() {
     for c in ('\0'..='\u{700}')
         .chain('\u{2000}'..='\u{2100}')
