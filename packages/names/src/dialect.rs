@@ -79,8 +79,8 @@ impl Dialect {
     /// The rows of names without a version that are read: first those that are written, too.
     #[inline]
     pub(crate) fn rows_read(self) -> impl Iterator<Item = &'static Row> + Clone {
-        let rows = self.rows().iter().filter(|row| star_count(row.0) == 0);
-        let of = |way| rows.clone().filter(move |row| row.2 == way);
+        let has = |row: &Row, way| row.2 == way && star_count(row.0) == 0;
+        let of = move |way| self.rows().iter().filter(move |row| has(row, way));
         of(Way::Both).chain(of(Way::Read))
     }
 

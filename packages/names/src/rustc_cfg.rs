@@ -269,6 +269,6 @@ fn target_vendor<'a>(triple: &TripleRef<'a>) -> &'a str {
 #[must_use]
 pub fn is_vendor_of_rustc(vendor: &str) -> bool {
     let has = |triple: TripleRef<'_>| triple.vendor == VendorRef::Custom(vendor);
-    let mut names = Dialect::Rust.names();
-    names.any(|it| Dialect::Rust.read(it).map_or(false, has))
+    let mut rows = Dialect::Rust.rows_read();
+    rows.any(|row| TripleRef::from_str(row.1).map_or(false, has))
 }

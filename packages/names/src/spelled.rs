@@ -142,6 +142,8 @@ pub(crate) fn is_like_system(part: &str) -> bool {
 
 /// Whether a part is this name, or the name with what may be its version: it begins with a digit or a dot.
 pub(crate) fn may_be_versioned(part: &str, name: &str) -> bool {
-    let version = part.strip_prefix(name);
+    // Most differ in their first byte, which takes no call to see.
+    let begins = part.as_bytes().first() == name.as_bytes().first();
+    let version = begins.then(|| part.strip_prefix(name)).flatten();
     version.map_or(false, |it| it.bytes().next().map_or(true, is_digit_or_dot))
 }
