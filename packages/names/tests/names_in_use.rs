@@ -201,6 +201,10 @@ fn what_is_known_is_no_misspelling() {
         (Dialect::Node, "x86-64"),
         (Dialect::Gnu, "x86-64"),
         (Dialect::Rust, "mipsel-sony-psx"),
+        (Dialect::Debian, "powerpcle"),
+        (Dialect::Gnu, "arceb-linux-gnu"),
+        (Dialect::Node, "linux-x32"),
+        (Dialect::Debian, "armv6"),
     ] {
         assert_eq!(dialect.suggestion(name), None, "{dialect} {name}");
     }
