@@ -13,7 +13,7 @@ abbrev pub elf_if_unknown : BinaryFormat → BinaryFormat
 elf_if_unknown binary_format.Unknown = binary_format.Elf
 elf_if_unknown f = f
 
--- what a triple of the family becomes; one in none, or whose vendor isn't plain, is unchanged
+-- what a triple of the family becomes; one in none, or in the last family, is unchanged
 abbrev pub step_of : Option RoundTripFamily → Values → Values
 step_of (Some families.PrintsAsSpecial) t = record t { environment = environment.Newlib; binary_format = binary_format.Elf }
 step_of (Some families.HidesNewlib) t = record t { environment = environment.Unknown; binary_format = elf_if_unknown t.binary_format }
