@@ -1,3 +1,4 @@
+-- The length of each name is computed and compared with the limit; that of a version has a bound of its own.
 use Rattle.std.proofs.Common.{◌≡◌, ◌≤◌, ◌++◌, ℕ, List, [], codes, length, nat_le, true, Option, Some, None, IfSome, refl, arith}
 use Rattle.std.proofs.{lemmas.Bool.leb-true, lemmas.List.length-append}
 use Rattle.lexicon_fields.specs.{declared.architecture.Architecture.Architecture, declared.environment.Environment.Environment, declared.binary_format.BinaryFormat.BinaryFormat}

@@ -1,3 +1,4 @@
+-- A parsed value prints the string itself, except for aliases and versions, whose growth has a bound.
 use Rattle.std.proofs.Common.{◌≡◌, length, nat_le, ◌+◌, refl, sym, ap}
 use Rattle.std.proofs.{lemmas.Bool.leb-true, lemmas.Option.MatchOption-at_some, lemmas.Option.cond_some}
 use Rattle.lexicon_fields.specs.{Architecture.architecture_name, Architecture.architecture_texts, Architecture.architecture_of}

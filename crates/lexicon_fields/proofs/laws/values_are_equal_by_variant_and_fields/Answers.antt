@@ -1,3 +1,4 @@
+-- Derived equality compares the variants and then the fields, and each of these comparisons decides equality.
 use Rattle.std.proofs.Common.{rules, refl}
 use Rattle.std.proofs.{lemmas.Bool.Decides.Decides-like, lemmas.Bool.Decides.Decides-and, lemmas.Slice.Eq.bytes_eq-Decides}
 use Rattle.lexicon_fields.proofs.EqualByValue.{bare-Decides, bare_field-Decides, enum-Decides, one_field-Decides, option_eq-Decides, version-Decides}

@@ -1,3 +1,4 @@
+-- A borrowed vendor feeds a hasher whether it is custom, and then its variant or its text, which determine its value.
 use Rattle.std.proofs.Common.{◌≡◌, [], ◌++◌, ◌∙◌, arith, refl, sym, ap}
 use Rattle.std.specs.Hash.{HashWrites, usize, str}
 use Rattle.std.specs.Borrow.{Bor}

@@ -1,3 +1,4 @@
+-- Custom vendors are equal if their texts are, and a known vendor equals only itself.
 use Rattle.std.proofs.Common.{◌≡◌, refl, ap}
 use Rattle.std.proofs.{lemmas.Bool.false≢true, lemmas.Slice.Eq.bytes_eq-Decides}
 use Rattle.lexicon_fields.specs.Vendor.{Custom, custom_text}

@@ -1,3 +1,4 @@
+-- What follows the prefix is empty, a version, or refused, as `version_after` says of a string with the prefix.
 use Rattle.std.proofs.Common.{◌≡◌, ◌≢◌, ◌∙◌, ℕ, List, [], ◌∷◌, ◌++◌, Some, None, option_map, length, refl, sym, ap, arith, rules}
 use Rattle.std.specs.Option.{option_and_then}
 use Rattle.lexicon_fields.specs.{OperatingSystem.optional_version_of, Private.version_after, Version.version_of}

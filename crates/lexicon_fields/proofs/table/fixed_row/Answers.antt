@@ -1,3 +1,4 @@
+-- The row that is found has the string, what each field reads it as, and the ticks of the search.
 use Rattle.std.proofs.Common.{arith, sym, ap, List, ℕ, ◌≡◌, ◌∙◌, true, option_map}
 use Rattle.lexicon_fields.proofs.{RowLemmas.row-parses_by_name, VendorsReadBack.row_read, SearchSteps.search-few, SearchSteps.search-some}
 use Rattle.lexicon_fields.specs.{declared.table.FixedRow.FixedRow, FixedRow.IsRowOf, FixedRow.has_row, Private.FieldValues, Private.name_values, Private.row_values, Private.values_meant, Vendor.Known, Vendor.known_vendor_of, OperatingSystem.fixed_operating_system_of}

@@ -1,3 +1,4 @@
+-- The loop has the triples of the elements so far; the first element that is refused ends it.
 use Rattle.std.proofs.Common.{◌≡◌, true, map, arith}
 use Rattle.lexicon_fields.specs.Vendor.{OwnsCustomText, is_plain, vendor_value}
 use Rattle.target_lexicon.specs.{Json.ElementsReadAs, Values.values_of}

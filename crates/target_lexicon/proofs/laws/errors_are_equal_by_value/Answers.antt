@@ -1,3 +1,4 @@
+-- Two errors are equal if both expected the same field and have the same part, or if both are out of memory.
 use Rattle.std.proofs.Common.{◌≡◌, ℕ, List, [], Option, Some, None, refl, ap}
 use Rattle.std.specs.{Prelude.string_bytes, Prelude.option_map, Bool.Decides, Str.bytes_eq, Option.option_map_or}
 use Rattle.std.proofs.{lemmas.Bool.false≢true, lemmas.Bool.Decides.Decides-like, lemmas.Slice.Eq.bytes_eq-Decides}

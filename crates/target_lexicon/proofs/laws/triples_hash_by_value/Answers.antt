@@ -1,3 +1,4 @@
+-- The five fields are hashed one after the other, and the bytes of each determine it, whatever follows them.
 use Rattle.std.proofs.Common.{ap}
 use Rattle.target_lexicon.specs.{Values.Values, Values.values, declared.triple.Triple.Triple}
 use Rattle.target_lexicon.proofs.HashInputPairs.{both_distinguish}

@@ -1,3 +1,4 @@
+-- The loop has answered the lines before `start`; what is left after the last line feed begins there.
 use Rattle.std.proofs.Common.{◌∙◌, ◌++◌, ◌≤◌, ℕ, List, [], length, take, drop, refl, sym, ap, subst, arith, rules}
 use Rattle.std.proofs.lemmas.List.{length-drop}
 use Rattle.triples.specs.{FilterSteps.HasNoFeed}

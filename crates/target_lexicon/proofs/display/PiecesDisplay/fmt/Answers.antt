@@ -1,3 +1,4 @@
+-- Six pieces are written one after the other, and what was written is these pieces so far.
 use Rattle.std.proofs.Common.{rules, subst, sym}
 use Rattle.std.proofs.Output.{has_written_styled_append, has_written_styled_nil}
 use Rattle.std.specs.Fmt.{HasWrittenStyled, IsDefaultSpec}

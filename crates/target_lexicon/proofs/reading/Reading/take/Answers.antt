@@ -1,3 +1,4 @@
+-- A part takes the first open field as which it parses; where it takes none, it parses as no open field, and is refused.
 use Rattle.std.proofs.Common.{◌≡◌, ◌⊎◌, inl, inr, true, false, List, ℕ, Some, None, refl, arith}
 use Rattle.lexicon_fields.specs.{Architecture.architecture_of, Vendor.vendor_of, OperatingSystem.operating_system_of, Environment.environment_of, BinaryFormat.binary_format_of}
 use Rattle.target_lexicon.specs.Field.{Field, Architecture, Vendor, OperatingSystem, Environment, BinaryFormat, parses_as}

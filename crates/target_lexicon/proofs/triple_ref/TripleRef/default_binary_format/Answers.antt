@@ -1,3 +1,4 @@
+-- The arms of the `match` are the lines of `implied_format`: each case computes.
 use Rattle.std.proofs.Common.{rules}
 use Rattle.target_lexicon.specs.ImpliedFormat.{implied_format}
 use Rattle.target_lexicon.proofs.triple_ref.TripleRef.default_binary_format.Goals as goal

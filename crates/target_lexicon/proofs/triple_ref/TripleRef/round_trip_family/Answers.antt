@@ -1,3 +1,4 @@
+-- Each test is whether the facts of one family hold, in the order of the families; facts determine the family.
 use Rattle.std.proofs.Common.{◌∙◌, sym}
 use Rattle.std.proofs.lemmas.Bool.{false≢true}
 use Rattle.target_lexicon.proofs.StepCases.{special-family, newlib-family, esp-family, only_none-family, plain-family, vendor-family}

@@ -1,3 +1,4 @@
+-- The arms of the `match` are the lines of `step_of`: each case computes.
 use Rattle.std.proofs.Common.{rules}
 use Rattle.target_lexicon.specs.NormalStep.{normal_step}
 use Rattle.target_lexicon.proofs.triple_ref.TripleRef.step.Goals as goal
