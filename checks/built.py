@@ -1,4 +1,5 @@
 """The programs that checks run: those of the tree BUILT, which the gate makes, or as `rt run` or cargo builds them."""
+import glob
 import os
 import subprocess
 import sys
@@ -47,6 +48,14 @@ def c_library(folder):
         return BUILT
     subprocess.run([f"{ROOT}/packages/c/install", f"{folder}/tree"], check=True, stdout=subprocess.DEVNULL)
     return f"{folder}/tree"
+
+
+def program_there(name):
+    """The path of a program of a proved crate that is built, and no older than a source of a crate; or none."""
+    if BUILT and os.path.exists(f"{BUILT}/bin/{name}"):
+        return f"{BUILT}/bin/{name}"
+    path, sources = f"{ROOT}/crates/{name}/out/{name}", glob.glob(f"{ROOT}/crates/*/src/**/*.rt", recursive=True)
+    return path if os.path.exists(path) and os.path.getmtime(path) >= max(map(os.path.getmtime, sources)) else None
 
 
 def program(check, name, status=1, words=()):

@@ -58,6 +58,14 @@ def programs(*names):
     return found | ({"the Rust crate": built.cargo_program("compare", "lines", 2)} if "cargo" in names else {})
 
 
+def programs_there():
+    """The proved program, by its name, if it is built and no older than its sources. Otherwise it says so, and there is none."""
+    path = built.program_there("triples")
+    if not path:
+        print("the proved program isn't built, or is older than its sources, so it isn't compared; `rt run` in crates/triples proves and builds it", flush=True)
+    return {"the proved program": path} if path else {}
+
+
 def answers(command, given):
     """What a command writes for an input, both as bytes."""
     ran = subprocess.run(command, input=given, stdout=subprocess.PIPE)

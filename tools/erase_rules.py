@@ -4,7 +4,7 @@
 FOLDER = "packages/rust/src/proved"
 CRATES = ["lexicon_fields", "target_lexicon"]
 # Public names that no package uses.
-NOT_EXPORTED = {"FixedRow", "ROW_COUNT", "row_order"}
+NOT_EXPORTED = {"FixedRow", "ROW_COUNT", "row_order", "first_part", "Reading"}
 # What proved files name of the layer: the calls that older versions of Rust lack, and the trait with those of a triple.
 LAYER = {"compat", "TripleExt"}
 
@@ -15,7 +15,11 @@ MODULES = {"laws", "steps", "json", "json_error", "list_error", "macros", "host"
 # Modules of which few programs call a function: rustc compiles each only where it is called, which with the functions that are marked saves a third of a build.
 INLINE_MODULES = {"aarch64", "arm", "clever", "mips", "queries", "riscv", "settle", "settles_as", "x86_32", "z80"}
 
+# Types with calls of which rustc warns if nobody uses the result: upstream has no such call, so none of upstream's types is one.
+MUST_USE = {"KnownVendor", "Refusal", "TextPart", "TripleRef", "VendorRef"}
+
 ALLOCATES = 'cfg(feature = "alloc")'
+AS_PORT = 'cfg(not(feature = "upstream_printing"))'
 
 # The start of the names of files, what is there, and what it becomes.
 REPLACEMENTS = [
@@ -45,6 +49,9 @@ REPLACEMENTS = [
     ("lexicon_fields/src/table.rt", " `steps` ticks once.", ""),
     ("", ", &mut Steps::new()", ""),
     # In Rust a call takes a triple of either type.
+    # With the feature, the layer has these calls, by upstream's rule of printing.
+    ("target_lexicon/src/settle.rt", "pub fn comes_back(", f"#[{AS_PORT}]\npub fn comes_back("),
+    ("target_lexicon/src/settles_as.rt", "pub fn settles_as(", f"#[{AS_PORT}]\npub fn settles_as("),
     ("target_lexicon/src/settles_as.rt", "settles_as(&self, other: &TripleRef<'_>)", "settles_as<'t>(&self, other: impl Into<TripleRef<'t>>)"),
     ("target_lexicon/src/settles_as.rt", "self.step() == other.step()", "self.step() == other.into().step()"),
     # A `const fn` of Rust has no `?`; and the layer asks without a vendor too.

@@ -16,11 +16,12 @@ LINKERS = "msp430-none-elf|x86_64-unknown-l4re-uclibc"
 # Of clang's triples: those of rustc, and these machines with these systems.
 MACHINES = ("x86_64 i686 aarch64 armv7", "i386 aarch64_be armv6 armeb thumbv7a mips mipsel mips64 mips64el powerpc powerpc64 powerpc64le riscv32 "
             "riscv64 s390x sparc sparc64 m68k")
-SYSTEMS = ("pc-windows-msvc pc-windows-msvc19.33.31629 w64-mingw32 apple-darwin22.6 apple-macos13.1 apple-ios16.2",
-           "linux-gnu none-linux-musl linux-android21 unknown-freebsd14.0 unknown-netbsd9.3 unknown-openbsd7.3 unknown-elf")
-# Where clang 14 knows less: that ILP32 has narrow pointers, and visionOS. It takes other processors of Arm for the two names of macOS, and needs a system
-# to say how frames are unwound.
-ILP32, SIGNS, MACROS = "gnu_ilp32", "xros", "(aarch64|armv7)-apple-darwin|unknown-unknown|-unknown-elf"
+SYSTEMS = ("windows windows-macho unknown-uefi pc-windows-msvc pc-windows-msvc19.33.31629 w64-mingw32 apple-darwin22.6 apple-macos13.1 apple-ios16.2",
+           "linux-gnu none-linux-musl linux-android21 unknown-freebsd14.0 unknown-netbsd9.3 unknown-netbsd-eabihf unknown-openbsd7.3 "
+           "unknown-elf")
+# Where clang 14 knows less: that ILP32 has narrow pointers, and visionOS. With Mach-O on Windows it has a Mac's types, and links as MSVC does. It takes other processors of Arm for the two names of macOS, needs a system
+# to say how frames are unwound, and is given Windows for UEFI.
+ILP32, SIGNS, LINKED, MACROS = "gnu_ilp32|x86_64-windows-macho", "xros", "windows-macho", "(aarch64|armv7)-apple-darwin|unknown-unknown|-unknown-elf|-unknown-uefi"
 SOURCE = """
 int long_double_size = sizeof(long double), long_double_alignment = _Alignof(long double);
 int wchar_size = sizeof(__WCHAR_TYPE__), wchar_alignment = _Alignof(__WCHAR_TYPE__);
@@ -115,7 +116,15 @@ def clang_facts(target):
     size = {name: macros[f"__SIZEOF_{name.upper()}__"] for name in ("int", "long", "pointer")}
     return {"C types": "int {int}, long {long}, pointer {pointer} bytes".format(**size), "char": "unsigned" if "__CHAR_UNSIGNED__" in macros else "signed",
             "-m": "".join(re.findall(r'"-m" "([^"]*)"', linked)[:1]), "-dynamic-linker": "".join(re.findall(r'"--?dynamic-linker(?:=|" ")([^"]*)"', linked)[:1]),
-            "macros": macros}
+            "linker": linker_of(linked), "macros": macros}
+
+
+def linker_of(linked):
+    """LLVM's linker with the interface of that which clang calls; the empty string if another compiler links."""
+    last = linked.strip().splitlines()[-1]
+    forms = {"lld-link": '"-out:', "wasm-ld": "wasm-ld", "ld64.lld": '"-platform_version"|"-macosx_version_min"|"-arch" "', "": r'^\s*"[^"]*(gcc|cc)"',
+             "ld": '"-bpT:|-b(?:32|64)"'}
+    return next((name for name, form in forms.items() if re.search(form, last)), "ld.lld")
 
 
 def check_clang(report, asked, folder):
@@ -137,8 +146,8 @@ def check_clang(report, asked, folder):
         theirs = {triple: it for triple, it in zip(ours, pool.map(clang_facts, ours)) if it}
         for_llvm = dict(zip(theirs, pool.map(lambda it: macros_of(ours[it]["for LLVM"]), theirs)))
     report.fact(f"the driver in C answers of {len(theirs)} of clang's {len(triples)} triples, of 300 at least", [(len(theirs) >= 300, True)])
-    for kind, but in {"C types": ILP32, "char": SIGNS, "-m": None, "-dynamic-linker": None}.items():
-        answered = [(triple, ours[triple].get(kind, "-"), it[kind]) for triple, it in theirs.items()]
+    for kind, but in {"C types": ILP32, "char": SIGNS, "-m": None, "-dynamic-linker": None, "linker": LINKED}.items():
+        answered = [(triple, ours[triple].get(kind, "-"), it[kind]) for triple, it in theirs.items() if kind != "linker" or it[kind]]
         report.fact(f"and clang has the same {kind}", (row for row in answered if row[1] != "-"), but)
     for kind in ("system", "version"):
         report.fact(f"LLVM has the same stated {kind}", ((triple, it.get(kind, "-"), versions[triple][kind]) for triple, it in ours.items()))

@@ -31,7 +31,7 @@ def names():
                 yield f"field {field}", text, text
     for target in output("rustc", "--print", "target-list").split():
         yield "triple", target, target
-    for dialect, name, triple, ways, _ in rows_of_names():
+    for dialect, name, triple, ways, *_ in rows_of_names():
         if dialect == "first":
             yield "word", name.rstrip("!"), f"{triple}-unknown"
         elif ways in ("r", "w", "rw") and triple != "-" and "*" not in name and dialect not in ("second", "hard", "later"):

@@ -4,7 +4,7 @@
 //! edited name states by its whole word.
 use std::collections::{BTreeMap, BTreeSet, HashMap};
 use target_lexicon::{Architecture, Endianness, PointerWidth, Triple, TripleExt as _, TripleRef};
-use target_names::{Dialect, FloatAbi, NameError, TargetInfo};
+use target_names::{Dialect, FloatAbi, NameError, Suggest as _, TargetInfo};
 
 /// After which edits of one letter another letter is edited, and which of these edits are asked: each so many-th.
 const CONTINUED: usize = 197;

@@ -55,7 +55,7 @@ ONLY_ONCE = {"arm64ilp32": "aarch64", "powerpcspe": "powerpc", "x32": "x86_64", 
              "earmv6hf": "armv6", "earmv7hf": "armv7", "armv7a": "armv7", "msp430": "msp430", "bpfeb": "bpfeb", "bpfel": "bpfel"}
 # Words that mean another machine in one dialect, or there on one system: the little-endian builds of Node on Linux, the versions of Arm that
 # a tool needs, models of the i386 that others don't tell apart, and programs of 32 bits on Windows.
-OWN_WORDS = {"linux ppc64 of node": "powerpc64le", "arm of dotnet": "armv7", "armel of dotnet": "armv7", "armhf of apk": "armv6",
+OWN_WORDS = {"linux ppc64 of node": "powerpc64le", "windows/arm of go": "armv7", "arm of dotnet": "armv7", "armel of dotnet": "armv7", "armhf of apk": "armv6",
              "armel of apk": "armv5te", "arm of pacman": "armv5te", "64 of conda": "x86_64", "64 of node": "x86_64", "32 of conda": "i686", "i386 of rpm": "i386",
              "linux i386 of uname": "i386", "freebsd riscv of uname": "riscv64", "mingw32_nt x86_64 of uname": "i686",
              "linuxmusl ppc64 of node": "powerpc64le", "x86 of apk": "i586",
@@ -135,8 +135,8 @@ class Comparison(Report):
         words = collections.defaultdict(list)
         for dialect in self.dialects:
             for row in self.rows_of(dialect):
-                if row.note.startswith("+"):
-                    continue  # a level of the machine
+                if row.note.startswith("+") or (dialect, row.ways) == ("go", "w"):
+                    continue  # a level of the machine, or what only the shape of a triple says
                 system, word = words_of(dialect, row.name)
                 own = OWN_WORDS.keys() & {f"{it} of {dialect}" for it in (word, f"{system} {word}", row.name)}
                 words[own.pop() if own else word].append((dialect, row.name, row.triple.split("-")[0]))
@@ -199,7 +199,7 @@ class Comparison(Report):
         environment = {**os.environ, "GOFLAGS": "", "GO111MODULE": "off", "CGO_ENABLED": "0", "GOCACHE": f"{self.folder}/go",
                        "GOPATH": "/usr/share/gocode"}
         theirs = output(go, "tool", "dist", "list", env=environment).split()
-        ours = [row.name for row in self.rows_of("go", ("rw", "-")) if row.name not in NOT_PORTS and "_" not in row.name]
+        ours = [row.name for row in self.rows_of("go", ("rw", "w", "-")) if row.name not in NOT_PORTS and "_" not in row.name]
         newer = {row.name for row in self.rows if row.note.startswith("since")} | {"wasip1/wasm"}
         self.fact("Go's names are those of `go tool dist list`", (
             (name, name in ours, name in theirs) for name in {*ours, *theirs} - (newer - {*theirs})))

@@ -8,17 +8,20 @@ import sys
 
 import built
 
+sys.path.append(f"{built.ROOT}/tools/names")
+from tool_names import products
+
 
 # A row of packages/names/elsewhere.tsv.
-Row = collections.namedtuple("Row", "dialect name triple ways note", defaults=[""])
+Row = collections.namedtuple("Row", "dialect name triple ways note level", defaults=["", ""])
 
 
 def rows_of_names():
-    """The rows of packages/names/elsewhere.tsv, one for each name of a line."""
+    """The rows of packages/names/elsewhere.tsv, one for each name of a line or a rule."""
     with open(f"{built.ROOT}/packages/names/elsewhere.tsv", encoding="utf-8") as file:
         lines = [line.rstrip("\n").split("\t") for line in file if not line.startswith("#")]
-    return [Row(dialect, name, name if triple == "=" else triple, *rest)
-            for dialect, names, triple, *rest in (line for line in lines if len(line) > 2) for name in names.split(", ")]
+    return [Row(dialect, name, meaning, *rest) for dialect, names, triple, *rest in (line for line in lines if len(line) > 3)
+            for name, meaning in products(names, triple)]
 
 
 def output(*command, **more):

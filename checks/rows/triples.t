@@ -1,6 +1,6 @@
 # The program `triples`
 
-Nothing goes to the error output: the last row shows it.
+Only the faults of the stream modes go to the error output: the last row shows it.
 
   $ exec 2> errors
 
@@ -133,6 +133,13 @@ There a line that is not UTF-8, or has 65,536 bytes, is refused, and the others 
   x86_64-unknown-linux
   error: Line too long
   $ long 65535 | triples stream-show | cmp - <(long 65535 | triples print)
+  $ for mode in stream stream-show stream-settle; do
+  >   { printf '\377\n'; long 65535; echo; long 65536; printf '\nfoo'; } | triples $mode | cut -c 1-36
+  > done | sort | uniq -c
+        3 error: Line is not UTF-8
+        3 error: Line too long
+        3 error: Unrecognized architecture: aa
+        3 error: Unrecognized architecture: fo
 
 ## Lines
 
@@ -171,12 +178,12 @@ Digits of two bytes each, so many that a read ends within one of them:
 
 ## Readers and writers that fail
 
-A folder can't be read, and neither can a closed input, in any mode:
+A folder can't be read, and neither can a closed input, in any mode. The line of a stream mode isn't among its answers:
 
   $ for mode in print show settle json matrix stream stream-show stream-settle; do
   >   triples $mode < /; echo "status $?"; triples $mode <&-; echo "status $?"
   > done | sort | uniq -c
-       16 fault: Read failed
+       10 fault: Read failed
        16 status 1
 
 If something can't be written, the status is 1, or 2 without a mode; if there is nothing to write, it is 0. Here the output is full, then closed, and then
@@ -225,4 +232,6 @@ A reader closes after a hundred bytes, and a file may have 64 kB. Both get the b
 
 ## The error output
 
-  $ cat errors
+  $ sort errors | uniq -c
+        6 fault: Read failed
+        4 fault: Write failed

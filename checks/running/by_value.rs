@@ -1,17 +1,27 @@
-//! Equality, order and hashing. Two values of the crate are equal exactly if those of the definitions are, and what they feed a hasher
+//! Equality, order, hashing and conversions. Two values of the crate are equal exactly if those of the definitions are, and what they feed a hasher
 //! is as `HashInjectiveOn` says. Of orders the definitions have only `version_cmp`, and upstream has none but that of versions: the
 //! others are compared with what the crate's `order.rs` says, over the names that the definitions give.
 use crate::inputs::{self, Fields, Random};
 use crate::report::Report;
 use definitions::spec as s;
-use definitions::values::{apply, con, eq, function, library, named, text as v, truth, with, N, TRIED, V, WRITES};
+use definitions::values::{apply, con, eq, function, library, text as v, truth, with, N, TRIED, V, WRITES};
 use std::cmp::Ordering;
 use std::fmt::Debug;
 use std::hash::{Hash, Hasher};
-use target_lexicon::TripleExt as _;
-use target_lexicon::{
-    Architecture, CDataModel, CallingConvention, CustomVendor, DeploymentTarget, Endianness, Field, PointerWidth, Size, Triple, Vendor, VendorRef,
+use target_lexicon::{CustomVendor, DeploymentTarget, Triple, Vendor};
+#[cfg(feature = "port")]
+use {
+    definitions::values::named,
+    target_lexicon::{Architecture, CDataModel, CallingConvention, Endianness, Field, KnownVendor, PointerWidth, Size, TripleExt as _, TripleRef, VendorRef},
 };
+
+#[cfg(feature = "port")]
+use Ord as MaybeOrd;
+/// Upstream's types have no order.
+#[cfg(not(feature = "port"))]
+trait MaybeOrd: Eq {}
+#[cfg(not(feature = "port"))]
+impl<T: Eq> MaybeOrd for T {}
 
 /// A hasher that keeps what it is fed.
 #[derive(Default)]
@@ -34,15 +44,20 @@ fn fed(value: &impl Hash) -> V {
 }
 
 /// Compares each two of these values, whose order is this one of the definitions' values.
-fn compared<T: Ord + Hash + Debug>(r: &mut Report, all: &[(V, T)], order: &dyn Fn(V, V) -> Ordering) {
+fn compared<T: MaybeOrd + Hash + Debug>(r: &mut Report, all: &[(V, T)], order: &dyn Fn(V, V) -> Ordering) {
     for (x, a) in all {
         for (y, b) in all {
             let (equal, expected) = (eq(*x, *y), order(*x, *y));
             r.holds("equality", (a == b) == equal && (a != b) != equal, &(a, b));
+            #[cfg(feature = "port")]
             r.holds("order", a.cmp(b) == expected && a.partial_cmp(b) == Some(expected), &(a, b));
             r.holds("order of equal values", equal == (expected == Ordering::Equal), &(a, b));
         }
     }
+    hashed(r, all);
+}
+
+fn hashed<T: Hash + Debug>(r: &mut Report, all: &[(V, T)]) {
     let values = library::seq(&all.iter().map(|it| it.0).collect::<Vec<_>>());
     let feeds = library::seq(&all.iter().map(|it| fed(&it.1)).collect::<Vec<_>>());
     let at = |list: V| function(move |i| list.list()[i.number() as usize]);
@@ -61,6 +76,7 @@ fn by_name(name: fn(V) -> V) -> impl Fn(V, V) -> Ordering {
     move |x, y| name(x).bytes().cmp(&name(y).bytes())
 }
 
+#[cfg(feature = "port")]
 fn by_number(number: fn(V) -> V) -> impl Fn(V, V) -> Ordering {
     move |x, y| number(x).number().cmp(&number(y).number())
 }
@@ -99,6 +115,7 @@ fn by_fields(x: V, y: V) -> Ordering {
 
 // ---- what is compared
 
+#[cfg(feature = "port")]
 /// Values of a type without arguments, each with the definition's of the same name.
 fn variants<T: Debug + Copy>(kind: &str, all: &[T]) -> Vec<(V, T)> {
     all.iter().map(|it| (named(kind, &format!("{it:?}")).unwrap_or_else(|| panic!("{kind} has no {it:?}")), *it)).collect()
@@ -118,13 +135,48 @@ pub fn values(r: &mut Report) {
     compared(r, &fields.architectures, &by_name(s::architecture_name));
     // of each kind one in 50, and the first
     let all: Vec<_> = fields.vendors.iter().flat_map(|it| it.iter().step_by(50)).cloned().collect();
-    compared(r, &all.iter().map(|it| (it.0, VendorRef::from(&it.1))).collect::<Vec<_>>(), &by_vendor);
     compared(r, &all.iter().flat_map(|it| vendors(it.0, &it.1)).collect::<Vec<_>>(), &by_vendor);
     compared(r, &fields.systems.iter().flat_map(|it| it.iter().step_by(50)).cloned().collect::<Vec<_>>(), &by_system);
+    // one with each version
+    if let Some(all) = fields.systems.iter().find(|it| it.len() > 50) {
+        compared(r, all, &by_system);
+    }
     compared(r, &fields.environments, &by_name(s::environment_name));
     compared(r, &fields.formats, &by_name(s::binary_format_name));
-    let versions = ["0", "9", "13.4", "13.4.255", "13.5", "65535.0.1"].map(|it| (s::version_of(v(it)).at(0), it.parse::<DeploymentTarget>().unwrap()));
+    let versions = [(0, 0, 0), (9, 0, 0), (13, 4, 0), (13, 4, 255), (13, 5, 0), (13, 5, 1), (65535, 0, 1), (65535, 1, 0)].map(|(major, minor, patch)| {
+        (s::version_of(v(&format!("{major}.{minor}.{patch}"))).at(0), DeploymentTarget { major, minor, patch })
+    });
     compared(r, &versions, &by_version);
+    for (x, a) in versions {
+        for (y, b) in versions {
+            r.holds("order of versions", a.cmp(&b) == by_version(x, y) && a.partial_cmp(&b) == Some(by_version(x, y)), &(a, b));
+        }
+    }
+    of_this_crate(r, &fields);
+}
+
+#[cfg(not(feature = "port"))]
+fn of_this_crate(_: &mut Report, _: &Fields) {}
+
+/// What upstream's types don't have.
+#[cfg(feature = "port")]
+fn of_this_crate(r: &mut Report, fields: &Fields) {
+    let all: Vec<_> = fields.vendors.iter().flat_map(|it| it.iter().step_by(50)).cloned().collect();
+    compared(r, &all.iter().map(|it| (it.0, VendorRef::from(&it.1))).collect::<Vec<_>>(), &by_vendor);
+    for (_, vendor) in fields.vendors.iter().flatten() {
+        let it = VendorRef::from(vendor);
+        r.holds("conversions of a vendor", it.to_vendor() == *vendor && eq(fed(&it), fed(vendor)), vendor);
+        if let VendorRef::Known(known) = it {
+            r.holds("a known vendor", VendorRef::from(known) == it && known.to_vendor() == *vendor && KnownVendor::clone(&known) == known, vendor);
+        }
+    }
+    let known: Vec<_> = all.iter().filter_map(|(x, it)| if let (V::C(_, of), VendorRef::Known(known)) = (x, VendorRef::from(it)) { Some((of[0], known)) } else { None }).collect();
+    compared(r, &known, &by_name(s::known_vendor_name));
+    let text = |it: &&'static str| (v(it), CustomVendor::Static(it));
+    let long: Vec<String> = [8, 16, 24, 64, 256, 1024].iter().flat_map(|count| ["a", "b", "ba"].map(|it| "q".repeat(*count) + it)).collect();
+    let all: Vec<&'static str> = long.into_iter().map(|it| &*it.leak()).chain(["", "a", "ab", "b"]).collect();
+    compared(r, &all.iter().map(text).collect::<Vec<_>>(), &|x, y| x.bytes().cmp(&y.bytes()));
+    compared(r, &all.iter().map(|it| (v(it), VendorRef::Custom(it))).collect::<Vec<_>>(), &|x, y| x.bytes().cmp(&y.bytes()));
     compared(r, &variants("PointerWidth", &[PointerWidth::U16, PointerWidth::U32, PointerWidth::U64]), &by_number(s::width_bits));
     compared(r, &variants("Size", &[Size::U8, Size::U16, Size::U32, Size::U64]), &by_number(s::size_bits));
     compared(r, &variants("Endianness", &[Endianness::Little, Endianness::Big]), &by_name(s::endianness_name));
@@ -157,6 +209,7 @@ pub fn triples(r: &mut Report, i: usize, fields: &Fields) {
         change(&mut mixed, &other);
         (with(t, &[(name, u.field(name))]), mixed)
     };
+    #[cfg_attr(not(feature = "port"), allow(unused_mut))]
     let mut all = vec![
         (t, triple.clone()),
         (u, other.clone()),
@@ -166,11 +219,22 @@ pub fn triples(r: &mut Report, i: usize, fields: &Fields) {
         mixed("environment", |it, other| it.environment = other.environment),
         mixed("binary_format", |it, other| it.binary_format = other.binary_format),
     ];
+    #[cfg(feature = "port")]
     all.extend(triple.clone().settle().ok().map(|it| (s::settled_values(t), it)));
-    compared(r, &all.iter().map(|it| (it.0, it.1.as_triple_ref())).collect::<Vec<_>>(), &by_fields);
     let owned = |(x, triple): &(V, Triple)| {
         let (x, triple) = (*x, triple.clone());
         vendors(x, &triple.vendor).into_iter().map(move |(_, vendor)| (x, Triple { vendor, ..triple.clone() }))
     };
     compared(r, &all.iter().flat_map(owned).collect::<Vec<_>>(), &by_fields);
+    #[cfg(feature = "port")]
+    {
+        compared(r, &all.iter().map(|it| (it.0, it.1.as_triple_ref())).collect::<Vec<_>>(), &by_fields);
+        for (x, a) in &all {
+            let it = TripleRef::from(a);
+            r.holds("conversions of a triple", TripleRef::from(&it) == it && a.as_triple_ref() == it && it.to_triple() == *a && eq(fed(&it), fed(a)), a);
+            for (y, b) in &all {
+                r.holds("equality of a borrowed triple and an owned one", (it == *b) == eq(*x, *y), &(a, b));
+            }
+        }
+    }
 }

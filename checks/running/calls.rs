@@ -4,10 +4,12 @@ use crate::report::Report;
 use crate::{answers, inputs};
 use definitions::spec as s;
 use definitions::values::{con, eq, function, library, named, text as v, with, V};
+use std::borrow::Cow;
+use std::fmt::Display;
 use target_lexicon::{Named as _, OperatingSystemExt as _, ParseErrorExt as _, TripleExt as _};
 use target_lexicon::{
-    CallingConvention, CDataModel, CustomVendor, Endianness, NotPlain, ParseError, ParseTripleError, Source, Triple, TripleRef, Vendor, VendorRef,
-    Z80Architecture,
+    Architecture, BinaryFormat, CallingConvention, CDataModel, CustomVendor, DeploymentTarget, Endianness, Environment, Field, NotPlain,
+    OperatingSystem, ParseError, ParseTripleError, Refusal, Source, Sources, Triple, TripleRef, Vendor, VendorRef, Z80Architecture,
 };
 
 /// What a word is as a vendor that is borrowed, and as a processor of the family of Z80, which upstream doesn't export.
@@ -15,7 +17,10 @@ pub fn word(r: &mut Report, word: &str) {
     common::word(r, word);
     let x = v(word);
     answers! { r, &word, (x): vendor_of = VendorRef::from_str(word).ok(); }
+    let is_whole = |it: Refusal| it.expected == Some(Field::Vendor) && (it.part.text, it.part.start) == (word, 0);
+    r.holds("a refused vendor is the whole string", VendorRef::from_str(word).err().map_or(true, is_whole), &word);
     answers! { r, &word, (function(s::as_z80), x): sub_architecture_of = word.parse::<Z80Architecture>().ok(); }
+    answers! { r, &word, (x): version_of = word.parse::<DeploymentTarget>().ok(); }
 }
 
 /// What each value of a field answers, by the calls without memory.
@@ -24,35 +29,49 @@ pub fn values(r: &mut Report) {
     let fields = inputs::fields();
     for (x, architecture) in fields.architectures {
         answers! { r, &architecture, (x): architecture_name = architecture.name(); }
+        unpadded(r, &architecture);
         if let (V::C(s::Architecture__Z80, of), target_lexicon::Architecture::Z80(z80)) = (x, architecture) {
             answers! { r, &z80, (of[0]): z80_name = z80.into_str(); z80_name = z80.to_string(); }
         }
         if let (V::C(s::Option__Some, of), Ok(width)) = (s::architecture_width(x), architecture.pointer_width()) {
             answers! { r, &width, (of[0]): width_name = width.name(); }
+            padded(r, &width);
         }
     }
     for (x, vendor) in fields.vendors.concat() {
         let it = VendorRef::from(&vendor);
         answers! { r, &it, (x): vendor_name = it.as_str(); vendor_name = it.to_string(); is_plain = it.is_plain(); is_custom = it.is_custom(); }
         r.holds("to_vendor", it.to_vendor() == vendor, &it);
+        unpadded(r, &it);
+        unpadded(r, &vendor);
         if let (V::C(_, of), VendorRef::Known(known)) = (x, it) {
             answers! { r, &known, (of[0]): known_vendor_name = known.name(); }
+            padded(r, &known);
             r.holds("to_vendor", known.to_vendor() == vendor, &known);
         }
     }
     for (x, system) in fields.systems.concat() {
         answers! { r, &system, (x): system_version = system.version(); }
+        r.holds("a name without a version is borrowed", matches!(system.into_str(), Cow::Borrowed(_)) == system.version().is_none(), &system);
+        let without = if let V::C(tag, [_]) = x { con(tag, &[V::C(s::Option__None, &[])]) } else { x };
+        answers! { r, &system, (without): operating_system_name = system.prefix(); }
+        unpadded(r, &system);
     }
     for (x, environment) in fields.environments {
         answers! { r, &environment, (x): environment_name = environment.name(); }
+        unpadded(r, &environment);
     }
     for (x, format) in fields.formats {
         answers! { r, &format, (x): binary_format_name = format.name(); }
+        unpadded(r, &format);
     }
+    inputs::versions().iter().filter_map(|it| it.parse::<DeploymentTarget>().ok()).for_each(|it| padded(r, &it));
+    [Field::Architecture, Field::Vendor, Field::OperatingSystem, Field::Environment, Field::BinaryFormat].iter().for_each(|it| padded(r, it));
     macro_rules! names {
         ($($type:ident $definition:ident: $($variant:ident)*;)*) => {$($(
             let (x, it) = (named(stringify!($type), stringify!($variant)).expect("a variant"), $type::$variant);
             answers! { r, &it, (x): $definition = it.name(); $definition = it.to_string(); }
+            padded(r, &it);
         )*)*};
     }
     names! {
@@ -61,10 +80,26 @@ pub fn values(r: &mut Report) {
     }
 }
 
+fn in_many_ways(it: &dyn Display) -> String {
+    format!("{it:>19}|{it:<18}|{it:^17}|{it:.3}|{it:*^9.2}|{it:-<3}|{it:05}")
+}
+
+/// Width, alignment and precision are those of the name.
+fn padded(r: &mut Report, it: &dyn Display) {
+    r.holds("width, alignment and precision", in_many_ways(it) == in_many_ways(&it.to_string()), &it.to_string());
+}
+
+/// They change nothing, as upstream's types have it.
+fn unpadded(r: &mut Report, it: &dyn Display) {
+    r.holds("no width, alignment or precision", in_many_ways(it) == vec![it.to_string(); 7].join("|"), &it.to_string());
+}
+
 /// How a string parses, or is refused, without memory.
 pub fn string(r: &mut Report, string: &str) {
     common::string(r, string);
     let reading = s::reading(v(string));
+    let silent = !crate::allocates(|| (TripleRef::from_str(string).map(|it| (it.comes_back(), it.vendor.is_plain())), TripleRef::explain(string)));
+    r.holds("parsing allocates nothing", silent, &string);
     match TripleRef::from_str(string) {
         Ok(triple) => r.same("reading", reading, &Ok::<_, ()>(triple), &string),
         Err(refusal) => {
@@ -87,13 +122,15 @@ pub fn owned(r: &mut Report, string: &str) {
         (Err(error), Err(other)) => {
             r.same("reading", reading, &format_args!("Err({{ expected: {:?}, part: {:?} }})", error.expected(), error.part()), &string);
             if let V::C(s::Result__Err, it) = reading {
+                common::fails_with_its_writer(r, &error);
+                common::fails_with_its_writer(r, &other);
                 parse_error(r, string, &error);
                 parse_triple_error(r, string, it[0], &other);
                 let refusal = TripleRef::from_str(string).expect_err("a refusal");
                 let elsewhere = refusal.in_text("foo");
                 r.holds("Refusal::in_text", refusal.in_text(string) == other && TripleRef::parse(string).as_ref() == Err(&other), &string);
                 r.holds("Refusal::in_text of another string", elsewhere.text() == elsewhere.part() && elsewhere.part() == error.part() || "foo".contains(error.part()), &string);
-                r.holds("ParseError of a ParseTripleError", ParseError::from(other) == error, &string);
+                r.holds("ParseError of a ParseTripleError", other.to_error() == error, &string);
             }
         }
         _ => r.holds("Triple::parse reads what str::parse does", false, &string),
@@ -125,9 +162,8 @@ fn parse_triple_error(r: &mut Report, string: &str, refusal: V, error: &ParseTri
     let visible = |text: &str| text.chars().map(|c| if (' '..='~').contains(&c) { c.to_string() } else { c.escape_default().to_string() }).collect::<String>();
     let [before, part, after] = [&string[..range.start], error.part(), &string[range.end..]].map(visible);
     let carets = "^".repeat(part.chars().count().max(1));
-    let meant = error.suggestion().map_or(String::new(), |it| format!(" did you mean `{it}`?"));
     let line = s::refusal_line(with(refusal, &[("part", v(&part))])).string();
-    let shown = format!("{line}\n  {before}{part}{after}\n  {}{carets}{meant}", " ".repeat(before.chars().count()));
+    let shown = format!("{line}\n  {before}{part}{after}\n  {}{carets}", " ".repeat(before.chars().count()));
     r.holds("what an error shows", error.to_string() == shown, &format_args!("{string:?}: {error}"));
 }
 
@@ -149,6 +185,14 @@ pub fn triple(r: &mut Report, t: V, owned: &Triple) {
         calling_convention = triple.default_calling_convention().ok();
         data_model = triple.data_model().ok();
     }
+    common::fails_with_its_writer(r, input);
+    let silent = !crate::allocates(|| {
+        let mut room = [0; 64];
+        let written = (triple.write_to(&mut room), triple.default_binary_format(), owned.comes_back(), triple.comes_back(), triple.settles_as(*input));
+        let family = (owned.round_trip_family(), triple.round_trip_family(), owned.settles_as(owned), owned.as_triple_ref() == triple);
+        (written, family, owned.endianness(), owned.pointer_width(), owned.default_calling_convention(), owned.data_model(), triple.data_model())
+    });
+    r.holds("queries allocate nothing", silent, input);
     let (plain, settled, step) = (s::is_plain(s::get_vendor(t)).yes(), s::settled_values(t), s::normal_step(t));
     let comes_back = eq(s::family(t), V::C(s::Option__None, &[]));
     r.holds("comes_back", triple.comes_back() == comes_back && owned.comes_back() == comes_back, input);
@@ -165,17 +209,52 @@ pub fn triple(r: &mut Report, t: V, owned: &Triple) {
         }
         both => r.holds("is_plain", false, &both),
     }
-    // the canonical form, and one that isn't
+    // the canonical form, and a triple that differs in one field
     let canonical = Triple { vendor: owned.vendor.clone(), ..triple.step().to_triple() };
     let is_esp = eq(s::get_vendor(settled), s::get_vendor(t));
     r.holds("settles_as", !is_esp || owned.settles_as(&canonical) && triple.settles_as(&canonical), input);
-    let other = Triple { vendor: Vendor::Custom(CustomVendor::Static("foo.bar")), ..canonical };
-    r.holds("settles_as of another", !owned.settles_as(&other) && !triple.settles_as(&other), input);
-    let (mut buffer, printed) = ([7; 256], s::text_of(t).bytes());
-    let count = printed.len();
+    let value = |kind: &str, name: &str| named(kind, name).expect("a value");
+    let others: [(&str, V, fn(&mut Triple)); 5] = [
+        ("architecture", value("Architecture", "Avr"), |it| it.architecture = Architecture::Avr),
+        ("vendor", con(s::VendorValue__Custom, &[v("foo.bar")]), |it| it.vendor = Vendor::Custom(CustomVendor::Static("foo.bar"))),
+        ("operating_system", value("OperatingSystem", "Hurd"), |it| it.operating_system = OperatingSystem::Hurd),
+        ("environment", value("Environment", "Musl"), |it| it.environment = Environment::Musl),
+        ("binary_format", value("BinaryFormat", "Wasm"), |it| it.binary_format = BinaryFormat::Wasm),
+    ];
+    for (field, value, change) in others {
+        let (expected, mut other) = (eq(s::settled_values(with(t, &[(field, value)])), settled), owned.clone());
+        change(&mut other);
+        r.holds("settles_as of a neighbour", owned.settles_as(&other) == expected && triple.settles_as(&other) == expected, &(input, &other));
+    }
+    let printed = s::text_of(t).bytes();
+    let (mut buffer, count) = (vec![7; printed.len() + 9], printed.len());
     r.holds("write_to", triple.write_to(&mut buffer) == count && buffer[..count] == printed && buffer[count..].iter().all(|it| *it == 7), input);
     r.holds("write_to of a buffer of its size", triple.write_to(&mut buffer[..count]) == count && buffer[..count] == printed, input);
-    r.holds("write_to of a small buffer", triple.write_to(&mut [7; 256][..count - 1]) == count, input);
+    r.holds("write_to of a small buffer", triple.write_to(&mut vec![7; count - 1]) == count, input);
+}
+
+/// The sources, with this one for a format that isn't given.
+fn found(sources: Sources, format: Source) -> V {
+    let value = |source: Source| match source {
+        Source::Part(part) => con(s::SourceValue__FromPart, &[s::part_from(V::N(part.start as u64), v(part.text))]),
+        Source::NotGiven => V::C(s::SourceValue__NotGiven, &[]),
+        Source::Implied => V::C(s::SourceValue__Implied, &[]),
+    };
+    let format = if sources.binary_format == Source::NotGiven { format } else { sources.binary_format };
+    s::source_values(value(sources.architecture), value(sources.vendor), value(sources.operating_system), value(sources.environment), value(format))
+}
+
+/// Of all triples that differ in one field from what a string parses as, it parses as none; and a refused one as none that differs so from another.
+pub fn neighbours(r: &mut Report, string: &str) {
+    let x = v(string);
+    let read = if let V::C(s::Result__Ok, it) = s::reading(x) { it[0] } else { s::unknown_values() };
+    for (field, all) in inputs::values_of_fields() {
+        for value in all.list() {
+            let other = with(read, &[(field, *value)]);
+            let is_it = eq(s::reading(x), con(s::Result__Ok, &[other]));
+            r.holds("ReadsAs of a neighbour", s::ReadsAs(x, other).yes() == is_it, &(string, definitions::values::shown(*value)));
+        }
+    }
 }
 
 /// The relations of the specification: what `reading` gives is in them, and its neighbours aren't.
@@ -185,7 +264,7 @@ pub fn relations(r: &mut Report, string: &str) {
     if tag == s::Result__Ok {
         r.holds("ReadsAs", s::ReadsAs(x, it[0]).yes(), &string);
         for field in ["architecture", "vendor", "operating_system", "environment", "binary_format"] {
-            let other = with(it[0], &[(field, s::nintendo_3ds().field(field))]);
+            let other = with(it[0], &[(field, s::special_triple(s::special_rows().list()[0]).field(field))]);
             r.holds("ReadsAs of a neighbour", s::ReadsAs(x, other).yes() == eq(other, it[0]), &string);
         }
         let refusal = s::refusal_with(con(s::Option__Some, &[V::C(s::Field__Architecture, &[])]), library::seq(&[]));
@@ -194,16 +273,19 @@ pub fn relations(r: &mut Report, string: &str) {
         if let V::C(s::Result__Err, refused) = s::reading_of_parts(s::parts_of(x)) {
             r.holds("IsRefusedAs of a special string", !s::IsRefusedAs(x, refused[0]).yes(), &string);
         }
-        let sources = TripleRef::explain(string).sources;
-        let found = [sources.architecture, sources.vendor, sources.operating_system, sources.environment, sources.binary_format].map(|source| match source {
-            Source::Part(part) => con(s::SourceValue__FromPart, &[s::part_from(V::N(part.start as u64), v(part.text))]),
-            Source::NotGiven => V::C(s::SourceValue__NotGiven, &[]),
-            Source::Implied => V::C(s::SourceValue__Implied, &[]),
-        });
-        let all = s::source_values(found[0], found[1], found[2], found[3], found[4]);
+        let all = found(TripleRef::explain(string).sources, Source::NotGiven);
+        let (environment, format) = (all.field("environment"), all.field("binary_format"));
         r.holds("AreSourcesOf", s::AreSourcesOf(x, all).yes() && s::AreInText(x, all).yes(), &string);
-        r.holds("AreSourcesOf of others", !s::AreSourcesOf(x, s::source_values(found[0], found[1], found[2], found[4], found[3])).yes() || eq(found[3], found[4]), &string);
+        let others = with(all, &[("environment", format), ("binary_format", environment)]);
+        r.holds("AreSourcesOf of others", !s::AreSourcesOf(x, others).yes() || eq(environment, format), &string);
     } else {
+        // the parts before the refused one give what they give by themselves, except that no format is implied yet
+        let (explanation, start) = (TripleRef::explain(string), TripleRef::from_str(string).expect_err("a refusal").part.start);
+        let before = v(&string[..start.saturating_sub(1)]);
+        let sources = found(explanation.sources, if start > 0 { Source::Implied } else { Source::NotGiven });
+        let is_special = start > 0 && !eq(s::special_values(before), V::C(s::Option__None, &[]));
+        let holds = if start > 0 { is_special || s::AreSourcesOf(before, sources).yes() } else { eq(sources, s::same_sources(V::C(s::SourceValue__NotGiven, &[]))) };
+        r.holds("the sources of a refused string", holds && explanation.triple.is_err(), &string);
         r.holds("IsRefusedAs", s::IsRefusedAs(x, it[0]).yes(), &string);
         for other in definitions::values::fields().list() {
             let other = with(it[0], &[("expected", con(s::Option__Some, &[*other]))]);

@@ -4,7 +4,7 @@ use crate::inputs;
 use crate::report::Report;
 use definitions::spec as s;
 use definitions::values::{con, eq, function, named, text as v, V};
-use std::fmt::{self, Debug};
+use std::fmt::{self, Debug, Display, Write};
 use target_lexicon::{
     Aarch64Architecture, Architecture, ArmArchitecture, BinaryFormat, CDataModel, CleverArchitecture, CustomVendor, Environment, Mips32Architecture,
     Mips64Architecture, OperatingSystem, ParseError, Riscv32Architecture, Riscv64Architecture, Triple, Vendor, X86_32Architecture,
@@ -54,6 +54,26 @@ fn refusal(error: &ParseError) -> String {
     let field = name.trim_start_matches("Unrecognized");
     let expected = if field == "Field" { "None".to_string() } else { format!("Some({field})") };
     format!("{{ expected: {expected}, part: {part} }}")
+}
+
+// ---- how it is written
+
+/// A writer with so much room.
+struct Room(usize);
+
+impl fmt::Write for Room {
+    fn write_str(&mut self, text: &str) -> fmt::Result {
+        self.0 = self.0.checked_sub(text.len()).ok_or(fmt::Error)?;
+        Ok(())
+    }
+}
+
+/// `Display` says that its writer fails, wherever that is.
+pub fn fails_with_its_writer(r: &mut Report, it: &dyn Display) {
+    let shown = it.to_string();
+    let fails = |room| write!(Room(room), "{it}").is_err();
+    let all_fail = (0..shown.len()).step_by(shown.len() / 200 + 1).all(fails);
+    r.holds("Display says that its writer fails", all_fail && !fails(shown.len()), &shown);
 }
 
 // ---- what is compared
@@ -134,11 +154,13 @@ pub fn values(r: &mut Report) {
     }
     for (x, vendor) in fields.vendors.concat() {
         answers! { r, &vendor, (x): vendor_name = vendor.as_str(); vendor_name = vendor.to_string(); }
+        fails_with_its_writer(r, &vendor);
     }
     for (x, system) in fields.systems.concat() {
         answers! { r, &system, (x):
             operating_system_name = system.to_string(); operating_system_name = system.into_str(); is_like_darwin = system.is_like_darwin();
         }
+        fails_with_its_writer(r, &system);
     }
     for (x, environment) in fields.environments {
         answers! { r, &environment, (x): environment_name = environment.into_str(); environment_name = environment.to_string(); }
@@ -184,6 +206,7 @@ pub fn string(r: &mut Report, string: &str) {
 pub fn triple(r: &mut Report, t: V, triple: &Triple) {
     let input = Shown(triple);
     let printed = triple.to_string();
+    fails_with_its_writer(r, triple);
     r.same("the printed string", PRINTED(t), &printed, &input);
     answers! { r, &input, (t):
         endianness = triple.endianness().ok();

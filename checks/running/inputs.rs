@@ -1,7 +1,9 @@
 //! What is tried. Nothing else of this check is chosen by hand.
 use crate::report::without_names_of_structs;
 use definitions::spec as s;
-use definitions::values::{apply, con, eq, keep, shown, text as v, N, V};
+#[cfg(feature = "port")]
+use definitions::values::library;
+use definitions::values::{apply, con, eq, keep, shown, text as v, with, N, V};
 use std::fmt::Debug;
 use target_lexicon::{Architecture, BinaryFormat, CustomVendor, Environment, OperatingSystem, Triple, Vendor};
 
@@ -67,6 +69,9 @@ fn custom(text: String) -> (V, Vendor) {
     (keep(|| con(s::VendorValue__Custom, &[v(text)])), Vendor::Custom(CustomVendor::Static(text)))
 }
 
+/// Lengths at which something might change.
+const LENGTHS: [usize; 20] = [15, 16, 17, 32, 63, 64, 65, 128, 200, 255, 256, 257, 1023, 1024, 1025, 4096, 10000, 65535, 65536, 65537];
+
 /// Custom vendors, and such that no string parses as: each character that is admitted, and each next to one that is, at the first place,
 /// in the middle and at the end, and after `esp`; the words that parsing knows, as they are, with a letter more, and with one less; and long ones.
 pub fn custom_vendors() -> Vec<String> {
@@ -74,7 +79,7 @@ pub fn custom_vendors() -> Vec<String> {
     let near = (0..128).filter(|c| (c - (*c > 0) as u8..=c + 1).any(admitted)).map(char::from);
     let placed = near.flat_map(|c| [format!("{c}q9"), format!("q{c}9"), format!("q9{c}"), format!("esp{c}"), format!("{c}esp"), c.into()]);
     let known = words().into_iter().flat_map(|it| [it.clone() + "q", format!("q{it}"), it.chars().skip(1).collect(), it]);
-    let long = [2, 7, 8, 15, 16, 17, 31, 32, 33, 64, 100].map(|count| "q".repeat(count));
+    let long = [2, 7, 8, 31, 33, 100].into_iter().chain(LENGTHS.into_iter().filter(|it| *it < 2000)).flat_map(|count| ["q", "Q"].map(|it| it.repeat(count)));
     unique(placed.chain(known).chain(long))
 }
 
@@ -118,20 +123,52 @@ pub fn fields() -> Fields {
     }
 }
 
+/// The values of each field, by its name: all of the tables, and some custom vendors and systems with versions.
+#[cfg(feature = "port")]
+pub fn values_of_fields() -> [(&'static str, V); 5] {
+    static mut ALL: Option<[V; 5]> = None;
+    fn values<'a, T: 'a>(all: impl IntoIterator<Item = &'a (V, T)>) -> V {
+        library::seq(&all.into_iter().map(|it| it.0).collect::<Vec<_>>())
+    }
+    fn make() -> [V; 5] {
+        let all = fields();
+        let (made, others) = all.vendors.split_last().expect("vendors");
+        let vendors = others.iter().flatten().chain(made.iter().step_by(100));
+        let systems = all.systems.iter().flat_map(|it| it.iter().step_by(50));
+        [values(&all.architectures), values(vendors), values(systems), values(&all.environments), values(&all.formats)]
+    }
+    let all = unsafe { *ALL.get_or_insert_with(|| {
+        let mut found = None;
+        keep(|| {
+            found = Some(make());
+            V::N(0)
+        });
+        found.unwrap()
+    }) };
+    let [architecture, vendor, system, environment, format] = all;
+    [("architecture", architecture), ("vendor", vendor), ("operating_system", system), ("environment", environment), ("binary_format", format)]
+}
+
 fn only<T: Clone>(values: &[(V, T)], wanted: &str) -> Vec<(V, T)> {
     values.iter().filter(|it| wanted.split(' ').any(|name| name == shown(it.0))).cloned().collect()
+}
+
+/// The values of a field that special strings have, and these.
+fn of_special(field: &str, others: &str) -> String {
+    let found = s::special_rows().list().iter().map(|row| shown(s::special_triple(*row).field(field)));
+    found.chain([others.to_string()]).collect::<Vec<_>>().join(" ")
 }
 
 /// The values of which families, special strings and rules of printing speak, and one of each other kind.
 pub fn near_families() -> Fields {
     let all = fields();
     let (made, others) = all.vendors.split_last().expect("vendors");
-    let vendors = only(&others.concat(), "Known(Unknown) Known(Nintendo) Known(Espressif) Custom(\"esp\") Custom(\"q-9\")");
+    let vendors = only(&others.concat(), &of_special("vendor", "Known(Unknown) Custom(\"esp\") Custom(\"q-9\")"));
     Fields {
-        architectures: only(&all.architectures, "Arm(Armv6k) Riscv32(Riscv32imc) Clever(Clever) Wasm32 X86_64"),
+        architectures: only(&all.architectures, &of_special("architecture", "Clever(Clever) Wasm32 X86_64")),
         vendors: [each(vendors), vec![made.clone()]].concat(),
-        systems: each(only(&all.systems.concat(), "Unknown None_ Horizon Espidf Linux Cygwin")),
-        environments: only(&all.environments, "Unknown Newlib None Gnu LinuxKernel"),
+        systems: each(only(&all.systems.concat(), &of_special("operating_system", "Unknown None_ Linux Cygwin"))),
+        environments: only(&all.environments, "Unknown Newlib None Gnu GnuIlp32 LinuxKernel"),
         formats: all.formats,
     }
 }
@@ -152,6 +189,12 @@ impl Fields {
     /// How many triples there are of these values.
     pub fn count(&self) -> usize {
         self.architectures.len() * self.vendors.len() * self.systems.len() * self.environments.len() * self.formats.len()
+    }
+
+    /// A triple with each of these environments and formats.
+    pub fn hidden(&self, triple: V) -> Vec<V> {
+        let with_format = |e: V| self.formats.iter().map(move |b| keep(|| with(triple, &[("environment", e), ("binary_format", b.0)])));
+        self.environments.iter().flat_map(|e| with_format(e.0)).collect()
     }
 
     /// One of these triples.
@@ -271,11 +314,33 @@ fn joined(lists: &[&Vec<String>], mut i: usize) -> String {
 
 /// Strings of two to four parts around the special ones.
 pub fn near_special() -> Vec<String> {
-    let (firsts, others): (Vec<_>, Vec<_>) = (split("armv6k riscv32imc").collect(), split("nintendo 3ds esp espressif espidf horizon newlib elf unknown").collect());
+    let rows = s::special_rows();
+    let firsts: Vec<_> = rows.list().iter().map(|row| s::architecture_name(row.field("architecture")).string()).collect();
+    let parts = rows.list().iter().map(|row| row.field("text").string().split_once('-').expect("two parts").1.replace('-', " "));
+    let names = rows.list().iter().flat_map(|row| [s::known_vendor_name(row.field("vendor")), s::operating_system_name(row.field("operating_system"))]);
+    let others: Vec<_> = split(&parts.chain(names.map(|it| it.string())).collect::<Vec<_>>().join(" ")).chain(split("newlib elf unknown")).collect();
     let lists = (1..=3).map(|count| [vec![&firsts], vec![&others; count]].concat());
     // these two print otherwise than their canonical forms
     let hidden = split("armv7-nintendo-horizon-newlib-unknown riscv32im-espressif-espidf-newlib-unknown");
     lists.flat_map(|lists| (0..product(&lists)).map(|i| joined(&lists, i)).collect::<Vec<_>>()).chain(hidden).collect()
+}
+
+/// Strings with parts of each length at which something might change, and with spaces at each place.
+pub fn long_and_spaced() -> Vec<String> {
+    let long = LENGTHS.iter().flat_map(|&n| {
+        let (q, dashes, zeros) = ("q".repeat(n), "-".repeat(n.min(40)), "0".repeat(n));
+        let placed = ["*", "*-linux", "x86_64-*", "x86_64-*-linux", "x86_64-*-linux-gnu-elf", "x86_64-pc-*", "x86_64-pc-linux-*", "x86_64-PC*-linux"].map(|it| it.replace('*', &q));
+        placed.into_iter().chain([format!("x86_64{dashes}linux"), format!("arm64-apple-ios{zeros}17.1"), format!("arm64-apple-ios1.{zeros}256")])
+    });
+    let spaces = ["\t", " ", "\n", "\r", "\r\n", "\u{b}", "\u{c}", "\0", "\u{85}", "\u{a0}", "\u{2003}", "\u{feff}"];
+    let spaced = spaces.iter().flat_map(|space| ["*x86_64-pc-linux", "x86_64*-pc-linux", "x86_64-*pc-linux", "x86_64-pc*-linux", "x86_64-pc-linux*", "x86_64-pc-linux-gnu**", "*x86_64*", "x86_64-*"].map(|it| it.replace('*', space)));
+    long.chain(spaced).collect()
+}
+
+/// The targets of the file HOSTS, and what the crate's build script says of each.
+pub fn hosts() -> Vec<(String, String)> {
+    let path = std::env::var("HOSTS").expect("HOSTS: a file of targets");
+    std::fs::read_to_string(path).expect("targets").lines().map(|it| it.split_once('\t').map(|(a, b)| (a.into(), b.into())).expect("a tab")).collect()
 }
 
 /// Numbers that are the same in each run.
@@ -321,7 +386,8 @@ pub fn edited_words(edits: usize) -> Vec<String> {
     });
     let prefixes = s::darwin_prefixes().list().iter().map(|it| it.at(0).string());
     let versioned = prefixes.flat_map(|prefix| versions().into_iter().map(move |it| prefix.clone() + &it));
-    unique(words.iter().cloned().chain(edited).chain(custom_vendors()).chain(versioned))
+    let near_versions = versions().into_iter().flat_map(|it| ["v", " ", "+", "-", "0"].map(|c| [format!("{c}{it}"), format!("{it}{c}")]).concat());
+    unique(words.iter().cloned().chain(edited).chain(custom_vendors()).chain(versioned).chain(versions()).chain(near_versions))
 }
 
 /// A word in each place of a triple.

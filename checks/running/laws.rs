@@ -2,18 +2,22 @@
 use crate::inputs::{self, Chosen, Strings};
 use crate::report::Report;
 use definitions::spec::{self as s, LAWS};
-use definitions::values::{con, forget, some_values, text, with, FORM, N, TRIED, V};
+use definitions::values::{con, forget, keep, some_values, text, with, FORM, N, TRIED, V};
 
 /// How many cases of a law there are first, which are all tried, how many in all, and one of them.
 type Cases = (usize, usize, Box<dyn Fn(usize) -> Vec<V>>);
 
-/// The values near the families, with a custom vendor of a known one's name too, and with versions that the types of the code don't have;
-/// and as many of all.
+/// First those that print as a special string; then the values near the families, with a custom vendor of a known one's name too, and with
+/// versions that the types of the code don't have; and as many of all.
 fn triples() -> Cases {
     let (near, all) = (inputs::near_families(), inputs::fields());
     let count = near.count();
     let step = inputs::prime_from(all.count() / count);
+    let rows = s::special_rows().list();
+    let special: Vec<V> = rows.iter().flat_map(|row| near.hidden(keep(|| s::special_triple(*row)))).collect();
+    let first = special.len();
     let case = move |i: usize| {
+        let Some(i) = i.checked_sub(first) else { return special[i] };
         let t = if i < count { near.triple(i).0 } else { all.triple((i - count) * step).0 };
         let version = [[65536, 0, 0], [0, 256, 0], [0, 0, 256]][i % 3].map(N);
         match i % 11 {
@@ -22,7 +26,7 @@ fn triples() -> Cases {
             _ => t,
         }
     };
-    (0, 2 * count, Box::new(move |i| vec![case(i)]))
+    (first, first + 2 * count, Box::new(move |i| vec![case(i)]))
 }
 
 fn version_of([major, minor, patch]: [V; 3]) -> V {
@@ -34,7 +38,7 @@ fn pairs() -> Cases {
     let (_, count, case) = triples();
     let pair = move |i: usize| {
         let t = case(i / 8)[0];
-        let other = |field| with(t, &[(field, s::nintendo_3ds().field(field))]);
+        let other = |field| with(t, &[(field, s::special_triple(s::special_rows().list()[0]).field(field))]);
         let custom = with(t, &[("vendor", con(s::VendorValue__Custom, &[s::vendor_name(s::get_vendor(t))]))]);
         let others = [t, s::settled_values(t), custom, other("architecture"), other("vendor"), other("operating_system"), other("environment"), other("binary_format")];
         vec![t, others[i % 8]]
@@ -55,6 +59,7 @@ fn cases(variables: &[(&str, &str)]) -> Cases {
         [("t", "Values")] => triples(),
         [("t", "Values"), ("u", "Values")] => pairs(),
         [("text", "List ℕ")] => strings(),
+        [] => (0, 1, Box::new(|_| vec![])), // each variable is given by the law
         _ => panic!("laws.rs doesn't say what the variables {variables:?} range over"),
     }
 }

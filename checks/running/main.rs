@@ -4,7 +4,6 @@
 #![allow(non_upper_case_globals)]
 #[cfg(feature = "port")]
 mod ask;
-#[cfg(feature = "port")]
 mod by_value;
 #[cfg(feature = "port")]
 mod calls;
@@ -20,10 +19,40 @@ mod report;
 #[cfg(not(feature = "port"))]
 use common as calls;
 
-use definitions::values::{forget, V};
+use definitions::spec as s;
+use definitions::values::{forget, text, V};
 use inputs::{Chosen, Fields, Strings};
 use report::Report;
+use std::alloc::{GlobalAlloc, Layout, System};
+use std::sync::atomic::{AtomicUsize, Ordering::Relaxed};
 use target_lexicon::Triple;
+
+/// The system's allocator, which counts its calls.
+struct Counted;
+static CALLS: AtomicUsize = AtomicUsize::new(0);
+
+unsafe impl GlobalAlloc for Counted {
+    unsafe fn alloc(&self, layout: Layout) -> *mut u8 {
+        CALLS.fetch_add(1, Relaxed);
+        System.alloc(layout)
+    }
+    unsafe fn dealloc(&self, at: *mut u8, layout: Layout) {
+        System.dealloc(at, layout)
+    }
+}
+
+#[global_allocator]
+static ALLOCATOR: Counted = Counted;
+
+/// Whether a call allocates.
+#[cfg(feature = "port")]
+fn allocates<T>(call: impl FnOnce() -> T) -> bool {
+    let before = CALLS.load(Relaxed);
+    let answer = call();
+    let after = CALLS.load(Relaxed);
+    drop(answer);
+    after > before
+}
 
 /// Calls with each chosen number below this one. What a case took in memory is given back after it.
 fn each(chosen: Chosen, count: usize, mut call: impl FnMut(usize)) {
@@ -52,7 +81,7 @@ fn triples(chosen: Chosen, fields: Fields, r: &mut Report, call: fn(&mut Report,
 /// Compares the cases of a part.
 fn run(part: &str, chosen: Chosen, r: &mut Report) {
     match part {
-        "values" | "library" if chosen.shard > 0 => {}
+        "values" | "library" | "host" if chosen.shard > 0 => {}
         "values" => calls::values(r),
         "words" => words(chosen, inputs::edited_words(40), r, calls::word),
         "source" => words(chosen, inputs::quoted(), r, |r, word| {
@@ -67,6 +96,15 @@ fn run(part: &str, chosen: Chosen, r: &mut Report) {
                 calls::relations(r, string);
             }
         }),
+        "lengths" => words(chosen, inputs::long_and_spaced(), r, |r, string| {
+            calls::string(r, string);
+            #[cfg(feature = "port")]
+            calls::owned(r, string);
+        }),
+        "host" => inputs::hosts().iter().for_each(|(target, host)| match s::reading(text(target)) {
+            it @ V::C(s::Result__Ok, _) => r.same("reading", it, &format_args!("Ok({host})"), target),
+            _ => r.holds("a target that is refused needs another one", host.contains("doesn't parse"), target),
+        }),
         "strings" => strings(chosen, r, calls::string),
         "families" => triples(chosen, inputs::near_families(), r, calls::triple),
         "vendors" => triples(chosen, inputs::near_vendors(), r, calls::triple),
@@ -76,6 +114,7 @@ fn run(part: &str, chosen: Chosen, r: &mut Report) {
         #[cfg(feature = "port")]
         "relations" => strings(chosen, r, calls::relations),
         #[cfg(feature = "port")]
+        "neighbours" => strings(chosen, r, calls::neighbours),
         "by_value" => {
             if chosen.shard == 0 {
                 by_value::values(r);
@@ -87,6 +126,10 @@ fn run(part: &str, chosen: Chosen, r: &mut Report) {
         "json" => {
             if chosen.shard == 0 {
                 json::fields(r);
+                for string in inputs::long_and_spaced().into_iter().filter(|it| it.len() < 500) {
+                    json::value(r, &string.into());
+                    forget();
+                }
             }
             let (all, fields) = (Strings::parsed(), inputs::fields());
             each(chosen, all.count(), |i| {
@@ -116,8 +159,13 @@ fn main() {
         },
         part => {
             let number = |i: usize| words[i].parse().expect("a number");
-            let mut report = Report::default();
-            run(part, Chosen { shard: number(1), of: number(2), step: number(3) }, &mut report);
+            let (mut report, chosen) = (Report::default(), Chosen { shard: number(1), of: number(2), step: number(3) });
+            if part == "inputs" {
+                let all = Strings::parsed();
+                let some = chosen.of(all.count()).map(|i| all.string(i)).chain(inputs::near_special());
+                return some.filter(|it| !it.contains(['\n', '\r', '\t'])).for_each(|it| println!("{it}"));
+            }
+            run(part, chosen, &mut report);
             println!("reached: {}", definitions::values::titles_reached().join(" "));
             report.end();
         }

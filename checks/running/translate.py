@@ -8,14 +8,14 @@ A proposition is translated if a Rust file of this folder, or another translated
 function of its variables, except for those that an equation or a relation before the arrow gives (`solution`). The forms of laws.txt say more
 than a law: laws.rs looks for a case in which each is false.
 """
-import functools
 import pathlib
 import re
+import sys
 
 HERE = pathlib.Path(__file__).resolve().parent
-ROOT = HERE.parents[1]
-CRATES = ["lexicon_fields", "target_lexicon"]
-LIBRARY, KIT = ("library",), ("kit",)
+sys.path.insert(0, str(HERE.parent))
+from reading import (  # noqa: E402
+    CRATES, LIBRARY, ROOT, TOKEN, Definition, Names, Parser, Untranslated, arguments_in, parts, variables)
 
 # One exception, to be fast: the second argument is computed only if it is needed.
 LAZY = {"option_or"}
@@ -34,343 +34,43 @@ GIVEN_BY = {"ReadsAs": ("reading", "Result__Ok"), "IsRefusedAs": ("reading", "Re
 DOMAINS = {"ℕ": "numbers()", "Field": "fields()", "List Field": "field_lists()", "List ( List ℕ )": "library::seq(&[parts_of(text_)])",
            "V": "tried()", "Values": "tried()", "HashWrites": "writes()"}
 
-LEVELS = [["→", "↔"], ["⊎"], ["×"], ["≡", "≢", "<", "≤"], ["||"], ["&&"], ["=="], ["∷", "++"], ["+", "-"], ["*", "/", "%"], ["^"]]
-TO_THE_LEFT = ("==", "+", "-", "*", "/", "%", "≡", "≢", "<", "≤")
 # What both sides of an equivalence are tried with, besides what makes one of them true.
 OTHERS = {"Values": "some_values()", "Refusal": "some_refusals()", "V": "tried()"}
 TESTS = {"→": "!{}.yes() || {}.yes()", "↔": "{}.yes() == {}.yes()", "⊎": "{}.yes() || {}.yes()", "×": "{}.yes() && {}.yes()",
          "||": "{}.yes() || {}.yes()", "&&": "{}.yes() && {}.yes()", "≡": "eq({}, {})", "≢": "!eq({}, {})",
          "<": "{}.number() < {}.number()", "≤": "{}.number() <= {}.number()"}
 OPERATORS = {"∷": "cons", "++": "append", "+": "add", "-": "sub", "*": "mul", "/": "div", "%": "rem", "^": "pow", "==": "nat_eq"}
-TOKEN = re.compile(r'"(?:\\.|[^"\\])*"|0x[0-9A-Fa-f_]+|\d+|[^\W\d]\w*|\[\]|\+\+|==|&&|\|\||\S')
 # Words of Rust, and names of values.rs that generated functions use.
 TAKEN = set("""abstract as async await box break const continue crate do dyn else enum extern final fn for if impl in let loop macro match
     mod move mut override priv pub ref return self static struct super then trait try type unsafe use virtual where while with yield
     text con function apply or truth remember stuck constant once eq reached library""".split())
 
-
-class Untranslated(Exception):
-    """What isn't understood."""
-
-
-def chunks(text):
-    """The parts of a file: each begins at the margin. Comments are left out."""
-    found = []
-    for line in text.split("\n"):
-        line = re.sub(r"(^|\s)--(\s.*)?$", "", line).rstrip()
-        if line and line[0] in " }" and found:
-            found[-1] += "\n" + line
-        elif line:
-            found.append(line)
-    return found
-
-
-# ---- reading
-
-class Parser:
-    """Expressions are tuples: var, num, str, nil, get, app, op, tuple, lam, if, record, all, any. Patterns are expressions too."""
-
-    def __init__(self, text):
-        self.tokens, self.at = [(it[0], it.start(), it.end()) for it in TOKEN.finditer(text)] + [("", -1, -1)], 0
-
-    def peek(self):
-        return self.tokens[self.at][0]
-
-    def next(self, wanted=None):
-        token = self.peek()
-        if wanted and token != wanted:
-            raise Untranslated(f"{wanted!r} is expected, and not {token!r}")
-        self.at += 1
-        return token
-
-    def after(self, word):
-        self.next(word)
-        return self.expression()
-
-    def group(self, opening, closing):
-        """Goes on after a group in brackets. Returns its tokens."""
-        begin, depth = self.at, 0
-        while True:
-            token = self.next()
-            depth += (token == opening) - (token == closing)
-            if not depth:
-                return [it[0] for it in self.tokens[begin + 1:self.at - 1]]
-            if not token:
-                raise Untranslated(f"no {closing!r}")
-
-    def expression(self, level=0):
-        token = self.peek()
-        if token == "λ":
-            return self.function()
-        if token == "if":
-            return ("if", self.after("if"), self.after("then"), self.after("else"))
-        if token == "(" and re.match(r"\( ([\w ]+) : ", " ".join(it[0] for it in self.tokens[self.at:self.at + 12])):
-            return self.quantified()
-        if token == "¬":
-            self.next()
-            return ("op", "→", self.application(), ("var", "⊥"))
-        if level == len(LEVELS):
-            return self.application()
-        left = self.expression(level + 1)
-        while self.peek() in LEVELS[level]:
-            operator = self.next()
-            left = ("op", operator, left, self.expression(level + (operator in TO_THE_LEFT)))
-        return left
-
-    def function(self):
-        self.next("λ")
-        names = []
-        while self.peek() != ".":
-            names.append(self.group("(", ")")[0] if self.peek() == "(" else self.next())
-        return functools.reduce(lambda body, name: ("lam", name, body), reversed(names), self.after("."))
-
-    def quantified(self):
-        """`(x y : T) → ..`, which may be followed by another group, or `(x : T) × ..`"""
-        group = self.group("(", ")")
-        names, type = group[:group.index(":")], " ".join(group[group.index(":") + 1:])
-        kind = "any" if self.peek() == "×" else "all"
-        body = self.expression() if self.peek() == "(" else self.after(self.peek())
-        return functools.reduce(lambda body, name: (kind, name, type, body), reversed(names), body)
-
-    def application(self):
-        head, arguments = self.atom(), []
-        while re.match(r'[\w"(\[{⊤⊥]', self.peek()) and self.peek() not in ("then", "else", "in"):
-            if self.peek() == "{":  # an implicit argument
-                self.group("{", "}")
-            else:
-                arguments.append(self.atom())
-        return ("app", head, arguments) if arguments else head
-
-    def atom(self):
-        token = self.next()
-        if token == "(":
-            items = [self.expression()]
-            while self.peek() == ",":
-                items.append(self.after(","))
-            self.next(")")
-            found = ("tuple", items) if len(items) > 1 else items[0]
-        elif token == "record":
-            found = ("record", None if self.peek() == "{" else self.atom(), self.fields())
-        elif token == "[]":
-            found = ("nil",)
-        elif re.match(r'["\w⊤⊥]', token):
-            found = ("str", token) if token[0] == '"' else ("num", int(token, 0)) if token[0].isdigit() else ("var", token)
-        else:
-            raise Untranslated(f"unexpected {token!r}")
-        while self.peek() == "." and self.tokens[self.at][1] == self.tokens[self.at - 1][2] == self.tokens[self.at + 1][1] - 1:
-            self.next()
-            found = ("get", found, self.next())
-        return found
-
-    def fields(self):
-        found = {}
-        self.next("{")
-        while self.peek() != "}":
-            name = self.next()
-            found[name] = self.after("=")
-            if self.peek() == ";":
-                self.next()
-        self.next("}")
-        return found
-
-
-class Definition:
-    def __init__(self, module, name, type, local_to=None):
-        self.module, self.name, self.type, self.chunks = module, name, type, []
-        self.locals = local_to.locals if local_to else {}
-        self.is_proposition, self.laws = type.rstrip().endswith("Type 0"), []
-        self.is_record = False
-
-    @property
-    def title(self):
-        return "/".join(self.module.path[1:2] + (f"{self.module.path[-1]}.{self.name}",))
-
-    @functools.cached_property
-    def clauses(self):
-        """The patterns and the body of each clause."""
-        try:
-            found = [self.clause(chunk) for chunk in self.chunks]
-        except Untranslated as problem:
-            raise Untranslated(f"{self.title}: {problem}") from None
-        if len({len(patterns) for patterns, _ in found}) > 1:
-            raise Untranslated(f"{self.title}: its clauses have different numbers of arguments")
-        return found
-
-    @staticmethod
-    def clause(chunk):
-        parser = Parser(chunk)
-        head = parser.application()
-        clause = (head[2] if head[0] == "app" else [], parser.after("="))
-        if parser.peek():
-            raise Untranslated(f"{parser.peek()!r} is left")
-        return clause
-
-
-FORMS = {
-    "use": r"(?:pub |unfoldable )*use ([^\s{]+?)(\.\{(.*)\})?(?: as (\S+))?$",
-    "data": r"(?:pub )?data (\S+).* where\n(.*)",
-    "record": r"(?:pub )?record (\w+) ?(.*) ?: Type 0 where\n(.*)",
-    "type": r"(?:abbrev |unfoldable |opaque |pub )*(\w+)(?: \{ℓ\})? : (.*)",
-}
-
-
-class Module:
-    """A file: its definitions, its constructors, the names that it takes from elsewhere, and the fields of its records."""
-
-    def __init__(self, path, file):
-        self.path, self.definitions, self.constructors, self.uses, self.records = path, {}, {}, {}, []
-        try:
-            text = file.read_text(encoding="utf-8")
-        except UnicodeDecodeError:
-            raise Untranslated(f"{file} isn't UTF-8") from None
-        for chunk in chunks(text):
-            found = next(((kind, it) for kind, form in FORMS.items() if (it := re.match(form, chunk, re.S))), None)
-            name = re.match(r"[\w-]+", chunk)
-            if found:
-                getattr(self, f"read_{found[0]}")(found[1])
-            elif name and name[0] in self.definitions:
-                self.read_clause(self.definitions[name[0]], chunk)
-            elif not chunk.startswith("pub mod "):
-                raise Untranslated(f"{file}: this isn't understood: {chunk.splitlines()[0]}")
-
-    def read_use(self, it):
-        for item in it[3].split(",") if it[2] else [""]:
-            words = item.split()
-            full = it[1].split(".") + (words[0].split(".") if words else [])
-            self.uses[words[2] if len(words) == 3 else it[4] or full[-1]] = full
-
-    def read_data(self, it):
-        self.constructors |= {name: f"{it[1]}__{name}" for name in re.findall(r"^  (\w+) :", it[2], re.M)}
-
-    def read_record(self, it):
-        """A record of data, or of propositions, which is the test that each of its fields is true."""
-        fields = re.findall(r"^  pub (\w+) : (.*?)(?=^  pub |\Z)", it[3] + "\n", re.M | re.S)
-        if not it[2] and not any(re.search("[≡≢→↔≤]", type) for _, type in fields):
-            return self.records.append([name for name, _ in fields])
-        test = "⊤"
-        for name, type in reversed(fields):
-            is_variable = " ".join(TOKEN.findall(type)) in DOMAINS
-            test = f"({name} : {type}) × {test}" if is_variable else f"({type}) × ({test})"
-        parameters = [(names.split(), type) for names, type in re.findall(r"\(([\w ]+) : ((?:[^()]|\([^()]*\))*)\)", it[2])]
-        names = " ".join(name for group, _ in parameters for name in group)
-        types = "".join(f"({type}) → " if "→" in type else f"{type} → " for group, type in parameters for _ in group)
-        definition = self.definitions[it[1]] = Definition(self, it[1], f"{types}Type 0")
-        definition.chunks.append(f"{it[1]} {names} = {test}")
-        definition.is_record = True
-        definition.laws = [(f".{name}", type) for name, type in fields]
-
-    def read_type(self, it):
-        self.definitions[it[1]] = Definition(self, it[1], it[2])
-
-    def read_clause(self, definition, chunk):
-        chunk, _, local = chunk.partition("\n  where\n")
-        definition.chunks.append(chunk)
-        for part in chunks(re.sub(r"^    ", "", local, flags=re.M)):
-            if it := re.match(r"(\w+) : (.*)", part, re.S):
-                name = f"{definition.name}_{it[1]}"
-                definition.locals[it[1]] = self.definitions[name] = Definition(self, name, it[2], definition)
-            else:
-                self.read_clause(definition.locals[re.match(r"\w+", part)[0]], part)
-
-
-class Kit(Module):
-    """The kit's library: the first definition of each name in these files. What isn't a definition is left out."""
-
-    FILES = ["core/specs/" + name for name in ("Option", "Result", "Bool", "List", "List/Sorted", "Str", "Str/Parse", "Char", "Int", "Ordering", "Fmt", "Cmp/Lexicographic")]
-    FILES += ["logic/Lib/ListN", "logic/Lib/Pointwise", "antt/port/mathlib/src/Core/Bool", "serde_json/specs/Find", "serde_json/specs/View"]
-
-    def __init__(self, kit):
-        self.path, self.definitions, self.constructors, self.uses, self.records = KIT, {}, {}, {}, []
-        for name in self.FILES:
-            now = {}
-            text = kit.joinpath(name).with_suffix(".antt").read_text(encoding="utf-8")
-            # what is in a `module _` is indented
-            for chunk in chunks(re.sub(r"^  (?=\S)", "", text, flags=re.M) if "\nmodule _ " in text else text):
-                if it := re.match(FORMS["type"], chunk, re.S):
-                    now[it[1]] = Definition(self, it[1], it[2])
-                elif (word := re.match(r"[\w-]+", chunk)) and word[0] in now and "\n  where\n" not in chunk:
-                    now[word[0]].chunks.append(chunk)
-            self.definitions = {**{name: it for name, it in now.items() if it.chunks}, **self.definitions}
-
-
-class Names:
-    """What a name is: a definition, a constructor, a function of values.rs, or a module or namespace."""
-
-    def __init__(self, root, kit):
-        self.root, self.kit = root, kit and Kit(kit)
-
-    @functools.cache
-    def module(self, path):
-        if path == LIBRARY:
-            return Module(path, HERE / "library.txt")
-        file = self.root.joinpath("crates", *path[1:]).with_suffix(".antt")
-        return Module(path, file) if path[0] == "Rattle" and path[1] in CRATES and file.exists() else None
-
-    def lookup(self, path):
-        path = tuple(path)
-        if "TheVariants" in path:
-            at = path.index("TheVariants")
-            return ("constructor", f"{path[at - 1]}__{path[-1]}") if path[at + 1:] else ("namespace", path)
-        if path[0] != "Rattle" or path[1] not in CRATES:
-            return self.exported(self.module(LIBRARY), path[-1])
-        if self.module(path):
-            return "namespace", path
-        if len(path) > 3 and "declared" not in path and self.module(path[:-1]):
-            return self.exported(self.module(path[:-1]), path[-1])
-        return "unknown", ".".join(path)
-
-    def exported(self, module, name):
-        if name in module.definitions:
-            found = module.definitions[name]
-            return ("definition" if found.chunks else "built in"), found
-        if name in module.constructors:
-            return "constructor", module.constructors[name]
-        if name in module.uses:
-            return self.lookup(module.uses[name])
-        return ("unknown", name) if module.path == LIBRARY else self.exported(self.module(LIBRARY), name)
-
-    def resolve(self, definition, expression):
-        """What a var is, or a name after a namespace."""
-        if expression[0] == "get":
-            kind, path = self.resolve(definition, expression[1]) if expression[1][0] in ("var", "get") else ("", "")
-            return self.lookup(path + (expression[2],)) if kind == "namespace" else ("", "")
-        if expression[1] in definition.locals:
-            return "definition", definition.locals[expression[1]]
-        return self.exported(definition.module, expression[1])
-
-
-# ---- writing
-
-def parts(expression):
-    return expression.values() if isinstance(expression, dict) else expression if isinstance(expression, (tuple, list)) else ()
-
-
-def variables(expression):
-    if isinstance(expression, tuple) and expression[:1] == ("var",):
-        return {expression[1]}
-    return set().union(*map(variables, parts(expression)))
-
-
-def arguments_in(type):
-    """The types of the arguments: what is before arrows that are outside of brackets. Implicit arguments are left out."""
-    found, depth = [[]], 0
-    for token in TOKEN.findall(re.sub(r"\{[^}]*\} →", "", type)):
-        depth += (token in "({") - (token in ")}")
-        if token == "→" and not depth:
-            found.append([])
-        else:
-            found[-1].append(token)
-    return [" ".join(tokens) for tokens in found[:-1]]
-
-
 NO, YES, TRIVIALLY = range(3)  # whether an expression is closed: without variables, so that it is computed once
+
+
+def add_tests(module):
+    """A record of propositions is the test that each of its fields is true."""
+    for name, record in module.typed.items():
+        if record.kind == "data" or record.is_data:
+            continue
+        test = "⊤"
+        for field, type in reversed(record.items):
+            is_variable = " ".join(TOKEN.findall(type)) in DOMAINS
+            test = f"({field} : {type}) × {test}" if is_variable else f"({type}) × ({test})"
+        parameters = [(it, type) for bracket, it, type in record.parameters if bracket == "("]
+        types = "".join(f"({type}) → " if "→" in type else f"{type} → " for _, type in parameters)
+        definition = module.definitions[name] = Definition(module, name, f"{types}Type 0")
+        definition.chunks.append(f"{name} {' '.join(it for it, _ in parameters)} = {test}")
+        definition.lines.append(record.line)
+        definition.is_record = True
+        definition.laws = [(f".{field}", type) for field, type in record.items]
 
 
 class Rust:
     """The Rust source. An expression becomes its code, and whether it is closed."""
 
     def __init__(self, root=ROOT, kit=None):
-        self.root, self.names, self.compared = root, Names(root, kit), []
+        self.root, self.names, self.compared = root, Names(root, kit, add_tests), []
         self.constructors, self.arity, self.shapes, self.wholes = {}, {}, {}, {}
         self.fields = {"now": None, "value": None}  # those of references and boxes; of others the definition that has one first
         self.functions, self.of, self.constants, self.fresh, self.failed = [], {}, 5, 0, []  # values.rs has the first 5 constants
@@ -402,8 +102,7 @@ class Rust:
 
     def translate(self, cited):
         """All definitions, and the propositions with these names and what they need."""
-        modules = [self.names.module(("Rattle", crate, "specs") + file.relative_to(folder).with_suffix("").parts)
-                   for crate in CRATES for folder in [self.root / "crates" / crate / "specs"] for file in sorted(folder.rglob("*.antt"))]
+        modules = self.names.modules()
         self.own = [it for module in modules for it in module.definitions.values()]
         for module in [*modules, self.names.module(LIBRARY)]:
             for fields in [*module.records, ["now"]]:

@@ -44,6 +44,10 @@ fn main() {
     };
     let commit = commit.map_or_else(String::new, |commit| format!(" ({commit})"));
     println!("cargo:rustc-env=LEXICON_COMMIT={commit}");
+    // as the Rust crate's build script finds its host
+    println!("cargo:rerun-if-env-changed=TARGET_LEXICON_HOST");
+    let host = env::var("TARGET_LEXICON_HOST").or_else(|_| env::var("TARGET")).unwrap();
+    println!("cargo:rustc-env=LEXICON_HOST={host}");
 
     let version = |part| env::var(format!("CARGO_PKG_VERSION_{part}")).unwrap();
     let name = format!("{}.{}", version("MAJOR"), version("MINOR"));

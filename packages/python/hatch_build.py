@@ -68,7 +68,8 @@ class CustomBuildHook(BuildHookInterface):
         words = [os.environ.get("CARGO", "cargo"), "build", "--quiet", "--release", "--locked", "--offline", "--target-dir", work, "--manifest-path",
                  os.path.join(self.top, "packages", "c", "Cargo.toml")]
         try:
-            status = subprocess.run(words, check=False).returncode
+            # Above the folder that pip builds in, others may have put settings of cargo.
+            status = subprocess.run(words, check=False, cwd=os.path.abspath(os.sep)).returncode
         except OSError as error:
             raise SystemExit(NO_CARGO.format(error=error)) from None
         if status:

@@ -10,6 +10,8 @@ FIELDS = ("architecture", *TYPES)
 # A name has the form of a vendor (`has_vendor_form` in specs/Vendor.antt), so it has no dash (`is_dash_free`).
 NAME = re.compile(r"[a-z][a-z0-9_.]*")
 VARIANT = re.compile(r"[A-Z][A-Za-z0-9_]*")
+SPECIAL = re.compile(r"[a-z0-9_.]+(-[a-z0-9_.]+)+")
+LONGEST_SPECIAL = 255
 # How many values of a field target-lexicon 0.13.5 has, and a checksum of their names, in the order of their numbers.
 UPSTREAM = {"architecture": (107, "a141708f0cf0b4e1"), "vendor": (15, "35e14047bd8121b2"), "operating_system": (40, "03073d1aaf018aed"),
             "environment": (35, "c4961a463ba6aac0"), "binary_format": (6, "4a7f083dc9f45cae")}
@@ -19,6 +21,8 @@ UPSTREAM = {"architecture": (107, "a141708f0cf0b4e1"), "vendor": (15, "35e14047b
 Value = namedtuple("Value", "field variant name number family about")
 Variant = namedtuple("Variant", "variant name holds about")
 Type = namedtuple("Type", "name word variants plain held")
+# A special string, with the values of its first three fields.
+Special = namedtuple("Special", "text architecture vendor operating_system")
 
 COLUMNS = 118
 
@@ -45,11 +49,33 @@ def read_lines(name, text, wrong, read):
 
 
 def table_of(text):
-    """The values of the table, those of a field in the order of their numbers, and what is wrong in it."""
-    values, wrong = [], []
-    read_lines("names.tsv", text, wrong, lambda line: line.startswith("#") or add_value(values, line))
+    """The values of the table, those of a field in the order of their numbers, its special strings, and what is wrong in it."""
+    values, specials, wrong = [], [], []
+
+    def read(line):
+        if line.startswith("special\t"):
+            specials.append(special_of(values, specials, line))
+        elif not line.startswith("#"):
+            add_value(values, line)
+    read_lines("names.tsv", text, wrong, read)
     wrong = wrong or [f"names.tsv: {it}" for it in number_faults(values)]
-    return values if wrong else sorted(values, key=lambda it: int(it.number or 0)), wrong
+    return values if wrong else sorted(values, key=lambda it: int(it.number or 0)), specials, wrong
+
+
+def special_of(values, earlier, line):
+    """The special string of a line, whose values are in earlier lines."""
+    _, text, *names = columns(line, ["special", "a string", "an architecture", "a vendor", "an operating system"])
+    fields = ("architecture", "vendor", "operating_system")
+    known = [{it.name: it for it in values if it.field == field} for field in fields]
+    for field, name, of in zip(fields, names, known):
+        if name not in of or name in ("unknown", "none") or of[name].family == "Darwin":
+            raise Mistake(f"`{name}` is no {field.replace('_', ' ')} of an earlier line, or it is `unknown`, `none` or has a version")
+    row = Special(text, *(of[name] for name, of in zip(names, known)))
+    if not SPECIAL.fullmatch(text) or len(text) > len("-".join(names)) or len(text) > LONGEST_SPECIAL:
+        raise Mistake(f"the string `{text}` isn't made of names and dashes, or is longer than `{'-'.join(names)}` or {LONGEST_SPECIAL} bytes")
+    if text in [it.text for it in earlier] or row[1:] in [it[1:] for it in earlier]:
+        raise Mistake(f"the string `{text}`, or its triple, is there twice")
+    return row
 
 
 def add_value(earlier, line):
@@ -91,8 +117,8 @@ def number_faults(values):
 class Table:
     """The values by field, in the order of their numbers, and by Rust type."""
 
-    def __init__(self, values):
-        self.values = values
+    def __init__(self, values, specials):
+        self.values, self.specials = values, specials
         self.field = {field: [it for it in values if it.field == field] for field in (*FIELDS, "alias")}
         self.types = {}
         self.add("Architecture", "architecture", self.architectures())

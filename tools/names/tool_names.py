@@ -1,4 +1,5 @@
 """Names of other tools, from packages/names/elsewhere.tsv."""
+import itertools
 import re
 from dataclasses import dataclass, field
 
@@ -40,7 +41,7 @@ class Source:
 @dataclass
 class Dialect:
     """A dialect: its rules, its other names, what is said of it, the patterns of names of each source, and its rows. A row is a name, what it means
-    or why it has no triple, and its way. `notes` are those for who reads a name. `lines` are the rows as the file has them: name, triple, ways and note, or the reason."""
+    or why it has no triple, and its way. `notes` are those for who reads a name, and `levels` those of machines that triples can't state. `lines` are the rows as the file has them: name, triple, ways and note, or the reason."""
     name: str
     rules: dict
     other_names: list
@@ -49,6 +50,7 @@ class Dialect:
     rows: list = field(default_factory=list)
     lines: list = field(default_factory=list)
     notes: list = field(default_factory=list)
+    levels: list = field(default_factory=list)
 
     @property
     def variant(self):
@@ -70,9 +72,10 @@ class Dialect:
 @dataclass
 class Elsewhere:
     """The dialects in the order of their numbers, the rows of `first` and `later`, the words of config.sub, and why a name isn't read
-    that is only written. `whys` has the reasons that rows without a triple cite, by their names."""
+    that is only written. `said` is what words say in names that no tool has. `whys` has the reasons that rows without a triple cite, by their names."""
     dialects: dict = field(default_factory=dict)
-    words: dict = field(default_factory=lambda: {"maker": [], "kernel": [], "system": [], "notmachine": [], "notsystem": [], "othermaker": [], "novendor": []})
+    words: dict = field(default_factory=lambda: {it: {} for it in ("maker", "kernel", "system", "notmachine", "notsystem", "othermaker", "novendor")})
+    said: dict = field(default_factory=dict)
     parts: dict = field(default_factory=lambda: {"first": [], "second": [], "hard": [], "later": []})
     only_written: str = ""
     versions: list = field(default_factory=list)
@@ -105,14 +108,31 @@ def read_line(found, line, known, cited):
         add_line(found, last, word[1], line.split("\t")[1:])
     elif re.match(rf"# ({'|'.join(COLUMNS)}) ", line) and (last or found.sources):
         raise Mistake("after the first word of such a line comes a tab, and tabs are between its columns")
-    elif (words := line.split("\t"))[0] in found.words:
+    elif (words := line.split("\t"))[0] == "word":
+        said, of_line = columns(words[1:], ["what words say", "words"])
+        add_words(found.said, of_line, said)
+    elif words[0] in found.words:
         add_words(found.words[words[0]], *columns(words[1:], ["words"]))
     elif not line.startswith("#"):
-        dialect, names, triple, *rest = columns(line, ["a dialect", "its names", "a triple", "the ways", "a note"], 4)
-        for name in names.split(", "):
-            add_row(found, [dialect, name, name if triple == "=" else triple, *rest], known, cited)
+        dialect, names, triple, ways, *rest = columns(line, ["a dialect", "its names", "a triple", "the ways", "a note", "a level"], 4)
+        note, level = (*rest, "", "")[:2]
+        for name, meaning, of_name in products(names, triple, level):
+            add_row(found, [dialect, name, meaning, ways, *[note] * bool(note)], known, cited)
+            if level:
+                found.dialects[dialect].levels.append((name, of_name))
     elif last and not last.about:
         last.about = line[2:]
+
+
+def products(names, *columns):
+    """The names of a row, each with its other columns: those of a rule are its products. Braces have words, and after `=` what a word means, if it isn't
+    itself."""
+    for name in names.split(", "):
+        words = [[word.partition("=") for word in it.split(" ")] for it in re.findall(r"{(.*?)}", name)]
+        for chosen in itertools.product(*words):
+            of_words, of_meanings = iter(chosen), {f"{{{number}}}": meaning or word for number, (word, _, meaning) in enumerate(chosen, 1)}
+            one = re.sub("{.*?}", lambda it: next(of_words)[0], name)
+            yield one, *(one if it == "=" else re.sub(r"{\d}", lambda it: of_meanings.get(it[0], it[0]), it) for it in columns)
 
 
 def add_dialect(found, name="", *rules):
@@ -162,11 +182,11 @@ def add_line(found, last, word, cells):
         last.sources[first] = rest
 
 
-def add_words(known, words):
+def add_words(known, words, said=""):
     for word in words.split(" "):
         if not word or word in known:
             raise Mistake(f"a list has each word once, with a space between two, and not `{word}`")
-        known.append(word)
+        known[word] = said
 
 
 def add_row(found, cells, known, cited):
@@ -347,10 +367,13 @@ def files(tables, types):
     ]
     for it in dialects:
         lines += [f"    Table {{ rules: {table_rules(it)}, rows: &[", *(f'        ("{name}", "{meaning}", {way}),' for name, meaning, way in it.rows), "    ],"]
-        lines += ["    notes: &[", *(f'        ("{name}", "{note}"),' for name, note in it.notes), "    ],"]
+        for word, of in (("notes", it.notes), ("levels", it.levels)):
+            lines += [f"    {word}: &[", *(f'        ("{name}", "{of_name}"),' for name, of_name in of), "    ],"]
         for word, numbers in zip(("by_name", "patterns"), row_orders(it)):
             lines += [f"    {word}: &[", *(filled(numbers, " ", "        ") if numbers else []), "    ],"]
         lines += ["    },"]
     lines += ["];", *texts("MAKERS", "maker"), *texts("KERNELS", "kernel"), *texts("NOT_MACHINES", "notmachine"), *texts("NOT_SYSTEMS", "notsystem"), *texts("OTHER_MAKERS", "othermaker"), *texts("NO_VENDORS", "novendor"), "",
-              "pub(crate) static SYSTEMS: &[(&str, &str)] = systems![", *filled([f'"{it}"' for it in words["system"]], " ", "    "), "];", ""]
+              "pub(crate) static SYSTEMS: &[(&str, &str)] = systems![", *filled([f'"{it}"' for it in words["system"]], " ", "    "), "];", "",
+              "/// What words say, in the order of the bytes of the words.", "pub(crate) static WORDS: &[(&str, &str)] = &[",
+              *filled([f'("{word}", "{said}"),' for word, said in sorted(tables.said.items())], " ", "    "), "];", ""]
     return {"packages/names/src/table.rs": "\n".join(lines)}

@@ -8,7 +8,7 @@ use Rattle.target_lexicon.proofs.{ReadValues.read_plain, UniqueReading.values_un
 pub fixed-outside : (t : Values) → normal_step t ≡ t → IsOutside t
 fixed-outside t = step_cases (λ u. u ≡ t → IsOutside t) t
     (λ is same. absurd (is.others (sym (ap (λ x. x.environment) same), sym (ap (λ x. x.binary_format) same))))
-    (λ is same. absurd (let of_t = is.0 in let of_step = ap (λ x. x.environment) same in cc))
+    (λ is same. absurd (let of_t = is.environment in let of_step = ap (λ x. x.environment) same in cc))
     (λ is same. absurd (let of_t = ap (λ x. x.vendor) is in let of_step = ap (λ x. x.vendor) same in cc))
     (λ is same. absurd (let of_t = is.environment in let of_step = ap (λ x. x.environment) same in cc))
     (λ outside _. outside)

@@ -1,22 +1,23 @@
 -- Printed strings are at most so much longer than the string that was parsed, and the canonical form makes no string
 -- longer.
-use Rattle.std.proofs.Common.{◌≡◌, ◌∙◌, ℕ, zero, suc, ◌+◌, ◌≤◌, ◌<◌, ◌^◌, List, [], ◌∷◌, length, codes, Bool, true, false, true≢false, not, ◌&&◌, ◌||◌, Option, Some, None, Ok, ◌⊎◌, inl, inr, unwrap_or, refl, sym, ap, subst, arith}
+use Rattle.std.proofs.Common.{◌≡◌, ◌∙◌, ℕ, zero, suc, ◌+◌, ◌≤◌, ◌<◌, ◌^◌, List, [], ◌∷◌, length, codes, Bool, true, false, true≢false, not, ◌&&◌, ◌||◌, Option, Some, None, Ok, is_some, unwrap_or, refl, sym, ap, subst, arith}
 use Rattle.std.specs.List.{join_with_byte, slice_get}
-use Rattle.std.proofs.{lemmas.List.length-append, lemmas.List.Splits.join_with_byte-slice_split, lemmas.Option.MatchOption-at_some, lemmas.Bool.and_parts, lemmas.Bool.not-true, Math.Bool.and-false, Math.Bool.or-true}
+use Rattle.std.proofs.{lemmas.List.length-append, lemmas.List.Splits.join_with_byte-slice_split, lemmas.Bool.and_parts, lemmas.Bool.not-true, Math.Bool.and-false, Math.Bool.or-true}
 use Rattle.lexicon_fields.specs.Names.{dash}
 use Rattle.target_lexicon.specs.Values.{Architecture, OperatingSystem, Environment, BinaryFormat, VendorValue, Known, Values, values, is_unknown_vendor, is_clever_without_system, is_same_format}
 use Rattle.target_lexicon.specs.{Field.Field, ImpliedFormat.default_binary_format, ImpliedFormat.implied_format, Laws.ReadingIsComputed, Reading.parts_of, NormalStep.normal_step, NormalStep.elf_if_unknown}
 use Rattle.target_lexicon.specs.{FixedPoints.PrintedTextsGrowAtMost, FixedPoints.CanonicalTextsGrowAtMost, FixedPoints.RefusedPartsDoNotGrow}
-use Rattle.target_lexicon.specs.{SpecialTexts.special_text, SpecialTexts.special_values}
-use Rattle.target_lexicon.specs.FamilyFacts.{IsNintendo3ds, IsEspIdf, HidesNewlib, PrintsTheEspIdfText, ShowsOnlyNone}
-use Rattle.target_lexicon.specs.Printing.{architecture_implies_format, shows_vendor, shows_operating_system, shows_environment, shows_implied_format, shows_binary_format, shows_unknowns, shown_names, cons_if, text_of, text_with}
+use Rattle.target_lexicon.specs.SpecialTexts.{SpecialRow, special_triple, special_text, special_values, implies_newlib}
+use Rattle.target_lexicon.specs.FamilyFacts.{HasFieldsOf, HasSystemOf, HasSpecialFields, HidesNewlib, PrintsTheEspIdfText, ShowsOnlyNone}
+use Rattle.target_lexicon.specs.Printing.{architecture_implies_format, is_none_or_unknown, shows_vendor, shows_operating_system, shows_environment, shows_implied_format, shows_binary_format, shows_unknowns, shown_names, cons_if, text_of, text_with}
 use Rattle.target_lexicon.specs.GreedyReading.{reading_of_parts, reading_unless_special, reading}
 use Rattle.target_lexicon.proofs.FieldReading.{FieldReading, by_fields, field_reading_by, field_reading, final_reading, reading_after_architecture}
-use Rattle.lexicon_fields.specs.{declared.architecture.clever.CleverArchitecture.CleverArchitecture, Architecture.architecture_name, Architecture.architecture_of, Laws.TextsAreNames, Laws.NamesGrowAtMost, Laws.NamesAreShort, Laws.max_name_length, Vendor.vendor_name, Vendor.vendor_of}
-use Rattle.lexicon_fields.specs.declared.known_vendor.KnownVendor.TheVariants.{Unknown, Nintendo, Espressif}
+use Rattle.lexicon_fields.specs.{declared.architecture.clever.CleverArchitecture.CleverArchitecture, Architecture.architecture_name, Architecture.architecture_of, Laws.TextsAreNames, Laws.NamesGrowAtMost, Laws.NamesAreShort, Laws.max_name_length, Vendor.vendor_name, Vendor.known_vendor_name, Vendor.vendor_of}
+use Rattle.lexicon_fields.specs.declared.known_vendor.KnownVendor.TheVariants.{Unknown, Espressif}
 use Rattle.lexicon_fields.specs.{OperatingSystem.operating_system_name, OperatingSystem.operating_system_of, Environment.environment_name, Environment.environment_of, ArchitectureQueries.is_clever}
 use Rattle.lexicon_fields.specs.BinaryFormat.{binary_format_name, binary_format_of}
-use Rattle.target_lexicon.proofs.{NamesAcross.environment_of-format, PrintingLemmas.printed_names, ReadValues.special-holds, RoundTrips.with_system, RoundTrips.without_system, StepCases.step_cases}
+use Rattle.target_lexicon.proofs.SpecialRows.{RowFacts, row_of_fields, row_of_system, row_of_text, fields_of_special, prints_row}
+use Rattle.target_lexicon.proofs.{NamesAcross.environment_of-format, PrintingLemmas.printed_names, RoundTrips.with_system, RoundTrips.without_system, StepCases.step_cases}
 use Rattle.target_lexicon.specs.Values.architecture
 use Rattle.target_lexicon.specs.Values.arm
 use Rattle.target_lexicon.specs.Values.riscv32
@@ -103,14 +104,36 @@ pub unknowns-shown : (t : Values) → shows_unknowns t ≡ true → shows_binary
 unfolding shows_binary_format
 unknowns-shown t shown = let other : is_same_format t.binary_format (default_binary_format t) ≡ false = not-true _ (and_parts _ _ shown).1 in rw other refl
 
--- a special string is short
+-- a special string is not longer than the parts that are shown otherwise
 
-special-short : (a : Architecture) (v : VendorValue) (s : OperatingSystem) (e : Environment) (f : BinaryFormat) (joined : List ℕ) (n : ℕ) → 21 ≤ n → length joined ≤ n
-    → length (unwrap_or (special_text (values a v s e f)) joined) ≤ n
-unfolding special_text
-special-short (architecture.Arm arm.Armv6k) (Known Nintendo) operating_system.Horizon e f joined n room short = omega arith
-special-short (architecture.Riscv32 riscv32.Riscv32imc) (Known Espressif) operating_system.Espidf e f joined n room short = omega arith
-special-short a v s e f joined n room short = short
+system_shown : (a : Architecture) (s : OperatingSystem) → is_none_or_unknown s ≡ false → is_clever_without_system a s ≡ false
+system_shown (architecture.Clever sub) operating_system.Unknown known = absurd (true≢false known)
+system_shown _ _ known = refl
+
+weight-row : (t : Values) (b : Bool) (row : SpecialRow) → HasFieldsOf row t → RowFacts row → length row.text ≤ length (join_with_byte dash (shown_names b t))
+unfolding shown_names shows_vendor shows_operating_system
+weight-row t b row is facts = omega (arith, facts.short, weight-shown t b, at_least)
+  where
+    at_least : length (architecture_name row.architecture) + (1 + length (known_vendor_name row.vendor)) + (1 + length (operating_system_name row.operating_system)) < weight (shown_names b t)
+    at_least = rw (
+      is.architecture,
+      is.system.vendor,
+      is.system.operating_system,
+      facts.vendor,
+      system_shown row.architecture row.operating_system facts.operating_system,
+      or-true b,
+    ) (omega arith)
+
+special-short : (t : Values) (b : Bool) (n : ℕ) → length (join_with_byte dash (shown_names b t)) ≤ n → length (unwrap_or (special_text t) (join_with_byte dash (shown_names b t))) ≤ n
+special-short t b n short = by_special (special_text t) refl
+  where
+    by_special : (special : Option (List ℕ)) → special_text t ≡ special → length (unwrap_or special (join_with_byte dash (shown_names b t))) ≤ n
+    by_special None is = short
+    by_special (Some text) is =
+        let at = row_of_fields t (fields_of_special t (ap is_some is)) in
+        let of : special_text t ≡ Some at.0.text = prints_row t at.0 at.1 at.2 in
+        let same : text ≡ at.0.text = cc in
+        rw same (omega (arith, short, weight-row t b at.0 at.1 at.2))
 
 final_reading-ok : (t : Values) (last : Field) (left : List (List ℕ)) (u : Values) → final_reading t last left ≡ Ok u → (left ≡ []) × (t ≡ u)
 final_reading-ok t last [] u is = (refl, cc)
@@ -179,7 +202,7 @@ module _ (formats : TextsAreNames binary_format_name binary_format_of) (environm
         let f = format_taken a v.0 s.0 e.0 e.1 e.2 in
         let shown = values a v.0 s.0 e.0 f.0 in
         let end = final_reading-ok shown f.1 f.2 t read in
-        subst (GrowsAtMost (join_with_byte dash (p ∷ ps))) end.1 (special-short a v.0 s.0 e.0 f.0 _ _ (omega arith) (omega (
+        subst (GrowsAtMost (join_with_byte dash (p ∷ ps))) end.1 (special-short shown (shows_unknowns shown) _ (omega (
           arith,
           architectures p a is,
           field_reading-max_growth field.Vendor vendor_name vendor_of (Known Unknown) 0 field.Architecture ps (λ text x found. omega (arith, ap length (vendors text x found))) (omega arith) (omega arith),
@@ -194,13 +217,16 @@ module _ (formats : TextsAreNames binary_format_name binary_format_of) (environm
     by_parts [] t read = absurd cc
     by_parts (p ∷ ps) t read = by_architecture p ps (architecture_of p) t refl (sym (by_fields (p ∷ ps)) ∙ read)
 
+    row-grows : (row : SpecialRow) → RowFacts row → GrowsAtMost row.text (special_triple row)
+    unfolding text_of
+    row-grows row facts = rw (facts.prints environment.Newlib binary_format.Elf) (omega arith)
+
     by_special : (text : List ℕ) (o : Option Values) (t : Values) → special_values text ≡ o → reading_unless_special o text ≡ Ok t → GrowsAtMost text t
-    unfolding text_of special_text
     by_special text None t is read = subst (λ (x : List ℕ). GrowsAtMost x t) (join_with_byte-slice_split dash text) (by_parts (parts_of text) t read)
     by_special text (Some u) t is read =
-        let short = MatchOption-at_some _ (λ x. length (text_of x) ≤ 21) u is (special-holds _ text (omega arith) (omega arith)) in
-        let same : u ≡ t = cc in
-        subst (GrowsAtMost text) same (omega (arith, short))
+        let at = row_of_text text u is in
+        let same : special_triple at.0 ≡ t = (let of : u ≡ t = cc in sym at.2 ∙ of) in
+        subst (GrowsAtMost text) same (subst (λ (x : List ℕ). GrowsAtMost x (special_triple at.0)) (sym at.1) (row-grows at.0 at.3))
 
     pub printed_max_growth : ReadingIsComputed → PrintedTextsGrowAtMost
     unfolding reading
@@ -232,29 +258,39 @@ by_weight u t special lighter = rw special (by_option (special_text t))
     by_option (Some text) = omega arith
     by_option None = omega (arith, weight-shown u (shows_unknowns u), weight-shown t (shows_unknowns t))
 
-special-does_not_grow : (t : Values) → IsNintendo3ds t ⊎ IsEspIdf t → DoesNotGrow (values t.architecture t.vendor t.operating_system environment.Newlib binary_format.Elf) t
-unfolding text_of special_text
-special-does_not_grow t (inl is) = rw (is.architecture, is.vendor, is.operating_system) (omega arith)
-special-does_not_grow t (inr is) = rw (is.architecture, is.vendor, is.operating_system) (omega arith)
+row-does_not_grow : (t : Values) (row : SpecialRow) → HasFieldsOf row t → RowFacts row → DoesNotGrow (values t.architecture t.vendor t.operating_system environment.Newlib binary_format.Elf) t
+unfolding text_of
+row-does_not_grow t row is facts =
+    let u = values t.architecture t.vendor t.operating_system environment.Newlib binary_format.Elf in
+    let of_u : HasFieldsOf row u = record { architecture = is.architecture; system = record { vendor = is.system.vendor; operating_system = is.system.operating_system } } in
+    rw (prints_row u row of_u facts, prints_row t row is facts) (omega arith)
+
+special-does_not_grow : (t : Values) → HasSpecialFields t → DoesNotGrow (values t.architecture t.vendor t.operating_system environment.Newlib binary_format.Elf) t
+special-does_not_grow t has = let at = row_of_fields t has in row-does_not_grow t at.0 at.1 at.2
 
 esp-does_not_grow : (t : Values) → PrintsTheEspIdfText t → DoesNotGrow (values t.architecture (Known Espressif) t.operating_system environment.Newlib binary_format.Elf) t
-unfolding text_of shown_names shows_vendor shows_operating_system shows_environment shows_binary_format implied_format special_text
+unfolding text_of shown_names shows_vendor shows_operating_system shows_environment shows_binary_format implied_format special_text implies_newlib
 esp-does_not_grow t is = rw is (omega arith)
 
--- Clever is the architecture of no special string
-never_clever : (a : Architecture) → (is_clever_without_system a operating_system.Horizon ≡ false) × (is_clever_without_system a operating_system.Espidf ≡ false)
-never_clever (architecture.Clever sub) = (refl, refl)
-never_clever _ = (refl, refl)
+row-lighter : (a : Architecture) (row : SpecialRow) → RowFacts row → (f : BinaryFormat)
+    → weight (printed_names (values a (Known row.vendor) row.operating_system environment.Unknown (elf_if_unknown f)))
+    ≤ weight (printed_names (values a (Known row.vendor) row.operating_system environment.Newlib f))
+unfolding shown_names shows_vendor shows_operating_system shows_environment shows_binary_format
+row-lighter a row facts binary_format.Unknown =
+    rw (facts.vendor, facts.newlib, facts.implied a environment.Unknown, facts.implied a environment.Newlib, facts.operating_system, system_shown a row.operating_system facts.operating_system, and-false (not (architecture_implies_format a))) (omega arith)
+row-lighter a row facts binary_format.Elf =
+    rw (facts.vendor, facts.newlib, facts.implied a environment.Unknown, facts.implied a environment.Newlib, facts.operating_system, system_shown a row.operating_system facts.operating_system, and-false (not (architecture_implies_format a))) (omega arith)
+row-lighter a row facts _ =
+    rw (facts.vendor, facts.newlib, facts.implied a environment.Unknown, facts.implied a environment.Newlib, system_shown a row.operating_system facts.operating_system) (omega arith)
+
+lighter-by : (t : Values) (f : BinaryFormat) (row : SpecialRow) → HasSystemOf row t → RowFacts row → t.binary_format ≡ f → t.environment ≡ environment.Newlib
+    → weight (printed_names (values t.architecture t.vendor t.operating_system environment.Unknown (elf_if_unknown t.binary_format))) ≤ weight (printed_names t)
+lighter-by t f row is facts format newlib = rw (format, newlib, is.vendor, is.operating_system) (row-lighter t.architecture row facts f)
 
 newlib-lighter : (t : Values) (f : BinaryFormat) → t.binary_format ≡ f → HidesNewlib t
     → weight (printed_names (values t.architecture t.vendor t.operating_system environment.Unknown (elf_if_unknown t.binary_format))) ≤ weight (printed_names t)
-unfolding shown_names shows_vendor shows_operating_system shows_environment shows_binary_format implied_format
-newlib-lighter t binary_format.Unknown format (newlib, inl on) = rw (format, newlib, on.0, on.1, (never_clever t.architecture).0, and-false (not (architecture_implies_format t.architecture))) (omega arith)
-newlib-lighter t binary_format.Unknown format (newlib, inr on) = rw (format, newlib, on.0, on.1, (never_clever t.architecture).1, and-false (not (architecture_implies_format t.architecture))) (omega arith)
-newlib-lighter t binary_format.Elf format (newlib, inl on) = rw (format, newlib, on.0, on.1, (never_clever t.architecture).0, and-false (not (architecture_implies_format t.architecture))) (omega arith)
-newlib-lighter t binary_format.Elf format (newlib, inr on) = rw (format, newlib, on.0, on.1, (never_clever t.architecture).1, and-false (not (architecture_implies_format t.architecture))) (omega arith)
-newlib-lighter t _ format (newlib, inl on) = rw (format, newlib, on.0, on.1, (never_clever t.architecture).0) (omega arith)
-newlib-lighter t _ format (newlib, inr on) = rw (format, newlib, on.0, on.1, (never_clever t.architecture).1) (omega arith)
+newlib-lighter t f format is =
+    let at = row_of_system t is.system in lighter-by t f at.0 at.1 at.2 format is.environment
 
 clever-lighter : (c : CleverArchitecture) (v : VendorValue) (f : BinaryFormat) → let a = architecture.Clever c in
     weight (printed_names (values a v operating_system.None_ environment.Unknown f)) ≤ weight (printed_names (values a v operating_system.Unknown environment.None f))
@@ -304,6 +340,7 @@ text_with-short b t architecture environment binary_format system vendor = by_sp
     by_special : (special : Option (List ℕ)) → special_text t ≡ special → length (unwrap_or special names) < 2 ^ 64
     by_special None is = omega (arith, names-short, vendor is)
     by_special (Some text) is =
-        let short = special-short t.architecture t.vendor t.operating_system t.environment t.binary_format [] 21 (omega arith) (omega arith) in
-        let of_text : length text ≤ 21 = rw is at short in
-        omega (arith, of_text)
+        let at = row_of_fields t (fields_of_special t (ap is_some is)) in
+        let of : special_text t ≡ Some at.0.text = prints_row t at.0 at.1 at.2 in
+        let same : text ≡ at.0.text = cc in
+        rw same (omega (arith, at.2.bound))

@@ -6,7 +6,7 @@ use Rattle.std.specs.List.{join_with_byte}
 use Rattle.std.proofs.{lemmas.List.append-nil, Math.Bool.and-false}
 use Rattle.lexicon_fields.specs.Names.{dash}
 use Rattle.lexicon_fields.specs.{Architecture.architecture_name, Vendor.vendor_name, OperatingSystem.operating_system_name, OperatingSystem.system_version, OperatingSystem.version_suffix, Environment.environment_name, BinaryFormat.binary_format_name, declared.deployment_target.DeploymentTarget.DeploymentTarget}
-use Rattle.target_lexicon.specs.{Values.Values, Values.Architecture, Values.OperatingSystem, Values.Environment, Values.is_unknown_environment, Values.is_newlib, Values.implies_newlib, Values.is_clever_without_system, Private.name_piece, SpecialTexts.special_text}
+use Rattle.target_lexicon.specs.{Values.Values, Values.Architecture, Values.OperatingSystem, Values.Environment, Values.is_unknown_environment, Values.is_newlib, Values.is_clever_without_system, Private.name_piece, SpecialTexts.implies_newlib, SpecialTexts.special_text}
 use Rattle.target_lexicon.specs.Values.architecture
 use Rattle.target_lexicon.specs.Values.operating_system
 use Rattle.target_lexicon.specs.Values.environment

@@ -1,9 +1,9 @@
 -- The normal step keeps the answers of the four queries.
-use Rattle.std.proofs.Common.{◌≡◌, ◌∙◌, sym, ap, refl, Bool, true, false, cond, true≢false, Some, inl, inr}
+use Rattle.std.proofs.Common.{◌≡◌, ◌∙◌, sym, ap, refl, Bool, true, false, cond, true≢false, Some}
 use Rattle.target_lexicon.specs.Values.{Architecture, OperatingSystem, Environment, BinaryFormat, VendorValue, Values, values}
 use Rattle.target_lexicon.specs.{NormalStep.normal_step, FamilyFacts.PrintsAsSpecial, Queries.is_ilp32, Queries.convention_on, Queries.model_of_width, Queries.pointer_width, Queries.data_model, QueryLaws.HaveSameAnswers}
 use Rattle.lexicon_fields.specs.{declared.pointer_width.PointerWidth.TheVariants.U32, ArchitectureQueries.is_clever, ArchitectureQueries.architecture_width}
-use Rattle.target_lexicon.proofs.StepCases.{step_cases}
+use Rattle.target_lexicon.proofs.{SpecialRows.row_of_fields, StepCases.step_cases}
 use Rattle.target_lexicon.specs.Values.architecture
 use Rattle.target_lexicon.specs.Values.operating_system
 use Rattle.target_lexicon.specs.Values.environment
@@ -30,7 +30,7 @@ narrow_width t narrow = rw narrow (by_test (is_ilp32 t.environment))
     by_test false = refl
 
 special-narrow : (t : Values) → PrintsAsSpecial t → architecture_width t.architecture ≡ Some U32
-special-narrow t special = elim special.fields [ inl machine ↦ rw machine.architecture refl | inr machine ↦ rw machine.architecture refl ]
+special-narrow t special = let at = row_of_fields t special.fields in rw (at.1.architecture) at.2.narrow
 
 newlib-width : (a : Architecture) (v w : VendorValue) (s : OperatingSystem) (f g : BinaryFormat)
     → pointer_width (values a v s environment.Unknown f) ≡ pointer_width (values a w s environment.Newlib g)
@@ -55,7 +55,7 @@ kept t =
     let a = t.architecture in let v = t.vendor in let s = t.operating_system in let e = t.environment in let f = t.binary_format in
     step_cases (λ u. HaveSameAnswers u t) t
     (λ special. let narrow = special-narrow t special in alike_by_width a v v s _ e _ f (narrow_width _ narrow ∙ sym (narrow_width t narrow)))
-    (λ newlib. rw newlib.0 (alike_by_width a v v s _ _ _ f (newlib-width a v v s _ f)))
+    (λ newlib. rw newlib.environment (alike_by_width a v v s _ _ _ f (newlib-width a v v s _ f)))
     (λ esp. rw esp (alike_by_width _ _ _ _ _ _ _ _ (sym (newlib-width _ _ _ _ _ _))))
     (λ none. rw (none.operating_system, none.environment) (clever-alike a v f none.architecture))
     (λ outside. alike_by_width a v v s e e f f refl)

@@ -1,16 +1,17 @@
 -- The shown parts of a triple with a plain vendor parse as its normal step, if no special string is printed.
-use Rattle.std.proofs.Common.{◌≡◌, ◌≢◌, ◌∙◌, ℕ, Bool, true, false, not, ◌&&◌, ◌||◌, cond, List, [], ◌∷◌, None, Result, Ok, refl, sym, ap, ◌⊎◌, inl, inr}
-use Rattle.target_lexicon.specs.Values.{Architecture, Environment, OperatingSystem, BinaryFormat, VendorValue, Known, Values, values, implies_newlib, is_same_format, is_clever_without_system}
-use Rattle.target_lexicon.specs.{Field.Field, ImpliedFormat.default_binary_format, ImpliedFormat.implied_format, FamilyFacts.PrintsAsSpecial, FamilyFacts.HidesNewlib, FamilyFacts.PrintsTheEspIdfText, FamilyFacts.ShowsOnlyNone, Refusal.Refusal, SpecialTexts.special_text}
+use Rattle.std.proofs.Common.{◌≡◌, ◌≢◌, ◌∙◌, ℕ, Bool, true, false, not, ◌&&◌, ◌||◌, cond, List, [], ◌∷◌, None, Result, Ok, is_some, refl, sym, ap, ◌⊎◌, inl, inr}
+use Rattle.target_lexicon.specs.Values.{Architecture, Environment, OperatingSystem, BinaryFormat, VendorValue, Known, Values, values, is_same_format, is_clever_without_system}
+use Rattle.target_lexicon.specs.{Field.Field, ImpliedFormat.default_binary_format, ImpliedFormat.implied_format, FamilyFacts.HasSystemOf, FamilyFacts.PrintsAsSpecial, FamilyFacts.HidesNewlib, FamilyFacts.PrintsTheEspIdfText, FamilyFacts.ShowsOnlyNone, Refusal.Refusal, SpecialTexts.SpecialRow, SpecialTexts.implies_newlib, SpecialTexts.special_text}
 use Rattle.target_lexicon.specs.NormalStep.{normal_step, elf_if_unknown}
 use Rattle.target_lexicon.specs.Printing.{shows_vendor, omits_unknown_vendor, shows_operating_system, shows_environment, is_none_or_unknown, shows_implied_format, shows_binary_format, shows_unknowns, shown_names, cons_if}
 use Rattle.target_lexicon.specs.GreedyReading.{reading_of_parts}
 use Rattle.target_lexicon.proofs.FieldReading.{by_fields, reading_by_fields, reading_from_vendor, reading_from_operating_system, reading_from_environment}
 use Rattle.lexicon_fields.specs.{ArchitectureQueries.is_clever, declared.architecture.clever.CleverArchitecture.CleverArchitecture, Architecture.architecture_name, Laws.HasVersionInRange, Vendor.vendor_name, Vendor.is_plain, OperatingSystem.operating_system_name, Environment.environment_name, BinaryFormat.binary_format_name}
-use Rattle.lexicon_fields.specs.declared.known_vendor.KnownVendor.TheVariants.{Unknown, Nintendo, Espressif}
-use Rattle.std.proofs.{lemmas.Bool.not-false, lemmas.Bool.not-true, Math.Bool.and-false, lemmas.Bool.false≢true, lemmas.Bool.true≢false}
+use Rattle.lexicon_fields.specs.declared.known_vendor.KnownVendor.TheVariants.{Unknown}
+use Rattle.std.proofs.{lemmas.Bool.and_parts, lemmas.Bool.not-false, lemmas.Bool.not-true, Math.Bool.and-false, lemmas.Bool.false≢true, lemmas.Bool.true≢false}
 use Rattle.target_lexicon.proofs.PrintingLemmas.{printed_names}
 use Rattle.target_lexicon.proofs.NamesAcross.{NamesAreRead, environment_of-format, operating_system_of-format, operating_system_of-environment, vendor_of-operating_system, system_as_vendor}
+use Rattle.target_lexicon.proofs.SpecialRows.{RowFacts, special_of_fields, system_of_newlib, row_of_system, special_system, newlib_system, no_newlib}
 use Rattle.target_lexicon.proofs.StepCases.{step_cases, outside-fixed, only_none-step}
 use Rattle.target_lexicon.specs.Values.architecture
 use Rattle.target_lexicon.specs.Values.operating_system
@@ -53,22 +54,18 @@ are_unknown a v s _ _ shown = absurd (false≢true shown)
 -- if no special string is printed
 
 none-apart : (t : Values) → special_text t ≡ None → ¬ PrintsAsSpecial t
-unfolding special_text
-none-apart t none is = elim is.fields [
-  | inl of ↦ let bad = rw (of.architecture, of.vendor, of.operating_system) at none in cc
-  | inr of ↦ let bad = rw (of.architecture, of.vendor, of.operating_system) at none in cc
-]
+none-apart t none is = true≢false (sym (special_of_fields t is.fields) ∙ ap is_some none)
 
 -- an environment that isn't shown is unknown, or a hidden `Newlib`
 not_shown : (a : Architecture) (v : VendorValue) (s : OperatingSystem) (e : Environment) (f : BinaryFormat) → special_text (values a v s e f) ≡ None → shows_environment (values a v s e f) ≡ false
     → (e ≡ environment.Unknown) ⊎ HidesNewlib (values a v s e f)
-unfolding shows_environment special_text
+unfolding shows_environment
 not_shown a v s environment.Unknown f none hidden = inl refl
-not_shown a (Known Nintendo) operating_system.Horizon environment.Newlib f none hidden =
-    inr (refl, inl (refl, refl, λ is. absurd (let bad = rw is at none in cc)))
-not_shown a (Known Espressif) operating_system.Espidf environment.Newlib f none hidden =
-    inr (refl, inr (refl, refl, λ is. absurd (let bad = rw is at none in cc)))
-not_shown a _ _ environment.Newlib f none hidden = absurd (true≢false hidden)
+not_shown a v s environment.Newlib f none hidden = inr (record {
+  environment = refl;
+  system = system_of_newlib (values a v s environment.Newlib f) (and_parts (implies_newlib v s) true (not-false _ hidden)).0;
+  others = λ special. true≢false (sym (special_of_fields _ special) ∙ ap is_some none);
+})
 not_shown a v s _ f none hidden = absurd (true≢false (rw and-false at hidden))
 
 -- the format that is parsed if the environment isn't shown
@@ -113,8 +110,7 @@ shown_system t h is = false≢true (sym (not-true _ h) ∙ rw is.operating_syste
 
 -- an unknown system implies no environment
 pub without_system : (v : VendorValue) → implies_newlib v operating_system.Unknown ≡ false
-without_system (Known Nintendo) = refl
-without_system _ = refl
+without_system v = no_newlib v operating_system.Unknown refl
 
 module _ (names : NamesAreRead) where
   -- the format, parsed back after an environment that is shown or not
@@ -136,13 +132,18 @@ module _ (names : NamesAreRead) where
   ReadsAfter t last u = reading_from_environment t.architecture t.vendor t.operating_system last
       (cons_if (shows_environment t) (environment_name t.environment) (cons_if (shows_binary_format t) (binary_format_name t.binary_format) [])) ≡ Ok u
 
+  row-read : (t : Values) (last : Field) (row : SpecialRow) → HasSystemOf row t → RowFacts row → t.environment ≡ environment.Newlib
+      → ReadsAfter t last (values t.architecture t.vendor t.operating_system environment.Unknown (elf_if_unknown t.binary_format))
+  unfolding shows_environment shows_binary_format
+  row-read t last row is facts newlib =
+      rw (newlib, is.vendor, is.operating_system, facts.newlib, facts.implied t.architecture environment.Newlib, facts.operating_system, and-false)
+      (hidden-read t.architecture _ _ t.binary_format _ last
+      ∙ rw (facts.implied t.architecture environment.Unknown)
+      (ap (λ f. Ok (values t.architecture (Known row.vendor) row.operating_system environment.Unknown f)) (shown_unless_elf t.binary_format)))
+
   newlib-read : (t : Values) (last : Field) → HidesNewlib t
       → ReadsAfter t last (values t.architecture t.vendor t.operating_system environment.Unknown (elf_if_unknown t.binary_format))
-  unfolding shows_environment shows_binary_format implied_format
-  newlib-read t last (newlib, inl on) = rw (newlib, on.0, on.1, and-false) (hidden-read t.architecture _ _ t.binary_format _ last
-      ∙ ap (λ f. Ok (values t.architecture (Known Nintendo) operating_system.Horizon environment.Unknown f)) (shown_unless_elf t.binary_format))
-  newlib-read t last (newlib, inr on) = rw (newlib, on.0, on.1, and-false) (hidden-read t.architecture _ _ t.binary_format _ last
-      ∙ ap (λ f. Ok (values t.architecture (Known Espressif) operating_system.Espidf environment.Unknown f)) (shown_unless_elf t.binary_format))
+  newlib-read t last is = let at = row_of_system t is.system in row-read t last at.0 at.1 at.2 is.environment
 
   module _ (a : Architecture) (v : VendorValue) (s : OperatingSystem) (e : Environment) (f : BinaryFormat) (none : special_text (values a v s e f) ≡ None)
       (hidden : shows_unknowns (values a v s e f) ≡ false) where
@@ -189,8 +190,8 @@ module _ (names : NamesAreRead) where
   clever-fixed : (c : CleverArchitecture) (v : VendorValue) (e : Environment) (f : BinaryFormat) → e ≢ environment.None
       → normal_step (values (architecture.Clever c) v operating_system.Unknown e f) ≡ values (architecture.Clever c) v operating_system.Unknown e f
   clever-fixed c v e f other = outside-fixed (values (architecture.Clever c) v operating_system.Unknown e f) (record {
-    special = λ is. elim is.fields [ inl on ↦ let bad = on.architecture in cc | inr on ↦ let bad = on.architecture in cc ];
-    newlib = λ is. elim is.1 [ inl on ↦ let bad = on.1 in cc | inr on ↦ let bad = on.1 in cc ];
+    special = λ is. true≢false (special_system _ is.fields);
+    newlib = λ is. true≢false (newlib_system _ is.system);
     esp = λ is. let bad = ap (λ x. x.operating_system) is in cc;
     none = λ is. other is.environment;
   })
@@ -236,7 +237,7 @@ module _ (names : NamesAreRead) where
     -- an unknown environment and an unknown format, both shown, change nothing
     unknowns-step : (e ≡ environment.Unknown) × (f ≡ binary_format.Unknown) → normal_step (values a v s e f) ≡ values a v s e f
     unknowns-step (is_e, is_f) = step_cases (λ u. u ≡ values a v s e f) (values a v s e f)
-        (λ is. absurd (none-apart _ none is)) (λ is. absurd (let newlib = is.0 in cc))
+        (λ is. absurd (none-apart _ none is)) (λ is. absurd (let newlib = is.environment in cc))
         (λ is. absurd (apart is))
         (λ is. absurd (let only_none = is.environment in cc)) (λ outside. refl)
 

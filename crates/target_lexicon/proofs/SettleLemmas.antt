@@ -1,43 +1,49 @@
 -- A second step changes no triple.
-use Rattle.std.proofs.Common.{◌≡◌, ◌⊎◌, inl, inr, ℕ, List, true, refl, sym, ap, subst}
-use Rattle.target_lexicon.specs.{Values.Architecture, Values.BinaryFormat, Values.VendorValue, Values.Values, Values.values, Laws.ComesBack, NormalStep.normal_step, NormalStep.elf_if_unknown}
-use Rattle.target_lexicon.specs.{Families.family_by_fields, FamilyFacts.IsNintendo3ds, FamilyFacts.IsEspIdf, FamilyFacts.HidesNewlib, FamilyFacts.PrintsTheEspIdfText, Printing.text_of, Reading.ReadsAs, SpecialTexts.esp_idf}
+use Rattle.std.proofs.Common.{◌≡◌, ℕ, List, true, refl, sym, ap, subst, Option, true≢false}
+use Rattle.target_lexicon.specs.{Values.Architecture, Values.BinaryFormat, Values.VendorValue, Values.Known, Values.Values, Values.values, Laws.ComesBack, NormalStep.normal_step, NormalStep.step_of, NormalStep.elf_if_unknown}
+use Rattle.target_lexicon.specs.{Families.family, Families.RoundTripFamily, FamilyFacts.HasSpecialFields, FamilyFacts.HidesNewlib, FamilyFacts.PrintsTheEspIdfText, Printing.text_of, Reading.ReadsAs, SpecialTexts.special_text}
 use Rattle.target_lexicon.specs.FixedPoints.{IsPlainTriple, RoundIsNormalStep, settled_values, OneStepSettles, SettledTextsAreKeys}
-use Rattle.lexicon_fields.specs.{Vendor.is_plain, Laws.HasVersionInRange}
-use Rattle.target_lexicon.proofs.{StepCases.outside-fixed, StepCases.step_cases, UniqueReading.values_unique}
+use Rattle.lexicon_fields.specs.{Vendor.is_plain, Laws.HasVersionInRange, declared.known_vendor.KnownVendor.TheVariants.Espressif}
+use Rattle.target_lexicon.proofs.{SpecialRows.fields_of_special, SpecialRows.special_of_fields, SpecialRows.row_of_system, SpecialRows.special_system, StepCases.outside-fixed, StepCases.special-own, StepCases.step_cases, UniqueReading.values_unique}
+use Rattle.target_lexicon.specs.Values.architecture
+use Rattle.target_lexicon.specs.Values.riscv32
 use Rattle.target_lexicon.specs.Values.operating_system
 use Rattle.target_lexicon.specs.Values.environment
 use Rattle.target_lexicon.specs.Values.binary_format
 
-esp_idf-stays : normal_step esp_idf ≡ esp_idf
-unfolding normal_step family_by_fields
+-- with the environment and the format of special strings
+special-stays : (t : Values) → HasSpecialFields t
+    → normal_step (values t.architecture t.vendor t.operating_system environment.Newlib binary_format.Elf) ≡ values t.architecture t.vendor t.operating_system environment.Newlib binary_format.Elf
+unfolding normal_step special_text
+special-stays t has =
+    let u = values t.architecture t.vendor t.operating_system environment.Newlib binary_format.Elf in
+    ap (λ (found : Option RoundTripFamily). step_of found u) (special-own u (fields_of_special u (special_of_fields t has)) (refl, refl))
+
+esp_idf-stays : let u = values (architecture.Riscv32 riscv32.Riscv32imc) (Known Espressif) operating_system.Espidf environment.Newlib binary_format.Elf in normal_step u ≡ u
+unfolding normal_step family special_text
 esp_idf-stays = refl
 
-special-stays : (t : Values) → IsNintendo3ds t ⊎ IsEspIdf t
-    → normal_step (values t.architecture t.vendor t.operating_system environment.Newlib binary_format.Elf) ≡ values t.architecture t.vendor t.operating_system environment.Newlib binary_format.Elf
-unfolding normal_step family_by_fields
-special-stays t (inl is) = rw (is.architecture, is.vendor, is.operating_system) refl
-special-stays t (inr is) = rw (is.architecture, is.vendor, is.operating_system) refl
-
 -- with an unknown environment only the special strings decide whether a triple is unchanged
-unknown-stays : (t : Values) → t.environment ≡ environment.Unknown → ¬ (IsNintendo3ds t ⊎ IsEspIdf t) → ¬ PrintsTheEspIdfText t → normal_step t ≡ t
+unknown-stays : (t : Values) → t.environment ≡ environment.Unknown → ¬ HasSpecialFields t → ¬ PrintsTheEspIdfText t → normal_step t ≡ t
 unknown-stays t unknown special esp = outside-fixed t (record {
   special = λ is. special is.fields;
-  newlib = λ is. let newlib = is.0 in cc;
+  newlib = λ is. let newlib = is.environment in cc;
   esp = esp;
   none = λ is. let none = is.environment in cc;
 })
 
 newlib-stays : (t : Values) → HidesNewlib t
     → let u = values t.architecture t.vendor t.operating_system environment.Unknown (elf_if_unknown t.binary_format) in normal_step u ≡ u
-newlib-stays t (newlib, inl on) = unknown-stays (values t.architecture t.vendor t.operating_system environment.Unknown (elf_if_unknown t.binary_format)) refl
-    (λ special. elim special [ inl of ↦ on.2 of.architecture | inr of ↦ cc ]) (λ esp. let of = ap (λ x. x.vendor) esp in cc)
-newlib-stays t (newlib, inr on) = unknown-stays (values t.architecture t.vendor t.operating_system environment.Unknown (elf_if_unknown t.binary_format)) refl
-    (λ special. elim special [ inl of ↦ cc | inr of ↦ on.2 of.architecture ]) (λ esp. let of = ap (λ x. x.vendor) esp in cc)
+unfolding special_text
+newlib-stays t is =
+    let u = values t.architecture t.vendor t.operating_system environment.Unknown (elf_if_unknown t.binary_format) in
+    unknown-stays u refl (λ special. is.others (fields_of_special t (special_of_fields u special)))
+    (λ esp. let of = ap (λ x. x.vendor) esp in let known = (row_of_system t is.system).1.vendor in cc)
 
 none-stays : (a : Architecture) (v : VendorValue) (f : BinaryFormat) → let u = values a v operating_system.None_ environment.Unknown f in normal_step u ≡ u
-none-stays a v f = unknown-stays (values a v operating_system.None_ environment.Unknown f) refl
-    (λ special. elim special [ inl of ↦ cc | inr of ↦ cc ]) (λ esp. let of = ap (λ x. x.operating_system) esp in cc)
+none-stays a v f =
+    let u = values a v operating_system.None_ environment.Unknown f in
+    unknown-stays u refl (λ special. true≢false (special_system u special)) (λ esp. let of = ap (λ x. x.operating_system) esp in cc)
 
 pub second_changes_none : OneStepSettles
 second_changes_none t = step_cases (λ u. normal_step u ≡ u) t

@@ -1,17 +1,17 @@
 -- The facts of the five fields of each family. So a fact that holds in the case of each family, and outside them, holds
 -- for the step.
-use Rattle.std.proofs.Common.{◌≡◌, ◌≢◌, ◌∙◌, ◌⊎◌, ℕ, List, inl, inr, Bool, true, false, cond, codes, Option, Some, None, refl, sym, ap, subst}
+use Rattle.std.proofs.Common.{◌≡◌, ◌∙◌, ◌⊎◌, ℕ, List, inl, inr, Bool, true, false, cond, ◌&&◌, codes, Option, Some, None, is_some, refl, sym, ap, subst}
 use Rattle.std.specs.Str.{bytes_eq}
-use Rattle.std.proofs.{lemmas.Slice.Eq.bytes_eq-Decides, lemmas.Bool.false≢true}
-use Rattle.target_lexicon.specs.Values.{Architecture, OperatingSystem, Environment, BinaryFormat, VendorValue, Known, Custom, Values, values}
-use Rattle.target_lexicon.specs.Families.{RoundTripFamily, family, family_by_fields, family_of_vendor}
+use Rattle.std.proofs.{lemmas.Slice.Eq.bytes_eq-Decides, lemmas.Bool.and_parts, lemmas.Bool.cases_Bool, lemmas.Bool.false≢true, Math.Bool.and-false}
+use Rattle.target_lexicon.specs.Values.{Architecture, OperatingSystem, Environment, BinaryFormat, VendorValue, Known, Custom, Values, values, is_newlib, is_none_environment, is_same_format, is_clever_without_system}
+use Rattle.target_lexicon.specs.{SpecialTexts.special_text, SpecialTexts.implies_newlib, Families.RoundTripFamily, Families.family, Families.has_newlib_and_elf, Families.is_custom_esp}
 use Rattle.target_lexicon.specs.declared.family.RoundTripFamily.TheVariants as families
-use Rattle.target_lexicon.specs.FamilyFacts.{PrintsAsSpecial, HidesNewlib, PrintsTheEspIdfText, ShowsOnlyNone, VendorIsNotPlain, FamiliesAreFactsOfFields}
+use Rattle.target_lexicon.specs.FamilyFacts.{HasSpecialFields, HasNewlibAndElf, PrintsAsSpecial, HidesNewlib, PrintsTheEspIdfText, ShowsOnlyNone, VendorIsNotPlain, FamiliesAreFactsOfFields}
 use Rattle.target_lexicon.specs.NormalStep.{normal_step, step_of, elf_if_unknown}
-use Rattle.lexicon_fields.specs.{ArchitectureQueries.is_clever, declared.architecture.clever.CleverArchitecture.CleverArchitecture, Vendor.is_plain, Vendor.is_admitted, Vendor.known_vendor_of, Architecture.architecture_of, OperatingSystem.operating_system_of, OperatingSystem.fixed_operating_system_of, Environment.environment_of, BinaryFormat.binary_format_of}
-use Rattle.lexicon_fields.specs.declared.known_vendor.KnownVendor.TheVariants.{Nintendo, Espressif}
+use Rattle.lexicon_fields.specs.{ArchitectureQueries.is_clever, Vendor.is_plain, Vendor.is_admitted, Vendor.known_vendor_of, Architecture.architecture_of, OperatingSystem.operating_system_of, OperatingSystem.fixed_operating_system_of, Environment.environment_of, BinaryFormat.binary_format_of}
+use Rattle.lexicon_fields.specs.declared.known_vendor.KnownVendor.TheVariants.{Espressif}
+use Rattle.target_lexicon.proofs.SpecialRows.{row_of_fields, row_of_system, fields_of_special, special_of_fields, no_special, system_of_newlib, newlib_of_system, special_system}
 use Rattle.target_lexicon.specs.Values.architecture
-use Rattle.target_lexicon.specs.Values.arm
 use Rattle.target_lexicon.specs.Values.riscv32
 use Rattle.target_lexicon.specs.Values.operating_system
 use Rattle.target_lexicon.specs.Values.environment
@@ -27,88 +27,103 @@ FactsOf (Some families.ShowsOnlyNone) t = ShowsOnlyNone t
 FactsOf (Some families.VendorIsNotPlain) t = is_plain t.vendor ≡ false
 FactsOf None t = is_plain t.vendor ≡ true
 
-of_vendor : (t : Values) (b : Bool) → is_plain t.vendor ≡ b → FactsOf (cond b None (Some families.VendorIsNotPlain)) t
-of_vendor t true is = is
-of_vendor t false is = is
+special-plain : (t : Values) → HasSpecialFields t → is_plain t.vendor ≡ true
+special-plain t has = rw ((row_of_fields t has).1.system.vendor) refl
+
+newlib-plain : (t : Values) → HidesNewlib t → is_plain t.vendor ≡ true
+newlib-plain t is = rw ((row_of_system t is.system).1.vendor) refl
+
+pub newlib-is : (e : Environment) → is_newlib e ≡ true → e ≡ environment.Newlib
+newlib-is environment.Newlib is = refl
+newlib-is _ is = absurd (false≢true is)
+
+elf-is : (f : BinaryFormat) → is_same_format f binary_format.Elf ≡ true → f ≡ binary_format.Elf
+elf-is binary_format.Elf is = refl
+elf-is _ is = absurd (false≢true is)
+
+pub both-is : (t : Values) → has_newlib_and_elf t ≡ true → HasNewlibAndElf t
+both-is t is = let parts = and_parts (is_newlib t.environment) _ is in (newlib-is t.environment parts.0, elf-is t.binary_format parts.1)
+
+none-is : (e : Environment) → is_none_environment e ≡ true → e ≡ environment.None
+none-is environment.None is = refl
+none-is _ is = absurd (false≢true is)
 
 abbrev on_esp_idf : List ℕ → Values
 on_esp_idf text = values (architecture.Riscv32 riscv32.Riscv32imc) (Custom text) operating_system.Espidf environment.Unknown binary_format.Elf
 
-of_esp : (text : List ℕ) (b : Bool) → bytes_eq text (codes "esp") ≡ b → FactsOf (cond b (Some families.PrintsTheEspIdfText) (family_of_vendor (Custom text))) (on_esp_idf text)
-of_esp text true is = ap on_esp_idf ((bytes_eq-Decides text (codes "esp")).0 is)
-of_esp text false is = of_vendor (on_esp_idf text) _ refl
+pub esp-is : (a : Architecture) (v : VendorValue) (s : OperatingSystem) (e : Environment) (f : BinaryFormat) → is_custom_esp a v s e f ≡ true → values a v s e f ≡ on_esp_idf (codes "esp")
+esp-is (architecture.Riscv32 riscv32.Riscv32imc) (Custom text) operating_system.Espidf environment.Unknown binary_format.Elf is = ap on_esp_idf ((bytes_eq-Decides text (codes "esp")).0 is)
+esp-is _ _ _ _ _ is = absurd (false≢true is)
 
-facts-by_fields : (a : Architecture) (v : VendorValue) (s : OperatingSystem) (e : Environment) (f : BinaryFormat) → FactsOf (family_by_fields a v s e f) (values a v s e f)
-unfolding family_by_fields
-facts-by_fields (architecture.Arm arm.Armv6k) (Known Nintendo) operating_system.Horizon environment.Newlib binary_format.Elf = refl
-facts-by_fields (architecture.Arm arm.Armv6k) (Known Nintendo) operating_system.Horizon _ _ =
-    record { fields = inl (record { architecture = refl; vendor = refl; operating_system = refl }); others = λ is. let e = is.0 in let f = is.1 in cc }
-facts-by_fields (architecture.Riscv32 riscv32.Riscv32imc) (Known Espressif) operating_system.Espidf environment.Newlib binary_format.Elf = refl
-facts-by_fields (architecture.Riscv32 riscv32.Riscv32imc) (Known Espressif) operating_system.Espidf _ _ =
-    record { fields = inr (record { architecture = refl; vendor = refl; operating_system = refl }); others = λ is. let e = is.0 in let f = is.1 in cc }
-facts-by_fields _ (Known Nintendo) operating_system.Horizon environment.Newlib _ = (refl, inl (refl, refl, λ is. cc))
-facts-by_fields _ (Known Espressif) operating_system.Espidf environment.Newlib _ = (refl, inr (refl, refl, λ is. cc))
-facts-by_fields (architecture.Riscv32 riscv32.Riscv32imc) (Custom text) operating_system.Espidf environment.Unknown binary_format.Elf = of_esp text _ refl
-facts-by_fields (architecture.Clever sub) v operating_system.Unknown environment.None f = record { architecture = refl; operating_system = refl; environment = refl }
-facts-by_fields a v s e f = of_vendor (values a v s e f) _ refl
+clever-is : (a : Architecture) (s : OperatingSystem) → is_clever_without_system a s ≡ true → (is_clever a ≡ true) × (s ≡ operating_system.Unknown)
+clever-is (architecture.Clever sub) operating_system.Unknown is = (refl, refl)
+clever-is _ _ is = absurd (false≢true is)
+
+-- the tests of the list of families, one after the other
+facts-by : (t : Values) (special both newlib esp none plain : Bool)
+    → is_some (special_text t) ≡ special → has_newlib_and_elf t ≡ both → (implies_newlib t.vendor t.operating_system && is_newlib t.environment) ≡ newlib
+    → is_custom_esp t.architecture t.vendor t.operating_system t.environment t.binary_format ≡ esp
+    → (is_clever_without_system t.architecture t.operating_system && is_none_environment t.environment) ≡ none → is_plain t.vendor ≡ plain
+    → FactsOf (cond special (cond both None (Some families.PrintsAsSpecial)) (cond newlib (Some families.HidesNewlib) (cond esp (Some families.PrintsTheEspIdfText)
+    (cond none (Some families.ShowsOnlyNone) (cond plain None (Some families.VendorIsNotPlain)))))) t
+facts-by t true true newlib esp none plain is_s is_b is_n is_e is_o is_p = special-plain t (fields_of_special t is_s)
+facts-by t true false newlib esp none plain is_s is_b is_n is_e is_o is_p = record {
+  fields = fields_of_special t is_s;
+  others = λ is. false≢true (sym is_b ∙ rw (is.0, is.1) refl);
+}
+facts-by t false both true esp none plain is_s is_b is_n is_e is_o is_p =
+    let parts = and_parts (implies_newlib t.vendor t.operating_system) _ is_n in record {
+      environment = newlib-is t.environment parts.1;
+      system = system_of_newlib t parts.0;
+      others = λ special. false≢true (sym is_s ∙ special_of_fields t special);
+    }
+facts-by t false both false true none plain is_s is_b is_n is_e is_o is_p = esp-is t.architecture t.vendor t.operating_system t.environment t.binary_format is_e
+facts-by t false both false false true plain is_s is_b is_n is_e is_o is_p =
+    let parts = and_parts (is_clever_without_system t.architecture t.operating_system) _ is_o in
+    let clever = clever-is t.architecture t.operating_system parts.0 in
+    record { architecture = clever.0; operating_system = clever.1; environment = none-is t.environment parts.1 }
+facts-by t false both false false false true is_s is_b is_n is_e is_o is_p = is_p
+facts-by t false both false false false false is_s is_b is_n is_e is_o is_p = is_p
 
 pub facts : (t : Values) → FactsOf (family t) t
-facts t = facts-by_fields t.architecture t.vendor t.operating_system t.environment t.binary_format
+unfolding family
+facts t = facts-by t _ _ _ _ _ _ refl refl refl refl refl refl
 
 -- from the facts to the family
 
-on_3ds : (e : Environment) (f : BinaryFormat) → ¬ ((e ≡ environment.Newlib) × (f ≡ binary_format.Elf))
-    → family_by_fields (architecture.Arm arm.Armv6k) (Known Nintendo) operating_system.Horizon e f ≡ Some families.PrintsAsSpecial
-unfolding family_by_fields
-on_3ds environment.Newlib binary_format.Elf others = absurd (others (refl, refl))
-on_3ds _ _ others = refl
-
-on_esp : (e : Environment) (f : BinaryFormat) → ¬ ((e ≡ environment.Newlib) × (f ≡ binary_format.Elf))
-    → family_by_fields (architecture.Riscv32 riscv32.Riscv32imc) (Known Espressif) operating_system.Espidf e f ≡ Some families.PrintsAsSpecial
-unfolding family_by_fields
-on_esp environment.Newlib binary_format.Elf others = absurd (others (refl, refl))
-on_esp _ _ others = refl
+not_both : (t : Values) → ¬ HasNewlibAndElf t → has_newlib_and_elf t ≡ false
+not_both t others = elim (cases_Bool (has_newlib_and_elf t)) [ inl is ↦ absurd (others (both-is t is)) | inr is ↦ is ]
 
 pub special-family : (t : Values) → PrintsAsSpecial t → family t ≡ Some families.PrintsAsSpecial
-special-family t is = elim is.fields [
-  | inl on ↦ rw (on.architecture, on.vendor, on.operating_system) (on_3ds t.environment t.binary_format is.others)
-  | inr on ↦ rw (on.architecture, on.vendor, on.operating_system) (on_esp t.environment t.binary_format is.others)
-]
+unfolding family
+special-family t is = rw (special_of_fields t is.fields, not_both t is.others) refl
 
-on_horizon : (a : Architecture) (f : BinaryFormat) → a ≢ architecture.Arm arm.Armv6k → family_by_fields a (Known Nintendo) operating_system.Horizon environment.Newlib f ≡ Some families.HidesNewlib
-unfolding family_by_fields
-on_horizon (architecture.Arm arm.Armv6k) f other = absurd (other refl)
-on_horizon (architecture.Riscv32 riscv32.Riscv32imc) f other = refl
-on_horizon _ f other = refl
-
-on_espidf : (a : Architecture) (f : BinaryFormat) → a ≢ architecture.Riscv32 riscv32.Riscv32imc → family_by_fields a (Known Espressif) operating_system.Espidf environment.Newlib f ≡ Some families.HidesNewlib
-unfolding family_by_fields
-on_espidf (architecture.Riscv32 riscv32.Riscv32imc) f other = absurd (other refl)
-on_espidf (architecture.Arm arm.Armv6k) f other = refl
-on_espidf _ f other = refl
+-- with the special string's own environment and format
+pub special-own : (t : Values) → HasSpecialFields t → HasNewlibAndElf t → family t ≡ None
+unfolding family
+special-own t has is = rw (special_of_fields t has, is.0, is.1) refl
 
 pub newlib-family : (t : Values) → HidesNewlib t → family t ≡ Some families.HidesNewlib
-newlib-family t is = elim is.1 [
-  | inl on ↦ rw (is.0, on.0, on.1) (on_horizon t.architecture t.binary_format on.2)
-  | inr on ↦ rw (is.0, on.0, on.1) (on_espidf t.architecture t.binary_format on.2)
-]
+unfolding family
+newlib-family t is = rw (no_special t is.others, newlib_of_system t is.system, is.environment) refl
 
 pub esp-family : (t : Values) → PrintsTheEspIdfText t → family t ≡ Some families.PrintsTheEspIdfText
-unfolding family_by_fields
+unfolding family special_text implies_newlib
 esp-family t is = ap family is
 
-on_clever : (sub : CleverArchitecture) (v : VendorValue) (f : BinaryFormat) → family_by_fields (architecture.Clever sub) v operating_system.Unknown environment.None f ≡ Some families.ShowsOnlyNone
-unfolding family_by_fields
-on_clever sub (Known Nintendo) f = refl
-on_clever sub (Known Espressif) f = refl
-on_clever sub _ f = refl
+unknown_system-other : (t : Values) → t.operating_system ≡ operating_system.Unknown → ¬ HasSpecialFields t
+unknown_system-other t unknown special = let known = special_system t special in false≢true (sym known ∙ rw unknown refl)
 
-if_clever : (a : Architecture) (v : VendorValue) (f : BinaryFormat) → is_clever a ≡ true → family_by_fields a v operating_system.Unknown environment.None f ≡ Some families.ShowsOnlyNone
-if_clever (architecture.Clever sub) v f clever = on_clever sub v f
+if_clever : (a : Architecture) (v : VendorValue) (f : BinaryFormat) → is_clever a ≡ true
+    → (is_custom_esp a v operating_system.Unknown environment.None f ≡ false) × (is_clever_without_system a operating_system.Unknown ≡ true)
+if_clever (architecture.Clever sub) v f clever = (refl, refl)
 if_clever _ v f clever = absurd (false≢true clever)
 
 pub only_none-family : (t : Values) → ShowsOnlyNone t → family t ≡ Some families.ShowsOnlyNone
-only_none-family t is = rw (is.operating_system, is.environment) (if_clever t.architecture t.vendor t.binary_format is.architecture)
+unfolding family
+only_none-family t is =
+    let clever = if_clever t.architecture t.vendor t.binary_format is.architecture in
+    rw (no_special t (unknown_system-other t is.operating_system), is.operating_system, is.environment, and-false, clever.0, clever.1) refl
 
 -- in none of the four families in which a triple with a plain vendor changes
 pub record IsOutside (t : Values) : Type 0 where
@@ -129,19 +144,13 @@ outside-family t None is outside = rw is refl
 pub plain-family : (t : Values) → is_plain t.vendor ≡ true → IsOutside t → family t ≡ None
 plain-family t plain outside = outside-family t (family t) (facts t) outside ∙ rw plain refl
 
-special-plain : (t : Values) → PrintsAsSpecial t → is_plain t.vendor ≡ true
-special-plain t is = elim is.fields [ inl on ↦ rw on.vendor refl | inr on ↦ rw on.vendor refl ]
-
-newlib-plain : (t : Values) → HidesNewlib t → is_plain t.vendor ≡ true
-newlib-plain t is = elim is.1 [ inl on ↦ rw on.0 refl | inr on ↦ rw on.0 refl ]
-
 esp-plain : (t : Values) → PrintsTheEspIdfText t → is_plain t.vendor ≡ true
 unfolding is_admitted known_vendor_of architecture_of operating_system_of fixed_operating_system_of environment_of binary_format_of
 esp-plain t is = rw is refl
 
 pub vendor-family : (t : Values) → VendorIsNotPlain t → family t ≡ Some families.VendorIsNotPlain
 vendor-family t is = outside-family t (family t) (facts t) (record {
-  special = λ special. false≢true (sym is.vendor ∙ special-plain t special);
+  special = λ special. false≢true (sym is.vendor ∙ special-plain t special.fields);
   newlib = λ newlib. false≢true (sym is.vendor ∙ newlib-plain t newlib);
   esp = λ esp. false≢true (sym is.vendor ∙ esp-plain t esp);
   none = is.others;

@@ -1,25 +1,23 @@
 -- The printed string of a triple with a plain vendor reads as its normal step.
-use Rattle.std.proofs.Common.{◌≡◌, ◌≢◌, ◌∙◌, ℕ, Bool, true, false, cond, is_none, true≢false, ◌⊎◌, inl, inr, List, [], ◌∷◌, Option, Some, None, Ok, Err, codes, refl, sym, ap, subst}
-use Rattle.std.specs.{List.list_all, List.join_with_byte, Str.bytes_eq}
-use Rattle.std.proofs.lemmas.Slice.Eq.{bytes_eq-Decides}
+use Rattle.std.proofs.Common.{◌≡◌, ◌∙◌, ℕ, Bool, true, false, is_some, true≢false, ◌⊎◌, inl, inr, List, [], ◌∷◌, Option, Some, None, Ok, codes, refl, sym, ap, subst}
+use Rattle.std.specs.{List.list_all, List.join_with_byte}
+use Rattle.std.proofs.{lemmas.Bool.cases_Bool, lemmas.Bool.false≢true}
 use Rattle.lexicon_fields.specs.Names.{dash}
 use Rattle.target_lexicon.specs.Values.{Architecture, OperatingSystem, Environment, BinaryFormat, VendorValue, Known, Custom, Values, values}
-use Rattle.target_lexicon.specs.{FixedPoints.RoundIsNormalStep, ImpliedFormat.implied_format, NormalStep.normal_step, Families.family_by_fields, FamilyFacts.PrintsTheEspIdfText, Reading.parts_of}
+use Rattle.target_lexicon.specs.{FixedPoints.RoundIsNormalStep, ImpliedFormat.implied_format, NormalStep.normal_step, NormalStep.step_of, NormalStep.elf_if_unknown, Families.RoundTripFamily, Families.family, Families.has_newlib_and_elf, Families.is_custom_esp, FamilyFacts.HasFieldsOf, FamilyFacts.HasSpecialFields, FamilyFacts.PrintsTheEspIdfText, Reading.parts_of}
 use Rattle.target_lexicon.specs.Printing.{shows_vendor, shows_operating_system, shows_environment, shows_binary_format, shows_unknowns, shown_names, text_of, cons_if}
-use Rattle.target_lexicon.specs.{Field.parses_as, Reading.ReadsAs, GreedyReading.reading_of_parts, GreedyReading.reading_unless_special, GreedyReading.reading, Refusal.refusal_with}
-use Rattle.target_lexicon.specs.SpecialTexts.{special_text, special_values, nintendo_3ds, nintendo_3ds_text, esp_idf, esp_idf_text}
-use Rattle.lexicon_fields.specs.{Names.is_dash_free, Architecture.architecture_name, Architecture.architecture_of, Laws.HasVersionInRange, Environment.environment_name, Environment.environment_of}
-use Rattle.lexicon_fields.specs.declared.known_vendor.KnownVendor.TheVariants.{Nintendo, Espressif}
-use Rattle.lexicon_fields.specs.{Vendor.vendor_of, Vendor.known_vendor_of, Vendor.is_admitted, Vendor.is_plain, BinaryFormat.binary_format_name, BinaryFormat.binary_format_of}
-use Rattle.lexicon_fields.specs.OperatingSystem.{operating_system_name, operating_system_of, fixed_operating_system_of}
-use Rattle.target_lexicon.proofs.{ComputedReading.reading_computed, NamesAcross.NamesAreRead, PartLemmas.parts_of-joined, PrintingLemmas.printed_names, RoundTrips.parts-round, StepCases.step_cases, StepCases.is_esp}
+use Rattle.target_lexicon.specs.{Field.parses_as, Reading.ReadsAs, GreedyReading.reading_of_parts, GreedyReading.reading_unless_special, GreedyReading.reading}
+use Rattle.target_lexicon.specs.SpecialTexts.{SpecialRow, special_triple, special_text, special_values, implies_newlib}
+use Rattle.lexicon_fields.specs.{Names.is_dash_free, Architecture.architecture_name, Laws.HasVersionInRange, Environment.environment_name}
+use Rattle.lexicon_fields.specs.{Vendor.vendor_name, Vendor.is_custom, Vendor.is_plain, BinaryFormat.binary_format_name}
+use Rattle.lexicon_fields.specs.OperatingSystem.{operating_system_name}
+use Rattle.target_lexicon.proofs.SpecialRows.{RowFacts, is_known_to_print, prints_row, row_of_fields, row_of_system, row_of_text, fields_of_special, special_of_fields, no_special, special_system}
+use Rattle.target_lexicon.proofs.{ComputedReading.reading_computed, NamesAcross.NamesAreRead, PartLemmas.parts_of-joined, PrintingLemmas.printed_names, RoundTrips.parts-round, SameValues.same_values, StepCases.both-is, StepCases.esp-is, StepCases.special-own, StepCases.special-family, StepCases.step_cases, StepCases.is_esp}
 use Rattle.target_lexicon.specs.Values.architecture
-use Rattle.target_lexicon.specs.Values.arm
 use Rattle.target_lexicon.specs.Values.riscv32
 use Rattle.target_lexicon.specs.Values.operating_system
 use Rattle.target_lexicon.specs.Values.environment
 use Rattle.target_lexicon.specs.Values.binary_format
-use Rattle.target_lexicon.specs.Field as field
 
 -- strings without dashes are the parts of the string that joins them
 
@@ -32,14 +30,29 @@ cons_if-free false p ps free others = others
 
 -- the special strings, and the triples that print them
 
-pub special-round : (a : Architecture) (v : VendorValue) (s : OperatingSystem) (e : Environment) (f : BinaryFormat) (text : List ℕ) → special_text (values a v s e f) ≡ Some text
-    → reading (text_of (values a v s e f)) ≡ Ok (normal_step (values a v s e f))
-unfolding special_text special_values family_by_fields normal_step reading text_of
-special-round (architecture.Arm arm.Armv6k) (Known Nintendo) operating_system.Horizon environment.Newlib binary_format.Elf text is = refl
-special-round (architecture.Arm arm.Armv6k) (Known Nintendo) operating_system.Horizon _ _ text is = refl
-special-round (architecture.Riscv32 riscv32.Riscv32imc) (Known Espressif) operating_system.Espidf environment.Newlib binary_format.Elf text is = refl
-special-round (architecture.Riscv32 riscv32.Riscv32imc) (Known Espressif) operating_system.Espidf _ _ text is = refl
-special-round _ _ _ e f text is = absurd (true≢false (ap is_none is))
+-- the normal step of a triple that prints a special string is the triple of that string
+special-step : (t : Values) → HasSpecialFields t → normal_step t ≡ values t.architecture t.vendor t.operating_system environment.Newlib binary_format.Elf
+unfolding normal_step
+special-step t has = elim (cases_Bool (has_newlib_and_elf t)) [
+  | inl is ↦ let both = both-is t is in
+      ap (λ (found : Option RoundTripFamily). step_of found t) (special-own t has both)
+      ∙ same_values t (values t.architecture t.vendor t.operating_system environment.Newlib binary_format.Elf) refl refl refl both.0 both.1
+  | inr other ↦ ap (λ (found : Option RoundTripFamily). step_of found t)
+      (special-family t (record { fields = has; others = λ is. false≢true (sym other ∙ rw (is.0, is.1) refl) }))
+]
+
+row-round : (t : Values) (row : SpecialRow) → HasFieldsOf row t → RowFacts row
+    → normal_step t ≡ values t.architecture t.vendor t.operating_system environment.Newlib binary_format.Elf → reading (text_of t) ≡ Ok (normal_step t)
+unfolding reading text_of
+row-round t row is facts step =
+    let of : special_triple row ≡ values t.architecture t.vendor t.operating_system environment.Newlib binary_format.Elf =
+    same_values _ _ (sym is.architecture) (sym is.system.vendor) (sym is.system.operating_system) refl refl in
+    rw (prints_row t row is facts, facts.parses) (ap Ok (of ∙ sym step))
+
+special-round : (t : Values) → HasSpecialFields t → reading (text_of t) ≡ Ok (normal_step t)
+special-round t has =
+    let at = row_of_fields t has in
+    row-round t at.0 at.1 at.2 (special-step t has)
 
 -- the triple that prints another's special string
 
@@ -47,38 +60,46 @@ abbrev custom_esp : Values
 custom_esp = values (architecture.Riscv32 riscv32.Riscv32imc) (Custom (codes "esp")) operating_system.Espidf environment.Unknown binary_format.Elf
 
 custom_esp-round : reading (text_of custom_esp) ≡ Ok (normal_step custom_esp)
-unfolding reading parses_as text_of special_text special_values shown_names shows_vendor shows_operating_system shows_environment shows_binary_format implied_format family_by_fields normal_step
+unfolding reading parses_as text_of special_text special_values implies_newlib shown_names shows_vendor shows_operating_system shows_environment shows_binary_format implied_format family normal_step
 custom_esp-round = refl
 
--- the special strings, parsed by their parts
-
-nintendo-parts : reading_of_parts (parts_of nintendo_3ds_text) ≡ Err (refusal_with (Some field.OperatingSystem) (codes "3ds"))
-unfolding parses_as architecture_of vendor_of known_vendor_of operating_system_of fixed_operating_system_of environment_of binary_format_of
-nintendo-parts = refl
-
-esp_idf-parts : reading_of_parts (parts_of esp_idf_text) ≡ Ok custom_esp
-unfolding parses_as architecture_of vendor_of known_vendor_of is_admitted operating_system_of fixed_operating_system_of environment_of binary_format_of implied_format
-esp_idf-parts = refl
-
 -- a string that isn't special is parsed by its parts
-by_tests : (text : List ℕ) (ps : List (List ℕ)) (t : Values) (x y : Bool) → bytes_eq text nintendo_3ds_text ≡ x → bytes_eq text esp_idf_text ≡ y → parts_of text ≡ ps
-    → reading_of_parts ps ≡ Ok t → ps ≢ parts_of esp_idf_text → reading_unless_special (cond x (Some nintendo_3ds) (cond y (Some esp_idf) None)) text ≡ Ok t
-by_tests text ps t true y is_x is_y are reads apart =
-    absurd (let same = sym are ∙ ap parts_of ((bytes_eq-Decides text nintendo_3ds_text).0 is_x) in let bad = rw same at reads in let refusal = nintendo-parts in cc)
-by_tests text ps t false true is_x is_y are reads apart = absurd (apart (sym are ∙ ap parts_of ((bytes_eq-Decides text esp_idf_text).0 is_y)))
-by_tests text ps t false false is_x is_y are reads apart = ap reading_of_parts are ∙ reads
+by_parts : (text : List ℕ) (ps : List (List ℕ)) (t : Values) (special : Option Values) → special_values text ≡ special → parts_of text ≡ ps → reading_of_parts ps ≡ Ok t
+    → is_known_to_print (Ok t) ≡ false → reading_unless_special special text ≡ Ok t
+by_parts text ps t None is are reads apart = ap reading_of_parts are ∙ reads
+by_parts text ps t (Some s) is are reads apart =
+    let at = row_of_text text s is in
+    let same : reading_of_parts (parts_of at.0.text) ≡ Ok t = ap (λ (x : List ℕ). reading_of_parts (parts_of x)) (sym at.1) ∙ ap reading_of_parts are ∙ reads in
+    absurd (false≢true (sym apart ∙ ap is_known_to_print (sym same) ∙ at.3.parts))
+
+-- a triple that isn't the one that prints another's special string
+
+no_esp : (t : Values) → ¬ PrintsTheEspIdfText t → is_custom_esp t.architecture t.vendor t.operating_system t.environment t.binary_format ≡ false
+no_esp t apart = elim (cases_Bool (is_custom_esp t.architecture t.vendor t.operating_system t.environment t.binary_format)) [
+  | inl is ↦ absurd (apart (esp-is t.architecture t.vendor t.operating_system t.environment t.binary_format is))
+  | inr is ↦ is
+]
+
+no_esp-known : (a : Architecture) (v : VendorValue) (s : OperatingSystem) (e : Environment) (f : BinaryFormat) → is_custom v ≡ false → is_custom_esp a v s e f ≡ false
+no_esp-known a v s e f known = no_esp (values a v s e f) (λ is. let of = ap (λ x. x.vendor) is in false≢true (sym known ∙ rw of refl))
+
+no_esp-none : (a : Architecture) (v : VendorValue) (f : BinaryFormat) → is_custom_esp a v operating_system.None_ environment.Unknown f ≡ false
+no_esp-none a v f = no_esp (values a v operating_system.None_ environment.Unknown f) (λ is. let of = ap (λ x. x.operating_system) is in cc)
 
 module _ (names : NamesAreRead) (a : Architecture) (v : VendorValue) (s : OperatingSystem) (e : Environment) (f : BinaryFormat) (plain : is_plain v ≡ true) (range : HasVersionInRange s)
     (none : special_text (values a v s e f) ≡ None) (apart : ¬ PrintsTheEspIdfText (values a v s e f)) where
-  parts-apart : printed_names (values a v s e f) ≢ parts_of esp_idf_text
-  parts-apart same =
-      let reads : Ok (normal_step (values a v s e f)) ≡ Ok custom_esp = sym (parts-round names a v s e f plain range none apart) ∙ ap reading_of_parts same ∙ esp_idf-parts in
-      step_cases (λ u. u ≡ custom_esp → ⊥) (values a v s e f)
-      (λ is step. let of = ap (λ x. x.environment) step in cc)
-      (λ is step. let of = ap (λ x. x.vendor) step in elim is.1 [ inl on ↦ cc | inr on ↦ cc ])
-      (λ is step. let of = ap (λ x. x.vendor) step in cc)
-      (λ is step. let of = ap (λ x. x.operating_system) step in cc)
-      (λ outside. outside.esp) cc
+  -- the step is none of the triples that print a special string
+  step-apart : is_known_to_print (Ok (normal_step (values a v s e f))) ≡ false
+  unfolding special_text
+  step-apart =
+      let t = values a v s e f in
+      let other : ¬ HasSpecialFields t = λ special. true≢false (sym (special_of_fields t special) ∙ ap is_some none) in
+      step_cases (λ u. is_known_to_print (Ok u) ≡ false) t
+      (λ is. absurd (other is.fields))
+      (λ is. rw (ap is_some none) (no_esp-known a v s environment.Unknown (elf_if_unknown f) (rw ((row_of_system t is.system).1.vendor) refl)))
+      (λ is. absurd (apart is))
+      (λ is. let u = values a v operating_system.None_ environment.Unknown f in rw (no_special u (λ special. true≢false (special_system u special))) (no_esp-none a v f))
+      (λ outside. rw (ap is_some none) (no_esp t apart))
 
   joined-parts : (b : Bool) → let parts = shown_names b (values a v s e f) in parts_of (join_with_byte dash parts) ≡ parts
   unfolding shown_names
@@ -92,15 +113,15 @@ module _ (names : NamesAreRead) (a : Architecture) (v : VendorValue) (s : Operat
       (cons_if-free (shows_binary_format (values a v s e f)) (binary_format_name f) [] (names.binary_format.name_dash_free f tt) refl))))
 
   shown-round : reading (text_of (values a v s e f)) ≡ Ok (normal_step (values a v s e f))
-  unfolding reading text_of special_values
+  unfolding reading text_of
   shown-round =
       let t = values a v s e f in
-      rw none (by_tests (join_with_byte dash (printed_names t)) (printed_names t) (normal_step t) _ _ refl refl
-      (joined-parts (shows_unknowns t)) (parts-round names a v s e f plain range none apart) parts-apart)
+      rw none (by_parts (join_with_byte dash (printed_names t)) (printed_names t) (normal_step t) _ refl
+      (joined-parts (shows_unknowns t)) (parts-round names a v s e f plain range none apart) step-apart)
 
 round_by : NamesAreRead → (t : Values) (special : Option (List ℕ)) → is_plain t.vendor ≡ true → HasVersionInRange t.operating_system → special_text t ≡ special
     → PrintsTheEspIdfText t ⊎ ¬ PrintsTheEspIdfText t → reading (text_of t) ≡ Ok (normal_step t)
-round_by names t (Some text) plain range is _ = special-round t.architecture t.vendor t.operating_system t.environment t.binary_format text is
+round_by names t (Some text) plain range is _ = special-round t (fields_of_special t (ap is_some is))
 round_by names t None plain range is (inl esp) = rw esp custom_esp-round
 round_by names t None plain range is (inr apart) = shown-round names t.architecture t.vendor t.operating_system t.environment t.binary_format plain range is apart
 

@@ -1,33 +1,36 @@
 -- What each family says of the five fields: facts that follow from the list of families, one law for each family.
-use Rattle.std.specs.Prelude.{◌≡◌, ◌≢◌, ◌↔◌, ◌⊎◌, true, false, codes, Some}
-use Rattle.lexicon_fields.specs.{ArchitectureQueries.is_clever, declared.known_vendor.KnownVendor.TheVariants.Nintendo, declared.known_vendor.KnownVendor.TheVariants.Espressif, Vendor.is_plain}
+use Rattle.std.specs.Prelude.{◌≡◌, ◌↔◌, ◌⊎◌, List, [], ◌∷◌, true, false, codes, Some}
+use Rattle.lexicon_fields.specs.{ArchitectureQueries.is_clever, Vendor.is_plain}
 use Rattle.target_lexicon.specs.Families.{family}
+use Rattle.target_lexicon.specs.SpecialTexts.{SpecialRow, special_rows}
 use Rattle.target_lexicon.specs.declared.family.RoundTripFamily.TheVariants as families
 use Rattle.target_lexicon.specs.Values.{Known, Custom, Values, values}
 use Rattle.target_lexicon.specs.Values.architecture
-use Rattle.target_lexicon.specs.Values.arm
 use Rattle.target_lexicon.specs.Values.riscv32
 use Rattle.target_lexicon.specs.Values.operating_system
 use Rattle.target_lexicon.specs.Values.environment
 use Rattle.target_lexicon.specs.Values.binary_format
 
--- the first three fields are those that print as `armv6k-nintendo-3ds`
-pub record IsNintendo3ds (t : Values) : Type 0 where
-  pub architecture : t.architecture ≡ architecture.Arm arm.Armv6k
-  pub vendor : t.vendor ≡ Known Nintendo
-  pub operating_system : t.operating_system ≡ operating_system.Horizon
+-- one of these rows has the property
+abbrev pub SomeRow : (SpecialRow → Type 0) → List SpecialRow → Type 0
+SomeRow P [] = ⊥
+SomeRow P (row ∷ rows) = P row ⊎ SomeRow P rows
 
--- the first three fields are those that print as `riscv32imc-esp-espidf`
-pub record IsEspIdf (t : Values) : Type 0 where
-  pub architecture : t.architecture ≡ architecture.Riscv32 riscv32.Riscv32imc
-  pub vendor : t.vendor ≡ Known Espressif
-  pub operating_system : t.operating_system ≡ operating_system.Espidf
+-- vendor and system are those of the row
+pub record HasSystemOf (row : SpecialRow) (t : Values) : Type 0 where
+  pub vendor : t.vendor ≡ Known row.vendor
+  pub operating_system : t.operating_system ≡ row.operating_system
+
+-- and so is the architecture
+pub record HasFieldsOf (row : SpecialRow) (t : Values) : Type 0 where
+  pub architecture : t.architecture ≡ row.architecture
+  pub system : HasSystemOf row t
 
 -- the first three fields are those of a special string, which is printed
 abbrev pub HasSpecialFields : Values → Type 0
-HasSpecialFields t = IsNintendo3ds t ⊎ IsEspIdf t
+HasSpecialFields t = SomeRow (λ row. HasFieldsOf row t) special_rows
 
--- environment and format are those of both special strings
+-- environment and format are those of every special string
 abbrev pub HasNewlibAndElf : Values → Type 0
 HasNewlibAndElf t = (t.environment ≡ environment.Newlib) × (t.binary_format ≡ binary_format.Elf)
 
@@ -36,11 +39,11 @@ pub record PrintsAsSpecial (t : Values) : Type 0 where
   pub fields : HasSpecialFields t
   pub others : ¬ HasNewlibAndElf t
 
--- the environment is a `Newlib` that isn't shown, and the string isn't special
-abbrev pub HidesNewlib : Values → Type 0
-HidesNewlib t = (t.environment ≡ environment.Newlib)
-    × (((t.vendor ≡ Known Nintendo) × (t.operating_system ≡ operating_system.Horizon) × (t.architecture ≢ architecture.Arm arm.Armv6k))
-    ⊎ ((t.vendor ≡ Known Espressif) × (t.operating_system ≡ operating_system.Espidf) × (t.architecture ≢ architecture.Riscv32 riscv32.Riscv32imc)))
+-- the environment is a `Newlib` that isn't shown: vendor and system are those of a special string, and the architecture isn't
+pub record HidesNewlib (t : Values) : Type 0 where
+  pub environment : t.environment ≡ environment.Newlib
+  pub system : SomeRow (λ row. HasSystemOf row t) special_rows
+  pub others : ¬ HasSpecialFields t
 
 -- the vendor is the custom `esp`, and the string is the special one
 abbrev pub PrintsTheEspIdfText : Values → Type 0

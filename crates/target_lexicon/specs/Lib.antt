@@ -18,6 +18,7 @@ pub mod Reading
 pub mod GreedyReading
 pub mod Refusal
 pub mod SpecialTexts
+pub mod UpstreamRounds
 pub mod Values
 pub mod ValuesRef
 pub mod Written

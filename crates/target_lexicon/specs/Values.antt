@@ -1,12 +1,19 @@
 -- The values of a triple's five fields, over which all rules are stated.
 use Rattle.std.specs.Prelude.{Bool, true, false}
-use Rattle.lexicon_fields.specs.{declared.known_vendor.KnownVendor.TheVariants.Unknown, declared.known_vendor.KnownVendor.TheVariants.Nintendo, declared.known_vendor.KnownVendor.TheVariants.Espressif, Vendor.vendor_value}
+use Rattle.lexicon_fields.specs.{declared.known_vendor.KnownVendor.TheVariants.Unknown, Vendor.vendor_value}
 pub use Rattle.lexicon_fields.specs.{declared.architecture.Architecture.Architecture, declared.operating_system.OperatingSystem.OperatingSystem}
 pub use Rattle.lexicon_fields.specs.{declared.environment.Environment.Environment, declared.binary_format.BinaryFormat.BinaryFormat}
 pub use Rattle.lexicon_fields.specs.Vendor.{VendorValue, Known, Custom}
 pub use Rattle.lexicon_fields.specs.declared.architecture.Architecture.TheVariants as architecture
+pub use Rattle.lexicon_fields.specs.declared.architecture.aarch64.Aarch64Architecture.TheVariants as aarch64
 pub use Rattle.lexicon_fields.specs.declared.architecture.arm.ArmArchitecture.TheVariants as arm
+pub use Rattle.lexicon_fields.specs.declared.architecture.clever.CleverArchitecture.TheVariants as clever
+pub use Rattle.lexicon_fields.specs.declared.architecture.mips.Mips32Architecture.TheVariants as mips32
+pub use Rattle.lexicon_fields.specs.declared.architecture.mips.Mips64Architecture.TheVariants as mips64
 pub use Rattle.lexicon_fields.specs.declared.architecture.riscv.Riscv32Architecture.TheVariants as riscv32
+pub use Rattle.lexicon_fields.specs.declared.architecture.riscv.Riscv64Architecture.TheVariants as riscv64
+pub use Rattle.lexicon_fields.specs.declared.architecture.x86_32.X86_32Architecture.TheVariants as x86_32
+pub use Rattle.lexicon_fields.specs.declared.architecture.z80.Z80Architecture.TheVariants as z80
 pub use Rattle.lexicon_fields.specs.declared.operating_system.OperatingSystem.TheVariants as operating_system
 pub use Rattle.lexicon_fields.specs.declared.environment.Environment.TheVariants as environment
 pub use Rattle.lexicon_fields.specs.declared.binary_format.BinaryFormat.TheVariants as binary_format
@@ -49,6 +56,10 @@ abbrev pub is_newlib : Environment → Bool
 is_newlib environment.Newlib = true
 is_newlib _ = false
 
+abbrev pub is_none_environment : Environment → Bool
+is_none_environment environment.None = true
+is_none_environment _ = false
+
 abbrev pub is_clever_without_system : Architecture → OperatingSystem → Bool
 is_clever_without_system (architecture.Clever sub) operating_system.Unknown = true
 is_clever_without_system _ _ = false
@@ -62,9 +73,3 @@ is_same_format binary_format.Macho binary_format.Macho = true
 is_same_format binary_format.Wasm binary_format.Wasm = true
 is_same_format binary_format.Xcoff binary_format.Xcoff = true
 is_same_format _ _ = false
-
--- the vendors and systems that imply the environment `Newlib`
-abbrev pub implies_newlib : VendorValue → OperatingSystem → Bool
-implies_newlib (Known Nintendo) operating_system.Horizon = true
-implies_newlib (Known Espressif) operating_system.Espidf = true
-implies_newlib _ _ = false

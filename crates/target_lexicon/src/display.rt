@@ -212,16 +212,7 @@ impl<'a> TripleRef<'a> {
     {
         match self.environment {
             Environment::Unknown => false,
-            Environment::Newlib => !matches!(
-                (self.vendor, self.operating_system),
-                (
-                    VendorRef::Known(KnownVendor::Nintendo),
-                    OperatingSystem::Horizon
-                ) | (
-                    VendorRef::Known(KnownVendor::Espressif),
-                    OperatingSystem::Espidf
-                )
-            ),
+            Environment::Newlib => !self.implies_newlib(),
             _ => true,
         }
     }

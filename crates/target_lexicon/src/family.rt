@@ -1,15 +1,15 @@
 //! The families of triples that don't come back.
-ghost use Rattle.std.specs.Prelude.{◌≡◌, ◌↔◌, IsTrue};
+ghost use Rattle.std.specs.Prelude.{◌≡◌, ◌&&◌};
+ghost use Rattle.lexicon_fields.specs.VendorRef.{ref_value};
 ghost use Rattle.target_lexicon.specs.Families as spec;
-ghost use Rattle.target_lexicon.specs.FamilyFacts as facts;
-ghost use Rattle.target_lexicon.specs.Values.{values_of};
+ghost use Rattle.target_lexicon.specs.SpecialTexts.{implies_newlib};
+ghost use Rattle.target_lexicon.specs.Values.{is_clever_without_system, is_newlib, is_none_environment, values_of};
 ghost use Rattle.target_lexicon.specs.ValuesRef.{values_of_ref};
 
 use crate::triple::Triple;
 use crate::triple_ref::TripleRef;
 use lexicon_fields::{
-    Architecture, ArmArchitecture, BinaryFormat, Environment, KnownVendor, OperatingSystem,
-    Riscv32Architecture, VendorRef,
+    Architecture, BinaryFormat, Environment, OperatingSystem, Riscv32Architecture, VendorRef,
 };
 
 /// A family of triples that don't come back: printed and parsed again, they are another triple or none.
@@ -25,11 +25,11 @@ use lexicon_fields::{
 // In Rust: #[non_exhaustive].
 #[derive(Clone, Copy, Debug, PartialEq, Eq)]
 pub enum RoundTripFamily {
-    /// The first three fields are those of `armv6k-nintendo-3ds` or `riscv32imc-esp-espidf`, which is printed, and
-    /// environment and format aren't `Newlib` and `Elf`.
+    /// The first three fields are those of a special string, such as `armv6k-nintendo-3ds`, which is printed, and environment and
+    /// format aren't `Newlib` and `Elf`.
     PrintsAsSpecial,
-    /// Vendor and system are those of one of these two, and the environment is `Newlib`, which isn't shown, but the
-    /// architecture is another.
+    /// Vendor and system are those of a special string, and the environment is `Newlib`, which isn't shown, but the architecture is
+    /// another.
     HidesNewlib,
     /// The string is `riscv32imc-esp-espidf`, but the vendor is the custom `esp`.
     PrintsTheEspIdfText,
@@ -62,11 +62,16 @@ impl TripleRef<'_> {
     /// let triple = TripleRef::from_str("armv7-nintendo-horizon-newlib").unwrap();
     /// assert_eq!(rt; triple.round_trip_family(), Some(RoundTripFamily::HidesNewlib));
     /// ```
+    #[tactic(auto, unfolding(crate::specs::Families::family))]
     pub fn round_trip_family(&self) -> Option<RoundTripFamily>
         ensures { result ≡ spec.family (values_of_ref self.now) }
     {
-        if self.prints_as_special() {
-            Some(RoundTripFamily::PrintsAsSpecial)
+        if self.special_text().is_some() {
+            if self.has_newlib_and_elf() {
+                None
+            } else {
+                Some(RoundTripFamily::PrintsAsSpecial)
+            }
         } else if self.hides_newlib() {
             Some(RoundTripFamily::HidesNewlib)
         } else if self.prints_the_esp_idf_text() {
@@ -80,16 +85,9 @@ impl TripleRef<'_> {
         }
     }
 
-    /// Whether the first three fields are those of a special string, which is printed.
-    fn has_special_fields(&self) -> bool
-        ensures { IsTrue result ↔ facts.HasSpecialFields (values_of_ref self.now) }
-    {
-        self.special_text().is_some()
-    }
-
-    /// Whether environment and format are those of both special strings.
+    /// Whether environment and format are those of every special string.
     fn has_newlib_and_elf(&self) -> bool
-        ensures { IsTrue result ↔ facts.HasNewlibAndElf (values_of_ref self.now) }
+        ensures { result ≡ spec.has_newlib_and_elf (values_of_ref self.now) }
     {
         matches!(
             (self.environment, self.binary_format),
@@ -97,41 +95,18 @@ impl TripleRef<'_> {
         )
     }
 
-    /// Whether a special string is printed, and environment and format aren't `Newlib` and `Elf`.
-    fn prints_as_special(&self) -> bool
-        ensures { IsTrue result ↔ facts.PrintsAsSpecial (values_of_ref self.now) }
-    {
-        self.has_special_fields() && !self.has_newlib_and_elf()
-    }
-
-    /// Whether the environment is a `Newlib` that isn't shown, and the string isn't special.
+    /// Whether the environment is a `Newlib` that vendor and system imply. Where no special string is printed, it isn't shown.
     fn hides_newlib(&self) -> bool
-        ensures { IsTrue result ↔ facts.HidesNewlib (values_of_ref self.now) }
+        ensures { result ≡ (implies_newlib (ref_value self.now.vendor)
+            self.now.operating_system && is_newlib self.now.environment) }
     {
-        match (self.vendor, self.operating_system, self.environment) {
-            (
-                VendorRef::Known(KnownVendor::Nintendo),
-                OperatingSystem::Horizon,
-                Environment::Newlib,
-            ) => !matches!(
-                self.architecture,
-                Architecture::Arm(ArmArchitecture::Armv6k)
-            ),
-            (
-                VendorRef::Known(KnownVendor::Espressif),
-                OperatingSystem::Espidf,
-                Environment::Newlib,
-            ) => !matches!(
-                self.architecture,
-                Architecture::Riscv32(Riscv32Architecture::Riscv32imc)
-            ),
-            _ => false,
-        }
+        matches!(self.environment, Environment::Newlib) && self.implies_newlib()
     }
 
     /// Whether the vendor is the custom `esp`, and the string is the special one.
     fn prints_the_esp_idf_text(&self) -> bool
-        ensures { IsTrue result ↔ facts.PrintsTheEspIdfText (values_of_ref self.now) }
+        ensures { result ≡ spec.is_custom_esp self.now.architecture (ref_value self.now.vendor)
+            self.now.operating_system self.now.environment self.now.binary_format }
     {
         match (
             self.architecture,
@@ -153,7 +128,8 @@ impl TripleRef<'_> {
 
     /// Whether the environment `none` is shown without a system, on Clever.
     fn shows_only_none(&self) -> bool
-        ensures { IsTrue result ↔ facts.ShowsOnlyNone (values_of_ref self.now) }
+        ensures { result ≡ (is_clever_without_system self.now.architecture self.now.operating_system
+            && is_none_environment self.now.environment) }
     {
         matches!(
             (self.architecture, self.operating_system, self.environment),

@@ -1,61 +1,79 @@
-//! The two strings that have a triple of their own.
-ghost use Rattle.std.specs.Prelude.{◌≡◌, ◌≤◌, length, Option, option_map, IfSome, List, ℕ};
-ghost use Rattle.lexicon_fields.specs.Laws.{max_name_length};
+//! The strings that have a triple of their own.
+ghost use Rattle.std.specs.Prelude.{◌≡◌, option_map, List, ℕ};
 ghost use Rattle.target_lexicon.specs.SpecialTexts as spec;
 ghost use Rattle.target_lexicon.specs.ValuesRef.{values_of_ref};
+ghost use Rattle.lexicon_fields.specs.VendorRef.{ref_value};
 
 use crate::triple_ref::TripleRef;
 use lexicon_fields::{
-    Architecture, ArmArchitecture, BinaryFormat, Environment, KnownVendor, OperatingSystem,
-    Riscv32Architecture, VendorRef,
+    Architecture, BinaryFormat, Environment, KnownVendor, OperatingSystem, VendorRef,
 };
-
-const NINTENDO_3DS: &str = "armv6k-nintendo-3ds";
-
-const ESP_IDF: &str = "riscv32imc-esp-espidf";
+// written by tools/names/write: the families of special strings
+use lexicon_fields::{ArmArchitecture, Riscv32Architecture};
+// end of what is written
 
 impl<'a> TripleRef<'a> {
     /// The triple of a special string.
+    #[tactic(auto, unfolding(crate::specs::SpecialTexts::special_values))]
     pub(crate) fn from_special_text(text: &str) -> Option<TripleRef<'a>>
         ensures { option_map values_of_ref result ≡ spec.special_values text.now }
     {
         match text {
-            NINTENDO_3DS => Some(TripleRef {
+            // written by tools/names/write: the triples of special strings
+            "armv6k-nintendo-3ds" => Some(TripleRef {
                 architecture: Architecture::Arm(ArmArchitecture::Armv6k),
                 vendor: VendorRef::Known(KnownVendor::Nintendo),
                 operating_system: OperatingSystem::Horizon,
                 environment: Environment::Newlib,
                 binary_format: BinaryFormat::Elf,
             }),
-            ESP_IDF => Some(TripleRef {
+            "riscv32imc-esp-espidf" => Some(TripleRef {
                 architecture: Architecture::Riscv32(Riscv32Architecture::Riscv32imc),
                 vendor: VendorRef::Known(KnownVendor::Espressif),
                 operating_system: OperatingSystem::Espidf,
                 environment: Environment::Newlib,
                 binary_format: BinaryFormat::Elf,
             }),
+            // end of what is written
             _ => None,
         }
     }
 
     /// The special string that the triple prints, if any. Environment and format don't matter.
+    #[tactic(auto, unfolding(crate::specs::SpecialTexts::special_text))]
     pub(crate) fn special_text(&self) -> Option<&'static str>
-        ensures text { option_map {U = List ℕ} (λ text. text.now) result
+        ensures { option_map {U = List ℕ} (λ text. text.now) result
             ≡ spec.special_text (values_of_ref self.now) }
-        ensures bound { IfSome result (λ text. length text.now ≤ max_name_length) }
     {
         match (self.architecture, self.vendor, self.operating_system) {
+            // written by tools/names/write: the special strings of triples
             (
                 Architecture::Arm(ArmArchitecture::Armv6k),
                 VendorRef::Known(KnownVendor::Nintendo),
                 OperatingSystem::Horizon,
-            ) => Some(NINTENDO_3DS),
+            ) => Some("armv6k-nintendo-3ds"),
             (
                 Architecture::Riscv32(Riscv32Architecture::Riscv32imc),
                 VendorRef::Known(KnownVendor::Espressif),
                 OperatingSystem::Espidf,
-            ) => Some(ESP_IDF),
+            ) => Some("riscv32imc-esp-espidf"),
+            // end of what is written
             _ => None,
+        }
+    }
+
+    /// Whether vendor and system are those of a special string: they imply the environment `Newlib`.
+    #[tactic(auto, unfolding(crate::specs::SpecialTexts::implies_newlib))]
+    pub(crate) fn implies_newlib(&self) -> bool
+        ensures { result ≡ spec.implies_newlib (ref_value self.now.vendor)
+            self.now.operating_system }
+    {
+        match (self.vendor, self.operating_system) {
+            // written by tools/names/write: the vendors and systems of special strings
+            (VendorRef::Known(KnownVendor::Nintendo), OperatingSystem::Horizon) => true,
+            (VendorRef::Known(KnownVendor::Espressif), OperatingSystem::Espidf) => true,
+            // end of what is written
+            _ => false,
         }
     }
 }

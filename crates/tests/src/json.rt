@@ -4,7 +4,7 @@ use crate::values::{is_answer, prints, writes};
 use serde_json::Value;
 use std::alloc::Global;
 use std::process::Abort;
-use target_lexicon::{Triple, list_from_json, list_to_json};
+use target_lexicon::{JsonError, ListError, ParseError, Triple, list_from_json, list_to_json};
 
 /// A JSON value, and after `=` the five values of the triple that it parses as, or the line of the error.
 const VALUES: &str = "\
@@ -55,6 +55,15 @@ fn values_are_parsed_or_refused(rt: HostRuntime) {
         let (text, expected) = row.split_once('=').unwrap_or((row, ""));
         assert!(rt; is_list_answer(rt.alloc(), text, expected), "{row}");
     }
+    assert!(rt;
+        prints(&ParseError::OutOfMemory, "Out of memory")
+            && prints(&JsonError::Parse(ParseError::OutOfMemory), "Out of memory")
+            && prints(&ListError::OutOfMemory, "Out of memory")
+            && prints(
+                &ListError::Element(0, JsonError::Parse(ParseError::OutOfMemory)),
+                "Element 0: Out of memory"
+            )
+    );
     match Triple::host().to_json(rt.alloc()) {
         Ok(value) => assert!(rt; writes(&value, "\"x86_64-unknown-linux-gnu\"")),
         Err(_) => panic!(rt; "out of memory"),

@@ -5,47 +5,50 @@ use std::fmt::{Display, Write as _};
 use std::hash::{DefaultHasher, Hash, Hasher};
 use target_lexicon::Triple;
 
-/// Takes the rest of a string in pieces. It fails at piece number `fails_at`, counted from 0, and at a piece that the rest
+/// Takes the rest of a string in pieces, up to `room` bytes. It fails at a piece that doesn't fit, and at one that the rest
 /// doesn't begin with.
 #[derive(Drop)]
 struct Target<'a> {
     rest: &'a str,
-    fails_at: usize,
-    pieces: usize,
+    room: usize,
+    failures: u32,
 }
 
 impl fmt::Write for Target<'_> {
     fn write_str(&mut self, s: &str) -> fmt::Result {
-        let at = self.pieces;
-        self.pieces = self.pieces.saturating_add(1);
-        match self.rest.strip_prefix(s) {
-            Some(rest) if at != self.fails_at => {
+        match (self.rest.strip_prefix(s), self.room.checked_sub(s.len())) {
+            (Some(rest), Some(room)) if self.failures == 0 => {
                 self.rest = rest;
+                self.room = room;
                 Ok(())
             }
-            _ => Err(fmt::Error),
+            _ => {
+                self.failures = self.failures.saturating_add(1);
+                Err(fmt::Error)
+            }
         }
     }
 }
 
-/// Whether the value is written as this string, and writing it fails exactly if its target failed, with no piece after
-/// that.
+/// Whether the value is written as this string, and writing it fails exactly if its target does, with no piece after that:
+/// tried with room for each number of its bytes.
 pub(crate) fn writes<T: Display>(value: &T, text: &str) -> bool {
-    for fails_at in 0..100 {
+    for room in 0..text.len() + 1 {
         let mut target = Target {
             rest: text,
-            fails_at,
-            pieces: 0,
+            room,
+            failures: 0,
         };
         let is_written = write!(target, "{value}").is_ok();
-        if target.pieces <= fails_at {
-            return is_written && target.rest.is_empty();
+        let fits = room == text.len();
+        if is_written != fits || target.failures != u32::from(!fits) {
+            return false;
         }
-        if is_written || target.pieces > fails_at + 1 {
+        if fits && !target.rest.is_empty() {
             return false;
         }
     }
-    false
+    true
 }
 
 /// Whether the value is written as this string, also with a width and a fill.

@@ -75,6 +75,7 @@ fn custom_vendors_are_compared_by_text(rt: HostRuntime) {
         ),
         _ => panic!(rt; "out of memory"),
     }
+    assert!(rt; prints(&Vendor::Custom(CustomVendor::Static("")), ""));
     let apple = Vendor::Custom(CustomVendor::Static("apple"));
     assert!(rt; apple != Vendor::Apple && !apple.is_plain());
 }

@@ -1,14 +1,14 @@
 -- The laws of what a filter writes and how it ends.
-use Rattle.std.proofs.Common.{◌≡◌, ◌↔◌, ◌∙◌, ℕ, ◌-◌, ◌^◌, ◌<◌, inl, inr, Bool, true, false, List, [], ◌∷◌, ◌++◌, codes, length, IsErrOf, Result, Ok, Err, refl, sym, ap, subst, arith}
+use Rattle.std.proofs.Common.{◌≡◌, ◌↔◌, ◌∙◌, ℕ, ◌-◌, ◌^◌, ◌<◌, inl, inr, Bool, true, false, List, [], ◌∷◌, ◌++◌, codes, length, Result, Ok, Err, refl, sym, ap, subst, arith}
 use Rattle.std.proofs.lemmas.Bool.{cases_lt}
 use Rattle.std.proofs.lemmas.Str.{IsUtf8-from_is_utf8, is_utf8-from_IsUtf8}
 use Rattle.std.specs.List.{AllByRecursion, AllZip}
 use Rattle.std.specs.Str.{IsUtf8, is_utf8}
 use Rattle.target_lexicon.specs.{Laws.EveryTextHasOneOutcome, Refusal.refusal_line}
-use Rattle.triples.specs.Filter.{AreFilterAnswers, FilterEndsAs, IsFilterAnswer, complete_lines, not_utf8, too_long}
+use Rattle.triples.specs.Filter.{AreFilterAnswers, IsFilterAnswer, complete_lines, not_utf8, too_long}
 use Rattle.triples.specs.FilterLaws.{ErrorsOfFiltersAreExact, EveryInputIsFiltered, FilterGives, FiltersAgreeWithRuns, FiltersEndOneWay, run_mode}
 use Rattle.triples.specs.{Lines.lines_of, Output.Answer, Output.Shown, Output.Refused, Output.AreAnswers, Output.IsAnswer, Output.IsLineOutput, Output.IsOutput, Output.shown_by, Output.written_lines}
-use Rattle.triples.specs.Run.{Use, Takes, HasFailed}
+use Rattle.triples.specs.Run.{Use, Takes}
 use Rattle.triples.specs.declared.filter_error.FilterError.{FilterError}
 use Rattle.triples.specs.declared.filter_error.FilterError.TheVariants as filter_error
 use Rattle.triples.specs.declared.line_mode.LineMode.{LineMode}
@@ -113,37 +113,22 @@ filters_agree_with_runs mode size input output utf8 short =
       λ is. (let it = same.1 is in (it.0, from-run mode size lines it.0 each short it.1, it.2)),
     )
 
-module _ (mode : LineMode) (size : ℕ) (reader writer : Use) where
-  read-exact : (result : Result (Unit {0}) FilterError) → FilterEndsAs mode size reader writer result → IsErrOf result filter_error.Read ↔ HasFailed reader
-  read-exact (Ok _) ends = (λ bad. absurd cc, λ failed. absurd (not-both reader ends.by_result.0.2 failed))
-  read-exact (Err filter_error.Read) ends = (λ is. ends.by_result.0, λ failed. refl)
-  read-exact (Err filter_error.Write) ends = (λ bad. absurd cc, λ failed. absurd (not-both reader ends.by_result.0 failed))
-  read-exact (Err filter_error.Endless) ends = (λ bad. absurd cc, λ failed. absurd (not-both reader ends.by_result.0 failed))
-
-  write-exact : (result : Result (Unit {0}) FilterError) → FilterEndsAs mode size reader writer result → IsErrOf result filter_error.Write ↔ HasFailed writer
-  write-exact (Ok _) ends = (λ bad. absurd cc, λ failed. absurd (not-both writer ends.by_result.1.1 failed))
-  write-exact (Err filter_error.Read) ends = (λ bad. absurd cc, λ failed. absurd (not-both writer ends.by_result.1 failed))
-  write-exact (Err filter_error.Write) ends = (λ is. ends.by_result.1, λ failed. refl)
-  write-exact (Err filter_error.Endless) ends = (λ bad. absurd cc, λ failed. absurd (not-both writer ends.by_result.1 failed))
-
 pub errors_of_filters_are_exact : ErrorsOfFiltersAreExact
-errors_of_filters_are_exact mode size reader writer result ends = record {
-  read = read-exact mode size reader writer result ends;
-  write = write-exact mode size reader writer result ends;
-}
+errors_of_filters_are_exact mode size reader writer result ends = record { read = ends.read; write = ends.write }
 
 module _ (mode : LineMode) (size : ℕ) (input : List ℕ) (writer : Use) (fewer : length input < 2 ^ 64 - 1) where
   end-one-way : (result : Result (Unit {0}) FilterError) → FilterGives mode size input writer result
       → (result ≡ Ok tt) × (output : List ℕ) × AreFilterAnswers mode size (lines_of input) output × Takes writer output
   end-one-way (Ok _) run =
-      let ends = run.ends.by_result in
+      let ends = run.ends.ok in
       let same = input-is run.reader run.ends.input input run.input_is run.ends.gives ends.0 in
       let answered = subst (λ (b : Bool). AreFilterAnswers mode size (complete_lines b run.ends.input) run.ends.answers) ends.0.0 run.ends.answered in
-      (refl, run.ends.answers, subst (λ (t : List ℕ). AreFilterAnswers mode size (lines_of t) run.ends.answers) same answered, subst (λ (t : List ℕ). Takes writer t) ends.2 run.ends.takes)
-  end-one-way (Err filter_error.Read) run = absurd (not-both run.reader run.read_unfailed run.ends.by_result.0)
-  end-one-way (Err filter_error.Write) run = absurd (not-both writer run.write_unfailed run.ends.by_result.1)
+      let whole = run.ends.whole (λ bad. absurd cc) in
+      (refl, run.ends.answers, subst (λ (t : List ℕ). AreFilterAnswers mode size (lines_of t) run.ends.answers) same answered, subst (λ (t : List ℕ). Takes writer t) whole run.ends.takes)
+  end-one-way (Err filter_error.Read) run = absurd (not-both run.reader run.read_unfailed (run.ends.read.0 refl))
+  end-one-way (Err filter_error.Write) run = absurd (not-both writer run.write_unfailed (run.ends.write.0 refl))
   end-one-way (Err filter_error.Endless) run =
-      absurd (omega (arith, run.ends.by_result.2, fewer, input-within run.reader run.ends.input input run.input_is run.ends.gives))
+      absurd (omega (arith, (run.ends.endless refl).1, fewer, input-within run.reader run.ends.input input run.input_is run.ends.gives))
 
 pub filters_end_one_way : FiltersEndOneWay
 filters_end_one_way mode size input writer result fewer run = end-one-way mode size input writer fewer result run

@@ -1,22 +1,28 @@
 -- A filter between its reads, and its ends.
-use Rattle.std.proofs.Common.{◌≡◌, ◌∙◌, ℕ, ◌+◌, ◌-◌, ◌^◌, ◌<◌, ◌≤◌, ◌⊎◌, inl, inr, Bool, true, false, List, [], ◌++◌, length, take, drop, Option, Result, Ok, Err, refl, sym, ap, subst, append_assoc, arith, rules}
-use Rattle.std.proofs.lemmas.List.{append-nil, length-append, length-take, take-append-drop, take-append-le}
+use Rattle.std.proofs.Common.{◌≡◌, ◌∙◌, ℕ, ◌+◌, ◌-◌, ◌^◌, ◌<◌, ◌≤◌, ◌⊎◌, inl, inr, Bool, true, false, List, [], ◌∷◌, ◌++◌, length, take, drop, Option, Result, Ok, Err, refl, sym, ap, subst, append_assoc, arith, rules}
+use Rattle.std.proofs.lemmas.List.{append-nil, length-append, length-take, take-append-drop, take-append-le, take_all}
 use Rattle.std.proofs.Math.Seq.{take-append-add, take-append_seam}
 use Rattle.std.proofs.lemmas.List.{places, length-drop}
 use borrow.Rule.Slice.PartMut.{put_mid, post_of}
 use Rattle.std.specs.Io.KnownBytes.{IsAtEnd, Keeps}
-use Rattle.triples.specs.{Filter.AreFilterAnswers, Filter.FilterEndsAs, Filter.complete_lines}
+use Rattle.triples.specs.Calls.{Call, After, Ended, Failed, Moved, bytes_of, ends_last, stops_last}
+use Rattle.triples.specs.{Filter.AreFilterAnswers, Filter.FilterEndsAs, Filter.IsPrompt, Filter.ReadsPromptly, Filter.complete_lines, Lines.ended_lines_of}
 use Rattle.triples.specs.FilterSteps.{HasNoFeed, IsFilteredTo, IsKept, IsLate, LinesAnswered, RestAnswered}
-use Rattle.triples.specs.Run.{Use, Gives, Takes, IsUnfailed, HasFailed, use_of}
+use Rattle.triples.specs.Run.{Use, Gives, Takes, IsReadWhole, IsUnfailed, IsWrittenWhole, HasFailed, OnlyMoves, StopsLast, StopsOnce, use_of}
 use Rattle.std.proofs.lemmas.Bool.{ne_eqb}
-use Rattle.triples.specs.Streams.{finds_end, inner, is_ended, moved}
+use Rattle.triples.specs.Streams.{calls, finds_end, inner, is_ended, moved, read_call, stops, stops_by}
 use Rattle.triples.specs.declared.counted.Counted.{Counted}
 use Rattle.triples.specs.declared.filter_error.FilterError.{FilterError}
 use Rattle.triples.specs.declared.filter_error.FilterError.TheVariants as filter_error
 use Rattle.triples.specs.declared.line_mode.LineMode.{LineMode}
 use Rattle.target_lexicon.specs.Laws.{EveryTextHasOneOutcome}
 use Rattle.triples.proofs.FilterLemmas.{filtered-none, filtered-then, filtered-more, filtered-end, filtered-part, filtered-so-far, late-no-feed, no-bytes}
-use Rattle.triples.proofs.UseLemmas.{gives-kept, gives-none, gives-then, takes-none, takes-part, takes-then}
+use Rattle.triples.proofs.UseLemmas.{gives-kept, gives-none, gives-then, not-both, takes-none, takes-part, takes-then}
+
+-- the reads that gave these bytes, each after the answers to all lines that had ended
+abbrev pub PromptReads : LineMode → ℕ → Use → Use → List ℕ → Type 0
+PromptReads mode size input written bytes =
+    (reads : List Call) × (input.calls_after ≡ reads ++ input.calls_before) × (bytes_of reads ≡ bytes) × IsPrompt mode size (bytes_of written.calls_before) reads
 
 -- the lines that have ended were answered, and of the next line the buffer holds what is not late
 pub record IsBetweenReads (mode : LineMode) (size : ℕ) (late : Bool) (held : List ℕ) (input written : Use) (count : ℕ) : Type 0 where
@@ -29,9 +35,12 @@ pub record IsBetweenReads (mode : LineMode) (size : ℕ) (late : Bool) (held : L
   pub is_late : IsLate late size before
   pub none : HasNoFeed held
   pub counted : count ≤ length bytes
-  pub not_ended : 0 < count → input.is_ended ≡ false
+  pub not_ended : 0 < count → ends_last input.calls_after ≡ false
   pub input_unfailed : IsUnfailed input
   pub written_unfailed : IsUnfailed written
+  pub only_reads : OnlyMoves input
+  pub only_writes : OnlyMoves written
+  pub prompt : PromptReads mode size input written bytes
 
 -- a beginning of bytes is one of these and more
 beginning : (n : ℕ) (bytes more : List ℕ) → take n bytes ≡ take (length (take n bytes)) (bytes ++ more)
@@ -44,6 +53,93 @@ longer : (late : Bool) (size : ℕ) (held before : List ℕ) → (late ≡ true)
 longer true size held before long is = omega (arith, is.0, length-append before held)
 longer false size held before (inl bad) is = absurd cc
 longer false size held before (inr whole) is = omega (arith, whole, length-append before held)
+
+-- the ends, by the result
+module _ (mode : LineMode) (size : ℕ) (reader writer : Use) (input answers output : List ℕ) (gives : Gives reader input) (takes : Takes writer output)
+    (answered : AreFilterAnswers mode size (complete_lines (ends_last reader.calls_after) input) answers) (prompt : ReadsPromptly mode size reader writer) where
+  all-begun : output ≡ answers → (n : ℕ) × (output ≡ take n answers)
+  all-begun is = (length answers, is ∙ sym (take_all (length answers) answers (omega arith)))
+
+  pub as-ok : output ≡ answers → IsReadWhole reader → IsWrittenWhole writer → FilterEndsAs mode size reader writer (Ok tt)
+  as-ok is read written = record {
+    input = input;
+    answers = answers;
+    output = output;
+    gives = gives;
+    takes = takes;
+    answered = answered;
+    prompt = prompt;
+    begun = all-begun is;
+    whole = λ _. is;
+    read = (λ bad. absurd cc, λ failed. absurd (not-both reader read.2 failed));
+    write = (λ bad. absurd cc, λ failed. absurd (not-both writer written.1 failed));
+    ok = (read, written);
+    endless = λ bad. absurd cc;
+    reads = inr read.3;
+    writes = inr written.2;
+    unflushed = tt;
+  }
+
+  pub as-read : output ≡ answers → HasFailed reader → StopsLast reader → IsUnfailed writer → OnlyMoves writer → FilterEndsAs mode size reader writer (Err filter_error.Read)
+  as-read is failed last unfailed moves = record {
+    input = input;
+    answers = answers;
+    output = output;
+    gives = gives;
+    takes = takes;
+    answered = answered;
+    prompt = prompt;
+    begun = all-begun is;
+    whole = λ _. is;
+    read = (λ _. failed, λ _. refl);
+    write = (λ bad. absurd cc, λ bad. absurd (not-both writer unfailed bad));
+    ok = tt;
+    endless = λ bad. absurd cc;
+    reads = inr last;
+    writes = inl moves;
+    unflushed = inl moves;
+  }
+
+  pub as-write : (n : ℕ) → output ≡ take n answers → IsUnfailed reader → StopsOnce reader → HasFailed writer → StopsLast writer → FilterEndsAs mode size reader writer (Err filter_error.Write)
+  as-write n is unfailed once failed last = record {
+    input = input;
+    answers = answers;
+    output = output;
+    gives = gives;
+    takes = takes;
+    answered = answered;
+    prompt = prompt;
+    begun = (n, is);
+    whole = λ other. absurd (other refl);
+    read = (λ bad. absurd cc, λ bad. absurd (not-both reader unfailed bad));
+    write = (λ _. failed, λ _. refl);
+    ok = tt;
+    endless = λ bad. absurd cc;
+    reads = once;
+    writes = inr last;
+    unflushed = inr failed;
+  }
+
+  pub as-endless : output ≡ answers → IsUnfailed reader → OnlyMoves reader → IsUnfailed writer → OnlyMoves writer → 2 ^ 64 - 1 ≤ length input
+      → FilterEndsAs mode size reader writer (Err filter_error.Endless)
+  as-endless is read reads written writes many = record {
+    input = input;
+    answers = answers;
+    output = output;
+    gives = gives;
+    takes = takes;
+    answered = answered;
+    prompt = prompt;
+    begun = all-begun is;
+    whole = λ _. is;
+    read = (λ bad. absurd cc, λ bad. absurd (not-both reader read bad));
+    write = (λ bad. absurd cc, λ bad. absurd (not-both writer written bad));
+    ok = tt;
+    endless = λ _. (reads, many);
+    reads = inl reads;
+    writes = inl writes;
+    unflushed = inl writes;
+  }
 
 module _ {A B : Type 0} (rem : A → Option (List ℕ)) (con : B → Option (List ℕ)) (mode : LineMode) (size : ℕ) where
   pub between-none : (r : Counted A) (w : Counted B) → IsBetweenReads mode size false [] (use_of rem r r) (use_of con w w) 0
@@ -60,6 +156,9 @@ module _ {A B : Type 0} (rem : A → Option (List ℕ)) (con : B → Option (Lis
     not_ended = λ bad. absurd (omega (arith, bad));
     input_unfailed = refl;
     written_unfailed = refl;
+    only_reads = refl;
+    only_writes = refl;
+    prompt = ([], refl, refl, tt);
   }
 
   -- what is held of a line that is too long is late
@@ -81,6 +180,9 @@ module _ {A B : Type 0} (rem : A → Option (List ℕ)) (con : B → Option (Lis
     not_ended = state.not_ended;
     input_unfailed = state.input_unfailed;
     written_unfailed = state.written_unfailed;
+    only_reads = state.only_reads;
+    only_writes = state.only_writes;
+    prompt = state.prompt;
   }
 
   module _ (r0 r1 r2 : Counted A) (w0 w1 w2 : Counted B) (late : Bool) (held : List ℕ) (count : ℕ) (state : IsBetweenReads mode size late held (use_of rem r0 r1) (use_of con w0 w1) count) where
@@ -88,62 +190,66 @@ module _ {A B : Type 0} (rem : A → Option (List ℕ)) (con : B → Option (Lis
     pub so-far : AreFilterAnswers mode size (complete_lines false state.bytes) state.output
     so-far = filtered-so-far mode size state.bytes (state.before ++ held) state.output state.filtered (late-no-feed late size state.before held state.is_late state.none)
 
+    -- one more read, after what was written
+    more-reads : (call : Call) → calls r2 ≡ call ∷ (After (moved w1) ∷ calls r1)
+        → (reads : List Call) × (calls r2 ≡ call ∷ (After (moved w1) ∷ reads) ++ calls r0) × (bytes_of reads ≡ state.bytes) × IsPrompt mode size (moved w0) (call ∷ (After (moved w1) ∷ reads))
+    more-reads call is =
+        let p = state.prompt in
+        let answered = subst (λ (t : List ℕ). AreFilterAnswers mode size (ended_lines_of t) state.output) (sym p.2) so-far in
+        (p.0, is ∙ ap (λ (t : List Call). call ∷ (After (moved w1) ∷ t)) p.1, p.2, ((state.output, answered, state.taken.moved), p.3))
+
+    read-prompt : (call : Call) (w : Counted B) → calls r2 ≡ call ∷ (After (moved w1) ∷ calls r1) → ReadsPromptly mode size (use_of rem r0 r2) (use_of con w0 w)
+    read-prompt call w is = let more = more-reads call is in (call ∷ (After (moved w1) ∷ more.0), more.1, more.3)
+
     -- a read that failed
-    pub ends-read : Keeps (rem (inner r1)) (rem (inner r2)) → moved r2 ≡ moved r1 ++ [] → HasFailed (use_of rem r1 r2) → is_ended r2 ≡ false
+    pub ends-read : Keeps (rem (inner r1)) (rem (inner r2)) → moved r2 ≡ moved r1 ++ [] → HasFailed (use_of rem r1 r2) → stops r2 ≡ stops r1 + 1 → is_ended r2 ≡ false
+        → calls r2 ≡ Failed ∷ (After (moved w1) ∷ calls r1)
         → FilterEndsAs mode size (use_of rem r0 r2) (use_of con w0 w1) (Err filter_error.Read)
-    ends-read keeps same failed ended = record {
-      input = state.bytes;
-      answers = state.output;
-      output = state.output;
-      gives = gives-kept rem r0 r1 r2 state.bytes state.given keeps same;
-      takes = state.taken;
-      answered = subst (λ (b : Bool). AreFilterAnswers mode size (complete_lines b state.bytes) state.output) (sym ended) so-far;
-      by_result = (omega (arith, failed, state.input_unfailed), state.written_unfailed, refl);
-    }
+    ends-read keeps same failed stopped ended is =
+        as-read mode size (use_of rem r0 r2) (use_of con w0 w1) state.bytes state.output state.output (gives-kept rem r0 r1 r2 state.bytes state.given keeps same) state.taken
+        (subst (λ (b : Bool). AreFilterAnswers mode size (complete_lines b state.bytes) state.output) (sym ended) so-far) (read-prompt Failed w1 is)
+        refl (omega (arith, failed, state.input_unfailed))
+        (omega (arith, stopped, state.only_reads), ap stops_last is)
+        state.written_unfailed state.only_writes
 
     -- all reads were made
     pub ends-endless : 2 ^ 64 - 1 ≤ count → FilterEndsAs mode size (use_of rem r0 r1) (use_of con w0 w1) (Err filter_error.Endless)
-    ends-endless all = record {
-      input = state.bytes;
-      answers = state.output;
-      output = state.output;
-      gives = state.given;
-      takes = state.taken;
-      answered = subst (λ (b : Bool). AreFilterAnswers mode size (complete_lines b state.bytes) state.output) (sym (state.not_ended (omega (arith, all)))) so-far;
-      by_result = (state.input_unfailed, state.written_unfailed, omega (arith, all, state.counted), refl);
-    }
+    ends-endless all =
+        as-endless mode size (use_of rem r0 r1) (use_of con w0 w1) state.bytes state.output state.output state.given state.taken
+        (subst (λ (b : Bool). AreFilterAnswers mode size (complete_lines b state.bytes) state.output) (sym (state.not_ended (omega (arith, all)))) so-far)
+        (state.prompt.0, state.prompt.1, state.prompt.3)
+        refl state.input_unfailed state.only_reads state.written_unfailed state.only_writes (omega (arith, all, state.counted))
 
     -- a read found the end, and the last line was answered
-    pub ends-rest : (given : List ℕ) (result : Result (Unit {0}) FilterError) → given ≡ [] → Gives (use_of rem r1 r2) given → IsUnfailed (use_of rem r1 r2) → is_ended r2 ≡ true
-        → IsAtEnd (rem (inner r2)) → length held < size → RestAnswered mode late held (use_of con w1 w2) result → FilterEndsAs mode size (use_of rem r0 r2) (use_of con w0 w2) result
-    ends-rest given (Ok u) none gives unfailed ended at_end short done =
-        let free = late-no-feed late size state.before held state.is_late state.none in
-        let whole = filtered-end mode size state.bytes (state.before ++ held) state.output done.1 state.filtered free (done.3.rest size state.before short state.is_late) in
-        record {
-          input = state.bytes;
-          answers = state.output ++ done.1;
-          output = state.output ++ done.1;
-          gives = subst (λ (t : List ℕ). Gives (use_of rem r0 r2) t) (ap (λ (t : List ℕ). state.bytes ++ t) none ∙ append-nil state.bytes) (gives-then rem r0 r1 r2 state.bytes given state.given gives);
-          takes = takes-then con w0 w1 w2 state.output done.1 state.taken done.2;
-          answered = subst (λ (b : Bool). AreFilterAnswers mode size (complete_lines b state.bytes) (state.output ++ done.1)) (sym ended) whole;
-          by_result = ((ended, at_end, unfailed ∙ state.input_unfailed), (done.0.0, done.0.1 ∙ state.written_unfailed), refl);
-        }
-    ends-rest given (Err e) none gives unfailed ended at_end short done =
-        let free = late-no-feed late size state.before held state.is_late state.none in
-        let whole = filtered-end mode size state.bytes (state.before ++ held) state.output done.2 state.filtered free (done.3.rest size state.before short state.is_late) in
-        let part = takes-part con w0 w1 w2 state.output done.2 state.taken (done.4, done.5) in
-        subst (λ (f : FilterError). FilterEndsAs mode size (use_of rem r0 r2) (use_of con w0 w2) (Err f)) (sym done.0)
-        (record {
-          input = state.bytes;
-          answers = state.output ++ done.2;
-          output = take part.0 (state.output ++ done.2);
-          gives = subst (λ (t : List ℕ). Gives (use_of rem r0 r2) t) (ap (λ (t : List ℕ). state.bytes ++ t) none ∙ append-nil state.bytes) (gives-then rem r0 r1 r2 state.bytes given state.given gives);
-          takes = part.1;
-          answered = subst (λ (b : Bool). AreFilterAnswers mode size (complete_lines b state.bytes) (state.output ++ done.2)) (sym ended) whole;
-          by_result = (unfailed ∙ state.input_unfailed, omega (arith, done.1, state.written_unfailed), part.0, refl);
-        })
+    module _ (given : List ℕ) (none : given ≡ []) (gives : Gives (use_of rem r1 r2) given) (unfailed : IsUnfailed (use_of rem r1 r2)) (stopped : stops r2 ≡ stops r1 + 1) (ended : is_ended r2 ≡ true)
+        (is : calls r2 ≡ Ended ∷ (After (moved w1) ∷ calls r1)) (at_end : IsAtEnd (rem (inner r2))) (short : length held < size) where
+      free : HasNoFeed (state.before ++ held)
+      free = late-no-feed late size state.before held state.is_late state.none
 
-    module _ (more : List ℕ) (gives : Gives (use_of rem r1 r2) more) (unfailed : IsUnfailed (use_of rem r1 r2)) (ended : is_ended r2 ≡ false) (piece : List ℕ) (is : piece ≡ held ++ more) (fits : length piece ≤ size) where
+      all-given : Gives (use_of rem r0 r2) state.bytes
+      all-given =
+          subst (λ (t : List ℕ). Gives (use_of rem r0 r2) t) (ap (λ (t : List ℕ). state.bytes ++ t) none ∙ append-nil state.bytes) (gives-then rem r0 r1 r2 state.bytes given state.given gives)
+
+      last : StopsLast (use_of rem r0 r2)
+      last = (omega (arith, stopped, state.only_reads), ap stops_last is)
+
+      pub ends-rest : (result : Result (Unit {0}) FilterError) → RestAnswered mode late held (use_of con w1 w2) result → FilterEndsAs mode size (use_of rem r0 r2) (use_of con w0 w2) result
+      ends-rest (Ok u) done =
+          let whole = filtered-end mode size state.bytes (state.before ++ held) state.output done.1 state.filtered free (done.3.rest size state.before short state.is_late) in
+          as-ok mode size (use_of rem r0 r2) (use_of con w0 w2) state.bytes (state.output ++ done.1) (state.output ++ done.1) all-given (takes-then con w0 w1 w2 state.output done.1 state.taken done.2)
+          (subst (λ (b : Bool). AreFilterAnswers mode size (complete_lines b state.bytes) (state.output ++ done.1)) (sym ended) whole) (read-prompt Ended w2 is)
+          refl (ended, at_end, unfailed ∙ state.input_unfailed, last)
+          (done.0.0, done.0.1 ∙ state.written_unfailed, (omega (arith, done.0.2.0, state.only_writes), done.0.2.1))
+      ends-rest (Err e) done =
+          let whole = filtered-end mode size state.bytes (state.before ++ held) state.output done.2 state.filtered free (done.3.rest size state.before short state.is_late) in
+          let part = takes-part con w0 w1 w2 state.output done.2 state.taken (done.4, done.5) in
+          subst (λ (f : FilterError). FilterEndsAs mode size (use_of rem r0 r2) (use_of con w0 w2) (Err f)) (sym done.0)
+          (as-write mode size (use_of rem r0 r2) (use_of con w0 w2) state.bytes (state.output ++ done.2) (take part.0 (state.output ++ done.2)) all-given part.1
+          (subst (λ (b : Bool). AreFilterAnswers mode size (complete_lines b state.bytes) (state.output ++ done.2)) (sym ended) whole) (read-prompt Ended w2 is)
+          part.0 refl (unfailed ∙ state.input_unfailed) (inr last) (omega (arith, done.1, state.written_unfailed)) (omega (arith, done.6.0, state.only_writes), done.6.1))
+
+    module _ (more : List ℕ) (gives : Gives (use_of rem r1 r2) more) (unfailed : IsUnfailed (use_of rem r1 r2)) (moves : OnlyMoves (use_of rem r1 r2)) (ended : is_ended r2 ≡ false)
+        (made : calls r2 ≡ Moved more ∷ (After (moved w1) ∷ calls r1)) (piece : List ℕ) (is : piece ≡ held ++ more) (fits : length piece ≤ size) where
       -- the lines so far, up to what is held and what came
       far : IsFilteredTo mode size (state.bytes ++ more) (state.before ++ piece) state.output
       far =
@@ -169,6 +275,10 @@ module _ {A B : Type 0} (rem : A → Option (List ℕ)) (con : B → Option (Lis
             not_ended = λ _. ended;
             input_unfailed = unfailed ∙ state.input_unfailed;
             written_unfailed = done.0 ∙ state.written_unfailed;
+            only_reads = moves ∙ state.only_reads;
+            only_writes = done.6 ∙ state.only_writes;
+            prompt = (let all = more-reads (Moved more) made in
+                (Moved more ∷ (After (moved w1) ∷ all.0), all.1, ap (λ (t : List ℕ). t ++ more) (append-nil (bytes_of all.0) ∙ all.2), all.3));
           }
 
       -- a write failed
@@ -180,20 +290,10 @@ module _ {A B : Type 0} (rem : A → Option (List ℕ)) (con : B → Option (Lis
           let written = state.output ++ done.2 in
           let so_far = filtered-then mode size (state.bytes ++ more) (state.before ++ piece) (next.0 ++ done.4) state.output done.2 far next.1 in
           let all = filtered-part mode size one (state.bytes ++ more) (next.0 ++ done.4) written so_far in
-          record {
-            input = state.bytes ++ more;
-            answers = all.0;
-            output = take part.0 written;
-            gives = gives-then rem r0 r1 r2 state.bytes more state.given gives;
-            takes = part.1;
-            answered = subst (λ (b : Bool). AreFilterAnswers mode size (complete_lines b (state.bytes ++ more)) all.0) (sym ended) all.1;
-            by_result = (
-              unfailed ∙ state.input_unfailed,
-              omega (arith, done.1, state.written_unfailed),
-              length (take part.0 written),
-              beginning part.0 written all.2 ∙ ap (λ (t : List ℕ). take (length (take part.0 written)) t) (sym all.3),
-            );
-          }
+          as-write mode size (use_of rem r0 r2) (use_of con w0 w2) (state.bytes ++ more) all.0 (take part.0 written) (gives-then rem r0 r1 r2 state.bytes more state.given gives) part.1
+          (subst (λ (b : Bool). AreFilterAnswers mode size (complete_lines b (state.bytes ++ more)) all.0) (sym ended) all.1) (read-prompt (Moved more) w2 made)
+          (length (take part.0 written)) (beginning part.0 written all.2 ∙ ap (λ (t : List ℕ). take (length (take part.0 written)) t) (sym all.3))
+          (unfailed ∙ state.input_unfailed) (inl (moves ∙ state.only_reads)) (omega (arith, done.1, state.written_unfailed)) (omega (arith, done.8.0, state.only_writes), done.8.1)
 
 -- what is held after the lines that ended
 pub between-kept : {A B : Type 0} (rem : A → Option (List ℕ)) (con : B → Option (List ℕ)) (mode : LineMode) (size : ℕ) (late late_after : Bool) (rest new : List ℕ) (held : ℕ) (input written : Use) (count : ℕ)
@@ -228,6 +328,19 @@ some-is-no-end count buffer some = rw (ne_eqb count 0 some) refl
 
 pub none-is-end : (count : ℕ) (buffer : List ℕ) → count ≡ 0 → 0 < length buffer → finds_end {E = ⊥} (Ok count) buffer ≡ true
 none-is-end count buffer none room = rw (none, ne_eqb (length buffer) 0 (λ bad. omega (arith, bad, room))) refl
+
+-- so the call is one that moved bytes, or the end
+pub some-is-move : (count : ℕ) (buffer : List ℕ) → (count ≡ 0 → ⊥) → read_call {E = ⊥} (Ok count) buffer ≡ Moved (take count buffer)
+some-is-move count buffer some = rw (ne_eqb count 0 some) refl
+
+pub none-ends : (count : ℕ) (buffer : List ℕ) → count ≡ 0 → 0 < length buffer → read_call {E = ⊥} (Ok count) buffer ≡ Ended
+none-ends count buffer none room = rw (none, ne_eqb (length buffer) 0 (λ bad. omega (arith, bad, room))) refl
+
+pub some-is-no-stop : (count : ℕ) (buffer : List ℕ) → (count ≡ 0 → ⊥) → stops_by {E = ⊥} (Ok count) buffer ≡ 0
+some-is-no-stop count buffer some = rw (ne_eqb count 0 some) refl
+
+pub none-stops : (count : ℕ) (buffer : List ℕ) → count ≡ 0 → 0 < length buffer → stops_by {E = ⊥} (Ok count) buffer ≡ 1
+none-stops count buffer none room = rw (none, ne_eqb (length buffer) 0 (λ bad. omega (arith, bad, room))) refl
 
 -- the length of a slice from an index to the end
 pub part-length : (start : ℕ) (xs : List ℕ) → length (take (length xs - start) (drop start xs)) ≡ length xs - start

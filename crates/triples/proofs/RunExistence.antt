@@ -1,5 +1,5 @@
 -- Each input has an outcome in each mode.
-use Rattle.std.proofs.Common.{◌≡◌, ◌≢◌, ◌⊎◌, ℕ, zero, suc, ◌<◌, Bool, true, false, List, [], ◌∷◌, ◌++◌, codes, Option, Some, None, MatchOption, inl, inr, Result, Ok, Err, refl, sym, subst, ◌∙◌, arith}
+use Rattle.std.proofs.Common.{◌≡◌, ◌≢◌, ◌⊎◌, ℕ, zero, suc, ◌<◌, Bool, true, false, List, [], ◌∷◌, ◌++◌, codes, Option, Some, None, MatchOption, inl, inr, Result, Ok, Err, refl, sym, ap, subst, ◌∙◌, arith}
 use Rattle.std.proofs.lemmas.List.{append-nil}
 use Rattle.std.proofs.lemmas.Str.{IsUtf8-from_is_utf8, is_utf8-from_IsUtf8}
 use Rattle.std.specs.Str.{IsUtf8, is_utf8}
@@ -8,8 +8,9 @@ use Rattle.target_lexicon.specs.Json.{JsonReadsAs, JsonErrorValue, NotText, Pars
 use Rattle.target_lexicon.specs.{FixedPoints.canonical_text, Laws.EveryTextHasOneOutcome, Printing.text_of, Reading.ReadsAs, Reading.IsRefusedAs, Refusal.Refusal, Refusal.refusal_line, Values.Values}
 use Rattle.triples.specs.{Facts.text_with_facts, Lines.line_feed, Lines.lines_of}
 use Rattle.triples.specs.Output.{Answer, Shown, Refused, AreAnswers, matrix_of, written_lines}
-use Rattle.triples.specs.Run.{Use, RunEnds}
-use Rattle.triples.specs.RunLaws.{RunGives, EveryInputHasAnOutcome}
+use Rattle.triples.specs.Calls.{Moved, Ended, Flushed}
+use Rattle.triples.specs.Run.{Use, IsReadWhole, IsUnfailed, RunEnds, StopsOnce, Takes}
+use Rattle.triples.specs.RunLaws.{IsWritten, RunGives, EveryInputHasAnOutcome}
 use Rattle.triples.specs.declared.mode.Mode.{Mode}
 use Rattle.triples.specs.declared.mode.Mode.TheVariants.{Print, Show, Settle, Json, Matrix}
 use Rattle.triples.specs.declared.run_error.RunError.{RunError}
@@ -108,38 +109,70 @@ module _ (one : EveryTextHasOneOutcome) where
 
 -- what such a run did to its reader and its writer
 abbrev read_from : List ℕ → Use
-read_from text = record { bytes_before = Some text; bytes_after = Some []; failures_before = 0; failures_after = 0; moved_before = []; moved_after = text; is_ended = true }
+read_from text = record { bytes_before = Some text; bytes_after = Some []; calls_before = []; calls_after = Ended ∷ Moved text ∷ [] }
 
 abbrev written_to : List ℕ → Use
-written_to bytes = record { bytes_before = Some []; bytes_after = Some bytes; failures_before = 0; failures_after = 0; moved_before = []; moved_after = bytes; is_ended = true }
+written_to bytes = record { bytes_before = Some []; bytes_after = Some bytes; calls_before = []; calls_after = Flushed ∷ Moved bytes ∷ [] }
 
-ends : (mode : Mode) (text bytes : List ℕ) (result : Result (Unit {0}) RunError) → Outcome mode text result bytes → RunEnds mode (read_from text) (written_to bytes) text bytes result
-ends mode text bytes (Ok _) is = ((refl, refl, refl), (refl, refl), is.0, is.1)
+-- nothing was called
+abbrev untouched : Use
+untouched = record { bytes_before = Some []; bytes_after = Some []; calls_before = []; calls_after = [] }
+
+-- what was done to the writer, by the result
+abbrev written_by : Result (Unit {0}) RunError → List ℕ → Use
+written_by (Ok _) bytes = written_to bytes
+written_by (Err _) bytes = untouched
+
+whole : (text : List ℕ) → IsReadWhole (read_from text)
+whole text = (refl, refl, refl, (refl, refl))
+
+ends : (mode : Mode) (text bytes : List ℕ) (result : Result (Unit {0}) RunError) → Outcome mode text result bytes → RunEnds mode (read_from text) (written_by result bytes) text bytes result
+ends mode text bytes (Ok _) is = (whole text, (refl, refl, (refl, refl)), is.0, is.1)
 ends mode text bytes (Err run_error.Read) is = absurd is
 ends mode text bytes (Err run_error.Write) is = absurd is
-ends mode text bytes (Err run_error.NotUtf8) is = ((refl, refl, refl), (refl, is.1), is.0)
-ends mode text bytes (Err run_error.NotJson) is = (is.0, (refl, refl, refl), (refl, is.3), is.1, is.2)
-ends mode text bytes (Err run_error.NotList) is = (is.0, (refl, refl, refl), (refl, is.3), is.1, is.2)
+ends mode text bytes (Err run_error.NotUtf8) is = (whole text, (refl, is.1, refl), is.0)
+ends mode text bytes (Err run_error.NotJson) is = (is.0, whole text, (refl, is.3, refl), is.1, is.2)
+ends mode text bytes (Err run_error.NotList) is = (is.0, whole text, (refl, is.3, refl), is.1, is.2)
 ends mode text bytes (Err run_error.OutOfMemory) is = absurd is
 
--- a run with this outcome
-run-of : (mode : Mode) (text : List ℕ) (result : Result (Unit {0}) RunError) (bytes : List ℕ) → Outcome mode text result bytes → RunGives mode text result bytes
-run-of mode text result bytes is = record {
+-- nothing is written without success
+none-written : (mode : Mode) (text bytes : List ℕ) (e : RunError) → Outcome mode text (Err e) bytes → bytes ≡ []
+none-written mode text bytes run_error.Read is = absurd is
+none-written mode text bytes run_error.Write is = absurd is
+none-written mode text bytes run_error.NotUtf8 is = is.1
+none-written mode text bytes run_error.NotJson is = is.3
+none-written mode text bytes run_error.NotList is = is.3
+none-written mode text bytes run_error.OutOfMemory is = absurd is
+
+-- a run with this outcome, and this writer
+gives-run : (mode : Mode) (text : List ℕ) (result : Result (Unit {0}) RunError) (bytes : List ℕ) (writer : Use) → Outcome mode text result bytes
+    → RunEnds mode (read_from text) writer text bytes result → Takes writer bytes → IsUnfailed writer → StopsOnce writer → IsWritten writer bytes → RunGives mode text result bytes
+gives-run mode text result bytes writer is ends takes unfailed once written = record {
   reader = read_from text;
-  writer = written_to bytes;
+  writer = writer;
   ends = record {
     input = text;
     output = bytes;
-    gives = record { moved = refl; known = sym (append-nil text) };
-    takes = record { moved = refl; known = refl };
-    by_result = ends mode text bytes result is;
+    gives = record { moved = append-nil text; known = sym (append-nil text) };
+    takes = takes;
+    reads = inr (refl, refl);
+    writes = once;
+    by_result = ends;
   };
   read_unfailed = refl;
-  write_unfailed = refl;
+  write_unfailed = unfailed;
   memory = λ out. subst (λ (r : Result (Unit {0}) RunError). Outcome mode text r bytes) out is;
   text_is = inr refl;
-  bytes_are = inr ([], refl, refl);
+  bytes_are = written;
 }
+
+run-of : (mode : Mode) (text : List ℕ) (result : Result (Unit {0}) RunError) (bytes : List ℕ) → Outcome mode text result bytes → RunGives mode text result bytes
+run-of mode text (Ok u) bytes is =
+    gives-run mode text (Ok u) bytes (written_to bytes) is (ends mode text bytes (Ok u) is) (record { moved = append-nil bytes; known = refl }) refl (inr (refl, refl)) (inr ([], refl, refl))
+run-of mode text (Err e) bytes is =
+    let none = sym (none-written mode text bytes e is) in
+    gives-run mode text (Err e) bytes untouched is (ends mode text bytes (Err e) is) (record { moved = none; known = none }) refl (inl refl)
+    (inr ([], refl, ap (λ (t : List ℕ). Some t) none))
 
 pub every_input_has_an_outcome : EveryTextHasOneOutcome → EveryInputHasAnOutcome
 every_input_has_an_outcome one mode text =

@@ -1,9 +1,9 @@
 -- The laws of how runs end.
-use Rattle.std.proofs.Common.{◌≡◌, ◌≢◌, ◌↔◌, ℕ, List, [], take, Option, None, MatchOption, IsErrAnd, IsErrOf, IsTrue, Result, Ok, Err, refl, sym, subst, ◌∙◌}
+use Rattle.std.proofs.Common.{◌≡◌, ◌≢◌, ◌↔◌, ℕ, List, [], take, Option, None, MatchOption, IsErrAnd, IsErrOf, IsTrue, Result, Ok, Err, refl, sym, subst, ◌∙◌, ap, inl, inr, ◌<◌, length}
 use Rattle.std.specs.Str.{IsUtf8}
 use Rattle.serde_json.specs.{Data.Data, Find.as_array, Read.read}
 use Rattle.target_lexicon.specs.Laws.{EveryTextHasOneOutcome}
-use Rattle.triples.specs.{JsonOutput.IsJsonInputErrorOf, Output.IsOutput, Run.Use, Run.Gives, Run.Takes, Run.TakesBeginning, Run.IsReadWhole, Run.IsUnfailed, Run.HasFailed, Run.RunEnds, Run.EndsAs}
+use Rattle.triples.specs.{JsonOutput.IsJsonInputErrorOf, Output.IsOutput, Run.Use, Run.Gives, Run.Takes, Run.TakesBeginning, Run.IsReadWhole, Run.IsUnfailed, Run.HasFailed, Run.RunEnds, Run.EndsAs, Run.IsUntouched, Run.StopsLast, Calls.ends_last, Calls.failures_in, Calls.stops_in}
 use Rattle.triples.specs.RunLaws.{RunGives, RunsEndOneWay, IsJudged, ErrorsOfRunsAreExact}
 use Rattle.triples.specs.declared.mode.Mode.{Mode}
 use Rattle.triples.specs.declared.mode.Mode.TheVariants.{Json}
@@ -162,27 +162,36 @@ errors_of_runs_are_exact mode reader writer result ends = record {
 
 -- how a run ends, from its steps
 module _ (mode : Mode) (reader writer : Use) (input : List ℕ) (gives : Gives reader input) (whole : IsReadWhole reader) (utf8 : IsUtf8 input) where
+  untouched : writer.calls_after ≡ writer.calls_before → IsUntouched writer []
+  untouched same = (ap failures_in same, refl, same)
+
   -- the output was written and flushed
-  pub written-ends : (output : List ℕ) → IsOutput mode input output → Takes writer output → IsTrue writer.is_ended → IsUnfailed writer → EndsAs mode reader writer (Ok tt)
-  written-ends output is takes flushed unfailed =
-      record { input = input; output = output; gives = gives; takes = takes; by_result = (whole, (flushed, unfailed), utf8, is) }
+  pub written-ends : (output : List ℕ) → IsOutput mode input output → Takes writer output → IsTrue (ends_last writer.calls_after) → IsUnfailed writer → StopsLast writer → EndsAs mode reader writer (Ok tt)
+  written-ends output is takes flushed unfailed last =
+      record { input = input; output = output; gives = gives; takes = takes; reads = inr whole.3; writes = inr last; by_result = (whole, (flushed, unfailed, last), utf8, is) }
 
   -- a write or the flush failed
-  pub write-ends : (output : List ℕ) → IsOutput mode input output → TakesBeginning writer output → HasFailed writer → EndsAs mode reader writer (Err run_error.Write)
-  write-ends output is begun failed =
-      record { input = input; output = take begun.0 output; gives = gives; takes = begun.1; by_result = (whole, failed, utf8, output, is, begun.0, refl) }
+  pub write-ends : (output : List ℕ) → IsOutput mode input output → TakesBeginning writer output → HasFailed writer → StopsLast writer → EndsAs mode reader writer (Err run_error.Write)
+  write-ends output is begun failed last =
+      record { input = input; output = take begun.0 output; gives = gives; takes = begun.1; reads = inr whole.3; writes = inr last; by_result = (whole, failed, utf8, output, is, begun.0, refl) }
 
   -- the input has no output
-  json-ends : (e : RunError) → mode ≡ Json → Takes writer [] → IsUnfailed writer → IsJsonInputErrorOf input e → RunEnds mode reader writer input [] (Err e)
-  json-ends run_error.NotJson json takes unfailed error = (json, whole, (unfailed, refl), utf8, error)
-  json-ends run_error.NotList json takes unfailed error = (json, whole, (unfailed, refl), utf8, error)
-  json-ends run_error.OutOfMemory json takes unfailed error = (whole.2, (unfailed, refl), error)
-  json-ends run_error.Read json takes unfailed error = absurd error
-  json-ends run_error.Write json takes unfailed error = absurd error
-  json-ends run_error.NotUtf8 json takes unfailed error = absurd error
+  json-ends : (e : RunError) → mode ≡ Json → Takes writer [] → writer.calls_after ≡ writer.calls_before → IsJsonInputErrorOf input e → RunEnds mode reader writer input [] (Err e)
+  json-ends run_error.NotJson json takes same error = (json, whole, untouched same, utf8, error)
+  json-ends run_error.NotList json takes same error = (json, whole, untouched same, utf8, error)
+  json-ends run_error.OutOfMemory json takes same error = (whole.2, untouched same, error)
+  json-ends run_error.Read json takes same error = absurd error
+  json-ends run_error.Write json takes same error = absurd error
+  json-ends run_error.NotUtf8 json takes same error = absurd error
 
-  pub json-error-ends : (e : RunError) → mode ≡ Json → Takes writer [] → IsUnfailed writer → IsJsonInputErrorOf input e → EndsAs mode reader writer (Err e)
-  json-error-ends e json takes unfailed error = record { input = input; output = []; gives = gives; takes = takes; by_result = json-ends e json takes unfailed error }
+  pub json-error-ends : (e : RunError) → mode ≡ Json → Takes writer [] → writer.calls_after ≡ writer.calls_before → IsJsonInputErrorOf input e → EndsAs mode reader writer (Err e)
+  json-error-ends e json takes same error =
+      record { input = input; output = []; gives = gives; takes = takes; reads = inr whole.3; writes = inl (ap stops_in same); by_result = json-ends e json takes same error }
+
+  -- memory ran out
+  pub memory-ends : Takes writer [] → writer.calls_after ≡ writer.calls_before → 0 < length input → EndsAs mode reader writer (Err run_error.OutOfMemory)
+  memory-ends takes same some =
+      record { input = input; output = []; gives = gives; takes = takes; reads = inr whole.3; writes = inl (ap stops_in same); by_result = (whole.2, untouched same, some) }
 
 -- the error of a step is that of the run
 pub as-error : (mode : Mode) (reader writer : Use) (found : Result (Unit {0}) RunError) (e : RunError) → IsErrAnd found (λ error. error ≡ e) → EndsAs mode reader writer (Err e) → EndsAs mode reader writer found

@@ -6,6 +6,7 @@ use Rattle.std.proofs.Math.Seq.{take-append-add, take-append_seam}
 use Rattle.std.specs.Io.KnownBytes.{Appends, Consumes, IsAtEnd, Keeps}
 use Rattle.triples.specs.Run.{Use, Gives, Takes, TakesBeginning, IsReadWhole, IsUnfailed, HasFailed, use_of}
 use Rattle.triples.specs.RunLaws.{IsInput, IsWritten}
+use Rattle.triples.specs.Calls.{bytes_of}
 use Rattle.triples.specs.Streams.{inner, moved}
 use Rattle.triples.specs.declared.counted.Counted.{Counted}
 
@@ -74,7 +75,7 @@ module _ (reader : Use) (input text : List ℕ) where
       omega (arith, ap (λ (t : List ℕ). length t) same, ap (λ (t : List ℕ). length t) consumes, length-append input ys)
 
   given-once : Gives reader input → Gives reader text → input ≡ text
-  given-once a b = append_cancel_left reader.moved_before input text (sym a.moved ∙ b.moved)
+  given-once a b = append_cancel_left (bytes_of reader.calls_before) input text (sym a.moved ∙ b.moved)
 
   pub input-is : IsInput reader text → Gives reader input → IsReadWhole reader → input ≡ text
   input-is (inl given) gives whole = given-once gives given
@@ -87,7 +88,7 @@ module _ (reader : Use) (input text : List ℕ) where
 
 -- what the writes took is the output
 pub output-is : (writer : Use) (output bytes : List ℕ) → IsWritten writer bytes → Takes writer output → output ≡ bytes
-output-is writer output bytes (inl taken) takes = append_cancel_left writer.moved_before output bytes (sym takes.moved ∙ taken.moved)
+output-is writer output bytes (inl taken) takes = append_cancel_left (bytes_of writer.calls_before) output bytes (sym takes.moved ∙ taken.moved)
 output-is writer output bytes (inr known) takes =
     sym (append_cancel_left known.0 bytes output
     (subst (λ (new : Option (List ℕ)). Appends (Some known.0) new output) known.2 (subst (λ (old : Option (List ℕ)). Appends old writer.bytes_after output) known.1 takes.known)))

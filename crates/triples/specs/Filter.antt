@@ -1,12 +1,13 @@
 -- What a filter answers to the lines that it reads, and how it ends.
-use Rattle.std.specs.Prelude.{ℕ, ◌≡◌, ◌-◌, ◌^◌, ◌<◌, ◌≤◌, Bool, if◌then◌else◌, List, length, take, codes, Result, Ok, Err}
+use Rattle.std.specs.Prelude.{ℕ, ◌≡◌, ◌↔◌, ◌-◌, ◌^◌, ◌<◌, ◌≤◌, ◌⊎◌, Bool, if◌then◌else◌, List, [], ◌∷◌, ◌++◌, length, take, codes, IsErrOf, OnErr, OnOk, Result}
 use Rattle.std.specs.List.{AllZip}
 use Rattle.std.specs.Str.{IsUtf8}
 use Rattle.triples.specs.{declared.filter_error.FilterError.FilterError, declared.line_mode.LineMode.LineMode}
 use Rattle.triples.specs.declared.filter_error.FilterError.TheVariants as filter_error
+use Rattle.triples.specs.Calls.{Call, After, Ended, Failed, Flushed, Moved, bytes_of, ends_last}
 use Rattle.triples.specs.Lines.{lines_of, ended_lines_of}
 use Rattle.triples.specs.Output.{Answer, Refused, IsAnswer, shown_by, written_lines}
-use Rattle.triples.specs.Run.{Use, Gives, Takes, IsReadWhole, IsWrittenWhole, IsUnfailed, HasFailed}
+use Rattle.triples.specs.Run.{Use, Gives, Takes, IsReadWhole, IsWrittenWhole, HasFailed, OnlyMoves, StopsOnce}
 
 -- the answers to a line that does not fit the input buffer, and to one that is not UTF-8
 abbrev pub too_long : Answer
@@ -30,25 +31,48 @@ AreFilterAnswers mode size lines bytes =
 abbrev pub complete_lines : Bool → List ℕ → List (List ℕ)
 complete_lines is_ended input = if is_ended then lines_of input else ended_lines_of input
 
--- what a filter has written by its result, if these are the answers to the complete lines that it read
-abbrev pub FilterEnds : Use → Use → List ℕ → List ℕ → List ℕ → Result (Unit {0}) FilterError → Type 0
--- the input was read to its end, and the answers were written and flushed
-FilterEnds reader writer input answers output (Ok _) = IsReadWhole reader × IsWrittenWhole writer × (output ≡ answers)
--- a read failed, and the answers were written
-FilterEnds reader writer input answers output (Err filter_error.Read) = HasFailed reader × IsUnfailed writer × (output ≡ answers)
--- a write or the flush failed, after a beginning of the answers
-FilterEnds reader writer input answers output (Err filter_error.Write) = IsUnfailed reader × HasFailed writer × (n : ℕ) × (output ≡ take n answers)
--- each of `u64::MAX` reads gave some byte, and the answers were written
-FilterEnds reader writer input answers output (Err filter_error.Endless) =
-    IsUnfailed reader × IsUnfailed writer × (2 ^ 64 - 1 ≤ length input) × (output ≡ answers)
+-- these bytes are the answers to the lines that ended among what the reads gave, after what the writer had taken before
+abbrev pub AnswersEnded : LineMode → ℕ → List ℕ → List Call → List ℕ → Type 0
+AnswersEnded mode size start reads written =
+    (answers : List ℕ) × AreFilterAnswers mode size (ended_lines_of (bytes_of reads)) answers × (written ≡ start ++ answers)
 
--- how a filter ends, whether or not the bytes of its reader and writer are known: what its reads gave, the answers to the
--- complete lines of that, and what its writes took
+-- Before each of these reads, of which the latest is the first, the answers to all lines that had ended were written.
+abbrev pub IsPrompt : LineMode → ℕ → List ℕ → List Call → Type 0
+IsPrompt mode size start [] = Unit {0}
+IsPrompt mode size start (read ∷ []) = ⊥
+IsPrompt mode size start (read ∷ (After written ∷ reads)) = AnswersEnded mode size start reads written × IsPrompt mode size start reads
+IsPrompt mode size start (read ∷ (Moved bytes ∷ reads)) = ⊥
+IsPrompt mode size start (read ∷ (Ended ∷ reads)) = ⊥
+IsPrompt mode size start (read ∷ (Flushed ∷ reads)) = ⊥
+IsPrompt mode size start (read ∷ (Failed ∷ reads)) = ⊥
+
+-- so were those of the reader
+abbrev pub ReadsPromptly : LineMode → ℕ → Use → Use → Type 0
+ReadsPromptly mode size reader writer =
+    (reads : List Call) × (reader.calls_after ≡ reads ++ reader.calls_before) × IsPrompt mode size (bytes_of writer.calls_before) reads
+
+-- How a filter ends, whether or not the bytes of its reader and writer are known: what its reads gave, the answers to the
+-- complete lines of that, and what its writes took.
 pub record FilterEndsAs (mode : LineMode) (size : ℕ) (reader writer : Use) (result : Result (Unit {0}) FilterError) : Type 0 where
   pub input : List ℕ
   pub answers : List ℕ
   pub output : List ℕ
   pub gives : Gives reader input
   pub takes : Takes writer output
-  pub answered : AreFilterAnswers mode size (complete_lines reader.is_ended input) answers
-  pub by_result : FilterEnds reader writer input answers output result
+  pub answered : AreFilterAnswers mode size (complete_lines (ends_last reader.calls_after) input) answers
+  -- a beginning of the answers was written, and all of them unless a write failed
+  pub begun : (n : ℕ) × (output ≡ take n answers)
+  pub whole : ¬ (IsErrOf result filter_error.Write) → output ≡ answers
+  -- the result says whether a read, or a write or the flush, failed
+  pub read : IsErrOf result filter_error.Read ↔ HasFailed reader
+  pub write : IsErrOf result filter_error.Write ↔ HasFailed writer
+  -- the last read found the end, and the last call of the writer was the one flush
+  pub ok : OnOk result (IsReadWhole reader × IsWrittenWhole writer)
+  -- each of `u64::MAX` reads gave some byte
+  pub endless : IsErrOf result filter_error.Endless → OnlyMoves reader × (2 ^ 64 - 1 ≤ length input)
+  -- nothing is called after the end, a failure or the flush, and nothing is flushed without success
+  pub reads : StopsOnce reader
+  pub writes : StopsOnce writer
+  pub unflushed : OnErr result (OnlyMoves writer ⊎ HasFailed writer)
+  -- before each read, the answers to all lines that had ended were written
+  pub prompt : ReadsPromptly mode size reader writer

@@ -7,7 +7,7 @@ use Rattle.triples.specs.Filter.{AreFilterAnswers, IsFilterAnswer, not_utf8, too
 use Rattle.triples.specs.declared.filter_error.FilterError.TheVariants as filter_error
 use Rattle.triples.specs.Lines.{line_feed}
 use Rattle.triples.specs.Output.{Answer, IsAnswer, shown_by, written_lines}
-use Rattle.triples.specs.Run.{Use, IsUnfailed, IsWrittenWhole, HasFailed, Takes}
+use Rattle.triples.specs.Run.{Use, IsUnfailed, IsWrittenWhole, HasFailed, OnlyMoves, StopsLast, Takes}
 
 -- no byte is a line feed
 abbrev pub HasNoFeed : List ℕ → Type 0
@@ -50,8 +50,9 @@ IsLineAnswer mode false line answer = IsShortAnswer mode line answer
 -- what `make_room` does: what was used of the buffer is written, or still used
 abbrev pub MakesRoom : List ℕ → ℕ → ℕ → Use → Result ℕ FilterError → Type 0
 MakesRoom buffer used room written (Ok now) =
-    IsUnfailed written × (now + room ≤ length buffer) × (gone : List ℕ) × Takes written gone × (gone ++ take now buffer ≡ take used buffer)
-MakesRoom buffer used room written (Err e) = (e ≡ filter_error.Write) × HasFailed written × (n : ℕ) × Takes written (take n (take used buffer))
+    IsUnfailed written × (now + room ≤ length buffer) × (gone : List ℕ) × Takes written gone × (gone ++ take now buffer ≡ take used buffer) × OnlyMoves written
+MakesRoom buffer used room written (Err e) =
+    (e ≡ filter_error.Write) × HasFailed written × (n : ℕ) × Takes written (take n (take used buffer)) × StopsLast written
 
 -- where the first line ends, if it does
 abbrev pub IsLineEnd : List ℕ → Option ℕ → Type 0
@@ -75,10 +76,11 @@ AnswersLines mode late bytes late_after rest output =
 abbrev pub LinesAnswered : LineMode → Bool → List ℕ → Use → Result (ℕ × Bool) FilterError → Type 0
 LinesAnswered mode late bytes written (Ok found) =
     IsUnfailed written × (found.0 ≤ length bytes) × HasNoFeed (drop found.0 bytes)
-    × (output : List ℕ) × Takes written output × AnswersLines mode late bytes found.1 (drop found.0 bytes) output
+    × (output : List ℕ) × Takes written output × AnswersLines mode late bytes found.1 (drop found.0 bytes) output × OnlyMoves written
 LinesAnswered mode late bytes written (Err e) =
     (e ≡ filter_error.Write) × HasFailed written
-    × (output : List ℕ) × (late_after : Bool) × (rest : List ℕ) × AnswersLines mode late bytes late_after rest output × (n : ℕ) × Takes written (take n output)
+    × (output : List ℕ) × (late_after : Bool) × (rest : List ℕ) × AnswersLines mode late bytes late_after rest output
+    × (n : ℕ) × Takes written (take n output) × StopsLast written
 
 -- the output is the answer to a last line that doesn't end; there is none if no byte is left
 pub record AnswersRest (mode : LineMode) (late : Bool) (bytes output : List ℕ) : Type 0 where
@@ -89,7 +91,7 @@ pub record AnswersRest (mode : LineMode) (late : Bool) (bytes output : List ℕ)
 -- what `finish` does
 abbrev pub RestAnswered : LineMode → Bool → List ℕ → Use → Result (Unit {0}) FilterError → Type 0
 RestAnswered mode late bytes written (Ok _) = IsWrittenWhole written × (output : List ℕ) × Takes written output × AnswersRest mode late bytes output
-RestAnswered mode late bytes written (Err e) = (e ≡ filter_error.Write) × HasFailed written × (output : List ℕ) × AnswersRest mode late bytes output × (n : ℕ) × Takes written (take n output)
+RestAnswered mode late bytes written (Err e) = (e ≡ filter_error.Write) × HasFailed written × (output : List ℕ) × AnswersRest mode late bytes output × (n : ℕ) × Takes written (take n output) × StopsLast written
 
 -- what `keep_rest` does with a rest of bytes in a buffer of this size: the line is too long and the rest is dropped, or
 -- the rest is kept at the front

@@ -1,3 +1,4 @@
+pub mod Calls
 pub mod Facts
 pub mod Faults
 pub mod Filter
@@ -8,6 +9,7 @@ pub mod Lines
 pub mod MatrixLaws
 pub mod Output
 pub mod Private
+pub mod Program
 pub mod Run
 pub mod RunLaws
 pub mod Streams

@@ -1,42 +1,37 @@
 -- How a run ends: what it did to its reader and its writer, and its result.
-use Rattle.std.specs.Prelude.{ℕ, ◌≡◌, ◌+◌, ◌<◌, Bool, List, [], ◌++◌, length, take, Option, IsTrue, Result, Ok, Err}
+use Rattle.std.specs.Prelude.{ℕ, ◌≡◌, ◌+◌, ◌<◌, ◌⊎◌, List, [], ◌++◌, length, take, Option, IsTrue, Result, Ok, Err}
 use Rattle.std.specs.Io.KnownBytes.{Appends, Consumes, IsAtEnd}
 use Rattle.std.specs.Str.{IsUtf8}
 use Rattle.triples.specs.{declared.mode.Mode.Mode, declared.mode.Mode.TheVariants.Json, declared.run_error.RunError.RunError, declared.counted.Counted.Counted}
-use Rattle.triples.specs.{JsonOutput.IsJsonInputErrorOf, Output.IsOutput, Streams.failures, Streams.inner, Streams.is_ended, Streams.moved}
+use Rattle.triples.specs.{Calls.Call, Calls.bytes_of, Calls.ends_last, Calls.failures_in, Calls.stops_in, Calls.stops_last}
+use Rattle.triples.specs.{JsonOutput.IsJsonInputErrorOf, Output.IsOutput, Streams.calls, Streams.inner}
 use Rattle.triples.specs.declared.run_error.RunError.TheVariants as run_error
 
 -- a reader or a writer before and after a call: the bytes that the reader has left or the writer holds, if they are
--- known, the number of failed calls, and the bytes that the others moved; and whether the last call was the end
+-- known, and its calls, the latest first
 pub record Use : Type 0 where
   pub bytes_before : Option (List ℕ)
   pub bytes_after : Option (List ℕ)
-  pub failures_before : ℕ
-  pub failures_after : ℕ
-  pub moved_before : List ℕ
-  pub moved_after : List ℕ
-  pub is_ended : Bool
+  pub calls_before : List Call
+  pub calls_after : List Call
 
 -- what a call did to a reader or a writer with these bytes
 abbrev pub use_of : {D : Type 0} → (D → Option (List ℕ)) → Counted D → Counted D → Use
 use_of bytes before after = record {
   bytes_before = bytes (inner before);
   bytes_after = bytes (inner after);
-  failures_before = failures before;
-  failures_after = failures after;
-  moved_before = moved before;
-  moved_after = moved after;
-  is_ended = is_ended after;
+  calls_before = calls before;
+  calls_after = calls after;
 }
 
 -- the reads gave these bytes; if the bytes of the reader are known, these were the first of them
 pub record Gives (reader : Use) (bytes : List ℕ) : Type 0 where
-  pub moved : reader.moved_after ≡ reader.moved_before ++ bytes
+  pub moved : bytes_of reader.calls_after ≡ bytes_of reader.calls_before ++ bytes
   pub known : Consumes reader.bytes_before reader.bytes_after bytes
 
 -- the writes took these bytes; if the bytes of the writer are known, they grew by these
 pub record Takes (writer : Use) (bytes : List ℕ) : Type 0 where
-  pub moved : writer.moved_after ≡ writer.moved_before ++ bytes
+  pub moved : bytes_of writer.calls_after ≡ bytes_of writer.calls_before ++ bytes
   pub known : Appends writer.bytes_before writer.bytes_after bytes
 
 -- the writes took a beginning of these bytes
@@ -45,29 +40,41 @@ TakesBeginning writer bytes = (n : ℕ) × Takes writer (take n bytes)
 
 -- no read, write or flush failed
 abbrev pub IsUnfailed : Use → Type 0
-IsUnfailed it = it.failures_after ≡ it.failures_before
+IsUnfailed it = failures_in it.calls_after ≡ failures_in it.calls_before
 
 -- one failed
 abbrev pub HasFailed : Use → Type 0
-HasFailed it = it.failures_after ≡ it.failures_before + 1
+HasFailed it = failures_in it.calls_after ≡ failures_in it.calls_before + 1
 
--- the input was read to its end
+-- no call was to be the last: each moved bytes
+abbrev pub OnlyMoves : Use → Type 0
+OnlyMoves it = stops_in it.calls_after ≡ stops_in it.calls_before
+
+-- One call was to be the last, and it was: it found the end, flushed, or failed. The others moved bytes.
+abbrev pub StopsLast : Use → Type 0
+StopsLast it = (stops_in it.calls_after ≡ stops_in it.calls_before + 1) × IsTrue (stops_last it.calls_after)
+
+-- nothing was called after a call that was to be the last
+abbrev pub StopsOnce : Use → Type 0
+StopsOnce it = OnlyMoves it ⊎ StopsLast it
+
+-- the input was read to its end: the last read found it
 abbrev pub IsReadWhole : Use → Type 0
-IsReadWhole reader = IsTrue reader.is_ended × IsAtEnd reader.bytes_after × IsUnfailed reader
+IsReadWhole reader = IsTrue (ends_last reader.calls_after) × IsAtEnd reader.bytes_after × IsUnfailed reader × StopsLast reader
 
--- what was written was flushed
+-- what was written was flushed, by the last call
 abbrev pub IsWrittenWhole : Use → Type 0
-IsWrittenWhole writer = IsTrue writer.is_ended × IsUnfailed writer
+IsWrittenWhole writer = IsTrue (ends_last writer.calls_after) × IsUnfailed writer × StopsLast writer
 
 -- why an input was not read to its end, of which these bytes were read: a read failed, or memory ran out
 abbrev pub IsReadErrorOf : Use → List ℕ → RunError → Type 0
-IsReadErrorOf reader bytes run_error.Read = HasFailed reader
-IsReadErrorOf reader bytes run_error.OutOfMemory = IsUnfailed reader × (0 < length bytes)
+IsReadErrorOf reader bytes run_error.Read = HasFailed reader × StopsLast reader
+IsReadErrorOf reader bytes run_error.OutOfMemory = IsUnfailed reader × (0 < length bytes) × OnlyMoves reader
 IsReadErrorOf reader bytes _ = ⊥
 
--- nothing was written
+-- nothing was called
 abbrev pub IsUntouched : Use → List ℕ → Type 0
-IsUntouched writer output = IsUnfailed writer × (output ≡ [])
+IsUntouched writer output = IsUnfailed writer × (output ≡ []) × (writer.calls_after ≡ writer.calls_before)
 
 -- what a run has written by its result, if its reads gave this input
 abbrev pub RunEnds : Mode → Use → Use → List ℕ → List ℕ → Result (Unit {0}) RunError → Type 0
@@ -89,10 +96,12 @@ RunEnds mode reader writer input output (Err run_error.NotList) =
 RunEnds mode reader writer input output (Err run_error.OutOfMemory) = IsUnfailed reader × IsUntouched writer output × (0 < length input)
 
 -- how a run ends, whether or not the bytes of its reader and writer are known: what its reads gave, and what its writes
--- took
+-- took; and after a read that failed or found the end, a write that failed, or the flush, there is no other
 pub record EndsAs (mode : Mode) (reader writer : Use) (result : Result (Unit {0}) RunError) : Type 0 where
   pub input : List ℕ
   pub output : List ℕ
   pub gives : Gives reader input
   pub takes : Takes writer output
+  pub reads : StopsOnce reader
+  pub writes : StopsOnce writer
   pub by_result : RunEnds mode reader writer input output result

@@ -1,36 +1,33 @@
-//! A reader or writer with a count of its failures and a trace of the bytes that it moved. Only this file can change
-//! these, so that no other contract can claim a failure, or bytes, that no call had.
-ghost use Rattle.std.specs.Prelude.{◌≡◌, ◌+◌, ◌++◌, [], false, is_ok};
+//! A reader or writer with a trace of its calls, and so with a count of its failures. Only this file can change these, so
+//! that no other contract can claim a call, a failure, or bytes, that there were not.
+ghost use Rattle.std.specs.Prelude.{◌≡◌, ◌+◌, ◌∷◌, ◌++◌, [], false, IsTrue, is_ok};
 ghost use Rattle.std.specs.Io.{ReadsAtMost, WritesAtMost};
 ghost use Rattle.std.specs.Io.KnownBytes.{Keeps, ReadConsumes, WriteAppends};
-ghost use Rattle.triples.specs.Streams.{inner, failures, moved, is_ended, failures_of, write_failures_of, moved_by, finds_end};
+ghost use Rattle.triples.specs.Calls.{After, stops_last};
+ghost use Rattle.triples.specs.Streams.{calls, inner, failures, moved, is_ended, failures_of, write_failures_of, moved_by, finds_end, stops, stops_by, is_last_by, read_call, write_call, flush_call};
 
 use crate::trace::Trace;
 use std::io;
 use std::io::{Read, Write};
-use target_lexicon::Steps;
 
-/// A reader or writer, the number of its failed calls, and a trace of the others. Each call makes the same call of the
-/// reader or writer and returns its result.
+/// A reader or writer, and a trace of its calls, with the number of those that failed. Each call makes the same call of
+/// the reader or writer and returns its result.
 #[derive(Drop)]
 pub struct Counted<D> {
     inner: D,
-    /// One step for each failed call: only contracts see their number, which takes no memory and has no upper limit.
-    failures: Steps,
-    /// The bytes that its reads gave, or that its writes took: only contracts see them.
+    /// One entry for each call: only contracts see them. It takes no memory, and the number of failures has no upper limit.
     trace: Trace,
 }
 
 impl<D> Counted<D> {
-    /// The reader or writer, with no failure counted.
+    /// The reader or writer, with no call.
     pub fn new(of: D) -> Self
         ensures inner { inner result ≡ of }
         ensures count { failures result ≡ 0 }
-        ensures moved { moved result ≡ [] }
+        ensures calls { calls result ≡ [] }
     {
         Counted {
             inner: of,
-            failures: Steps::new(),
             trace: Trace::new(),
         }
     }
@@ -39,23 +36,8 @@ impl<D> Counted<D> {
     pub fn into_inner(self) -> D
         ensures { result ≡ inner self }
     {
-        let Counted {
-            inner,
-            failures: _,
-            trace: _,
-        } = self;
+        let Counted { inner, trace: _ } = self;
         inner
-    }
-
-    /// Notes a failed call, which moved no byte.
-    fn note_failure(&mut self)
-        ensures inner { inner self.new ≡ inner self.old }
-        ensures count { failures self.new ≡ failures self.old + 1 }
-        ensures moved { moved self.new ≡ moved self.old ++ [] }
-        ensures ended { is_ended self.new ≡ false }
-    {
-        self.failures.tick();
-        self.trace.add(b"");
     }
 }
 
@@ -65,17 +47,37 @@ impl<R: Read> Counted<R> {
         ensures bound { ReadsAtMost result buf.new }
         ensures bytes { ReadConsumes (R.remaining (inner self.old)) (R.remaining (inner self.new))
             result buf.new }
+        ensures call { calls self.new ≡ read_call result buf.new ∷ calls self.old }
         ensures count { failures self.new ≡ failures self.old + failures_of result }
         ensures moved { moved self.new ≡ moved self.old ++ moved_by result buf.new }
+        ensures stops { stops self.new ≡ stops self.old + stops_by result buf.new }
+        ensures last { stops_last (calls self.new) ≡ is_last_by result buf.new }
         ensures ended { is_ended self.new ≡ finds_end result buf.new }
     {
         let answer = self.inner.read(buf);
         match answer {
             Ok(0) if !buf.is_empty() => self.trace.end(),
             Ok(count) => self.trace.add(&buf[..count]),
-            Err(_) => self.note_failure(),
+            Err(_) => self.trace.fail(),
         }
         answer
+    }
+
+    /// One read, after which the trace also has what the writer had taken before it.
+    pub fn read_after<W>(&mut self, writer: &Counted<W>, buf: &mut [u8]) -> io::Result<usize>
+        ensures bound { ReadsAtMost result buf.new }
+        ensures bytes { ReadConsumes (R.remaining (inner self.old)) (R.remaining (inner self.new))
+            result buf.new }
+        ensures call { calls self.new
+            ≡ read_call result buf.new ∷ (After (moved writer.now) ∷ calls self.old) }
+        ensures count { failures self.new ≡ failures self.old + failures_of result }
+        ensures moved { moved self.new ≡ moved self.old ++ moved_by result buf.new }
+        ensures stops { stops self.new ≡ stops self.old + stops_by result buf.new }
+        ensures last { stops_last (calls self.new) ≡ is_last_by result buf.new }
+        ensures ended { is_ended self.new ≡ finds_end result buf.new }
+    {
+        self.trace = self.trace.after(&writer.trace);
+        self.read(buf)
     }
 }
 
@@ -85,15 +87,18 @@ impl<W: Write> Counted<W> {
         ensures bound { WritesAtMost result buf.now }
         ensures bytes { WriteAppends (W.contents (inner self.old)) (W.contents (inner self.new))
             result buf.now }
+        ensures call { calls self.new ≡ write_call result buf.now ∷ calls self.old }
         ensures count { failures self.new ≡ failures self.old + write_failures_of result buf.now }
         ensures moved { moved self.new ≡ moved self.old ++ moved_by result buf.now }
+        ensures stops { stops self.new ≡ stops self.old + stops_by result buf.now }
+        ensures last { stops_last (calls self.new) ≡ is_last_by result buf.now }
         ensures ended { is_ended self.new ≡ false }
     {
         let answer = self.inner.write(buf);
         match answer {
-            Ok(0) if !buf.is_empty() => self.note_failure(),
+            Ok(0) if !buf.is_empty() => self.trace.fail(),
             Ok(count) => self.trace.add(&buf[..count]),
-            Err(_) => self.note_failure(),
+            Err(_) => self.trace.fail(),
         }
         answer
     }
@@ -101,14 +106,17 @@ impl<W: Write> Counted<W> {
     /// One flush. The count rises by one exactly if it fails.
     pub fn flush(&mut self) -> io::Result<()>
         ensures bytes { Keeps (W.contents (inner self.old)) (W.contents (inner self.new)) }
+        ensures call { calls self.new ≡ flush_call result ∷ calls self.old }
         ensures count { failures self.new ≡ failures self.old + failures_of result }
         ensures moved { moved self.new ≡ moved self.old }
+        ensures stops { stops self.new ≡ stops self.old + 1 }
+        ensures last { IsTrue (stops_last (calls self.new)) }
         ensures ended { is_ended self.new ≡ is_ok result }
     {
         let answer = self.inner.flush();
         match answer {
-            Ok(()) => self.trace.end(),
-            Err(_) => self.note_failure(),
+            Ok(()) => self.trace.flush(),
+            Err(_) => self.trace.fail(),
         }
         answer
     }

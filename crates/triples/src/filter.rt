@@ -53,7 +53,7 @@ pub fn filter<R: Read, W: Write>(
     let mut held = 0;
     let mut is_late = false;
     for _ in 0..u64::MAX {
-        let Ok(taken) = r.read(&mut input[held..]) else {
+        let Ok(taken) = r.read_after(w, &mut input[held..]) else {
             return Err(FilterError::Read);
         };
         if taken == 0 {

@@ -1,6 +1,6 @@
 //! A whole input is read, or a whole output written, through a [`Counted`].
 ghost use Rattle.std.specs.Prelude.{◌≡◌, ℕ, List, IfOk, OnOk, IfErr};
-ghost use Rattle.triples.specs.Run.{Gives, HasFailed, IsReadErrorOf, IsReadWhole, IsUnfailed, Takes, TakesBeginning, use_of};
+ghost use Rattle.triples.specs.Run.{Gives, HasFailed, IsReadErrorOf, IsReadWhole, IsUnfailed, OnlyMoves, StopsLast, Takes, TakesBeginning, use_of};
 
 use crate::counted::Counted;
 use crate::run_error::RunError;
@@ -36,9 +36,11 @@ pub fn read_all<R: Read>(alloc: Global, reader: &mut Counted<R>) -> Result<Vec<u
 pub fn write_all<W: Write>(writer: &mut Counted<W>, bytes: &[u8]) -> Result<(), RunError>
     ensures whole { OnOk result (Takes (use_of W.contents writer.old writer.new) bytes.now) }
     ensures unfailed { OnOk result (IsUnfailed (use_of W.contents writer.old writer.new)) }
+    ensures moves { OnOk result (OnlyMoves (use_of W.contents writer.old writer.new)) }
     ensures begun { TakesBeginning (use_of W.contents writer.old writer.new) bytes.now }
     ensures failed { IfErr result
-        (λ e. (e ≡ RunError.Write) × HasFailed (use_of W.contents writer.old writer.new)) }
+        (λ e. (e ≡ RunError.Write) × HasFailed (use_of W.contents writer.old writer.new)
+        × StopsLast (use_of W.contents writer.old writer.new)) }
 {
     let mut rest = bytes;
     while !rest.is_empty() {

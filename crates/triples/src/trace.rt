@@ -1,15 +1,14 @@
-//! What calls moved, for contracts.
-ghost use Rattle.std.specs.Prelude.{◌≡◌, Bool, List, ℕ, true, false, [], ◌++◌};
+//! What calls did, for contracts.
+ghost use Rattle.std.specs.Prelude.{◌≡◌, List, [], ◌∷◌};
 ghost use Rattle.std.specs.Borrow.{ftrue};
+ghost use Rattle.triples.specs.Calls.{Call, Moved, Ended, Flushed, Failed, After, bytes_of};
 
 use std::marker::Model;
 
-/// The bytes that the calls of a reader gave, or that those of a writer took, and whether the last call was the end: a read
-/// that found the end, or a flush. It takes no memory; only contracts see it.
+/// The calls of a reader or writer, the latest first. It takes no memory; only contracts see it.
 #[derive(Drop)]
 pub struct Trace {
-    pub ghost bytes: { List ℕ },
-    pub ghost is_ended: { Bool },
+    pub ghost calls: { List Call },
 }
 
 impl Model for Trace {
@@ -17,24 +16,45 @@ impl Model for Trace {
 }
 
 impl Trace {
-    /// A trace of no bytes.
+    /// A trace of no calls.
     pub fn new() -> Self
-        ensures { result ≡ record { bytes = []; is_ended = false } }
+        ensures { result ≡ record { calls = [] } }
     {
         Trace {}
     }
 
-    /// Adds the bytes of a call that is not the end.
+    /// Adds a call that moved these bytes.
     pub fn add(&mut self, _bytes: &[u8])
-        ensures { self.new ≡ record { bytes = self.old.bytes ++ _bytes.now; is_ended = false } }
+        ensures { self.new ≡ record { calls = Moved _bytes.now ∷ self.old.calls } }
     {
         // there is nothing to run
     }
 
-    /// Notes that the last call was the end.
+    /// Adds a read that found the end.
     pub fn end(&mut self)
-        ensures { self.new ≡ record { bytes = self.old.bytes; is_ended = true } }
+        ensures { self.new ≡ record { calls = Ended ∷ self.old.calls } }
     {
         // there is nothing to run
+    }
+
+    /// Adds a flush.
+    pub fn flush(&mut self)
+        ensures { self.new ≡ record { calls = Flushed ∷ self.old.calls } }
+    {
+        // there is nothing to run
+    }
+
+    /// Adds a call that failed.
+    pub fn fail(&mut self)
+        ensures { self.new ≡ record { calls = Failed ∷ self.old.calls } }
+    {
+        // there is nothing to run
+    }
+
+    /// This trace, and which bytes a writer had taken before the next call.
+    pub fn after(&self, _writer: &Trace) -> Self
+        ensures { result ≡ record { calls = After (bytes_of _writer.now.calls) ∷ self.now.calls } }
+    {
+        Trace {}
     }
 }

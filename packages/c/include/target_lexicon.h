@@ -5,20 +5,20 @@
 
        struct lexicon_triple triple;
        struct lexicon_error error;
-       if (lexicon_parse_z(text, &triple, &error) != LEXICON_OK) {
+       if (lexicon_parse(LEXICON_Z(text), &triple, &error) != LEXICON_OK) {
          char why[256];
-         lexicon_error_text_z(text, &error, why, sizeof why, NULL);
+         lexicon_error_text(LEXICON_Z(text), &error, why, sizeof why, NULL);
          fprintf(stderr, "%s\n", why);
        }
 
    Names are case-sensitive. Names, rules and tables are those of the Rust crate target-lexicon 0.13.5 (upstream), even where
-   toolchains differ: UEFI and Cygwin imply ELF. It is proved that the calls follow this repository's definitions, and tested
-   that these are upstream's, except for one rule of printing (docs/DIFFERENCES.md).
+   toolchains differ: UEFI and Cygwin imply ELF. Parsing, printing and queries are compiled from source that is proved to follow
+   written definitions (docs/PROOF.md), which were compared with upstream; one rule of printing differs (docs/DIFFERENCES.md).
 
-   A string goes in as a pointer and a size. It needs no zero byte at its end, and need not be UTF-8. For strings that end in a
-   zero byte there are calls without a size, whose names end in _z. A string comes out into the caller's buffer, with a zero byte
-   after it, and *length becomes the length of the whole string without that byte, even if the buffer is too small. Such a buffer
-   is unchanged, except where a call says otherwise.
+   A string goes in as a pointer and a size. It needs no zero byte at its end, and need not be UTF-8. Of a string that ends
+   in a zero byte, LEXICON_Z is both arguments. A string comes out into the caller's buffer, with a zero byte after it, and
+   *length becomes the length of the whole string without that byte, even if the buffer is too small. Such a buffer is
+   unchanged, except where a call says otherwise.
 
    A string or a buffer of size 0 may be null, as with snprintf, and so may `length` and `error`; no other pointer may. What a
    call writes may not overlap any other argument, and no other byte is changed. No memory has more than PTRDIFF_MAX bytes, so a
@@ -50,6 +50,9 @@
 #define LEXICON_VERSION "0.5.0"
 /* The version as one number, of which two may be compared: 1000000 * major + 1000 * minor + patch. */
 #define LEXICON_VERSION_NUMBER (1000000L * LEXICON_VERSION_MAJOR + 1000L * LEXICON_VERSION_MINOR + LEXICON_VERSION_PATCH)
+
+/* A string that ends in a zero byte, and its size. The string is evaluated twice. */
+#define LEXICON_Z(text) (text), strlen(text)
 
 #if defined(__GNUC__)
 #define LEXICON_CHECKED __attribute__((warn_unused_result))
@@ -395,7 +398,7 @@ enum lexicon_calling_convention {
   /* written by tools/names/write: the answers of calling_convention for C */
   LEXICON_CALLING_CONVENTION_SYSTEM_V = 1,
   LEXICON_CALLING_CONVENTION_WASM_BASIC_C_ABI = 2,
-  LEXICON_CALLING_CONVENTION_WINDOWS_FASTCALL = 3,
+  LEXICON_CALLING_CONVENTION_WINDOWS_FASTCALL = 3, /* Upstream's name for what C has on Windows: Microsoft's x64 convention, and on i686 cdecl, which isn't __fastcall */
   LEXICON_CALLING_CONVENTION_APPLE_AARCH64 = 4,
   /* end of what is written */
 };
@@ -584,9 +587,8 @@ LEXICON_CHECKED LEXICON_NONNULL(1, 2, 3)
 enum lexicon_status lexicon_same_target(const struct lexicon_triple *first, const struct lexicon_triple *second, bool *answer);
 
 /* What a compiler asks about a triple. Call lexicon_all_facts(triple, facts), which passes facts_size: sizeof *facts, so that the library
-   may be older than the header that a program was compiled with, and then the members that it doesn't have become 0. What comes
-   after the size isn't computed: offsetof implied_format takes the least time, then offsetof c_library; 0 only says whether the struct
-   is a triple. Any other size that is less than a struct's gives LEXICON_NO_SUCH_VALUE, and nothing is written. */
+   may be older or later than the header that a program was compiled with: so many bytes of the struct are written, and the members
+   that an older library doesn't have become 0. Up to offsetof implied_format it takes the least time, then up to offsetof c_library. */
 LEXICON_CHECKED LEXICON_NONNULL(1, 2)
 enum lexicon_status lexicon_facts(const struct lexicon_triple *triple, struct lexicon_triple_facts *facts, size_t facts_size);
 
@@ -762,75 +764,8 @@ const char *lexicon_name(uint32_t field, uint32_t number);
 /* The version of the library, and the commit that it was built from if that is known: "0.5.0 (3f1877d0c1e2)". */
 const char *lexicon_version(void);
 
-/* The calls above for a string that ends in a zero byte, and isn't null. */
-LEXICON_CHECKED LEXICON_NONNULL(1, 2)
-static inline enum lexicon_status lexicon_parse_z(const char *text, struct lexicon_triple *triple, struct lexicon_error *error) {
-  return lexicon_parse(text, strlen(text), triple, error);
-}
-LEXICON_CHECKED LEXICON_NONNULL(1, 2, 3)
-static inline enum lexicon_status lexicon_explain_z(const char *text, struct lexicon_triple *triple, struct lexicon_sources *sources,
-                                                    struct lexicon_error *error) {
-  return lexicon_explain(text, strlen(text), triple, sources, error);
-}
-LEXICON_CHECKED LEXICON_NONNULL(1)
-static inline enum lexicon_status lexicon_settle_lines_z(const char *text, char *out, size_t out_size, size_t *length) {
-  return lexicon_settle_lines(text, strlen(text), out, out_size, length);
-}
-LEXICON_CHECKED LEXICON_NONNULL(2, 3)
-static inline enum lexicon_status lexicon_read_z(uint32_t dialect, const char *text, struct lexicon_triple *triple,
-                                                 struct lexicon_error *error) {
-  return lexicon_read(dialect, text, strlen(text), triple, error);
-}
-LEXICON_CHECKED LEXICON_NONNULL(1, 2)
-static inline enum lexicon_status lexicon_stated_versions_z(const char *text, struct lexicon_versions *versions,
-                                                            struct lexicon_error *error) {
-  return lexicon_stated_versions(text, strlen(text), versions, error);
-}
-LEXICON_CHECKED LEXICON_NONNULL(2)
-static inline enum lexicon_status lexicon_translate_z(uint32_t from, const char *name, uint32_t linux_libc, uint32_t to, char *out,
-                                                      size_t out_size, size_t *length, struct lexicon_error *error) {
-  return lexicon_translate(from, name, strlen(name), linux_libc, to, out, out_size, length, error);
-}
-LEXICON_CHECKED LEXICON_NONNULL(1, 3)
-static inline enum lexicon_status lexicon_changes_z(const char *text, size_t number, struct lexicon_change *change, char *out,
-                                                    size_t out_size, size_t *length) {
-  return lexicon_changes(text, strlen(text), number, change, out, out_size, length);
-}
-LEXICON_CHECKED LEXICON_NONNULL(1, 3, 4)
-static inline enum lexicon_status lexicon_meaning_z(const char *text, size_t number, uint32_t *dialect, struct lexicon_triple *triple) {
-  return lexicon_meaning(text, strlen(text), number, dialect, triple);
-}
-LEXICON_NONNULL(2)
-static inline const char *lexicon_reason_z(uint32_t dialect, const char *name) {
-  return lexicon_reason(dialect, name, strlen(name));
-}
-LEXICON_NONNULL(2)
-static inline const char *lexicon_translate_reason_z(uint32_t from, const char *name, uint32_t linux_libc, uint32_t to) {
-  return lexicon_translate_reason(from, name, strlen(name), linux_libc, to);
-}
-LEXICON_NONNULL(2)
-static inline const char *lexicon_name_suggestion_z(uint32_t dialect, const char *name) {
-  return lexicon_name_suggestion(dialect, name, strlen(name));
-}
-LEXICON_NONNULL(1)
-static inline enum lexicon_status lexicon_error_line_z(const char *text, const struct lexicon_error *error, char *out, size_t out_size,
-                                                       size_t *length) {
-  return lexicon_error_line(text, strlen(text), error, out, out_size, length);
-}
-LEXICON_NONNULL(1)
-static inline enum lexicon_status lexicon_error_text_z(const char *text, const struct lexicon_error *error, char *out, size_t out_size,
-                                                       size_t *length) {
-  return lexicon_error_text(text, strlen(text), error, out, out_size, length);
-}
-LEXICON_CHECKED LEXICON_NONNULL(1)
-static inline enum lexicon_status lexicon_suggestion_z(const char *text, const struct lexicon_error *error, char *out, size_t out_size,
-                                                       size_t *length) {
-  return lexicon_suggestion(text, strlen(text), error, out, out_size, length);
-}
-LEXICON_CHECKED LEXICON_NONNULL(2, 3)
-static inline enum lexicon_status lexicon_number_z(uint32_t field, const char *text, uint32_t *number) {
-  return lexicon_number(field, text, strlen(text), number);
-}
+/* The target that the library was built for, as rustc names it, which lexicon_parse parses: "x86_64-unknown-linux-gnu". */
+const char *lexicon_host(void);
 
 /* The name of an enumerator: lexicon_family_name(LEXICON_FAMILY_ARM) is "arm". Null for 0 where that is no answer, and for a number
    that the enum doesn't have. Those of a field's values are of lexicon_name. */
@@ -903,10 +838,6 @@ static inline enum lexicon_status lexicon_parse_strict(const char *text, size_t 
     error->end = error->start + parsed.custom_vendor_size;
   }
   return LEXICON_UNRECOGNIZED_VENDOR;
-}
-LEXICON_CHECKED LEXICON_NONNULL(1, 2)
-static inline enum lexicon_status lexicon_parse_strict_z(const char *text, struct lexicon_triple *triple, struct lexicon_error *error) {
-  return lexicon_parse_strict(text, strlen(text), triple, error);
 }
 
 #undef LEXICON_AS

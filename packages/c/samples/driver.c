@@ -17,7 +17,7 @@ static const char *linker(const struct lexicon_triple *triple, const struct lexi
     case LEXICON_BINARY_FORMAT_COFF:
       switch ((enum lexicon_operating_system)triple->operating_system) {
         case LEXICON_OPERATING_SYSTEM_CYGWIN: return "ld.lld";
-        case LEXICON_OPERATING_SYSTEM_WINDOWS: return triple->environment == LEXICON_ENVIRONMENT_MSVC ? "lld-link" : "ld.lld";
+        case LEXICON_OPERATING_SYSTEM_WINDOWS: return facts->c_library == LEXICON_C_LIBRARY_MINGW ? "ld.lld" : "lld-link";
         default: return "lld-link";
       }
     case LEXICON_BINARY_FORMAT_MACHO: return "ld64.lld";
@@ -38,8 +38,8 @@ static bool show(const char *text) {
   struct lexicon_triple_facts facts;
   struct lexicon_versions versions;
   char out[256];
-  if (lexicon_read_z(LEXICON_DIALECT_NONE, text, &triple, &error) != LEXICON_OK) {
-    lexicon_error_text_z(text, &error, out, sizeof out, NULL);
+  if (lexicon_read(LEXICON_DIALECT_NONE, LEXICON_Z(text), &triple, &error) != LEXICON_OK) {
+    lexicon_error_text(LEXICON_Z(text), &error, out, sizeof out, NULL);
     printf("error: %s\n", out);
     return false;
   }
@@ -53,7 +53,7 @@ static bool show(const char *text) {
   if (facts.int_size == 0) printf("  C types  -\n");
   else printf("  C types  int %u, long %u, pointer %u bytes\n", facts.int_size, facts.long_size, facts.pointer_width / 8u);
   if (facts.char_signedness) printf("  char     %s\n", lexicon_signedness_name(facts.char_signedness));
-  if (lexicon_stated_versions_z(text, &versions, NULL) == LEXICON_OK) {
+  if (lexicon_stated_versions(LEXICON_Z(text), &versions, NULL) == LEXICON_OK) {
     show_version("system ", versions.operating_system);
     show_version("version", versions.environment);
   }

@@ -13,7 +13,7 @@
 namespace {
 
 using lexicon::BinaryFormat;
-using lexicon::Environment;
+using lexicon::CLibrary;
 using lexicon::OperatingSystem;
 using lexicon::Triple;
 
@@ -24,7 +24,7 @@ std::string_view linker(const Triple& triple) {
     case BinaryFormat::Coff:
       switch (triple.operating_system()) {
         case OperatingSystem::Cygwin: return "ld.lld";
-        case OperatingSystem::Windows: return triple.environment() == Environment::Msvc ? "lld-link" : "ld.lld";
+        case OperatingSystem::Windows: return triple.c_library() == CLibrary::Mingw ? "ld.lld" : "lld-link";
         default: return "lld-link";
       }
     case BinaryFormat::Macho: return "ld64.lld";

@@ -2,9 +2,9 @@
 use crate::error::{expected_at, TextError};
 use crate::text::Text;
 use crate::{Status, NAME_WITHOUT_TRIPLE, NEEDS_C_LIBRARY, NOT_UTF8, NO_SUCH_VALUE, TRIPLE_WITHOUT_NAME, UNKNOWN_NAME};
+use core::fmt::Write;
 use core::str;
-use target_lexicon::spellings::{architecture_in, is_visible, refusal_prefix, suggestion_on};
-use target_lexicon::Suggestion;
+use target_names::{is_visible, suggestion_in, Suggestion};
 
 /// What stands for bytes that are no character.
 const REPLACEMENT: char = '\u{fffd}';
@@ -26,7 +26,13 @@ fn start_of_line<'a>(bytes: &'a [u8], error: &TextError, out: &mut Text) -> Resu
         UNKNOWN_NAME => out.push("Unknown name: "),
         NAME_WITHOUT_TRIPLE => out.push("No triple has this name: "),
         TRIPLE_WITHOUT_NAME | NEEDS_C_LIBRARY => out.push("No name in the other dialect: "),
-        status => out.push(refusal_prefix(expected_at(status).ok_or(NO_SUCH_VALUE)?)),
+        status => {
+            let expected = expected_at(status).ok_or(NO_SUCH_VALUE)?;
+            let _ = match expected {
+                Some(field) => write!(out, "Unrecognized {field}: "),
+                None => out.write_str("Unrecognized field: "),
+            }; // which a text never refuses
+        }
     }
     Ok(Some(part))
 }
@@ -61,8 +67,8 @@ pub(crate) fn line_and_caret(bytes: &[u8], error: &TextError, out: &mut Text) ->
 pub(crate) fn suggestion<'a>(bytes: &'a [u8], error: &TextError) -> Option<Suggestion<'a>> {
     let text = str::from_utf8(part(bytes, error).ok()?).ok()?;
     // What follows the part may be no text.
-    let machine = architecture_in(str::from_utf8(&bytes[..error.start]).ok()?);
-    suggestion_on(machine, expected_at(error.status)??, text)
+    let before = str::from_utf8(&bytes[..error.start]).ok()?;
+    suggestion_in(before, expected_at(error.status)??, text)
 }
 
 /// The characters of some bytes. Each run of bytes that is none is a replacement character.

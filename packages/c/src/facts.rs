@@ -37,6 +37,18 @@ impl<'a, First: From<&'a TripleRef<'a>>, Next: From<&'a TripleRef<'a>>> From<&'a
     }
 }
 
+impl AsMut<QueryFacts> for QueryFacts {
+    fn as_mut(&mut self) -> &mut QueryFacts {
+        self
+    }
+}
+
+impl<First: AsMut<QueryFacts>, Next> AsMut<QueryFacts> for Both<First, Next> {
+    fn as_mut(&mut self) -> &mut QueryFacts {
+        self.0.as_mut()
+    }
+}
+
 impl From<Option<TypeLayout>> for LayoutNumbers {
     fn from(layout: Option<TypeLayout>) -> LayoutNumbers {
         layout.map_or(LayoutNumbers { size: 0, alignment: 0 }, |it| LayoutNumbers { size: it.size, alignment: it.alignment })

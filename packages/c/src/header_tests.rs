@@ -83,12 +83,7 @@ fn the_names_are_those_of_the_enumerators() {
 #[test]
 fn the_pointers_that_may_not_be_null_are_marked() {
     let (_, prototypes) = HEADER.split_once("#define LEXICON_MAX_GROWTH").expect("the calls");
-    let (prototypes, inline) = prototypes.split_once("/* The calls above for a string").expect("those without a size");
-    let (inline, _) = inline.split_once("/* The name of an enumerator").expect("the names");
-    // Each call that takes a string's size has one without, where the string may not be null either.
-    let sizes = ["size_t text_size", "size_t name_size"].map(|it| prototypes.matches(it).count());
-    let count_of = |what| inline.matches(what).count();
-    assert_eq!((count_of("_z("), count_of("LEXICON_NONNULL(")), (sizes[0] + sizes[1], sizes[0] + sizes[1]));
+    let (prototypes, _) = prototypes.split_once("/* The name of an enumerator").expect("the names");
     let prototypes = uncommented(prototypes);
     let declared = prototypes.split(';').filter_map(|it| it.trim().strip_suffix(')')?.rsplit_once('('));
     let mut count = 0;

@@ -39,11 +39,11 @@ use lines::settle_lines;
 use names::{c_name, c_reason};
 use numbers::*;
 use sources::FieldSources;
-use target_lexicon::{DeploymentTarget, Endianness, PointerWidth, Suggestion, TripleRef};
-use target_names::{Dialect, Name, NameError, TargetInfo, TranslateError, WriteError};
+use target_lexicon::{DeploymentTarget, Endianness, PointerWidth, TripleRef};
+use target_names::{vendor_suggestion, Dialect, Name, NameError, Suggestion, TargetInfo, TranslateError, WriteError};
 use text::{shown, write_text, written, Text};
 use triple::{NumberedTriple, TripleNumbers};
-use values::{c_library_at, dialect_at, field_at, name_at, name_of_number, number_in, operating_system_at, CUSTOM_VENDOR};
+use values::{c_library_at, dialect_at, field_at, name_at, name_of_number, number_in, CUSTOM_VENDOR};
 
 /// `enum lexicon_status`. From 1 to 6 a text is refused, where a value of the first to the fifth field was expected, or none.
 pub type Status = u32;
@@ -194,10 +194,16 @@ unsafe fn text_at<'a>(text: *const u8, size: usize) -> Result<&'a str, TextError
     text_of(unsafe { bytes_at(text, size) }?)
 }
 
-/// The caller's bytes and error, if there is one, for a call that says why a text is refused.
-unsafe fn refused_at<'a>(text: *const u8, size: usize, error: *const TextError) -> Result<(&'a [u8], TextError), Status> {
+/// The caller's bytes and error, if there is one, for a call that says why a text is refused. A size that is too large comes first, also
+/// that of the buffer.
+unsafe fn refused_at<'a>(text: *const u8, size: usize, error: *const TextError, out_size: usize) -> Result<(&'a [u8], TextError), Status> {
     // SAFETY: the arguments of the caller.
-    unsafe { Ok((bytes_at(text, size)?, *error.as_ref().ok_or(NO_SUCH_VALUE)?)) }
+    let bytes = unsafe { bytes_at(text, size) }?;
+    if out_size > MAX_SIZE {
+        return Err(TOO_LARGE);
+    }
+    // SAFETY: the caller's error, or null.
+    unsafe { Ok((bytes, *error.as_ref().ok_or(NO_SUCH_VALUE)?)) }
 }
 
 /// Writes an answer if there is one.
@@ -342,55 +348,30 @@ unsafe fn both<'a>(first: *const Triple, second: *const Triple) -> Result<(Tripl
 #[no_mangle]
 pub unsafe extern "C" fn lexicon_facts(triple: *const Triple, facts: *mut u8, facts_size: usize) -> Status {
     match facts_size {
-        0 => unsafe { Triple::read(triple) }.map_or_else(Status::from, |_| OK),
-        QUERIES => unsafe { write_facts::<QueryFacts>(triple, facts) },
-        FIRST => unsafe { write_facts::<FirstFacts>(triple, facts) },
-        ALL..=MAX_SIZE => unsafe {
-            let status = write_facts::<Facts>(triple, facts);
-            if status == OK {
-                // A later version's struct: what this one doesn't answer has no answer.
-                facts.add(ALL).write_bytes(0, facts_size - ALL);
-            }
-            status
-        },
-        _ if facts_size <= MAX_SIZE => NO_SUCH_VALUE,
+        0..=QUERIES => unsafe { write_facts::<QueryFacts>(triple, facts, facts_size) },
+        0..=FIRST => unsafe { write_facts::<FirstFacts>(triple, facts, facts_size) },
+        0..=MAX_SIZE => unsafe { write_facts::<Facts>(triple, facts, facts_size) },
         _ => TOO_LARGE,
     }
 }
 
-/// Writes facts of a triple. Each kind is compiled by itself: together, each would save the registers that all need.
+/// Writes so many bytes of facts of a triple. Each kind is compiled by itself: together, each would save the registers that all need.
 #[inline(never)]
-unsafe fn write_facts<T: for<'a> From<&'a TripleRef<'a>>>(triple: *const Triple, facts: *mut u8) -> Status {
-    match unsafe { Triple::read(triple) } {
-        Ok(asked) => unsafe {
-            facts.cast::<T>().write(T::from(&asked));
-            match (*facts.cast::<QueryFacts>()).data_model {
-                0 => write_sizes(triple, facts.cast()),
-                _ => OK,
-            }
-        },
-        Err(fault) => fault.into(),
+unsafe fn write_facts<T: for<'a> From<&'a TripleRef<'a>> + AsMut<QueryFacts>>(triple: *const Triple, facts: *mut u8, size: usize) -> Status {
+    let asked = match unsafe { Triple::read(triple) } {
+        Ok(asked) => asked,
+        Err(fault) => return fault.into(),
+    };
+    let mut found = T::from(&asked);
+    let queries = found.as_mut();
+    if let (0, Some(sizes)) = (queries.data_model, asked.type_sizes()) {
+        queries.sizes = facts::TypeSizes::new(sizes);
     }
-}
-
-/// Writes the sizes of C's types of a triple without a data model. It is the last call, and reads again what they depend on: otherwise
-/// all facts would take half more instructions, since the triple would be kept for it.
-#[cold]
-#[inline(never)]
-unsafe fn write_sizes(triple: *const Triple, facts: *mut QueryFacts) -> Status {
+    let known = size.min(size_of::<T>());
+    // A later version's struct is larger: what this one doesn't answer has no answer.
     unsafe {
-        let numbers = addr_of!((*triple).numbers);
-        let asked = || {
-            Some(TripleRef {
-                architecture: architecture_at((*numbers).architecture)?,
-                operating_system: operating_system_at((*numbers).operating_system, None)?,
-                environment: environment_at((*numbers).environment)?,
-                ..TripleRef::unknown()
-            })
-        };
-        if let Some(sizes) = asked().and_then(|it| it.type_sizes()) {
-            (*facts).sizes = facts::TypeSizes::new(sizes);
-        }
+        addr_of!(found).cast::<u8>().copy_to_nonoverlapping(facts, known);
+        facts.add(known).write_bytes(0, size - known);
     }
     OK
 }
@@ -550,8 +531,11 @@ pub unsafe extern "C" fn lexicon_translate(
         let to = dialect_at(to).flatten().ok_or(no_range(NO_SUCH_DIALECT))?;
         let c_library = c_library_at(linux_libc).ok_or(no_range(NO_SUCH_C_LIBRARY))?;
         let text = text_of(bytes)?;
-        let found = to.write_with(meant(from, text)?, c_library);
-        found.map_err(|error| TextError::of_name(TranslateError::Write(error), text))
+        let found = match from {
+            Some(from) => from.translate(text, c_library, to),
+            None => to.write_with(meant(None, text)?, c_library).map_err(TranslateError::Write),
+        };
+        found.map_err(|error| TextError::of_name(error, text))
     };
     match find() {
         Ok(found) => unsafe { write_text(out, out_size, length, |out| Ok(written(found.as_str(), out))) },
@@ -635,13 +619,15 @@ pub unsafe extern "C" fn lexicon_translate_reason(from: u32, name: *const u8, na
         let (from, to) = (dialect_at(from)?, dialect_at(to).flatten()?);
         let c_library = c_library_at(linux_libc)?;
         let name = unsafe { text_at(name, name_size) }.ok()?;
-        let triple = match from.map(|from| from.read_loosely(name)) {
-            None => target_names::read(name).ok()?,
-            Some(Ok(triple)) => triple,
-            Some(Err(NameError::WithoutTriple(why))) => return Some(why),
-            Some(Err(_)) => return None,
+        let found = match from {
+            Some(from) => from.translate(name, c_library, to),
+            None => to.write_with(target_names::read(name).ok()?, c_library).map_err(TranslateError::Write),
         };
-        to.write_with(&triple, c_library).err().map(WriteError::reason)
+        match found.err()? {
+            TranslateError::Read(NameError::WithoutTriple(why)) => Some(why),
+            TranslateError::Read(_) => None,
+            TranslateError::Write(error) => Some(error.reason()),
+        }
     };
     find().map_or(null(), c_reason)
 }
@@ -663,7 +649,7 @@ pub unsafe extern "C" fn lexicon_error_line(
     out_size: usize,
     length: *mut usize,
 ) -> Status {
-    match unsafe { refused_at(text, text_size, error) } {
+    match unsafe { refused_at(text, text_size, error, out_size) } {
         Ok((bytes, error)) => unsafe { Text::write(out, out_size, length, |out| line(bytes, &error, out)) },
         Err(status) => status,
     }
@@ -678,7 +664,7 @@ pub unsafe extern "C" fn lexicon_error_text(
     out_size: usize,
     length: *mut usize,
 ) -> Status {
-    match unsafe { refused_at(text, text_size, error) } {
+    match unsafe { refused_at(text, text_size, error, out_size) } {
         Ok((bytes, error)) => unsafe { Text::write(out, out_size, length, |out| line_and_caret(bytes, &error, out)) },
         Err(status) => status,
     }
@@ -693,7 +679,7 @@ pub unsafe extern "C" fn lexicon_suggestion(
     out_size: usize,
     length: *mut usize,
 ) -> Status {
-    match unsafe { refused_at(text, text_size, error) } {
+    match unsafe { refused_at(text, text_size, error, out_size) } {
         Err(TOO_LARGE) => TOO_LARGE,
         refused => unsafe { write_suggestion(refused.ok().and_then(|(bytes, error)| suggestion(bytes, &error)), out, out_size, length) },
     }
@@ -701,8 +687,10 @@ pub unsafe extern "C" fn lexicon_suggestion(
 
 #[no_mangle]
 pub unsafe extern "C" fn lexicon_vendor_suggestion(triple: *const Triple, out: *mut u8, out_size: usize, length: *mut usize) -> Status {
-    let triple = unsafe { Triple::read(triple) }.ok();
-    unsafe { write_suggestion(triple.and_then(|it| it.vendor_suggestion()), out, out_size, length) }
+    match unsafe { Triple::read(triple) } {
+        Err(fault) if out_size <= MAX_SIZE => fault.into(),
+        triple => unsafe { write_suggestion(triple.ok().and_then(vendor_suggestion), out, out_size, length) },
+    }
 }
 
 /// Writes a suggestion if there is one.
@@ -732,4 +720,9 @@ pub extern "C" fn lexicon_name(field: u32, number: u32) -> *const u8 {
 #[no_mangle]
 pub extern "C" fn lexicon_version() -> *const u8 {
     concat!(env!("CARGO_PKG_VERSION"), env!("LEXICON_COMMIT"), "\0").as_ptr()
+}
+
+#[no_mangle]
+pub extern "C" fn lexicon_host() -> *const u8 {
+    concat!(env!("LEXICON_HOST"), "\0").as_ptr()
 }

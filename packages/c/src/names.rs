@@ -22,7 +22,7 @@ mod tests {
     use super::*;
     use crate::values::field_at;
     use std::ffi::CStr;
-    use target_names::Dialect;
+    use target_names::{known_names, Dialect};
 
     /// What C reads.
     fn text(found: *const u8) -> Option<&'static str> {
@@ -31,7 +31,7 @@ mod tests {
 
     #[test]
     fn every_name_has_a_zero_byte_after_it() {
-        let of_fields = (0..).map_while(field_at).flat_map(|it| it.names().iter().copied());
+        let of_fields = (0..).map_while(field_at).flat_map(|it| known_names(it).iter().copied());
         for name in of_fields.chain(Dialect::ALL.iter().flat_map(|it| it.names())) {
             assert_eq!(text(c_name(name)), Some(name));
         }

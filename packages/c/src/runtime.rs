@@ -5,7 +5,7 @@
 #[link(name = "c")]
 extern "C" {}
 
-/// What the calls answer is proved not to panic. A fault in what is around it stops the program.
+/// No call panics, unless there is a fault: then the program stops.
 #[panic_handler]
 fn panic(_: &core::panic::PanicInfo<'_>) -> ! {
     // SAFETY: the processor's own trap; elsewhere the C library's.

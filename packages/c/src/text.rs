@@ -165,3 +165,10 @@ impl Text {
         }
     }
 }
+
+impl Write for Text {
+    fn write_str(&mut self, piece: &str) -> fmt::Result {
+        self.push(piece);
+        Ok(())
+    }
+}

@@ -327,6 +327,8 @@ static const struct row { writes *call; const char *text; uint32_t numbers[3]; e
   {versioned_reason, "x86_64-unknown-linux", {PYTHON, 2, 17}, LEXICON_OK, SAY_LIBRARY},
 
   {translated, "linux/arm64/v8", {OCI, GLIBC, RUST}, LEXICON_OK, "aarch64-unknown-linux-gnu"},
+  {translated, "linux/amd64/v3", {OCI, GLIBC, DEBIAN}, LEXICON_OK, "amd64v3"},
+  {translated, "linux/amd64/v3", {OCI, GLIBC, RUST}, LEXICON_TRIPLE_WITHOUT_NAME, NULL},
   {translated, "x86_64-w64-mingw32", {0, 0, NODE}, LEXICON_OK, "win32-x64-gnu"},
   {translated, "linux/amd64", {OCI, 0, DEBIAN}, LEXICON_NEEDS_C_LIBRARY, NULL},
   {translated, "windows/amd64", {OCI, GLIBC, DEBIAN}, LEXICON_TRIPLE_WITHOUT_NAME, NULL},
@@ -446,7 +448,10 @@ static void try_too_large(void) {
   EXPECT(written(&it, out, SIZE_MAX, &length) == LEXICON_TOO_LARGE && suggestion(&it, out, SIZE_MAX, &length) == LEXICON_TOO_LARGE);
   it.size = 12;
   EXPECT(translated(&it, out, SIZE_MAX, &length) == LEXICON_TOO_LARGE && suggestion(&it, out, SIZE_MAX, &length) == LEXICON_TOO_LARGE);
+  EXPECT(lexicon_error_line(it.text, it.size, NULL, out, SIZE_MAX, &length) == LEXICON_TOO_LARGE);
+  EXPECT(lexicon_error_text(it.text, it.size, NULL, out, SIZE_MAX, &length) == LEXICON_TOO_LARGE);
   it.triple.environment = 255;
+  EXPECT(vendor_suggestion(&it, out, sizeof out, &length) == LEXICON_NO_SUCH_VALUE);
   EXPECT(print(&it, out, SIZE_MAX, &length) == LEXICON_TOO_LARGE && vendor_suggestion(&it, out, SIZE_MAX, &length) == LEXICON_TOO_LARGE);
   EXPECT(length == 77 && is_filled(out, sizeof out));
 }
@@ -497,6 +502,7 @@ static void try_names(void) {
   EXPECT(lexicon_dialect_named("go") == LEXICON_DIALECT_GO && lexicon_dialect_named("podman") == LEXICON_DIALECT_NONE);
   EXPECT(lexicon_dialect_named("docker") == LEXICON_DIALECT_OCI && lexicon_dialect_named("npm") == LEXICON_DIALECT_NODE);
   EXPECT(strncmp(lexicon_version(), LEXICON_VERSION, strlen(LEXICON_VERSION)) == 0);
+  EXPECT(asked_of(lexicon_host()).triple.architecture != LEXICON_ARCHITECTURE_UNKNOWN);
   EXPECT(LEXICON_VERSION_NUMBER >= 5000 && LEXICON_VERSION_NUMBER % 1000 == LEXICON_VERSION_PATCH);
 }
 

@@ -1,6 +1,7 @@
 // Makes each call of target_lexicon.hpp, and compares what it gives with what is expected.
 #define LEXICON_H  // the guards of other headers
 #define LEXICON_HPP
+#include <functional>
 #include <iostream>
 #include <map>
 #include <sstream>
@@ -35,6 +36,8 @@ static void try_triple() {
   EXPECT(ios.environment() == Environment::Unknown && ios.binary_format() == BinaryFormat::Macho && ios.vendor_name() == "apple");
   EXPECT(ios.printed() == "aarch64-apple-ios17.2.0" && shown(ios) == ios.printed() && ios.comes_back());
   EXPECT(!esp.comes_back() && esp.settle() != esp && esp.same_target(esp.settle()) && !esp.same_target(ios) && esp.canonical() == "riscv32imc-esp-espidf");
+  EXPECT(std::greater<>()(esp, ios) && esp > ios && !(ios > esp) && ios <= esp && ios <= ios && !(esp <= ios) && esp >= ios && esp >= esp && !(ios >= esp));
+  EXPECT(Triple::host() == parsed(lexicon_host()));
   EXPECT(!Triple().endianness() && Triple().printed() == "unknown-unknown-unknown" && parsed("x86_64-linx").vendor_suggestion() == "linux");
 }
 
@@ -50,6 +53,13 @@ static void try_versions() {
   EXPECT(mac.macos_version() == (Version{11, 0, 0}) && mac.minimum_os_version() == (Version{11, 0, 0}) && !none.macos_version() && !none.minimum_os_version());
   EXPECT(Triple::stated_versions("aarch64-linux-android21")->environment.major == 21 && !Triple::stated_versions("linx"));
 }
+
+// The names that a program is compiled with are the library's.
+template <class Value> static void try_value_names() {
+  for (std::uint32_t number = 0, field = static_cast<std::uint32_t>(detail::FieldOf<Value>::field); number < 256; number++)
+    EXPECT(name(static_cast<Value>(number)) == detail::text_of(lexicon_name(field, number)));
+}
+static_assert(name(Architecture::X86_64) == "x86_64" && name(Vendor::Custom).empty() && name(OperatingSystem::None_) == "none");
 
 // A number that no enumerator of the type has, and the greatest.
 template <class Value> static Value no_enumerator(bool greatest) {
@@ -248,6 +258,7 @@ static void try_translation() {
 }
 
 int main() {
+  try_value_names<Architecture>(), try_value_names<Vendor>(), try_value_names<OperatingSystem>(), try_value_names<Environment>(), try_value_names<BinaryFormat>();
   try_triple();
   try_versions();
   try_values();

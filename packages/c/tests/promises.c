@@ -224,12 +224,10 @@ static void try_triple(const struct lexicon_triple *triple) {
   CHECK(lexicon_parse(settled_text, settled_length, &again, NULL) == LEXICON_OK && are_equal(&again, &settled));
   CHECK(lexicon_all_facts(triple, &facts) == LEXICON_OK && facts.has_custom_vendor == (triple->vendor == LEXICON_VENDOR_CUSTOM));
   for (size_t size = 0; size <= sizeof facts + 2; size++) {
-    bool is_known = size == 0 || size == offsetof(struct lexicon_triple_facts, implied_format) ||
-                    size == offsetof(struct lexicon_triple_facts, c_library) || size >= sizeof facts;
     uint8_t *some = (uint8_t *)before_guard(2, size);
     memset(some, 0xa5, size);
-    CHECK(lexicon_facts(triple, (struct lexicon_triple_facts *)(void *)some, size) == (is_known ? LEXICON_OK : LEXICON_NO_SUCH_VALUE));
-    CHECK(is_known ? memcmp(some, &facts, size < sizeof facts ? size : sizeof facts) == 0 : is_unchanged(some, size));
+    CHECK(lexicon_facts(triple, (struct lexicon_triple_facts *)(void *)some, size) == LEXICON_OK);
+    CHECK(memcmp(some, &facts, size < sizeof facts ? size : sizeof facts) == 0);
     for (size_t i = sizeof facts; i < size; i++) CHECK(some[i] == 0); /* of a newer header */
   }
   for (uint32_t libc = LEXICON_LINUX_LIBC_GLIBC; libc <= LEXICON_LINUX_LIBC_GNULLVM; libc++) {
@@ -303,8 +301,7 @@ static void try_bad(const struct lexicon_triple *bad, const struct lexicon_tripl
   memset(&facts, 0xa5, sizeof facts);
   memset(out, 0xa5, sizeof out);
   for (size_t i = 0; i < sizeof texts / sizeof *texts; i++) {
-    uint32_t expected = texts[i].call == lexicon_vendor_suggestion ? LEXICON_NO_SUGGESTION : status;
-    CHECK(texts[i].call(bad, out, sizeof out, &length) == expected && length == 77 && is_unchanged(out, sizeof out));
+    CHECK(texts[i].call(bad, out, sizeof out, &length) == status && length == 77 && is_unchanged(out, sizeof out));
   }
   CHECK(lexicon_facts(bad, &facts, sizeof facts) == status && is_unchanged(&facts, sizeof facts));
   CHECK(lexicon_settle(&copy) == status && memcmp(&copy, bad, sizeof copy) == 0);
@@ -557,40 +554,22 @@ static void try_text(const char *text, size_t size) {
 #define SAME_TEXT(one, two) CHECK((one) == (two) && strcmp(out, other) == 0)
 
 /* The inline calls, for a string that ends in a zero byte, answer as those with a size. */
-static void try_zero_ended(const char *text, size_t size, uint32_t dialect, uint32_t to) {
-  char *same = (char *)before_guard(3, size + 1), out[64], other[64];
+static void try_zero_ended(const char *text, size_t size) {
+  char *same = (char *)before_guard(3, size + 1);
   struct lexicon_triple triple, parsed;
   struct lexicon_error error, none;
   struct lexicon_sources sources;
-  struct lexicon_versions versions;
-  struct lexicon_change change;
-  uint32_t number = 0;
   if (size) memcpy(same, text, size);
   same[size] = 0;
   if (strlen(same) != size) return;
   uint32_t status = lexicon_parse(text, size, &parsed, &error);
-  CHECK(lexicon_parse_z(same, &triple, NULL) == status && lexicon_explain_z(same, &triple, &sources, NULL) == status);
+  CHECK(lexicon_parse(LEXICON_Z(same), &triple, NULL) == status && lexicon_explain(LEXICON_Z(same), &triple, &sources, NULL) == status);
   const bool is_custom = status == LEXICON_OK && parsed.vendor == LEXICON_VENDOR_CUSTOM;
   memset(&triple, 0xa5, sizeof triple);
-  const uint32_t strict = lexicon_parse_strict_z(same, &triple, &none);
+  const uint32_t strict = lexicon_parse_strict(LEXICON_Z(same), &triple, &none);
   CHECK(strict == (is_custom ? LEXICON_UNRECOGNIZED_VENDOR : status) && lexicon_parse_strict(text, size, &parsed, NULL) == strict);
   CHECK(strict == LEXICON_OK ? are_equal(&triple, &parsed) : is_unchanged(&triple, sizeof triple));
   CHECK(strict == LEXICON_OK || (none.status == strict && none.start <= none.end && none.end <= size));
-  if (status != LEXICON_OK) {
-    SAME_TEXT(lexicon_error_line_z(same, &error, out, sizeof out, NULL), lexicon_error_line(text, size, &error, other, sizeof other, NULL));
-    SAME_TEXT(lexicon_error_text_z(same, &error, out, sizeof out, NULL), lexicon_error_text(text, size, &error, other, sizeof other, NULL));
-    CHECK(lexicon_suggestion_z(same, &error, out, sizeof out, NULL) == lexicon_suggestion(text, size, &error, other, sizeof other, NULL));
-  }
-  SAME_TEXT(lexicon_settle_lines_z(same, out, sizeof out, NULL), lexicon_settle_lines(text, size, other, sizeof other, NULL));
-  CHECK(lexicon_read_z(dialect, same, &triple, NULL) == lexicon_read(dialect, text, size, &triple, NULL));
-  CHECK(lexicon_stated_versions_z(same, &versions, NULL) == lexicon_stated_versions(text, size, &versions, NULL));
-  CHECK(lexicon_translate_z(dialect, same, 1, to, out, sizeof out, NULL, NULL) == lexicon_translate(dialect, text, size, 1, to, out, sizeof out, NULL, NULL));
-  CHECK(lexicon_translate_reason_z(dialect, same, 1, to) == lexicon_translate_reason(dialect, text, size, 1, to));
-  CHECK(lexicon_reason_z(dialect, same) == lexicon_reason(dialect, text, size));
-  CHECK(lexicon_name_suggestion_z(dialect, same) == lexicon_name_suggestion(dialect, text, size));
-  CHECK(lexicon_changes_z(same, to % 3, &change, out, sizeof out, NULL) == lexicon_changes(text, size, to % 3, &change, other, sizeof other, NULL));
-  CHECK(lexicon_meaning_z(same, to % 3, &number, &triple) == lexicon_meaning(text, size, to % 3, &number, &triple));
-  CHECK(lexicon_number_z(dialect % 7, same, &number) == lexicon_number(dialect % 7, text, size, &number));
   CHECK((uint32_t)lexicon_dialect_named(same) <= LAST_DIALECT);
 }
 
@@ -605,8 +584,9 @@ int LLVMFuzzerTestOneInput(const uint8_t *data, size_t data_size) {
   if (how & 2) try_translations(text, size);
   struct lexicon_triple of_vendor = {.vendor = LEXICON_VENDOR_CUSTOM, .custom_vendor = text, .custom_vendor_size = size};
   try_struct(&of_vendor, &of_vendor);
-  try_zero_ended(text, size, how % (LAST_DIALECT + 2u), word % (LAST_DIALECT + 2u));
+  try_zero_ended(text, size);
   CHECK(strncmp(lexicon_version(), LEXICON_VERSION, sizeof LEXICON_VERSION - 1) == 0);
+  CHECK(lexicon_parse(LEXICON_Z(lexicon_host()), &of_vendor, NULL) == LEXICON_OK);
   uint32_t number = 12345, status = lexicon_number(word % 7, text, size, &number);
   CHECK(status == LEXICON_OK || number == 12345);
   CHECK((status == LEXICON_NO_SUCH_FIELD) == (word % 7 > 4));

@@ -1,6 +1,7 @@
 //! The options of several calls, and the help of all.
 use crate::calls::commands;
 use clap::builder::PossibleValuesParser;
+use clap::error::ErrorKind;
 use clap::{value_parser, Arg, ArgAction, ArgMatches, Command, ValueHint};
 use std::num::NonZeroUsize;
 use std::path::PathBuf;
@@ -29,7 +30,28 @@ pub fn libc() -> Arg {
         .value_parser(PossibleValuesParser::new([
             "glibc", "musl", "msvc", "mingw", "gnullvm",
         ]))
-        .help("The C library of targets on Linux or Windows that state none")
+        .action(ArgAction::Append)
+        .help("The C library of targets on Linux or Windows that state none: one of each may be given")
+}
+
+/// Whether a C library is one of Windows.
+pub fn is_of_windows(libc: &str) -> bool {
+    matches!(libc, "msvc" | "mingw" | "gnullvm")
+}
+
+/// Two C libraries of one system, or for `what`, which takes one, any two.
+pub fn libc_conflict(call: &str, arguments: &ArgMatches) -> Option<clap::Error> {
+    let given = arguments.try_get_many::<String>("libc").ok()??;
+    let mut words: Vec<&String> = given.collect();
+    words.dedup();
+    let is_same = |it: &[&String]| call == "what" || is_of_windows(it[0]) == is_of_windows(it[1]);
+    let why = match &words[..] {
+        [one, other, ..] if words.len() > 2 || is_same(&words) => {
+            format!("`--libc {one}` and `--libc {other}` can't be used together")
+        }
+        _ => return None,
+    };
+    Some(command().error(ErrorKind::ArgumentConflict, why))
 }
 
 /// The names of dialects, each followed by its other ones.
@@ -90,6 +112,11 @@ pub fn of_targets(name: &'static str, about: &'static str, example: &'static str
             .value_parser(value_parser!(PathBuf))
             .value_hint(ValueHint::FilePath)
             .help("Answer for the lines of FILE too; `-` is standard input. May be given more than once"),
+        Arg::new("first-line")
+            .long("first-line")
+            .value_name("N")
+            .value_parser(value_parser!(NonZeroUsize))
+            .help("The number of the first line of FILE or of standard input, such as where it is one part of a longer list"),
         flag("comments", "Skip blank lines, and what follows `#` in a line"),
         flag("null", "End targets in files, and answers, with a zero byte instead of a line feed")
             .short('0')
@@ -145,7 +172,8 @@ pub fn dialect_of(arguments: &ArgMatches, option: &str) -> Option<Dialect> {
     word.parse().ok()
 }
 
-pub fn libc_of(arguments: &ArgMatches) -> Option<LinuxLibc> {
-    let word = arguments.try_get_one::<String>("libc").ok()??;
-    word.parse().ok()
+pub fn libcs_of(arguments: &ArgMatches) -> Vec<LinuxLibc> {
+    let words = arguments.try_get_many::<String>("libc").ok().flatten();
+    let libcs = words.unwrap_or_default().map(|word| word.parse().ok());
+    libcs.flatten().collect()
 }

@@ -5,6 +5,7 @@ use std::io::{self, ErrorKind, Write};
 pub enum Fault {
     /// A stream can't be read or written.
     Stream { name: String, why: io::Error },
+    /// A file that is no text.
     NotUtf8 {
         place: String,
         /// Whether the file begins as one in UTF-16 does.

@@ -1,5 +1,6 @@
 //! The fields of a triple, as they are named and shown.
-use target_lexicon::{Field, OperatingSystemExt as _, TripleRef};
+use std::borrow::Cow;
+use target_lexicon::{Field, OperatingSystemExt as _, TripleRef, VendorRef};
 
 /// The names that fields have in arguments and in answers.
 pub const FIELDS: [(&str, Field); 5] = [
@@ -25,12 +26,14 @@ pub fn version(triple: &TripleRef<'_>) -> Option<String> {
 }
 
 /// The name of the value of a field. That of a system is without its version.
-pub fn name_of(triple: &TripleRef<'_>, field: Field) -> String {
-    match field {
-        Field::Architecture => triple.architecture.to_string(),
-        Field::Vendor => triple.vendor.to_string(),
-        Field::OperatingSystem => triple.operating_system.prefix().to_string(),
-        Field::Environment => triple.environment.to_string(),
-        Field::BinaryFormat => triple.binary_format.to_string(),
-    }
+pub fn name_of<'a>(triple: &TripleRef<'a>, field: Field) -> Cow<'a, str> {
+    let name = match (field, triple.vendor) {
+        (Field::Vendor, VendorRef::Custom(text)) => return text.into(),
+        (Field::Architecture, _) => triple.architecture.to_string(),
+        (Field::Vendor, _) => triple.vendor.to_string(),
+        (Field::OperatingSystem, _) => triple.operating_system.prefix().to_string(),
+        (Field::Environment, _) => triple.environment.to_string(),
+        (Field::BinaryFormat, _) => triple.binary_format.to_string(),
+    };
+    name.into()
 }

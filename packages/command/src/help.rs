@@ -7,7 +7,9 @@ use clap::ArgMatches;
 use std::collections::HashMap;
 use std::path::Path;
 use target_lexicon::TripleRef;
-use target_names::{hint, suggestions, Dialect, Hint, Mistake, NameError};
+use target_names::{
+    suggestions, vendor_suggestion, Dialect, Evidence, Mistake, NameError, Said, Suggest as _,
+};
 
 #[derive(Clone)]
 pub struct Help {
@@ -144,11 +146,8 @@ fn dialects_note(command: &str, name: &str) -> Option<String> {
 
 /// The name that the first dialect suggests that suggests one, and what is wrong with the unknown one, as far as it says more. A name after
 /// another is none if all the words together name a triple.
-fn nearest(name: &str, hint: Option<Hint>) -> Option<(&'static str, Option<Mistake<'_>>)> {
-    let of_words = match hint {
-        Some(Hint::Triple(triple)) => Some(triple),
-        _ => None,
-    };
+fn nearest<'a>(name: &'a str, evidence: &Evidence<'_>) -> Option<(&'static str, Option<Mistake<'a>>)> {
+    let of_words = evidence.triple();
     let has_triple = of_words.is_some();
     let mut found = suggestions(name).filter_map(|(dialect, suggestion)| {
         // What all words say is a triple.
@@ -168,30 +167,35 @@ fn nearest(name: &str, hint: Option<Hint>) -> Option<(&'static str, Option<Mista
 /// Whether a name has parts, of which the first is no known word.
 fn may_be_triple(name: &str) -> bool {
     let (first, _) = name.split_once('-').unwrap_or_default();
-    !first.is_empty() && hint(first).is_none()
+    !first.is_empty() && Evidence::of(first).is_empty()
+}
+
+/// What the words of a name say, if they say something of a target.
+fn said(evidence: &Evidence<'_>) -> Option<String> {
+    (!evidence.is_empty()).then(|| evidence.to_string())
 }
 
 /// What is suggested for a part of this target, and what is wrong with a name that a dialect doesn't have.
 fn help_of_names(refusal: &Refusal<'_>, target: &str) -> Help {
     let (suggestion, note) = match &refusal.names {
         Names::OfParts(refusal) => (shown(refusal.suggestion_in(target)), None),
-        Names::OfVendors(triple) => (shown(triple.vendor_suggestion()), None),
+        Names::OfVendors(triple) => (shown(vendor_suggestion(triple)), None),
         Names::OfAll(name) => {
-            let hint = hint(name);
-            match (nearest(name, hint), hint) {
+            let evidence = Evidence::of(name);
+            let has_no_machine = evidence.machine() == Said::Unsaid;
+            match (nearest(name, &evidence), evidence.triple()) {
                 (Some((name, mistake)), _) => (shown(Some(name)), shown(mistake)),
-                (None, Some(Hint::NoMachine) | None) if may_be_triple(name) => {
+                (None, None) if has_no_machine && may_be_triple(name) => {
                     (None, shown(Dialect::Gnu.mistake(name)))
                 }
-                (None, Some(Hint::Triple(triple))) => (shown(Some(triple)), shown(hint)),
-                (None, hint) => (None, shown(hint)),
+                (None, triple) => (shown(triple), said(&evidence)),
             }
         }
         Names::OfDialect(dialect, name) => {
             let suggestion = dialect.suggestion(name);
             let note = match dialect.mistake(name) {
                 None | Some(Mistake::NoTriple(_)) if suggestion.is_some() => None,
-                None => shown(hint(name)),
+                None => said(&Evidence::of(name)),
                 mistake => shown(mistake),
             };
             (shown(suggestion), note)

@@ -7,6 +7,7 @@ use crate::streams;
 use clap::ArgMatches;
 use std::fmt;
 use std::io::{self, BufRead, BufReader, ErrorKind};
+use std::num::NonZeroUsize;
 use std::path::{Path, PathBuf};
 use std::str;
 
@@ -40,9 +41,9 @@ pub struct Target<'a> {
     pub place: Place<'a>,
 }
 
-impl Target<'_> {
+impl<'a> Target<'a> {
     /// The members with which each object begins.
-    pub fn members(&self) -> Object {
+    pub fn members(&self) -> Object<'a> {
         let (file, line) = match self.place {
             Place::Argument(_) => (None, None),
             Place::Line { file, number, .. } => (Some(file), Some(number)),
@@ -96,6 +97,9 @@ fn each_of_list(list: Target<'_>, answers: &mut impl Answers) -> Result<(), Faul
 pub trait Answers {
     fn answer(&mut self, target: Target<'_>) -> Result<(), Fault>;
 
+    /// Refuses a line that isn't UTF-8 from a byte on, and has U+FFFD there.
+    fn refuse_bytes(&mut self, target: Target<'_>, start: usize) -> Result<(), Fault>;
+
     /// The next target may take a while, so what was answered is better written now.
     fn pause(&mut self) -> Result<(), Fault>;
 }
@@ -105,6 +109,9 @@ pub fn each_target(arguments: &ArgMatches, answers: &mut impl Answers) -> Result
     let lines = Lines {
         skips_comments: arguments.get_flag("comments"),
         end: end_of_line(arguments),
+        first: arguments
+            .get_one("first-line")
+            .map_or(1, |it: &NonZeroUsize| it.get()),
     };
     let targets = arguments.get_many::<String>("target").unwrap_or_default();
     let files = arguments.get_many::<PathBuf>("file").unwrap_or_default();
@@ -143,6 +150,8 @@ pub fn end_of_line(arguments: &ArgMatches) -> u8 {
 struct Lines {
     skips_comments: bool,
     end: u8,
+    /// The number of the first.
+    first: usize,
 }
 
 fn each_line(path: &Path, lines: Lines, answers: &mut impl Answers) -> Result<(), Fault> {
@@ -163,7 +172,7 @@ fn each_line(path: &Path, lines: Lines, answers: &mut impl Answers) -> Result<()
     }
     let mut reader = BufReader::with_capacity(1 << 16, input.reader);
     let mut bytes = Vec::new();
-    for number in 1.. {
+    for number in lines.first.. {
         bytes.clear();
         while bytes.last() != Some(&lines.end) {
             if reader.buffer().is_empty() {
@@ -187,15 +196,29 @@ fn each_line(path: &Path, lines: Lines, answers: &mut impl Answers) -> Result<()
         if bytes.is_empty() {
             break;
         }
-        let line = str::from_utf8(&bytes).map_err(|error| {
-            let valid = String::from_utf8_lossy(&bytes[..error.valid_up_to()]);
-            let column = valid.chars().count() + 1;
-            Fault::NotUtf8 {
-                place: format!("{name}:{number}:{column}"),
-                is_utf16: number == 1 && matches!(bytes[..], [0xff, 0xfe, ..] | [0xfe, 0xff, ..]),
+        let is_first = number == lines.first;
+        let is_utf16 = is_first && matches!(bytes[..], [0xff, 0xfe, ..] | [0xfe, 0xff, ..]);
+        let line = match str::from_utf8(&bytes) {
+            Ok(line) => line,
+            Err(error) if is_utf16 || lines.end != 0 && bytes.contains(&0) => {
+                let valid = String::from_utf8_lossy(&bytes[..error.valid_up_to()]);
+                let column = valid.chars().count() + 1;
+                let place = format!("{name}:{number}:{column}");
+                return Err(Fault::NotUtf8 { place, is_utf16 });
             }
-        })?;
-        let (text, indent) = lines.target(line, number == 1);
+            Err(error) => {
+                let line = String::from_utf8_lossy(&bytes);
+                let place = Place::Line {
+                    file: &name,
+                    number,
+                    indent: 0,
+                };
+                let text = line.trim_end_matches(['\r', char::from(lines.end)]);
+                answers.refuse_bytes(Target { text, place }, error.valid_up_to())?;
+                continue;
+            }
+        };
+        let (text, indent) = lines.target(line, is_first);
         if text.is_empty() && lines.skips_comments {
             continue;
         }

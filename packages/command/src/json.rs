@@ -2,23 +2,25 @@
 //! nothing in a target can steer a terminal.
 use serde::ser::{Serialize, Serializer};
 use serde_json::ser::{CompactFormatter, Formatter};
+use std::borrow::Cow;
 use std::io::{self, Write};
 
+/// A value. Its strings may be parts of the line, of which there may be no second copy in memory.
 #[derive(Clone)]
-pub enum Json {
+pub enum Json<'a> {
     Null,
     Bool(bool),
     Number(usize),
-    Text(String),
-    List(Vec<Json>),
-    Object(Object),
+    Text(Cow<'a, str>),
+    List(Vec<Json<'a>>),
+    Object(Object<'a>),
 }
 
-pub type Object = Vec<(&'static str, Json)>;
+pub type Object<'a> = Vec<(&'static str, Json<'a>)>;
 
 macro_rules! from {
     ($($value:ty => $of:expr;)*) => {$(
-        impl From<$value> for Json {
+        impl<'a> From<$value> for Json<'a> {
             fn from(value: $value) -> Self {
                 $of(value.into())
             }
@@ -27,20 +29,21 @@ macro_rules! from {
 }
 
 from! {
-    &str => Json::Text;
+    &'a str => Json::Text;
+    Cow<'a, str> => Json::Text;
     String => Json::Text;
     bool => Json::Bool;
     usize => Json::Number;
     u8 => Json::Number;
 }
 
-impl<T: Into<Json>> From<Option<T>> for Json {
+impl<'a, T: Into<Json<'a>>> From<Option<T>> for Json<'a> {
     fn from(answer: Option<T>) -> Self {
         answer.map_or(Json::Null, T::into)
     }
 }
 
-impl Serialize for Json {
+impl Serialize for Json<'_> {
     fn serialize<S: Serializer>(&self, to: S) -> Result<S::Ok, S::Error> {
         match self {
             Json::Null => to.serialize_unit(),
@@ -55,7 +58,20 @@ impl Serialize for Json {
     }
 }
 
-impl Json {
+impl Json<'_> {
+    /// The value with strings of its own.
+    pub fn into_owned(self) -> Json<'static> {
+        let of_members = |members: Object| members.into_iter().map(|(key, it)| (key, it.into_owned())).collect();
+        match self {
+            Json::Null => Json::Null,
+            Json::Bool(is_so) => Json::Bool(is_so),
+            Json::Number(number) => Json::Number(number),
+            Json::Text(text) => Json::Text(text.into_owned().into()),
+            Json::List(items) => Json::List(items.into_iter().map(Json::into_owned).collect()),
+            Json::Object(members) => Json::Object(of_members(members)),
+        }
+    }
+
     pub fn write(&self, out: &mut dyn Write) -> io::Result<()> {
         Ok(self.serialize(&mut serde_json::Serializer::with_formatter(out, Ascii))?)
     }

@@ -15,7 +15,7 @@ enum Layout {
 
 pub struct Outputs {
     out: BufWriter<Box<dyn Write>>,
-    errors: BufWriter<io::Stderr>,
+    errors: BufWriter<Box<dyn Write>>,
     layout: Option<Layout>,
     has_object: bool,
     has_color: bool,
@@ -60,7 +60,7 @@ impl Outputs {
     pub fn plain() -> Self {
         Outputs {
             out: BufWriter::with_capacity(1 << 16, streams::standard_output()),
-            errors: BufWriter::with_capacity(1 << 16, io::stderr()),
+            errors: BufWriter::with_capacity(1 << 16, streams::standard_error()),
             layout: None,
             has_object: false,
             has_color: false,

@@ -1,11 +1,11 @@
 //! What a target means, by the options of the call.
-use crate::arguments::{dialect_of, libc_of};
+use crate::arguments::{dialect_of, is_of_windows, libcs_of};
 use crate::fields::canonical;
 use crate::refusal::Refusal;
 use clap::ArgMatches;
 use std::cell::Cell;
 use target_lexicon::{OperatingSystem, Source, Sources, TripleRef, VendorRef};
-use target_names::{is_vendor_of_rustc, read, Dialect, LinuxLibc, TargetInfo};
+use target_names::{is_vendor_of_rustc, read, vendor_suggestion, Dialect, LinuxLibc, TargetInfo};
 
 /// How targets are given.
 #[derive(Clone, Copy, PartialEq, Eq)]
@@ -22,6 +22,8 @@ pub struct Reader {
     pub from: Option<Dialect>,
     /// The C library that the user says, for a triple of Linux or Windows that states none.
     pub libc: Option<LinuxLibc>,
+    /// That one, and the one of the other system, if the user says two.
+    libcs: Vec<LinuxLibc>,
     /// Whether an answer differs from that without it.
     needs_libc: Cell<bool>,
     is_strict: bool,
@@ -40,9 +42,11 @@ pub struct Parsed<'a> {
 impl Reader {
     pub fn new(arguments: &ArgMatches) -> Self {
         let vendors = arguments.get_many("vendors").unwrap_or_default();
+        let libcs = libcs_of(arguments);
         Reader {
             from: dialect_of(arguments, "from"),
-            libc: libc_of(arguments),
+            libc: libcs.first().copied(),
+            libcs,
             needs_libc: Cell::new(false),
             is_strict: arguments.get_flag("strict"),
             vendors: vendors.cloned().collect(),
@@ -63,7 +67,7 @@ impl Reader {
             (VendorRef::Custom(_), Source::Part(part)) if self.is_strict => {
                 return Err(Refusal::of_vendor(triple, part));
             }
-            (VendorRef::Custom(_), Source::Part(part)) if triple.vendor_suggestion().is_some() => {
+            (VendorRef::Custom(_), Source::Part(part)) if vendor_suggestion(triple).is_some() => {
                 Some(Refusal::of_vendor(triple, part).into_warning())
             }
             _ => None,
@@ -102,9 +106,19 @@ impl Reader {
 
     /// The triple with the C library that the user says.
     fn completed<'a>(&self, triple: TripleRef<'a>) -> TripleRef<'a> {
-        let completed = self.libc.map_or(triple, |libc| triple.with_c_library(libc));
+        let complete = |triple: TripleRef<'a>, libc: &LinuxLibc| triple.with_c_library(*libc);
+        let completed = self.libcs.iter().fold(triple, complete);
         self.needs_libc_if(|| completed != triple);
         completed
+    }
+
+    /// The C library that the user says for the system of a triple.
+    pub fn libc_for(&self, triple: TripleRef<'_>) -> Option<LinuxLibc> {
+        let is_windows = triple.operating_system == OperatingSystem::Windows;
+        let mut libcs = self.libcs.iter().copied();
+        libcs
+            .find(|it| is_of_windows(it.name()) == is_windows)
+            .or(self.libc)
     }
 
     /// Remembers that the C library is needed, which is only asked as long as it wasn't.

@@ -4,10 +4,9 @@ use crate::help::Help;
 use crate::input::{Place, Target};
 use crate::json::{Json, Object};
 use std::io::{self, Write};
-pub use target_lexicon::spellings::visible;
-use target_lexicon::spellings::SHOWN;
 use target_lexicon::{Field, TextPart, TripleRef};
-use target_names::{Dialect, NameError, WriteError};
+pub use target_names::visible;
+use target_names::{Dialect, NameError, WriteError, SHOWN};
 
 pub struct Refusal<'a> {
     /// Whether the target isn't refused.
@@ -78,6 +77,13 @@ impl<'a> Refusal<'a> {
             names: Names::OfVendors(triple),
             ..Refusal::new("custom vendor", part)
         }
+    }
+
+    /// A line with bytes that aren't UTF-8. It is shown with U+FFFD for them, of which the first is where it ends to be UTF-8.
+    pub fn not_utf8(text: &'a str, start: usize) -> Self {
+        let end = start + char::REPLACEMENT_CHARACTER.len_utf8();
+        let text = &text[start..end];
+        Refusal::new("not UTF-8", TextPart { text, start })
     }
 
     pub fn into_warning(self) -> Self {
@@ -180,7 +186,7 @@ impl Refusal<'_> {
     }
 
     /// What is wrong, as the members of an object.
-    pub fn members(&self, help: &Help) -> Object {
+    pub fn members(&self, help: &Help) -> Object<'_> {
         let error = match self.reason {
             Some(reason) if self.error.starts_with("no triple") => {
                 format!("no triple means the same: {reason}")

@@ -3,6 +3,7 @@ use crate::calls::{Answer, Answered, Call};
 use crate::fault::Fault;
 use crate::help::Helper;
 use crate::input::{each_target, end_of_line, Answers, Target};
+use crate::json::Json;
 use crate::output::Outputs;
 use crate::progress::{with_commas, Progress};
 use crate::reader::Reader;
@@ -28,12 +29,21 @@ impl Answers for Run<'_> {
         match self.call.answer(target, &self.reader) {
             Ok(_) if self.is_quiet => Ok(()),
             Err(_) if self.is_quiet => Err(Fault::Refused),
-            Ok(Answered { answer, warning }) => {
-                warning.map_or(Ok(()), |it| self.show(target, &it))?;
-                answer.map_or(Ok(()), |it| self.write(target, &*it))
-            }
+            Ok(Answered {
+                answer,
+                warning: Some(warning),
+            }) => self.warn(target, &warning, answer.as_deref()),
+            Ok(Answered { answer, .. }) => answer.map_or(Ok(()), |it| self.write(target, &*it)),
             Err(refusal) => self.refuse(target, &refusal),
         }
+    }
+
+    fn refuse_bytes(&mut self, target: Target<'_>, start: usize) -> Result<(), Fault> {
+        self.progress.targets += 1;
+        if self.is_quiet {
+            return Err(Fault::Refused);
+        }
+        self.refuse(target, &Refusal::not_utf8(target.text, start))
     }
 
     fn pause(&mut self) -> Result<(), Fault> {
@@ -59,11 +69,30 @@ impl<'a> Run<'a> {
 
     fn write(&mut self, target: Target<'_>, answer: &dyn Answer) -> Result<(), Fault> {
         if self.outputs.has_objects() {
-            let members = [target.members(), answer.members()].concat();
+            let mut members = target.members();
+            members.extend(answer.members());
             return self.outputs.object(members);
         }
         self.outputs
             .answer(self.end_of_line, |out| answer.write(out))
+    }
+
+    /// Shows a warning before the answer; in an object, it is the last member.
+    fn warn(
+        &mut self,
+        target: Target<'_>,
+        warning: &Refusal<'_>,
+        answer: Option<&dyn Answer>,
+    ) -> Result<(), Fault> {
+        if self.outputs.has_objects() && self.call.has_refused_objects() {
+            let help = self.helper.help(target, warning);
+            let mut members = target.members();
+            members.extend(answer.map(Answer::members).unwrap_or_default());
+            members.push(("warning", Json::Object(warning.members(&help))));
+            return self.outputs.object(members);
+        }
+        self.show(target, warning)?;
+        answer.map_or(Ok(()), |it| self.write(target, it))
     }
 
     /// Shows a refusal or a warning on standard error.
@@ -77,7 +106,8 @@ impl<'a> Run<'a> {
         self.progress.refused += 1;
         if self.outputs.has_objects() && self.call.has_refused_objects() {
             let help = self.helper.help(target, refusal);
-            let members = [target.members(), refusal.members(&help)].concat();
+            let mut members = target.members();
+            members.extend(refusal.members(&help));
             self.outputs.object(members)?;
         } else {
             self.show(target, refusal)?;

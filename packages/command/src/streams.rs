@@ -25,7 +25,7 @@ fn of_file(file: File) -> Input {
     }
 }
 
-pub use system::{standard_input, standard_output};
+pub use system::{standard_error, standard_input, standard_output};
 
 #[cfg(unix)]
 mod system {
@@ -50,12 +50,20 @@ mod system {
         stream(0, io::stdin()).map(of_file)
     }
 
-    /// Standard output, without a buffer. If it is closed, a write fails, as one to a file that is open for reading does.
-    pub fn standard_output() -> Box<dyn Write> {
-        match stream(1, io::stdout()).or_else(|_| File::open("/dev/null")) {
+    /// A standard stream, without a buffer. If it is closed, a write fails, as one to a file that is open for reading does.
+    fn output(descriptor: usize, of: impl AsFd + Write + 'static) -> Box<dyn Write> {
+        match stream(descriptor, &of).or_else(|_| File::open("/dev/null")) {
             Ok(file) => Box::new(file),
-            Err(_) => Box::new(io::stdout()),
+            Err(_) => Box::new(of),
         }
+    }
+
+    pub fn standard_output() -> Box<dyn Write> {
+        output(1, io::stdout())
+    }
+
+    pub fn standard_error() -> Box<dyn Write> {
+        output(2, io::stderr())
     }
 
     /// Whether a file is the one to which standard output or standard error goes.
@@ -85,6 +93,10 @@ mod system {
 
     pub fn standard_output() -> Box<dyn Write> {
         Box::new(io::stdout())
+    }
+
+    pub fn standard_error() -> Box<dyn Write> {
+        Box::new(io::stderr())
     }
 
     pub fn is_output(_: &File) -> bool {

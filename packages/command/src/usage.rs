@@ -9,7 +9,12 @@ use target_lexicon::TripleRef;
 
 /// Help, the version, or what is wrong with the arguments. Returns the status.
 pub fn show(error: &clap::Error) -> Result<i32, Fault> {
-    let text = usage_text(error) + &target_note(error);
+    let note = target_note(error);
+    let mut text = usage_text(error);
+    if note.contains("use `") || note.contains(" now") {
+        text = without_guess(&text);
+    }
+    text += &note;
     if !error.use_stderr() {
         return write_only(|out| out.write_all(text.as_bytes()));
     }
@@ -30,30 +35,64 @@ fn usage_text(error: &clap::Error) -> String {
     lines.collect::<Vec<_>>().join("\n")
 }
 
+/// The text without the name that is spelled most like the wrong one, where the note says what is meant.
+fn without_guess(text: &str) -> String {
+    let lines = text.split_inclusive('\n');
+    lines
+        .filter(|line| !line.trim_start().starts_with("Did you mean"))
+        .collect()
+}
+
 /// What does now what a word did that was a subcommand before, or what else the user may have meant by one that is none.
 fn target_note(error: &clap::Error) -> String {
-    let of_option = match error.get(ContextKind::InvalidArg) {
-        Some(ContextValue::String(option)) => option.as_str(),
+    let context = |kind| match error.get(kind) {
+        Some(ContextValue::String(text)) => text.as_str(),
         _ => "",
     };
+    let option = context(ContextKind::InvalidArg);
     let (kind, word) = match error.kind() {
-        ErrorKind::InvalidSubcommand => ("", error.get(ContextKind::InvalidSubcommand)),
-        ErrorKind::InvalidValue => (of_option, error.get(ContextKind::InvalidValue)),
+        ErrorKind::InvalidSubcommand => ("", context(ContextKind::InvalidSubcommand)),
+        ErrorKind::InvalidValue => (option, context(ContextKind::InvalidValue)),
+        ErrorKind::UnknownArgument => ("option", option),
         _ => return String::new(),
     };
-    let Some(ContextValue::String(word)) = word else {
-        return String::new();
-    };
-    let now = match (kind, word.as_str()) {
+    let now = match (kind, word) {
         ("", "write") => "translate --to DIALECT",
         ("", "elsewhere") => "what",
         ("", "host") => "read --from gnu \"$(cc -dumpmachine)\"",
         ("", "manual") => "--manual",
         ("--from <DIALECT>", "any") => "what",
-        ("", word) if TripleRef::from_str(word).is_ok() => {
-            return format!("\nA target follows a command: target-lexicon explain {word}\n");
-        }
-        _ => return String::new(),
+        _ => return other_note(kind, word),
     };
     format!("\n`{word}` is `target-lexicon {now}` now\n")
+}
+
+/// What a word may mean that never was one of the command's, and the subcommands, if it is where one of them belongs.
+fn other_note(kind: &str, word: &str) -> String {
+    if kind.is_empty() && TripleRef::from_str(word).is_ok() {
+        return format!("\nA target follows a command: target-lexicon explain {word}\n");
+    }
+    let meant = match (kind, word) {
+        ("", "parse" | "info" | "show" | "inspect") => "`explain` or `facts`",
+        ("", "list") => "`names`",
+        ("", "validate" | "lint" | "verify") => "`check`",
+        ("", "normalize" | "canonical" | "canonicalize") => "`settle`",
+        ("", "convert") => "`translate`",
+        ("", "version") => "`--version`",
+        ("", "dedup" | "unique") => "`matrix`",
+        ("--libc <LIBRARY>", "gnu") => "`--libc glibc` for Linux, or `--libc mingw` for Windows",
+        ("--from <DIALECT>" | "--to <DIALECT>", "container" | "containers" | "image") => "`oci`",
+        ("option", "--field" | "--fields") => "`--json`, and a tool such as jq for one member",
+        _ => "",
+    };
+    let mut note = String::new();
+    if !meant.is_empty() {
+        note = format!("\nFor `{word}` use {meant}\n");
+    }
+    if kind.is_empty() {
+        let all = command();
+        let names: Vec<_> = all.get_subcommands().map(clap::Command::get_name).collect();
+        note += &format!("\nCommands: {}\n", names.join(" "));
+    }
+    note
 }

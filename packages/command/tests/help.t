@@ -37,6 +37,29 @@ An old word is answered with the new one:
   0
   [1]
 
+A word that people try has the right one, and the subcommands follow; nothing is suggested that only looks like it:
+
+  $ for word in parse info show list validate lint normalize canonical convert version; do target-lexicon $word avr | grep '^! For `'; done
+  ! For `parse` use `explain` or `facts`
+  ! For `info` use `explain` or `facts`
+  ! For `show` use `explain` or `facts`
+  ! For `list` use `names`
+  ! For `validate` use `check`
+  ! For `lint` use `check`
+  ! For `normalize` use `settle`
+  ! For `canonical` use `settle`
+  ! For `convert` use `translate`
+  ! For `version` use `--version`
+  $ target-lexicon frobnicate avr | tail -n 1
+  ! Commands: explain facts settle check matrix read translate cfg what names completions
+  $ said() { target-lexicon "$@" | grep '^! For `\|Did you mean'; }
+  $ said settle --libc gnu x86_64-linux
+  ! For `gnu` use `--libc glibc` for Linux, or `--libc mingw` for Windows
+  $ said read --from containers linux/amd64
+  ! For `containers` use `oci`
+  $ said facts --field pointer_width avr
+  ! For `--field` use `--json`, and a tool such as jq for one member
+
 ## The manual and the completions have the commands and their options, and the help of each has an example
 
   $ target-lexicon --version | grep -xc "target-lexicon $(sed -n 's/^version = "\(.*\)"/\1/p' "$TESTDIR/../Cargo.toml")"

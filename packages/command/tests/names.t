@@ -34,6 +34,20 @@
   !   ^^^^^^^^^^^^^^^^^^^^^^ the tool has no name for this machine on any system
   [1]
 
+One C library of each system may be said, and two of one system are no choice:
+
+  $ target-lexicon translate --from oci --to rust --libc musl --libc msvc linux/amd64,windows/amd64
+  x86_64-unknown-linux-musl
+  x86_64-pc-windows-msvc
+  $ target-lexicon settle --libc mingw --libc glibc x86_64-linux x86_64-pc-windows
+  x86_64-unknown-linux-gnu
+  x86_64-pc-windows-gnu
+  $ for libcs in 'glibc --libc musl' 'msvc --libc mingw'; do target-lexicon settle --libc $libcs avr | head -n 1; done
+  ! error: `--libc glibc` and `--libc musl` can't be used together
+  ! error: `--libc msvc` and `--libc mingw` can't be used together
+  $ target-lexicon what --libc musl --libc msvc linux/amd64 > /dev/null
+  [2]
+
 What is read as other names is shown if it is asked, and always in JSON:
 
   $ target-lexicon read --changes amd64--freebsd13.2 x86_64-linux-gnu
@@ -276,9 +290,9 @@ Targets of rustc are meant as they are:
   > oci|/usr/lib/linux/amd64|linux/amd64|it has a path
   > debian|x86-64|amd64|-
   > debian|x86_64-linux-gnu|amd64|it is a name of gnu and zig; TRIPLE
-  > debian|linux-image-amd64|-|its words name x86_64-unknown-linux
+  > debian|linux-image-amd64|-|its words say x86_64, linux; here nobody knows `image`
   > pacman|mingw-w64-ucrt-x86_64|-|its words name x86_64-pc-windows-gnu
-  > oci|arm32v7/debian|linux/arm/v7|-
+  > oci|arm32v7/debian|-|no triple says all that its words say: armv7, linux, gnu
   > rust|amd64|-|it is a name of debian, gnu and rpm
   > rust|target/x86_64-unknown-linux-gnu/release|x86_64-unknown-linux-gnu|it has a path
   > rust|x86_64|-|it is a part of a name, such as `x86_64-unknown-linux-gnu`

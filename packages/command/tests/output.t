@@ -93,8 +93,18 @@ It is whole where the run ends early, too:
   [3]
   $ target-lexicon check --json-lines foo bar -f nowhere | grep -c '^{'
   2
-  $ printf 'z80\nfoo\nx\xff\n' | command target-lexicon explain --json 2> /dev/null | jq length
+  $ printf 'z80\nfoo\n\0\xff\n' | command target-lexicon explain --json 2> /dev/null | jq length
   2
+
+A warning is a member of the object:
+
+  $ target-lexicon check --json aarch64-aple-darwin avr
+  [{"target":"aarch64-aple-darwin","file":null,"line":null,"warning":{"error":"custom vendor","part":"aple","start":8,"end":12,"field":"vendor","suggestion":"apple","note":null}}]
+  $ target-lexicon settle --json aarch64-aple-darwin avr | jq -c '.[] | [.canonical, .warning.suggestion]'
+  ["aarch64-aple-darwin","apple"]
+  ["avr-unknown-unknown",null]
+  $ target-lexicon matrix --json aarch64-aple-darwin | grep -c warning
+  1
 
 ## A matrix
 

@@ -33,8 +33,16 @@ A run ends without a word if its reader has closed. What can't be written is a f
         4 check z80: 0
         4 settle -x: 2
         4 settle foo: 1
-  $ command target-lexicon check x 2> /dev/full
-  [3]
+  $ for how in '2>&-' '2< /dev/null' '2> /dev/full'; do for it in foo z80; do eval "$program settle $it $how"; echo "$it: $?"; done; done
+  foo: 3
+  z80-unknown-unknown-elf
+  z80: 0
+  foo: 3
+  z80-unknown-unknown-elf
+  z80: 0
+  foo: 3
+  z80-unknown-unknown-elf
+  z80: 0
 
 ## Inputs
 
@@ -47,6 +55,33 @@ A run ends without a word if its reader has closed. What can't be written is a f
   ! target-lexicon: <stdin>: Bad file descriptor (os error 9)
   [3]
   $ target-lexicon check z80 <&-
+
+A line that isn't UTF-8 is refused, and the others are answered. A file that is no text ends the command:
+
+  $ printf 'z80\nx86_64-\xff\xfe-linux\r\navr' > bytes
+  $ target-lexicon settle -f bytes
+  z80-unknown-unknown-elf
+  avr-unknown-unknown
+  ! bytes:2:8: error: not UTF-8 `\u{fffd}`
+  !   x86_64-\u{fffd}\u{fffd}-linux
+  !          ^^^^^^^^
+  ! 1 of 3 targets refused
+  [1]
+  $ target-lexicon check --json -f bytes | jq -c '.[] | [.line, .error, .start]'
+  [2,"not UTF-8",7]
+  $ target-lexicon check -q -f bytes
+  [1]
+  $ printf 'z80\n\0\xff\n' | target-lexicon settle
+  z80-unknown-unknown-elf
+  ! target-lexicon: <stdin>:2:2: not UTF-8
+  [3]
+
+A part of a list has the numbers that its lines have in the whole list:
+
+  $ printf 'z80\navr\nfoo\nx86_64\n' | SHELL=/bin/bash split -l 2 --numeric-suffixes --filter 'target-lexicon check --first-line $((10#${FILE#part} * 2 + 1)) 2>&1 | head -n 1' - part
+  <stdin>:3:1: error: unrecognized architecture `foo`
+  $ target-lexicon settle --first-line 0 avr > /dev/null
+  [2]
 
 A file that is also the output is refused. Two files, and a device, are no such thing:
 
@@ -88,6 +123,11 @@ A line that is larger than memory is a fault, and a refused one needs no more th
   ! <stdin>:1:1: error: unrecogn
   !   \u{1}\u{1}\u{1}\u{1}\u{1}\
   !   ^^^^^^^^^^^^^^^^^^^^^^^^^^
+
+An object has no second copy of a line:
+
+  $ (ulimit -v 40000; { printf x86_64-; head -c 10000000 /dev/zero | tr '\0' a; echo -linux; } | target-lexicon explain --json | wc -c)
+  30000428
 
 ## Terminals
 

@@ -130,16 +130,23 @@ A zero byte ends a target and an answer; of an answer of more than one line it c
   $ target-lexicon settle -0 --comments > /dev/null
   [2]
   $ printf 'z80\0x\xc3\0z80' | target-lexicon settle -0 | tr '\0' '|'
-  z80-unknown-unknown-elf|! target-lexicon: <stdin>:2:2: not UTF-8
+  z80-unknown-unknown-elf|z80-unknown-unknown-elf|! <stdin>:2:2: error: not UTF-8 `\u{fffd}`
+  !   x\u{fffd}
+  !    ^^^^^^^^
+  ! 1 of 3 targets refused
 
 ## Lines that aren't UTF-8
 
-The lines before one are answered:
+The others are answered:
 
   $ printf 'z80\nx\xc3\nz80\n' | target-lexicon settle
   z80-unknown-unknown-elf
-  ! target-lexicon: <stdin>:2:2: not UTF-8
-  [3]
+  z80-unknown-unknown-elf
+  ! <stdin>:2:2: error: not UTF-8 `\u{fffd}`
+  !   x\u{fffd}
+  !    ^^^^^^^^
+  ! 1 of 3 targets refused
+  [1]
   $ printf '\xff\xfez\08\0000\0\n\0' | target-lexicon check
   ! target-lexicon: <stdin>:1:1: UTF-16, not UTF-8
   [3]

@@ -29,10 +29,10 @@ const element = (name, attributes = {}, ...inside) => {
   return made;
 };
 /**
- * A string of the user as it is shown: what steers the direction of text or can't be seen is escaped, and of a long one only the ends are
- * there. The text field has the whole.
+ * A string of the user as it is shown: all but printable ASCII is escaped, and of a long one only the ends are there. The text field has the
+ * whole.
  */
-const HIDDEN = /[^\P{C}]|[^\P{Z} ]/gu;
+const HIDDEN = /[^ -~]/gu;
 const SHOWN = 60, HEAD = 36;
 function shown(text) {
   const letters = [...text.replace(HIDDEN, (it) => `\\u{${it.codePointAt(0).toString(16)}}`)];
@@ -294,7 +294,7 @@ function refusedRow({ text, error, fields, suggestion }, meant) {
   const part = element("strong", { class: "wrong" }, shown(error.part) || "(empty)");
   const head = header(text, text.slice(0, error.start), part, text.slice(error.end));
   const others = [...otherMeanings(meant, text, null)];
-  const inside = others.length ? others : [element("p", { class: "message" }, error.message.replace(error.part, () => shown(error.part)))];
+  const inside = others.length ? others : [element("p", { class: "message" }, `${error.report.split(":", 1)[0]}: ${shown(error.part)}`)];
   if (!others.length) inside.push(...(suggestion ? [element("p", {}, ...question(suggestion, text, error))] : error.start === 0 ? nearestNames(text) : []), ...soFar(fields));
   const answer = element("td", { role: "cell", class: "refused", colspan: 7, "aria-colspan": 7 }, ...inside);
   const row = element("tr", { role: "row", class: "refused" }, head, answer);

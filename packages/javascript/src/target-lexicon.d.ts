@@ -81,10 +81,12 @@ export class ParseError extends Error {
   /** Whether `translate` has a name with a C library that is said. */
   readonly needsLibc: boolean;
   /**
-   * The message, the string below it, and carets below the refused part, with the suggestion or the reason. What isn't printable
-   * ASCII is escaped; `message` keeps it.
+   * What was expected, the string below it, and carets below the refused part, with the suggestion or the reason. What isn't printable
+   * ASCII is escaped. The `message` is this, and which call reads a name of another tool; it is made when it is read.
    */
   readonly report: string;
+  /** All of the above except the report, and `name` and `message`: what `JSON.stringify` writes. */
+  toJSON(): Record<string, string | number | boolean | null>;
 }
 
 /** A target triple. It never changes. */

@@ -279,6 +279,9 @@ function tripleOf(value) {
   return value;
 }
 
+/** Makes a property that was looked up a plain one, with this value. */
+const setOwn = (it, name, value) => Object.defineProperty(it, name, { value, writable: true, configurable: true });
+
 export class ParseError extends Error {
   #status;
   #range; // in bytes
@@ -286,10 +289,10 @@ export class ParseError extends Error {
   #suggestion;
   #thrown; // has the stack, where the engine gives one
 
-  constructor(message, status, range, text, start, end, dialect, reason) {
+  constructor(status, range, text, start, end, dialect, reason) {
     const { stackTraceLimit } = Error;
     Error.stackTraceLimit = 0; // the one that is taken below is enough
-    super(message);
+    super();
     Error.stackTraceLimit = stackTraceLimit;
     Object.assign(this, { name: "ParseError", field: FIELDS[status - 1] ?? null, text, part: text.slice(start, end), start, end, reason, needsLibc: status === NEEDS_C_LIBRARY });
     this.#status = status;
@@ -304,11 +307,40 @@ export class ParseError extends Error {
   get stack() {
     if (!this.#thrown) return super.stack;
     const { stack } = this.#thrown;
-    return `${this.name}: ${this.report}${stack.slice(stack.indexOf("\n"))}`;
+    return `${this.name}: ${this.message}${stack.slice(stack.indexOf("\n"))}`;
   }
 
   set stack(value) {
-    Object.defineProperty(this, "stack", { value, writable: true, configurable: true });
+    setOwn(this, "stack", value);
+  }
+
+  /** The report, and which call reads a name of another tool. It is made when somebody asks. */
+  get message() {
+    const note = this.#note();
+    return (this.message = note === null ? this.report : `${this.report}\n  note: ${note}`);
+  }
+
+  set message(value) {
+    setOwn(this, "message", value);
+  }
+
+  toJSON() {
+    const { name, message, field, text, part, start, end, suggestion, reason, needsLibc } = this;
+    return { name, message, field, text, part, start, end, suggestion, reason, needsLibc };
+  }
+
+  /** By which calls a refused string is read that other tools have as a name, or why no triple means it; null if nobody has it. */
+  #note() {
+    if (this.#dialect || this.start > 0 || this.#status > REFUSED) return null; // what begins with an architecture has a suggestion
+    const { meanings: found, withoutTriple: reasons } = meanings(this.text), tools = found.flatMap((it) => it.tools), calls = [];
+    for (const tool of [...DIALECTS, "spelling"].filter((it) => it !== "gnu" && tools.includes(it))) { // GNU's names are spelled like triples
+      const reason = tool === "spelling" ? null : reasonOf(this.text, tool); // of a name that means several triples
+      if (reason === null) calls.push(tool === "spelling" ? "Triple.read(text)" : `Triple.read(text, "${tool}")`);
+      else reasons[tool] = reason;
+    }
+    if (calls.length) return `it is a name of another tool: use ${calls.join(" or ")}`;
+    const [[dialect, reason] = []] = Object.entries(reasons);
+    return dialect ? `it is a name of ${dialect} without a triple: ${reason}` : null;
   }
 
   get suggestion() {
@@ -328,6 +360,12 @@ export class ParseError extends Error {
   }
 }
 
+/** Why a name of a dialect means no single triple, or null. */
+function reasonOf(text, dialect) {
+  const it = instance();
+  return it.string(it.call("reason", dialectOf(dialect), ...it.text(text)));
+}
+
 /** The range of a string at a place in the memory: in bytes, and in units of UTF-16. */
 function rangesAt(it, place, text, size) {
   const range = [it.number(place), it.number(place + 4)];
@@ -340,8 +378,7 @@ function rangesAt(it, place, text, size) {
 function errorAt(it, status, text, given, dialect = 0, reason = dialect ? it.string(it.call("reason", dialect, ...given)) : null) {
   if (status > REFUSED && ![UNKNOWN_NAME, NAME_WITHOUT_TRIPLE, TRIPLE_WITHOUT_NAME, NEEDS_C_LIBRARY].includes(status)) return failure(status);
   const [range, [start, end]] = rangesAt(it, RANGE, text, given[1]);
-  const line = it.written("error_line", given[1], ...given, it.base + ERROR);
-  return new ParseError(reason === null ? line : `${line}: ${reason}`, status, range, text, start, end, dialect, reason);
+  return new ParseError(status, range, text, start, end, dialect, reason);
 }
 
 /** Where the value of a field comes from. */

@@ -13,7 +13,7 @@ const refusal = (text, call = Triple.parse) => {
   try {
     call(text);
   } catch (error) {
-    assert(error instanceof ParseError && error instanceof Error, `${error}`);
+    assert(error instanceof ParseError && error instanceof Error, error);
     assert.equal(error.text.slice(error.start, error.end), error.part);
     return error;
   }
@@ -84,14 +84,28 @@ const tests = {
   "an error of a name": () => {
     const error = (...words) => refusal(words[0], () => (words.length > 2 ? translate(...words) : Triple.read(...words)));
     const unknown = error("linux/amd46", "go"), without = error("sunos-x64", "node"), unsaid = error("linux/arm64", "oci", "debian"), none = error("windows/amd64", "oci", "debian", "musl");
-    assert.deepEqual([unknown, without, unsaid, none].map(({ message, field, suggestion, needsLibc }) => [message, field, suggestion, needsLibc]), [
-      ["Unknown name: linux/amd46", null, "linux/amd64", false], ["No triple has this name: sunos-x64: two systems: Solaris and illumos", null, null, false],
-      ["No name in the other dialect: linux/arm64: it depends on the C library: say glibc or musl", null, null, true],
-      ["No name in the other dialect: windows/amd64: the tool has no name for the system", null, null, false]]);
+    assert.deepEqual([unknown, without, unsaid, none].map(({ message, field, suggestion, needsLibc }) => [message.split("\n")[0], field, suggestion, needsLibc]), [
+      ["Unknown name: linux/amd46", null, "linux/amd64", false], ["No triple has this name: sunos-x64", null, null, false],
+      ["No name in the other dialect: linux/arm64", null, null, true], ["No name in the other dialect: windows/amd64", null, null, false]]);
+    assert(unsaid.message.endsWith("^ it depends on the C library: say glibc or musl"));
+    for (const it of [unknown, without, unsaid, none]) assert.equal(it.message, it.report);
     assert.equal(unknown.report, "Unknown name: linux/amd46\n  linux/amd46\n  ^^^^^^^^^^^ did you mean `linux/amd64`?");
     assert.equal(without.report, "No triple has this name: sunos-x64\n  sunos-x64\n  ^^^^^^^^^ two systems: Solaris and illumos");
     assert.deepEqual([unknown.reason, unsaid.reason, refusal("x86_64-pc-linx").reason], [null, Triple.parse("arm64-linux").reasonWithoutName("debian"), null]);
     assert.deepEqual([Triple.parse("arm64-linux").reasonWithoutName("go"), error("linx", null, "oci").field], [null, "architecture"]);
+  },
+  "an error says in its message and in JSON what was meant, and which call reads the name of another tool": () => {
+    const note = "\n  note: it is a name of another tool: use ", other = (text) => refusal(text).message.split(note)[1];
+    assert.equal(refusal("x86_64-pc-linx").message, "Unrecognized operating system: linx\n  x86_64-pc-linx\n            ^^^^ did you mean `linux`?");
+    assert.equal(other("linux/amd64"), 'Triple.read(text, "go") or Triple.read(text, "oci")');
+    assert.equal(other("amd64-pc-freebsd13.2"), "Triple.read(text)");
+    for (const [text, said] of [["js/wasm", "go without a triple: a module for Go's own JavaScript; "], ["macosx_11_0_universal2", "python without a triple: several machines"]])
+      assert(refusal(text).message.split("\n")[3].startsWith(`  note: it is a name of ${said}`), text);
+    for (const text of ["x86_64-linux/amd64", "linux/amd46", "foo"]) assert.equal(refusal(text).message, refusal(text).report);
+    const error = refusal("linux/amd64"), { name, message, field, text, part, start, end, suggestion, reason, needsLibc } = error;
+    assert.deepEqual(JSON.parse(JSON.stringify({ error })).error, { name, message, field, text, part, start, end, suggestion, reason, needsLibc });
+    error.message = "mine";
+    assert.deepEqual([error.message, JSON.parse(JSON.stringify(error)).message], ["mine", "mine"]);
   },
   "the module is asked no more than it must, and is replaced after an exception": () => {
     const { Instance } = WebAssembly, asked = [];
@@ -108,9 +122,10 @@ const tests = {
     load(wasm());
     const askedBy = (call) => (asked.length = 0, call(), asked.join(" "));
     assert.equal(askedBy(() => Triple.tryParse("x86_64-pc-linx")), "parse");
-    assert.equal(askedBy(() => refusal("x86_64-pc-linx")), "parse error_line");
-    assert.equal(askedBy(() => refusal("linux/amd46", (it) => Triple.read(it, "go"))), "read reason error_line");
-    assert.equal(askedBy(() => { const error = refusal("amd63"); for (let i = 0; i < 3; i++) error.suggestion; }), "parse error_line suggestion");
+    assert.equal(askedBy(() => refusal("x86_64-pc-linx")), "parse");
+    assert.equal(askedBy(() => { const error = refusal("x86_64-pc-linx"); for (let i = 0; i < 3; i++) error.message; }), "parse error_text");
+    assert.equal(askedBy(() => refusal("linux/amd46", (it) => Triple.read(it, "go"))), "read reason");
+    assert.equal(askedBy(() => { const error = refusal("amd63"); for (let i = 0; i < 3; i++) error.suggestion; }), "parse suggestion");
     assert.equal(askedBy(() => settleAll(["avr", "x", "arm64"])), "settle_lines");
     isCutOff = true;
     assert.throws(() => Triple.parse("avr"), { message: "cut off" });
@@ -256,7 +271,7 @@ const tests = {
       assert(it.vendor === vendor && [`${it}`, it.llvmTarget()].every((string) => string === `x86_64-${vendor}-linux`), `${size}`);
       assert(it.equals(it) && it.settle().vendor === vendor && it.comesBack() && it.rustcCfg().target_vendor === vendor);
       const error = refusal(`x86_64-${"\u{1f600}".repeat(size / 60)}`);
-      assert(error.start === 7 && error.message === `Unrecognized vendor: ${error.part}`);
+      assert(error.start === 7 && error.message.startsWith(`Unrecognized vendor: \\u{1f600}`));
       assert.equal(`${Triple.parse("wasm32-unknown-wasi")}`, "wasm32-wasi");
     }
     assert.equal(refusal("-".repeat(1000000)).end, 0);

@@ -144,12 +144,13 @@ def shows_fields(page):
 
 
 def escapes_and_shortens(page):
-    """What turns the direction of text, or can't be seen, is shown escaped, and a long part moves nothing."""
+    """All but printable ASCII is shown escaped, and a long part moves nothing."""
+    hostile = "\u200b\u3164\u115f\ufe0f\U000e0100e\u0301\u00e9"
     vendor = "a" * 3000
-    typed(page, f"x86_64-pc-\u202ebar\nx86_64-{vendor}-linux\nx86_64-linux-\u200b{vendor}\nx86_64-pc-linux-\u2066gnu\nx86_64-pc-<b>")
+    typed(page, f"x86_64-pc-\u202ebar\nx86_64-{vendor}-linux\nx86_64-linux-{hostile}{vendor}\nx86_64-pc-linux-\u2066gnu\nx86_64-pc-<b>")
     same(page.run(STATUS), "5 targets: 1 parsed, 4 refused.")
     text = page.run("document.querySelector('table').textContent + [...document.querySelectorAll('[aria-label]')].map((it) => it.ariaLabel).join()")
-    for hidden in "\u202e", "\u200b", "\u2066", "a" * 61:
+    for hidden in "\u202e", "\u2066", *set(hostile) - {"e"}, "a" * 61:
         assert hidden not in text, f"the table has {hidden!r}"
     rows = page.run(CELLS)
     same(rows[0], ["x86_64-pc-\\u{202e}bar", "Unrecognized operating system: \\u{202e}barBefore it: architecture x86_64, vendor pc"])
@@ -193,14 +194,14 @@ def refuses_and_suggests(page):
     same(page.run(STATUS), "5 targets: 1 parsed, 4 refused, 1 suspicious.")
     rows = page.run(CELLS)
     same(rows[0], ["x86_64-pc-windws-msvc", "Unrecognized operating system: windwsDid you mean windows?Before it: architecture x86_64, vendor pc"])
-    same(page.run(ROWS + ".map((row) => row.querySelector('strong')?.textContent ?? '')"), ["windws", "\u4e2d\u6587", "(empty)", "linux/amd46", ""])
+    same(page.run(ROWS + ".map((row) => row.querySelector('strong')?.textContent ?? '')"), ["windws", "\\u{4e2d}\\u{6587}", "(empty)", "linux/amd46", ""])
     same(page.run("[...document.querySelectorAll('.offer')].map((it) => it.textContent)"), ["windows", "linux/amd64", "linux"])
     same(rows[3][1], "Unrecognized architecture: linux/amd46Did you mean linux/amd64 of Go and containers?")
     same(rows[4][0], "x86_64- linx -gnu Did you mean linux ? canonical: x86_64-linx-unknown-gnu-elf")
     same(page.run("[...document.querySelectorAll('tbody .odd')].map((it) => it.textContent)"), ["linx", "linx"])
     press(page, "tbody .offer")
     page.until(f"{STATUS} === '5 targets: 2 parsed, 3 refused, 1 suspicious.'")
-    same([page.run(f"{TEXT}.split('\\n')[0]"), page.run(FOCUSED)], ["x86_64-pc-windows-msvc", "x86_64-pc-\u4e2d\u6587"])
+    same([page.run(f"{TEXT}.split('\\n')[0]"), page.run(FOCUSED)], ["x86_64-pc-windows-msvc", "x86_64-pc-\\u{4e2d}\\u{6587}"])
     press(page, ".suspicious .offer")
     page.until(f"{STATUS} === '5 targets: 2 parsed, 3 refused.'")
     same(page.run(FOCUSED), "x86_64-linux-gnu")

@@ -21,7 +21,8 @@ const calls = { changes, host, load, meanings, numberOf, settleAll, translate, v
 const ofCalls: Same<Answers<typeof calls>, { changes: Change[]; host: Triple; load: Promise<void>; meanings: Meanings; numberOf: number | null;
   settleAll: (string | null)[]; translate: string; version: string }> = true;
 const ofErrors: Same<Omit<ParseError, keyof Error>, { readonly field: Field | null; readonly text: string; readonly part: string; readonly start: number; readonly end: number;
-  readonly suggestion: string | null; readonly reason: string | null; readonly needsLibc: boolean; readonly report: string }> = true;
+  readonly suggestion: string | null; readonly reason: string | null; readonly needsLibc: boolean; readonly report: string;
+  toJSON: () => Record<string, string | number | boolean | null> }> = true;
 const ofFacts: Same<Pick<Facts, "endianness" | "pointerWidth" | "armVersion" | "isUnix">,
   { endianness: "little" | "big" | null; pointerWidth: 16 | 32 | 64 | null; armVersion: number | null; isUnix: boolean }> = true;
 const ofSource: Same<Explanation["fields"], { [Name in Field]: Explained<Values[Name]> }> = true;

@@ -1,5 +1,6 @@
 //! The dialects, whose names are read and written by the rows of [`TABLES`].
 use crate::gnu::read_as_gnu;
+use crate::levels::may_have_name;
 use crate::loose::last_tag;
 use crate::name::Name;
 use crate::platform::row_of_platform;
@@ -35,6 +36,8 @@ pub(super) struct Table {
     pub patterns: &'static [u16],
     /// What some names say that their triples don't.
     pub notes: &'static [(&'static str, &'static str)],
+    /// The levels of machines that some names say, which no triple states.
+    pub levels: &'static [(&'static str, &'static str)],
 }
 
 /// The numbers of a name where its pattern has stars: two, or one and 0.
@@ -144,6 +147,25 @@ impl Dialect {
         notes.next().map(|it| it.1)
     }
 
+    /// The level of the machine that a name of this dialect says and its triple can't state: `v3` of `linux/amd64/v3`. `None` if it says none.
+    /// [`translate`](Dialect::translate) keeps it.
+    ///
+    /// # Examples
+    ///
+    /// ```
+    /// use target_names::Dialect;
+    ///
+    /// assert_eq!(Dialect::Oci.level("linux/riscv64/rva22u64"), Some("rva22u64"));
+    /// assert_eq!(Dialect::Rust.level("arm-unknown-linux-gnueabihf"), Some("armv6"));
+    /// assert_eq!(Dialect::Oci.level("linux/amd64"), None);
+    /// ```
+    #[must_use]
+    pub fn level(self, name: &str) -> Option<&'static str> {
+        let (row, _) = self.row_of(name)?;
+        let mut levels = self.table().levels.iter().filter(|it| it.0 == row.0);
+        levels.next().map(|it| it.1)
+    }
+
     /// The triples that a name of this dialect means: several of a name such as `universal2`, which [`read`](Dialect::read) refuses, that
     /// of every other name that is [read](Dialect::read_loosely), and none of others.
     ///
@@ -170,7 +192,9 @@ impl Dialect {
 
     /// The name of a triple in this dialect: that of its [shape](Dialect::shape). `None` if it has none, and if its vendor
     /// says that the target is another one: a system that no triple has, such as `wasip3`, or a variant such as `uwp`.
-    /// In GNU a triple that has no name of a cross compiler is its own name where config.sub takes it. Nothing is allocated.
+    /// There is none either if the machine of the triple can more than those for which the tool builds, so that the name would mean machines that
+    /// don't run the program: no `armel` of Debian, which is Armv5, for an Armv7. In GNU, whose compilers build for all levels of a machine,
+    /// a triple that has no name of a cross compiler is its own name where config.sub takes it. Nothing is allocated.
     ///
     /// # Examples
     ///
@@ -183,7 +207,7 @@ impl Dialect {
     /// ```
     #[must_use]
     pub fn write<'t>(self, triple: impl Into<TripleRef<'t>>) -> Option<Name> {
-        self.name_of(&triple.into(), None)
+        self.name_of(&triple.into(), "", None)
     }
 
     /// The name in this dialect that states a version which triples don't have: `manylinux_2_17_x86_64` of glibc 2.17,
@@ -209,15 +233,27 @@ impl Dialect {
         major: u16,
         minor: u8,
     ) -> Option<Name> {
-        self.name_of(&triple.into(), Some((major, minor)))
+        self.name_of(&triple.into(), "", Some((major, minor)))
+    }
+
+    /// The name of a triple whose machine has a level: one that says the level, or one for which the level is low enough.
+    pub(crate) fn name_at(self, triple: &TripleRef<'_>, level: &str) -> Option<Name> {
+        let refined = TripleRef {
+            architecture: level.parse().unwrap_or(triple.architecture),
+            ..*triple
+        };
+        let stated = self
+            .name_of(&refined, level, None)
+            .filter(|_| refined != *triple);
+        stated.or_else(|| self.name_of(triple, level, None))
     }
 
     /// The name of a triple, which states a version if one is said.
-    fn name_of(self, triple: &TripleRef<'_>, version: Numbers) -> Option<Name> {
+    fn name_of(self, triple: &TripleRef<'_>, level: &str, version: Numbers) -> Option<Name> {
         let mut rules = self.table().rules;
-        if is_another_target(triple.vendor) || triple.vendor.is_custom() && rules.itself {
+        if is_another_target(triple) || triple.vendor.is_custom() && rules.itself {
             let itself = self.row_of_itself(triple).filter(|_| version.is_none());
-            if itself.is_some() || is_another_target(triple.vendor) {
+            if itself.is_some() || is_another_target(triple) {
                 return itself.map(|row| Name::filled(row.0, None));
             }
         }
@@ -239,10 +275,21 @@ impl Dialect {
             }
         };
         let stars = if numbers.is_some() { 2 } else { 0 };
+        let machine = (triple.architecture, level);
+        let is_on_system = triple.operating_system != OperatingSystem::None_;
+        let builds_for = |level: &str| {
+            let named = (shape.architecture, level);
+            rules.spelled || may_have_name(machine, named, is_on_system)
+        };
+        let level_of = |row: &Row| {
+            let mut levels = self.table().levels.iter().filter(|it| it.0 == row.0);
+            levels.next().map_or("", |it| it.1)
+        };
         let is_wanted = |row: &Row| match version {
             Some((major, minor)) => is_read(row) && has_version(major, minor, row.0),
+            None if !level.is_empty() && level == level_of(row) => true,
             None => is_written(row) && star_count(row.0) == stars,
-        };
+        } && builds_for(level_of(row));
         let mut buffer = [0; MAX_LENGTH];
         let length = shape.write_to(&mut buffer);
         let text = buffer.get(..length)?;
@@ -260,7 +307,7 @@ impl Dialect {
 
     /// The name without a version that is written for a triple, if a row has it.
     pub(crate) fn row_written(self, triple: &TripleRef<'_>) -> Option<&'static str> {
-        let name = self.name_of(triple, None)?;
+        let name = self.name_of(triple, "", None)?;
         let mut rows = self.rows().iter().filter(|row| is_written(row));
         rows.find(|row| name == row.0).map(|row| row.0)
     }

@@ -241,11 +241,24 @@ pub(crate) fn linker_emulation(triple: &TripleRef<'_>) -> Option<&'static str> {
         (Freebsd, Riscv32(_)) => Some("elf32lriscv"),
         (Freebsd, Riscv64(_)) => Some("elf64lriscv"),
         (Dragonfly | Netbsd, X86_32(_)) => Some("elf_i386"),
+        (Netbsd, Arm(_)) => emulation_of_arm_netbsd(triple),
         (Netbsd, Powerpc) => Some("elf32ppc_nbsd"),
         (Netbsd, Sparc) => Some("elf32_sparc"),
         (Netbsd, Sparc64 | Sparcv9) => Some("elf64_sparc"),
         _ => None,
     }
+}
+
+fn emulation_of_arm_netbsd(triple: &TripleRef<'_>) -> Option<&'static str> {
+    use Environment::*;
+    Some(match (triple.endianness(), triple.environment) {
+        (Ok(Endianness::Little), Eabi | Gnueabi) => "armelf_nbsd_eabi",
+        (Ok(Endianness::Little), Eabihf | Gnueabihf) => "armelf_nbsd_eabihf",
+        (Ok(Endianness::Little), _) => "armelf_nbsd",
+        (_, Eabi | Gnueabi) => "armelfb_nbsd_eabi",
+        (_, Eabihf | Gnueabihf) => "armelfb_nbsd_eabihf",
+        _ => "armelfb_nbsd",
+    })
 }
 
 #[inline]

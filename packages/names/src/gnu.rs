@@ -1,14 +1,13 @@
 //! Strings that are spelled like triples, as GNU's config.sub takes and completes them.
 use crate::buffer::Buffer;
-use crate::hints::system_of;
 use crate::object_format::wasm_or;
 use crate::reading::{is_soft_floats, read};
 use crate::shape::usual_vendor;
 use crate::spelled::{is_like_system, is_of_machine, may_be_versioned};
+use crate::suggestions::is_dropped_version;
 use crate::table::{refusals, KERNELS, MAKERS, NOT_MACHINES, NOT_SYSTEMS, OTHER_MAKERS, SYSTEMS};
-use crate::NameError;
+use crate::{Evidence, NameError, Said};
 use core::fmt::Write;
-use target_lexicon::spellings::is_dropped_version;
 use target_lexicon::{
     BinaryFormat, Environment, Field, OperatingSystem, Refusal, TripleRef, VendorRef,
 };
@@ -125,12 +124,9 @@ fn is_system(part: &str) -> bool {
         || is_known() && !["none", "unknown", "softfloat"].contains(&part)
 }
 
-/// Whether a part is a word for a system in names that no tool has here.
+/// Whether a part is a word for a system in names that no tool has.
 fn is_word_of_system(part: &str) -> bool {
-    let mut lower = Spelled::new();
-    let is_written = lower.write_str(part).is_ok();
-    lower.make_lowercase();
-    is_written && lower.as_str() != "none" && system_of(lower.as_str()).is_some()
+    part != "none" && Evidence::of(part).system() != Said::Unsaid
 }
 
 fn is_one_of(names: &[&str], part: &str) -> bool {

@@ -13,6 +13,19 @@
 //! assert_eq!(triple.rustc_cfg().target_env, "gnu");
 //! ```
 //!
+//! A refused string may be a misspelled one:
+//!
+//! ```
+//! use target_lexicon::TripleRef;
+//! use target_names::{vendor_suggestion, Suggest};
+//!
+//! let refusal = TripleRef::from_str("x86_64-pc-linxu").unwrap_err();
+//! assert_eq!(refusal.suggestion().unwrap(), "linux");
+//! // A word that nobody knows may be a custom vendor.
+//! let triple = TripleRef::from_str("x86_64-linx").unwrap();
+//! assert_eq!(vendor_suggestion(triple).unwrap(), "linux");
+//! ```
+//!
 //! What names mean is data, with a source for each name; tests try each row, and these tools are asked. Nothing here is proved: the triples are
 //! those of the crate `target-lexicon-verified`, whose parser and printer are compiled from a proved source.
 //!
@@ -38,8 +51,9 @@ mod dialect;
 mod dialect_suggestions;
 mod driver;
 mod errors;
+mod evidence;
 mod gnu;
-mod hints;
+mod levels;
 mod llvm_target;
 mod loose;
 mod meanings;
@@ -56,6 +70,7 @@ mod rustc_cfg;
 mod shape;
 mod spelled;
 mod stated_versions;
+mod suggestions;
 #[rustfmt::skip]
 mod table;
 #[cfg(all(test, feature = "alloc"))]
@@ -67,7 +82,7 @@ mod variants;
 pub use dialect::NameError;
 pub use dialect_suggestions::suggestions;
 pub use driver::{TypeLayout, TypeSizes};
-pub use hints::{hint, Hint};
+pub use evidence::{Evidence, Said};
 pub use llvm_target::LlvmTarget;
 pub use meanings::{meanings, Meaning, NameOf};
 pub use mistakes::Mistake;
@@ -79,9 +94,12 @@ pub use reading::{changes, read, Change, ChangedParts};
 pub use rustc_cfg::{is_vendor_of_rustc, RustcCfg};
 pub use spelled::Spelling;
 pub use stated_versions::{stated_versions, StatedVersion, StatedVersions};
+pub use suggestions::{
+    is_visible, known_names, suggestion, suggestion_in, vendor_suggestion, visible, Suggest,
+    Suggestion, Visible, SHOWN,
+};
 pub use table::{ArmProfile, CLibrary, Dialect, FloatAbi, LinuxLibc, Signedness, WriteError};
 pub use target_info::TargetInfo;
-pub use target_lexicon::spellings::suggestion;
 pub use translation::TranslateError;
 
 /// The samples of the page are tested.

@@ -1,11 +1,9 @@
 //! Names with what files and commands have around them.
 use crate::buffer::Buffer;
-use crate::dialect_suggestions::floats_of;
-use crate::hints::{allows, system_of};
 use crate::table::OF_CONFIG_SUB;
-use crate::{hint, Dialect, FloatAbi, Hint, NameError};
+use crate::{Dialect, Evidence, FloatAbi, NameError, Said};
 use core::fmt::{self, Write};
-use target_lexicon::{Environment, TripleRef};
+use target_lexicon::{Architecture, ArmArchitecture, Environment, OperatingSystem, TripleRef};
 
 impl Dialect {
     /// The triple that a name means, which may have around it what files and commands have. A name that
@@ -89,20 +87,13 @@ impl Dialect {
             }
             _ => return None,
         };
-        let found = self.read_end(file, ['-', '_', '.']);
-        // A file of another tool may have a word of a machine that is another one here, and says nothing of a C library without a word for it.
+        let (start, found) = self.read_end(file, ['-', '_', '.'])?;
         let is_archive = matches!(self, Dialect::Go | Dialect::Node | Dialect::Rust);
-        let is_said = |triple: &TripleRef<'_>| match hint(file) {
-            _ if self == Dialect::Rust => true,
-            Some(Hint::Triple(said)) => {
-                let is_same = triple.environment == said.environment;
-                let has_floats = FloatAbi::of(&said).is_some();
-                is_same || !has_floats && triple.environment == Environment::Unknown
-            }
-            _ => triple.environment == Environment::Unknown,
+        let may_be = |triple: &TripleRef<'static>| match is_archive {
+            true => Evidence::of(file).names(triple),
+            false => may_be_package(&file[..start], triple),
         };
-        let may_be = |triple: &TripleRef<'_>| allows(file, triple) && is_said(triple);
-        found.filter(|it| !is_archive || it.as_ref().map_or(true, may_be))
+        Some(found).filter(|it| it.as_ref().map_or(true, may_be))
     }
 
     /// Of a package with a scope, without its version: the longest end that is a platform, after a dash or whole.
@@ -110,26 +101,29 @@ impl Dialect {
     fn read_package(self, text: &str) -> Option<Found> {
         let (_, scoped) = text.split_once('@')?;
         let name = scoped.split_once('/')?.1.split(['@', '/']).next()?;
-        self.read_end(name, ['-'; 3])
+        Some(self.read_end(name, ['-'; 3])?.1)
     }
 
-    /// What the longest end of a text means that is a name, after one of these signs or whole.
+    /// Where the longest end of a text begins that is a name, after one of these signs or whole, and what it means.
     #[inline]
-    fn read_end(self, text: &str, signs: [char; 3]) -> Option<Found> {
+    fn read_end(self, text: &str, signs: [char; 3]) -> Option<(usize, Found)> {
         let places = text.match_indices(signs).map(|(at, _)| at + 1);
         let starts = core::iter::once(0).chain(places);
-        let ends = starts.map(|start| &text[start..]);
-        let may_be_name = |end: &&str| {
+        let ends = starts.map(|start| (start, &text[start..]));
+        let may_be_name = |(_, end): &(usize, &str)| {
             end.len() <= LONGEST_NAME && !end.starts_with(|it: char| it.is_ascii_digit())
         };
         // A machine alone is no reason: the words before it may name a system.
         let is_port = |end: &str| end.contains(['-', '_', '/']);
-        let mut found = ends.filter(may_be_name).map(|end| match self.read(end) {
-            Err(NameError::Unknown) if self == Dialect::Go => self.read_port(end),
-            Err(_) if self == Dialect::Go && !is_port(end) => None,
-            found => Some(found),
+        let mut found = ends.filter(may_be_name).map(|(start, end)| {
+            let found = match self.read(end) {
+                Err(NameError::Unknown) if self == Dialect::Go => self.read_port(end),
+                Err(_) if self == Dialect::Go && !is_port(end) => None,
+                found => Some(found),
+            };
+            Some((start, found?))
         });
-        found.find_map(|it| it.filter(|it| *it != Err(NameError::Unknown)))
+        found.find_map(|it| it.filter(|it| it.1 != Err(NameError::Unknown)))
     }
 
     /// A port with `_` or a dash instead of the slash. GoReleaser's folders say after it which machine it is, as container images do, and
@@ -142,11 +136,17 @@ impl Dialect {
             _ => machine,
         };
         // The `armhf` of container images is Armv7, and that of others isn't.
-        let mut words = machine.split(['_', '-']);
-        if words.any(|it| floats_of(it).is_some()) {
+        if Evidence::of(machine).float_abi() != Said::Unsaid {
             return None;
         }
         let has_capital = system.starts_with(|it: char| it.is_ascii_uppercase());
+        // Of container images `arm` is Armv7, and of Go it isn't.
+        if has_capital && machine.eq_ignore_ascii_case("arm") {
+            let mut lower = Text::new();
+            lower.write_str(system).ok()?;
+            lower.make_lowercase();
+            return self.read_written(format_args!("{}/arm", lower.as_str()));
+        }
         let dialect = if has_capital { Dialect::Oci } else { self };
         let found = dialect.read_written(format_args!("{system}/{machine}"))?;
         match (found, machine.split_once(['_', '-'])) {
@@ -166,7 +166,8 @@ impl Dialect {
         let (package, architecture) = text.split_once(':')?;
         let is_name = |it: u8| matches!(it, b'a'..=b'z' | b'0'..=b'9' | b'+' | b'-' | b'.');
         let is_package = package.len() > 1 && package.bytes().all(is_name);
-        (is_package && system_of(package).is_none()).then(|| self.read(architecture))
+        let is_system = Evidence::of(package).system() != Said::Unsaid;
+        (is_package && !is_system).then(|| self.read(architecture))
     }
 
     /// The prefix of a cross compiler, before the name of one of its tools or nothing.
@@ -233,19 +234,29 @@ impl Dialect {
     }
 
     /// The words of `uname -s` and `uname -m`, with one space between them, and any version of Windows as Windows 10. Of more words the
-    /// machine is the last one that isn't a system's or `unknown`.
+    /// machine is the last one that isn't a system's or `unknown`: where the last one is `illumos` or `Android`, it is the system.
     #[inline]
     fn read_words(self, text: &str) -> Option<Found> {
+        let is_space = |it: char| it.is_whitespace() || it == ',';
+        let text = text.trim_matches(is_space);
         let (system, machine) = text
-            .trim()
-            .split_once(char::is_whitespace)
+            .split_once(is_space)
             .or_else(|| text.rsplit_once('-'))
             .or_else(|| text.split_once('_'))?;
-        match self.read_system_and_machine(system, machine.split_whitespace()) {
+        let words = || machine.split(is_space).filter(|it| !it.is_empty());
+        match self.read_system_and_machine(system, words()) {
             None | Some(Err(NameError::Unknown)) => {
-                let words = machine.split_whitespace().rev();
-                let machine = words.filter(|it| !AFTER_MACHINES.contains(it)).take(1);
-                self.read_system_and_machine(system, machine)
+                let last = words().next_back();
+                let system = last.filter(|it| *it == "illumos").unwrap_or(system);
+                let machine = words().rev().find(|it| !AFTER_MACHINES.contains(it));
+                let found = self.read_system_and_machine(system, machine.into_iter())?;
+                Some(found.map(|triple| {
+                    if last == Some("Android") {
+                        on_android(triple)
+                    } else {
+                        triple
+                    }
+                }))
             }
             found => found,
         }
@@ -320,7 +331,48 @@ const TOOLS: &str = "gcc-ar gcc-nm gcc-ranlib gcov-dump gcov-tool lto-dump gcc g
     dllwrap";
 
 /// What `uname` prints after the machine.
-const AFTER_MACHINES: [&str; 4] = ["GNU/Linux", "Msys", "Cygwin", "unknown"];
+const AFTER_MACHINES: [&str; 10] = [
+    "GNU/Linux",
+    "Linux",
+    "GNU",
+    "Haiku",
+    "illumos",
+    "Android",
+    "Toybox",
+    "Msys",
+    "Cygwin",
+    "unknown",
+];
+
+/// The triple of Android on the machine of another one of Linux.
+fn on_android(triple: TripleRef<'static>) -> TripleRef<'static> {
+    TripleRef {
+        environment: match (triple.operating_system, triple.architecture) {
+            (OperatingSystem::Linux, Architecture::Arm(_)) => Environment::Androideabi,
+            (OperatingSystem::Linux, _) => Environment::Android,
+            _ => triple.environment,
+        },
+        ..triple
+    }
+}
+
+/// Whether what comes before the architecture of a package's file says nothing else: a system, unless it names a machine too, for
+/// which the package then has a tool, or a C library. Raspbian's Arm is older than Debian's, and Termux has the name of Debian's oldest.
+fn may_be_package(before: &str, triple: &TripleRef<'_>) -> bool {
+    let evidence = Evidence::of(before);
+    let is_tool = evidence.machine() != Said::Unsaid;
+    let is_arm = matches!(triple.architecture, Architecture::Arm(_));
+    let is_v7 = triple.architecture == Architecture::Arm(ArmArchitecture::Armv7);
+    let is_of_raspbian = |word: &str| {
+        let word = word.trim_end_matches(|it: char| it.is_ascii_digit());
+        ["raspbian", "rpi", "rpt"].contains(&word)
+    };
+    let mut words = before.split(|it: char| !it.is_ascii_alphanumeric());
+    (is_tool || evidence.system() == Said::One("none") || evidence.allows_system(triple))
+        && evidence.allows_library(triple)
+        && !(is_arm && FloatAbi::of(triple).is_none())
+        && !(is_v7 && words.any(is_of_raspbian))
+}
 
 /// Whether a text is numbers with dots between them.
 #[inline]

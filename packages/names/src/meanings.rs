@@ -1,7 +1,7 @@
 //! What a name means to every tool that has it.
 use crate::spelled::is_of_machine;
 use crate::table::OF_CONFIG_SUB;
-use crate::{read, Dialect, NameError};
+use crate::{read, Dialect, Evidence, NameError, Said};
 use target_lexicon::{TripleRef, VendorRef};
 
 /// Whose name it is: that of a dialect, or of nobody but who spells triples. `Display` says it in a word.
@@ -48,7 +48,7 @@ pub struct Meaning<'a> {
 /// What a name means: first as a triple, if it parses as one; then to each dialect that has it, in the order of [`Dialect::ALL`], with what
 /// files and commands have [around it](Dialect::read_loosely); and last as what is spelled like a triple. A name such as `universal2` has a
 /// meaning for each of its machines. A single word isn't taken for a triple if some tool has the name. Nobody means anything by a name of
-/// which there is no meaning: [`hint`](crate::hint) says what its words may mean. Nothing is allocated.
+/// which there is no meaning: [`Evidence`] says what its words may mean. Nothing is allocated.
 ///
 /// # Examples
 ///
@@ -66,6 +66,11 @@ pub struct Meaning<'a> {
 /// ```
 #[inline]
 pub fn meanings(text: &str) -> impl Iterator<Item = Meaning<'_>> + Clone {
+    // A file of pacman's may be MSYS2's too.
+    let has_system = move || Evidence::of(text).system() != Said::Unsaid;
+    let is_meant = move |dialect: &&Dialect| {
+        **dialect != Dialect::Pacman || !text.contains(".pkg.tar") || has_system()
+    };
     let to_dialect = move |dialect: &Dialect| {
         let why = match dialect.read_loosely(text) {
             Err(NameError::WithoutTriple(why)) if !OF_CONFIG_SUB.contains(&why) => Some(Err(why)),
@@ -76,7 +81,7 @@ pub fn meanings(text: &str) -> impl Iterator<Item = Meaning<'_>> + Clone {
         let why = why.filter(|_| each.clone().next().is_none());
         each.chain(why).map(move |triple| Meaning { of, triple })
     };
-    let of_dialects = Dialect::ALL.iter().flat_map(to_dialect);
+    let of_dialects = Dialect::ALL.iter().filter(is_meant).flat_map(to_dialect);
     let is_triple = text.contains('-') || of_dialects.clone().next().is_none();
     let own = is_triple.then(|| as_triple(text)).flatten();
     let (first, last) = own.map_or((None, None), |own| match own.of {

@@ -1,7 +1,7 @@
 //! What is wrong with an unknown name of a dialect.
+use crate::suggestions::visible;
 use crate::{read, Dialect};
 use core::fmt;
-use target_lexicon::spellings::visible;
 use target_lexicon::Refusal;
 
 /// What is wrong with a name that a dialect doesn't have. `Display` says it.

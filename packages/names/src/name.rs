@@ -27,6 +27,13 @@ impl Name {
         self.0.as_str()
     }
 
+    /// The name, if it isn't too long.
+    pub(super) fn of(name: &str) -> Option<Name> {
+        let mut found = Buffer::new();
+        found.write_str(name).ok()?;
+        Some(Name(found))
+    }
+
     /// The name that a pattern makes with these numbers. A test writes each row with the longest ones: all fit.
     pub(super) fn filled(pattern: &str, numbers: Numbers) -> Name {
         let mut name = Buffer::new();

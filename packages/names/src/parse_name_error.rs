@@ -1,10 +1,10 @@
 //! Why a name of another tool isn't read, and why a word is no dialect, in errors that own the string.
+use crate::suggestions::visible;
 use crate::table::{OF_CONFIG_SUB, OTHER_NAMES};
 use crate::{Dialect, LinuxLibc, Mistake, NameError};
 use alloc::boxed::Box;
 use core::fmt;
 use core::str::FromStr;
-use target_lexicon::spellings::visible;
 use target_lexicon::TripleRef;
 
 /// Why a word is no [`Dialect`], or no [`LinuxLibc`]: there is none of that name.

@@ -1,7 +1,7 @@
 //! Reading a string that is spelled like a triple, and what is changed in it.
 use crate::spelled::{SpelledParts, Spelling};
+use crate::suggestions::{first_part, fit_alone, Place, Reading};
 use crate::FloatAbi;
-use target_lexicon::spellings::{first_part, fit_alone, Place, Reading};
 use target_lexicon::{Named, Refusal, TextPart, TripleRef};
 
 /// The triple that a string means which is spelled like a triple, as the tools of GNU and LLVM print them. Nothing is
@@ -42,7 +42,7 @@ pub fn read(text: &str) -> Result<TripleRef<'_>, Refusal<'_>> {
         _ => {
             let mut reading = Reading::start();
             SpelledParts::of(text).try_for_each(|(part, names)| names.give(&mut reading, part))?;
-            let triple = reading.finish().0;
+            let triple = reading.finish();
             let (first, rest) = first_part(text);
             let second = first_part(rest.unwrap_or("")).0;
             if is_soft_floats(second) && FloatAbi::of(&triple) != Some(FloatAbi::Soft) {

@@ -1,5 +1,4 @@
 //! The values of rustc's cfg options for a triple. `checks/compare elsewhere` asks rustc for those of each of its targets.
-use crate::Dialect;
 use core::fmt;
 use target_lexicon::{
     Architecture, Endianness, Environment, KnownVendor, Mips32Architecture, Mips64Architecture,
@@ -268,7 +267,29 @@ fn target_vendor<'a>(triple: &TripleRef<'a>) -> &'a str {
 /// ```
 #[must_use]
 pub fn is_vendor_of_rustc(vendor: &str) -> bool {
-    let has = |triple: TripleRef<'_>| triple.vendor == VendorRef::Custom(vendor);
-    let mut rows = Dialect::Rust.rows_read();
-    rows.any(|row| TripleRef::from_str(row.1).map_or(false, has))
+    VENDORS.contains(&vendor)
+}
+
+/// The custom vendors of rustc's targets.
+const VENDORS: [&str; 13] = [
+    "esp", "esp32", "esp32s2", "esp32s3", "mti", "nuttx", "openwrt", "rtems", "sony", "unikraft",
+    "wali", "wasip3", "win7",
+];
+
+#[cfg(test)]
+mod tests {
+    use super::*;
+
+    #[test]
+    fn vendors_are_those_of_the_rows() {
+        let rows = || crate::Dialect::Rust.rows_read();
+        let triples = || rows().filter_map(|row| TripleRef::from_str(row.1).ok());
+        let is_listed = |vendor| match vendor {
+            VendorRef::Custom(vendor) => is_vendor_of_rustc(vendor),
+            VendorRef::Known(_) => true,
+        };
+        assert!(triples().all(|it| is_listed(it.vendor)));
+        let has = |vendor| triples().any(|it| it.vendor == VendorRef::Custom(vendor));
+        assert!(VENDORS.into_iter().all(has));
+    }
 }

@@ -1,5 +1,5 @@
 //! The shape of a triple in a dialect: what names state.
-use crate::spelled::{is_like_system, is_of_machine};
+use crate::spelled::{is_like_system, is_of_machine, is_without_triple};
 use target_lexicon::{
     Architecture, ArmArchitecture, DeploymentTarget, Environment, KnownVendor, OperatingSystem,
     Riscv32Architecture, Riscv64Architecture, TripleRef, VendorRef, X86_32Architecture,
@@ -231,12 +231,14 @@ pub(super) fn usual_vendor(system: OperatingSystem) -> KnownVendor {
 
 /// Whether a vendor is a system that no triple has, or says which variant of a system it is: for Windows 7, for a unikernel, or
 /// WebAssembly with the system calls of Linux, or is a word of a machine. A triple that keeps all but the vendor would be another target.
-pub(super) fn is_another_target(vendor: VendorRef<'_>) -> bool {
-    match vendor {
+pub(super) fn is_another_target(triple: &TripleRef<'_>) -> bool {
+    match triple.vendor {
         VendorRef::Custom(text) => {
+            let has_system = triple.operating_system != OperatingSystem::Unknown;
             ["win7", "unikraft", "wali"].contains(&text)
                 || is_like_system(text)
                 || is_of_machine(text)
+                || !has_system && is_without_triple(text)
         }
         VendorRef::Known(known) => known == KnownVendor::Uwp,
     }

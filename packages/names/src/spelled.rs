@@ -1,9 +1,9 @@
 //! What each part of a string spells.
-use crate::table::NO_VENDORS;
-use core::fmt;
-use target_lexicon::spellings::{
-    architecture_of, first_part, fit, is_digit_or_dot, Form, Place, Reading,
+use crate::suggestions::{
+    architecture_of, first_part, fit, is_digit_or_dot, known_names, Form, Place, Reading,
 };
+use crate::table::{NO_VENDORS, SYSTEMS};
+use core::fmt;
 use target_lexicon::{
     Architecture, DeploymentTarget, Field, OperatingSystem, Refusal, TextPart, VendorRef,
 };
@@ -51,7 +51,7 @@ impl<'a> Iterator for SpelledParts<'a> {
         let names = match (&found, self.name) {
             (Some(fit), _) => spelling(fit.names, fit.kept_version(), None),
             (None, Some(name)) => spelling(name, "", None),
-            (None, None) if self.place == Place::Second && is_other_system(part) => {
+            (None, None) if self.place == Place::Second && is_other_system(part, rest) => {
                 spelling("unknown", "", Some(part))
             }
             (None, None) => spelling(part, "", None),
@@ -119,13 +119,15 @@ impl fmt::Display for Spelling<'_> {
     }
 }
 
-/// Names of systems that aren't known names: other spellings, and systems of rustc that have no triple.
-const OTHER_SYSTEMS: [&str; 5] = ["macos", "netbsdelf", "nuttx", "rtems", "wasip"];
-
 /// Whether a part parses as a custom vendor but is a system that isn't known, or says something of the machine.
-fn is_other_system(part: &str) -> bool {
+fn is_other_system(part: &str, rest: Option<&str>) -> bool {
     let is_custom = VendorRef::from_str(part).map_or(false, |it| it.is_custom());
-    is_custom && (is_like_system(part) || is_of_machine(part))
+    let has_system = || {
+        let mut later = rest.unwrap_or("").split('-');
+        later.any(|it| is_like_system(it) && it != "unknown")
+    };
+    let is_system = || is_like_system(part) || is_without_triple(part) && !has_system();
+    is_custom && (is_system() || is_of_machine(part))
 }
 
 /// Whether a part is a machine, or a word for a byte order, a width, a version or how floating-point arguments are passed.
@@ -134,10 +136,16 @@ pub(crate) fn is_of_machine(part: &str) -> bool {
     NO_VENDORS.contains(&part) || is_machine
 }
 
-/// Whether a part is the name of a system, perhaps with a version.
+/// Whether a part is the name of a system, perhaps with a version: a known name, another spelling, or what rustc has.
 pub(crate) fn is_like_system(part: &str) -> bool {
-    let mut systems = Field::OperatingSystem.names().iter().chain(&OTHER_SYSTEMS);
+    const OTHERS: [&str; 5] = ["macos", "netbsdelf", "nuttx", "rtems", "wasip"];
+    let mut systems = known_names(Field::OperatingSystem).iter().chain(&OTHERS);
     systems.any(|name| may_be_versioned(part, name))
+}
+
+/// Whether a part is the name of a system that no triple has, perhaps with a version. Where another system follows, it is a vendor.
+pub(crate) fn is_without_triple(part: &str) -> bool {
+    SYSTEMS.iter().any(|it| may_be_versioned(part, it.0))
 }
 
 /// Whether a part is this name, or the name with what may be its version: it begins with a digit or a dot.

@@ -1,6 +1,6 @@
 //! Versions that a string spelled like a triple states. `checks/compare llvm` asks LLVM.
+use crate::suggestions::first_part;
 use crate::{changes, read};
-use target_lexicon::spellings::first_part;
 use target_lexicon::{OperatingSystem, OperatingSystemExt, Refusal};
 
 /// A version of a system, of a C library or of a compiler. A number that isn't stated is 0.

@@ -1,11 +1,11 @@
 //! Each row of each dialect, and each shape of each combination of values, with sampled versions: what names mean and how they are written.
 use crate::dialect::{has_version, Row, Way};
 use crate::shape::{version, AbiRule, Rules};
+use crate::suggestions::{fit_alone, known_names, Form, Place, FIRST_RULES, LATER_RULES};
 use crate::table::{refusals, KERNELS, MAKERS, SYSTEMS};
-use crate::{changes, hint, read, Dialect, Hint, LinuxLibc, NameError, TargetInfo};
+use crate::{changes, read, Dialect, Evidence, LinuxLibc, NameError, TargetInfo};
 use alloc::{format, string::String, string::ToString, vec::Vec};
 use core::str::FromStr;
-use target_lexicon::spellings::{fit_alone, Form, Place, FIRST_RULES, LATER_RULES};
 use target_lexicon::{
     Architecture, ArmArchitecture, BinaryFormat, DeploymentTarget, Endianness, Environment, Field,
     OperatingSystem, PointerWidth, TripleRef, VendorRef,
@@ -104,7 +104,10 @@ fn each_row_is_read_and_written() {
             // A target of rustc that is only read may be itself, too.
             let is_itself = written.map_or(false, |it| it == *name);
             let is_both = row.2 == Way::Both;
-            assert!(is_both == is_itself || rules.itself && is_itself, "{at}");
+            // So may a name that another row writes.
+            let mut same = dialect.rows().iter().filter(|it| it.0 == row.0);
+            let is_written_too = rules.itself || same.any(|it| it.2 == Way::Written);
+            assert!(is_both == is_itself || is_written_too && is_itself, "{at}");
         }
     }
     assert!(
@@ -129,7 +132,7 @@ fn one_number_of_a_tag_is_a_version() {
 
 /// All values of a field.
 fn values<T: FromStr>(field: Field) -> Vec<T> {
-    let values = field.names().iter().map(|it| it.parse().ok().unwrap());
+    let values = known_names(field).iter().map(|it| it.parse().ok().unwrap());
     values.collect()
 }
 
@@ -218,7 +221,7 @@ fn names_with_a_version_are_read() {
             }
         }
     });
-    assert!(named > 500, "{named}");
+    assert!(named > 400, "{named}");
     // A version has a place in a row, and is one of its system or C library.
     let (glibc, android) = ("manylinux_*_*_x86_64", "android_*_x86");
     assert!(has_version(2, 17, glibc) && !has_version(3, 0, glibc));
@@ -356,14 +359,13 @@ fn words_of_config_sub_are_makers_kernels_and_systems() {
     assert_eq!(read("x86_64-foo".into()), Err(NameError::Unknown));
 }
 
-/// Names of which a word says another machine than the whole: little-endian ones of Node, and programs of 32 bits.
-const OTHERS: [&str; 6] = [
+/// Names of which a word says another machine than the whole: little-endian ones of Node.
+const OTHERS: [&str; 5] = [
     "linux-ppc64",
     "linux-ppc64-gnu",
     "linux-ppc64-musl",
     "linux-ppc64-glibc",
     "linuxmusl-ppc64",
-    "MINGW32_NT-10.0 x86_64",
 ];
 
 #[test]
@@ -371,7 +373,7 @@ fn hints_name_the_machine_that_tools_mean() {
     let machine = |it: TripleRef<'_>| (it.endianness().ok(), it.pointer_width().ok());
     let (mut hinted, mut others) = (0, Vec::new());
     for row in Dialect::ALL.iter().flat_map(|dialect| dialect.rows_read()) {
-        let Some(Hint::Triple(found)) = hint(row.0) else {
+        let Some(found) = Evidence::of(row.0).triple() else {
             continue;
         };
         hinted += 1;

@@ -7,7 +7,8 @@ use crate::table::WRITE_REASONS;
 use crate::{Dialect, LinuxLibc, Name, NameError, TargetInfo, WriteError};
 use core::fmt;
 use target_lexicon::{
-    Architecture, ArmArchitecture, Environment, OperatingSystem, TripleRef, X86_32Architecture,
+    Architecture, ArmArchitecture, Environment, OperatingSystem, Riscv64Architecture, TripleRef,
+    X86_32Architecture,
 };
 
 impl WriteError {
@@ -82,14 +83,24 @@ impl Dialect {
         triple: impl Into<TripleRef<'t>>,
         c_library: Option<LinuxLibc>,
     ) -> Result<Name, WriteError> {
-        let triple = triple.into();
-        let triple = c_library.map_or(triple, |it| triple.with_c_library(it));
+        self.write_at(&triple.into(), "", c_library)
+    }
+
+    /// The name of a triple whose machine has a level that the triple can't state, as [`level`](Dialect::level) returns it, or nothing.
+    fn write_at(
+        self,
+        triple: &TripleRef<'_>,
+        level: &str,
+        c_library: Option<LinuxLibc>,
+    ) -> Result<Name, WriteError> {
+        let triple = c_library.map_or(*triple, |it| triple.with_c_library(it));
         let is_of_linux = matches!(c_library, Some(LinuxLibc::Glibc | LinuxLibc::Musl));
-        match self.write(triple) {
+        match self.name_at(&triple, level) {
             Some(_) if is_of_linux && self.would_state_c_library(&triple) => {
                 Err(WriteError::NeedsArmVersion)
             }
             Some(name) => Ok(name),
+            None if self.write(triple).is_some() => Err(WriteError::Baseline),
             None => Err(self.why_unnamed(&triple)),
         }
     }
@@ -152,7 +163,8 @@ impl Dialect {
     /// The name in another dialect of what a name of this one means, with a C library if one is said. Nothing is
     /// allocated.
     ///
-    /// It is read [loosely](Dialect::read_loosely), [completed](TargetInfo::with_c_library) and written. Names of Debian, of GNU
+    /// It is read [loosely](Dialect::read_loosely), [completed](TargetInfo::with_c_library) and written. The [level](Dialect::level) of the
+    /// machine is kept: `linux/amd64/v3` is `x86_64_v3` of RPM, and has no name in Debian. Names of Debian, of GNU
     /// and of rustc state the C library of Linux, and those of Go, OCI and Python don't: from one of the latter to one of the
     /// former the C library has to be said. So has the ABI of Windows. It changes no name that states one.
     ///
@@ -182,8 +194,16 @@ impl Dialect {
         to: Dialect,
     ) -> Result<Name, TranslateError> {
         let triple = self.read_loosely(name).map_err(TranslateError::Read)?;
-        to.write_with(triple, c_library)
-            .map_err(TranslateError::Write)
+        let level = self.level(name).unwrap_or("");
+        let found = to.write_at(&triple, level, c_library);
+        // A name of the same tool stays if the one that is written says less: `manylinux_2_17_x86_64` of Python.
+        let says_less = |it: &Name| self.read(it.as_str()).map_or(false, |it| it != triple);
+        match found {
+            Ok(it) if self == to && says_less(&it) && self.read(name) == Ok(triple) => {
+                Ok(Name::of(name).unwrap_or(it))
+            }
+            found => found.map_err(TranslateError::Write),
+        }
     }
 
     /// Why a triple without a name has none.
@@ -192,7 +212,7 @@ impl Dialect {
         if !self.rows().iter().any(is_written) {
             return WriteError::OnlyRead;
         }
-        if is_another_target(triple.vendor) {
+        if is_another_target(triple) {
             return WriteError::OtherTarget;
         }
         let why = self.why_rows(triple);
@@ -239,10 +259,23 @@ impl Dialect {
     /// The reason, if another version of the machine has a name.
     #[inline]
     fn why_machine(self, triple: &TripleRef<'_>) -> Option<WriteError> {
-        let has = |architecture| self.has_name_with(triple, |it| it.architecture = architecture);
+        let libraries = [None, Some(LinuxLibc::Glibc), Some(LinuxLibc::Musl)];
+        let has = |architecture| {
+            let other = TripleRef {
+                architecture,
+                ..*triple
+            };
+            let completed =
+                |it: &Option<LinuxLibc>| it.map_or(other, |it| other.with_c_library(it));
+            let mut completed = libraries.iter().map(completed);
+            architecture != triple.architecture
+                && completed.any(|it| self.write(it).is_some() || self.states_version(&it))
+        };
         let is_helped = match triple.architecture {
             Architecture::Arm(_) => has(ARMV7) || has(Architecture::Arm(ArmArchitecture::Armv5te)),
             Architecture::X86_32(_) => has(Architecture::X86_32(X86_32Architecture::I686)),
+            Architecture::X86_64h => has(Architecture::X86_64),
+            Architecture::Riscv64(_) => has(Architecture::Riscv64(Riscv64Architecture::Riscv64gc)),
             _ => false,
         };
         match triple.architecture {

@@ -1,7 +1,7 @@
 //! Names made of a system's, a machine's and an ABI's word in the usual ways: no answer, hint or suggestion has a machine, width, byte order,
 //! way to pass floating-point arguments or system that the words don't say.
 use target_lexicon::{Architecture, Environment, Named, OperatingSystem, PointerWidth, TripleRef};
-use target_names::{hint, meanings, Dialect, FloatAbi, Hint, NameOf, TargetInfo};
+use target_names::{meanings, Dialect, Evidence, FloatAbi, NameOf, TargetInfo};
 
 /// Architectures, and words for machines of the same family, width and byte order.
 const MACHINES: &str = "\
@@ -163,7 +163,7 @@ fn answers_say_what_the_words_say() {
                             answers += 1;
                         }
                     }
-                    if let Some(Hint::Triple(triple)) = hint(&name) {
+                    if let Some(triple) = Evidence::of(&name).triple() {
                         said.check(&triple, false, &name, "hint");
                         answers += 1;
                     }

@@ -3,10 +3,10 @@
 use proptest::prelude::*;
 use proptest::sample::select;
 use proptest::test_runner::FileFailurePersistence;
-use target_lexicon::spellings::{FIRST_RULES, LATER_RULES};
 use target_lexicon::{Field, TripleRef};
 use target_names::{
-    changes, hint, meanings, read, suggestion, Dialect, FloatAbi, LinuxLibc, NameError, TargetInfo,
+    changes, known_names, meanings, read, suggestion, Dialect, Evidence, FloatAbi, LinuxLibc,
+    NameError, TargetInfo,
 };
 
 const FIELDS: [Field; 5] = [
@@ -22,26 +22,34 @@ fn libraries() -> impl Iterator<Item = LinuxLibc> {
     names.map(|it| it.parse().unwrap())
 }
 
-/// The names of each row, a number for each star.
+/// The names of each row and the words of each list, a number for each star.
 fn names() -> Vec<String> {
-    let rows = include_str!("../elsewhere.tsv")
-        .lines()
-        .filter(|it| !it.starts_with('#'));
-    let names = |row: &'static str| {
-        let mut cells = row.split('\t').skip(1);
-        let name = cells.next().unwrap_or("");
-        // A list has words, and no other column.
-        name.split(if cells.next().is_some() { ", " } else { " " })
-    };
-    let names = rows.flat_map(names);
-    names.map(|it| it.replace(['*', '+', '!'], "11")).collect()
+    let rows = include_str!("../names.csv").lines().skip(1);
+    let names = rows.filter_map(|row| row.split(',').nth(1));
+    let lists = include_str!("../elsewhere.tsv").lines();
+    let lists = lists.filter_map(|line| line.split_once('\t').filter(|it| !it.1.contains('\t')));
+    let words = lists.flat_map(|(_, words)| words.split(' '));
+    let all = names.chain(words);
+    all.map(|it| it.replace(['*', '+', '!'], "11")).collect()
+}
+
+/// The texts of the rules for parts that are spelled otherwise.
+fn other_spellings() -> impl Iterator<Item = &'static str> {
+    let rows = include_str!("../elsewhere.tsv").lines();
+    let rows = rows.filter_map(|row| row.split_once('\t'));
+    let rules = rows.filter(|it| ["first", "second", "hard", "later"].contains(&it.0));
+    rules.map(|it| {
+        it.1.split('\t')
+            .next()
+            .unwrap()
+            .trim_end_matches(['*', '+', '!'])
+    })
 }
 
 /// Known names, other spellings, words of names, and words that nobody knows.
 fn words() -> Vec<String> {
-    let known = FIELDS.iter().flat_map(|it| it.names()).copied();
-    let spelled = FIRST_RULES.iter().chain(LATER_RULES).map(|it| it.1);
-    let mut words: Vec<String> = known.chain(spelled).map(String::from).collect();
+    let known = FIELDS.iter().flat_map(|it| known_names(*it)).copied();
+    let mut words: Vec<String> = known.chain(other_spellings()).map(String::from).collect();
     for name in names() {
         words.extend(name.split(['-', '_', '/', ' ']).map(String::from));
     }
@@ -199,7 +207,7 @@ proptest! {
     /// No call panics, whatever the string. The tests are built with checks of overflow.
     #[test]
     fn every_call_returns(text in any_text()) {
-        let _ = (hint(&text).map(|it| it.to_string()), meanings(&text).count());
+        let _ = (Evidence::of(&text).to_string(), meanings(&text).count());
         for field in FIELDS {
             let _ = suggestion(field, &text).map(|it| it.to_string());
         }

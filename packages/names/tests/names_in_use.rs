@@ -1,8 +1,9 @@
 //! Names from real files of configuration, and what other tools call each; and what the words of names say.
 use std::collections::BTreeSet;
-use target_lexicon::TripleRef;
+use target_lexicon::{Architecture, TripleRef};
 use target_names::{
-    hint, meanings, Dialect, Hint, LinuxLibc, Meaning, NameError, NameOf, TranslateError,
+    meanings, suggestions, CLibrary, Dialect, Evidence, LinuxLibc, Meaning, NameError, NameOf,
+    TargetInfo, TranslateError,
 };
 
 /// The lines of a file that aren't comments, cell by cell.
@@ -14,6 +15,7 @@ fn rows(text: &str) -> impl Iterator<Item = Vec<&str>> {
 #[test]
 fn names_in_use_lead_to_other_tools() {
     let (mut names, mut in_use, mut helped) = (BTreeSet::new(), 0, 0);
+    let mut wrong = Vec::new();
     for row in rows(include_str!("names_in_use.tsv")) {
         let [dialect, name, libc, source, answers @ ..] = row.as_slice() else {
             panic!("{row:?}");
@@ -33,7 +35,9 @@ fn names_in_use_lead_to_other_tools() {
                     format!("!{why:?}")
                 }
             };
-            assert_eq!(found, expected, "{row:?}");
+            if found != expected {
+                wrong.push(format!("{dialect} {name}: {to}={found}, not {expected}"));
+            }
         }
         assert!(names.insert((*dialect, *name, *libc)), "{row:?}");
         if *source != "each form" {
@@ -41,6 +45,7 @@ fn names_in_use_lead_to_other_tools() {
             helped += usize::from(answers.iter().all(|it| !it.ends_with("=!unknown")));
         }
     }
+    assert!(wrong.is_empty(), "{}", wrong.join("\n"));
     // Of 150 names 145 lead to the right name, or to a reason.
     assert!(
         in_use >= 150 && 150 * helped >= 145 * in_use,
@@ -120,11 +125,12 @@ fn targets_of_rustc_are_themselves() {
 
 /// The targets of rustc's list, which `checks/compare elsewhere` compares with the table: without what older ones had.
 fn rustc_targets() -> impl Iterator<Item = &'static str> {
-    let rows = include_str!("../elsewhere.tsv").lines();
+    let rows = include_str!("../names.csv").lines();
     let rows = rows.filter(|it| !it.contains("rustc's name ") && !it.contains("several"));
-    let names = rows.filter_map(|it| it.strip_prefix("rust\t")?.split('\t').next());
     // The row that only says how a triple is written comes after that of the same name.
-    let names: BTreeSet<_> = names.flat_map(|it| it.split(", ")).collect();
+    let names: BTreeSet<_> = rows
+        .filter_map(|it| it.strip_prefix("rust,")?.split(',').next())
+        .collect();
     names.into_iter()
 }
 
@@ -159,17 +165,19 @@ fn answer(name: &str) -> String {
             answers.push(shown);
         }
     }
-    match (triples.is_empty(), whys.is_empty(), hint(name)) {
+    let evidence = Evidence::of(name);
+    match (triples.is_empty(), whys.is_empty(), evidence.triple()) {
         (false, ..) => triples.join(" "),
         (_, false, _) => whys.join(" "),
-        (.., Some(Hint::Triple(triple))) => format!("?{triple}"),
-        (.., hint) => format!("?{}", hint.map_or(String::new(), |it| it.to_string())),
+        (.., Some(triple)) => format!("?{triple}"),
+        _ if evidence.is_empty() => "?".into(),
+        _ => format!("?{evidence}"),
     }
 }
 
 #[test]
 fn names_of_releases_mean_what_their_words_say() {
-    let (mut expected, mut count) = ("", 0);
+    let (mut expected, mut count, mut wrong) = ("", 0, Vec::new());
     for row in rows(include_str!("names_of_releases.tsv")) {
         let [meaning, names] = row[..] else {
             panic!("{row:?}");
@@ -178,16 +186,20 @@ fn names_of_releases_mean_what_their_words_say() {
             expected = meaning;
         }
         for name in names.split(' ') {
-            assert_eq!(answer(name), expected, "{name}");
+            let found = answer(name);
+            if found != expected {
+                wrong.push(format!("{name}: {found}, not {expected}"));
+            }
             count += 1;
         }
     }
+    assert!(wrong.is_empty(), "{}", wrong.join("\n"));
     assert!(count >= 430, "{count}");
 }
 
 #[test]
 fn what_is_known_is_no_misspelling() {
-    assert_eq!(hint(&"x".repeat(1000)), None);
+    assert!(Evidence::of(&"x".repeat(1000)).is_empty());
     // A misspelling is no name after another one.
     assert_eq!(
         Dialect::Debian.suggestion("mmusl-linux-amd64"),
@@ -210,4 +222,85 @@ fn what_is_known_is_no_misspelling() {
     }
     assert_eq!(Dialect::Debian.suggestion("x86-64"), Some("amd64"));
     assert_eq!(Dialect::Oci.suggestion("wasi-wasm"), Some("wasi/wasm"));
+}
+
+/// What a line of fresh_names.tsv says: a machine, a system, and words for the C library and floating-point arguments.
+fn contradicts(truth: &str, triple: &TripleRef<'_>) -> bool {
+    let mut words = truth.split(' ');
+    let machine: Architecture = words.next().unwrap().parse().unwrap();
+    let system = words.next().unwrap();
+    let family = |it: Architecture| match it {
+        Architecture::Arm(_) => "arm".to_string(),
+        Architecture::X86_32(_) => "x86".to_string(),
+        Architecture::Riscv32(_) => "riscv32".to_string(),
+        Architecture::Riscv64(_) => "riscv64".to_string(),
+        other => other.to_string(),
+    };
+    let level = |it: &TripleRef<'_>| it.arm_version();
+    let of_truth = TripleRef {
+        architecture: machine,
+        ..*triple
+    };
+    let is_machine = family(machine) == family(triple.architecture)
+        && machine.endianness().ok() == triple.endianness().ok()
+        && of_truth.pointer_width() == triple.pointer_width()
+        && (level(&of_truth).is_none()
+            || level(triple).is_none()
+            || level(&of_truth) == level(triple));
+    let has_system = match system {
+        "darwin" => triple.operating_system.is_like_darwin(),
+        // A version of WASI, or of iOS, may be missing.
+        _ => {
+            let own = triple.operating_system.to_string();
+            own.starts_with(system.trim_end_matches("p1"))
+        }
+    };
+    let is_of = |library: CLibrary| triple.c_library().map_or(true, |it| it == library);
+    let is_right = |word: &str| match word {
+        "gnu" if system == "windows" => is_of(CLibrary::Mingw),
+        "gnu" => is_of(CLibrary::Glibc),
+        "musl" => is_of(CLibrary::Musl),
+        "msvc" => is_of(CLibrary::Msvc),
+        "android" => is_of(CLibrary::Bionic),
+        floats => triple.float_abi().map_or(true, |it| it.name() == floats),
+    };
+    let is_android = triple.c_library() == Some(CLibrary::Bionic) && !truth.contains("android");
+    !is_machine || !has_system || is_android || !words.all(is_right)
+}
+
+/// No answer, hint or suggestion says another machine, order, width, ABI or system.
+#[test]
+fn fresh_names_get_no_wrong_answer() {
+    let (mut names, mut answers, mut wrong) = (BTreeSet::new(), 0, Vec::new());
+    for row in rows(include_str!("fresh_names.tsv")) {
+        for name in row[1].split(' ') {
+            names.insert(name);
+            // To GNU a single word is a machine without a system.
+            let is_tool = |it: NameOf| match it {
+                NameOf::Dialect(Dialect::Gnu) => name.contains('-'),
+                it => matches!(it, NameOf::Dialect(_)),
+            };
+            let tools = meanings(name).filter(|it| is_tool(it.of));
+            let tools = tools.filter_map(|it| Some((it.of.to_string(), it.triple.ok()?)));
+            let words = Evidence::of(name)
+                .triple()
+                .map(|it| ("words".to_string(), it));
+            let meant = suggestions(name).filter(|it| it.0.read_loosely(name).is_err());
+            let meant =
+                meant.filter_map(|it| Some((format!("{} {}", it.0, it.1), it.0.read(it.1).ok()?)));
+            for (of, triple) in tools.chain(words).chain(meant) {
+                answers += 1;
+                let is_several = name.contains("universal") || name.ends_with("_all");
+                if !is_several && (row[0] == "-" || contradicts(row[0], &triple)) {
+                    wrong.push(format!("{name}: {of} {triple}, not {}", row[0]));
+                }
+            }
+        }
+    }
+    assert!(wrong.is_empty(), "{}", wrong.join("\n"));
+    assert!(
+        names.len() >= 300 && answers >= 400,
+        "{} {answers}",
+        names.len()
+    );
 }

@@ -1,129 +1,93 @@
-//! `targets.csv`: the targets that names mean, with a C library where names depend on it, and what each tool calls them.
-use std::collections::BTreeMap;
-use target_lexicon::{Architecture, ArmArchitecture, Environment, OperatingSystem, TripleRef};
+//! `targets.csv` is what the library answers, and each name that is read joins. `examples/targets.rs` writes it.
+use std::collections::{BTreeMap, BTreeSet};
+use target_lexicon::TripleRef;
 use target_names::{Dialect, LinuxLibc, TargetInfo};
 
-const PATH: &str = concat!(env!("CARGO_MANIFEST_DIR"), "/targets.csv");
-
-/// The names of the table without a version or a custom vendor, and what they mean.
-fn names() -> impl Iterator<Item = (Dialect, &'static str, TripleRef<'static>)> {
-    let rows = include_str!("../elsewhere.tsv").lines();
-    let rows = rows.filter_map(|line| {
-        let mut cells = line.split('\t');
-        Some((cells.next()?.parse::<Dialect>().ok()?, cells.next()?))
-    });
-    let names = rows.flat_map(|(dialect, names)| names.split(", ").map(move |it| (dialect, it)));
-    names.filter_map(|(dialect, name)| {
-        let triple = dialect.read(name).ok()?;
-        (!triple.vendor.is_custom()).then_some((dialect, name, triple))
+/// The cells of each row, by the names of their columns.
+fn rows() -> impl Iterator<Item = BTreeMap<&'static str, &'static str>> {
+    let mut lines = include_str!("../targets.csv").lines();
+    let head: Vec<_> = lines.next().unwrap().split(',').collect();
+    lines.map(move |line| {
+        let cells: Vec<_> = line.split(',').collect();
+        assert_eq!(cells.len(), head.len(), "{line}");
+        head.iter().copied().zip(cells).collect()
     })
 }
 
-/// A triple with each C library that it may have, or itself.
-fn completed(triple: TripleRef<'static>) -> Vec<TripleRef<'static>> {
-    let libraries: &[LinuxLibc] = match (triple.operating_system, triple.environment) {
-        (OperatingSystem::Linux, Environment::Unknown) => &[LinuxLibc::Glibc, LinuxLibc::Musl],
-        (OperatingSystem::Windows, Environment::Unknown) => &[LinuxLibc::Msvc, LinuxLibc::Mingw],
-        _ => &[],
-    };
-    let found = libraries.iter().map(|it| triple.with_c_library(*it));
-    let mut found: Vec<_> = found.collect();
-    found.dedup();
-    if found.is_empty() {
-        found.push(triple);
+/// The C libraries that complete a name, and none.
+fn libraries() -> impl Iterator<Item = Option<LinuxLibc>> {
+    let names = ["", "glibc", "musl", "msvc", "mingw"].into_iter();
+    names.map(|it| it.parse().ok())
+}
+
+#[test]
+fn each_cell_is_what_the_library_answers() {
+    let schema = include_str!("../names.schema.json");
+    let mut cells = 0;
+    for row in rows() {
+        let triple = TripleRef::from_str(row["target"]).unwrap();
+        assert_eq!(triple.to_string(), row["target"]);
+        let bits = triple
+            .pointer_width()
+            .map_or(String::new(), |it| it.bits().to_string());
+        let order = triple
+            .endianness()
+            .map_or(String::new(), |it| format!("{it:?}").to_lowercase());
+        let library = triple.c_library().map_or("", |it| it.name());
+        let floats = triple.float_abi().map_or("", |it| it.name());
+        let facts = ["pointer_width", "byte_order", "c_library", "float_abi"].map(|it| row[it]);
+        assert_eq!(facts, [&bits[..], &order, library, floats], "{triple}");
+        assert_eq!(row["machine"], triple.architecture.to_string());
+        assert_eq!(row["system"], triple.operating_system.to_string());
+        for tool in Dialect::ALL {
+            cells += 1;
+            let (name, at) = (row[tool.name()], format!("{tool} {triple}"));
+            let written = tool
+                .write(triple)
+                .map_or(String::new(), |it| it.to_string());
+            if row["only_read"].split(' ').any(|it| it == tool.name()) {
+                let read = tool.read(name).unwrap();
+                let mut meant = libraries().map(|it| it.map_or(read, |it| read.with_c_library(it)));
+                assert!(written.is_empty() && meant.any(|it| it == triple), "{at}");
+            } else {
+                assert_eq!(name, written, "{at}");
+            }
+        }
+        assert!(row
+            .keys()
+            .all(|it| schema.contains(&format!("\"{it}\": {{ \"description\""))));
     }
-    found
+    assert!(cells > 4000, "{cells}");
 }
 
-/// Whether a name that is written for a target is read as it, with a C library, or as what rustc calls the same; or whether it states all but the
-/// version of Arm, and the target has the usual environment.
-fn is_name_of(target: &TripleRef<'static>, dialect: Dialect, name: &str) -> bool {
-    let Ok(read) = dialect.read(name) else {
-        return true;
-    };
-    let is_same = |it: &TripleRef<'static>| it == target || Dialect::Rust.shape(it) == *target;
-    let without = TripleRef {
-        environment: Environment::Unknown,
-        ..*target
-    };
-    let is_usual = read.environment == target.environment || completed(without).contains(target);
-    let is_arm = |it: &TripleRef<'_>| matches!(it.architecture, Architecture::Arm(_));
-    let has_no_version = read.architecture == Architecture::Arm(ArmArchitecture::Arm);
-    completed(read).iter().any(is_same) || has_no_version && is_arm(target) && is_usual
-}
-
-fn table() -> String {
-    let mut targets = BTreeMap::new();
-    for (dialect, name, triple) in names() {
-        for target in completed(triple) {
-            let target = (target.to_string(), target);
-            let read: &mut Vec<(Dialect, &str)> =
-                &mut targets.entry(target.0).or_insert((target.1, vec![])).1;
-            read.push((dialect, name));
+/// Each name without a version that means a triple of a known vendor, and each that the triple has with a C library.
+#[test]
+fn each_name_that_is_read_joins() {
+    let targets: BTreeSet<_> = rows().map(|row| row["target"]).collect();
+    let mut meant = BTreeSet::new();
+    for line in include_str!("../names.csv").lines() {
+        let cells: Vec<_> = line.split(',').collect();
+        let Ok(tool) = cells[0].parse::<Dialect>() else {
+            continue;
+        };
+        let Ok(triple) = tool.read(cells[1]) else {
+            continue;
+        };
+        if !triple.vendor.is_custom() {
+            meant.extend(libraries().map(|it| {
+                it.map_or(triple, |it| triple.with_c_library(it))
+                    .to_string()
+            }));
         }
     }
-    // What rustc tells apart is a row of its own instead of what it doesn't: `riscv64gc` for `riscv64`.
-    let known: Vec<String> = targets.keys().cloned().collect();
-    targets.retain(|target: &String, (triple, _)| {
-        let shape = Dialect::Rust.shape(triple).to_string();
-        shape == *target || !known.contains(&shape)
-    });
-    let head = "target machine pointer_width byte_order system c_library float_abi".split(' ');
-    let head = head.chain(Dialect::ALL.iter().map(|it| it.name()));
-    let mut text = head.collect::<Vec<_>>().join(",");
-    for (target, (triple, read)) in targets {
-        let width = triple.pointer_width().ok();
-        let order = triple.endianness().ok();
-        let mut row = vec![
-            target,
-            triple.architecture.to_string(),
-            width.map_or(String::new(), |it| it.bits().to_string()),
-            order.map_or(String::new(), |it| format!("{it:?}").to_lowercase()),
-            triple.operating_system.to_string(),
-            triple.c_library().map_or("", |it| it.name()).to_string(),
-            triple.float_abi().map_or("", |it| it.name()).to_string(),
-        ];
-        for dialect in Dialect::ALL {
-            // The name that is written, or the first that is only read.
-            let written = dialect.write(triple).map(|it| it.to_string());
-            let written = written.filter(|it| is_name_of(&triple, *dialect, it));
-            let named = read.iter().find(|it| it.0 == *dialect);
-            row.push(written.unwrap_or(named.map_or("", |it| it.1).to_string()));
-        }
-        text = text + "\n" + &row.join(",");
-    }
-    text + "\n"
-}
-
-/// With the variable `WRITE` it writes the file, for `tools/write`.
-#[test]
-fn the_table_of_targets_is_what_the_library_answers() {
-    let table = table();
-    let columns = table.lines().next().unwrap().split(',').count();
-    let is_whole = |line: &str| line.split(',').count() == columns && !line.contains('"');
-    assert!(table.lines().all(is_whole));
-    if std::env::var_os("WRITE").is_some() {
-        std::fs::write(PATH, &table).unwrap();
-    }
-    let known = std::fs::read_to_string(PATH).unwrap_or_default();
-    assert!(known == table, "tools/write writes {PATH}");
-}
-
-/// From each platform of OCI that has an architecture in Debian there is a row.
-#[test]
-fn platforms_are_joined_with_architectures() {
-    let table = table();
-    let mut rows = table
-        .lines()
-        .map(|line| line.split(',').collect::<Vec<_>>());
-    let head = rows.next().unwrap();
-    let columns = ["oci", "debian", "c_library"];
-    let at = columns.map(|name| head.iter().position(|it| *it == name).unwrap());
-    let joined = rows.map(|row| at.map(|at| row[at]));
-    let joined = joined.filter(|row| !row.contains(&"") && row[2] == "glibc");
-    let joined: Vec<_> = joined.map(|row| (row[0], row[1])).collect();
-    // No platform has two.
+    // No tool has a name of Windows for LLVM's own ABI alone.
+    let known: BTreeSet<_> = meant.iter().map(|it| &**it).collect();
+    assert_eq!(known, targets);
+    let rows = rows().filter(|row| row["c_library"] == "glibc" && !row["oci"].is_empty());
+    let joined = rows.filter(|row| !row["debian"].is_empty());
+    let joined: BTreeSet<_> = joined.map(|row| (row["oci"], row["debian"])).collect();
     let platforms: BTreeMap<_, _> = joined.iter().copied().collect();
+    // No platform has two architectures.
     assert_eq!(platforms.len(), joined.len(), "{joined:?}");
     assert_eq!(platforms["linux/arm/v7"], "armhf");
     assert!(joined.len() >= 12, "{joined:?}");

@@ -2,7 +2,8 @@
 use target_lexicon::{DeploymentTarget, Endianness, Field, PointerWidth, Triple, TripleRef};
 use target_lexicon::{Named as _, TripleExt as _};
 use target_names::{
-    suggestion, suggestions, Dialect, LinuxLibc, TargetInfo, TypeLayout, TypeSizes,
+    known_names, suggestion, suggestions, Dialect, LinuxLibc, Suggest as _, TargetInfo, TypeLayout,
+    TypeSizes,
 };
 
 /// A triple, and after `=` its C library, how floating-point arguments are passed, whether it is like Unix, and the size and alignment of
@@ -384,7 +385,7 @@ fn names_are_suggested() {
         for text in ["", "nothing of the kind"] {
             assert_eq!(suggestion(field, text), None);
         }
-        for name in field.names() {
+        for name in known_names(field) {
             assert_eq!(suggestion(field, name).unwrap(), *name);
         }
     }

@@ -1,7 +1,7 @@
 //! The traits of names, dialects and errors.
 use std::collections::{BTreeSet, HashSet};
-use target_lexicon::TripleRef;
-use target_names::{CLibrary, Dialect, FloatAbi, Name, ParseNameError, UnknownWord};
+use target_lexicon::{Triple, TripleRef};
+use target_names::{CLibrary, Dialect, FloatAbi, Name, ParseNameError, Suggest as _, UnknownWord};
 
 #[test]
 fn names_have_the_width_that_is_asked_for() {
@@ -10,6 +10,34 @@ fn names_have_the_width_that_is_asked_for() {
     let (dialect, library, floats) = (Dialect::Go, CLibrary::Glibc, FloatAbi::Hard);
     let padded = format!("{dialect:>6}|{library:^7}|{name:>7}|{floats:6}|");
     assert_eq!(padded, "    go| glibc |  amd64|hard  |");
+}
+
+#[test]
+fn a_suggestion_has_the_width_that_is_asked_for() {
+    let suggestion =
+        |text: &'static str| TripleRef::from_str(text).unwrap_err().suggestion().unwrap();
+    let (one, versioned) = (
+        suggestion("x86_64-pc-linxu"),
+        suggestion("arm64-apple-iso17"),
+    );
+    assert_eq!(
+        format!("{one:>7}|{versioned:<7}|{versioned:.3}"),
+        "  linux|ios17  |ios"
+    );
+}
+
+#[test]
+fn each_refusal_and_error_has_the_suggestion() {
+    let text = "armv7-unknown-linux-gnueabihff";
+    let refusal = TripleRef::from_str(text).unwrap_err();
+    let owned = TripleRef::parse(text).unwrap_err();
+    let upstreams = text.parse::<Triple>().unwrap_err();
+    assert_eq!(owned.suggestion().unwrap(), "gnueabihf");
+    // Without the architecture nothing is suggested.
+    assert_eq!((refusal.suggestion(), upstreams.suggestion()), (None, None));
+    for meant in [refusal.suggestion_in(text), upstreams.suggestion_in(text)] {
+        assert_eq!(meant.unwrap(), "gnueabihf");
+    }
 }
 
 #[test]

@@ -141,6 +141,10 @@ class Names(unittest.TestCase):
             for error in caught.exception, pickle.loads(pickle.dumps(caught.exception)), copy.deepcopy(caught.exception):
                 self.assertEqual((str(error), error.text, error.source, error.target, error.needs_libc,
                                   line.endswith(f": {error.reason}")), (line, *words, needs_libc, True))
+                # It is what any refused name raises, about the whole of it.
+                self.assertIsInstance(error, ParseError)
+                self.assertEqual((error.line, error.part, error.start, error.end, error.field, error.dialect, error.suggestion),
+                                 (line, words[0], 0, len(words[0]), None, words[1], None))
         for name in "linux/\udcff", "js/wasm", "linux/amd46":
             with self.assertRaises(ParseError) as caught:
                 target_lexicon.translate(name, "go", "oci")

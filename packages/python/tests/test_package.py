@@ -1,8 +1,10 @@
-"""What was built and installed: the files, how the library is found, the command, the samples of the page, and the types."""
+"""What was built and installed: the files, how the library is found, the command's answers, the samples of the page, and the types."""
 import doctest
 import email
 import filecmp
 import importlib
+import inspect
+import json
 import os
 import pathlib
 import pkgutil
@@ -46,10 +48,16 @@ def built(suffix):
     return found
 
 
-def run(*command, **variables):
+def run(*command, input=None, **variables):
     """Runs a command with only these variables, besides the path of programs."""
     environment = {"PATH": os.environ["PATH"], "PYTHONDONTWRITEBYTECODE": "1", **variables}
-    return subprocess.run(command, capture_output=True, text=True, env=environment, check=False)
+    return subprocess.run(command, input=input, capture_output=True, text=True, env=environment, check=False)
+
+
+def write_tool(path, line):
+    with open(path, "w", encoding="utf-8") as file:
+        file.write(f"#!/bin/sh\n{line}\n")
+    os.chmod(path, 0o755)
 
 
 def has(python, code):
@@ -179,6 +187,10 @@ class FindsTheLibrary(Folder):
             return ran.stdout or ran.stderr.splitlines()[-1]
         needs = rf"^ImportError: target_lexicon needs the shared library libtarget_lexicon {re.escape(CALLS)}: .*TARGET_LEXICON_LIBRARY"
         self.assertRegex(prints(), needs)
+        for tool in "gcc", "cc", "ld", "ldconfig", "objdump":
+            write_tool(os.path.join(self.folder, tool), f"echo {tool} >> {self.folder}/ran")
+        self.assertRegex(prints(PATH=self.folder), needs)
+        self.assertFalse(os.path.exists(os.path.join(self.folder, "ran")), "importing runs a program of the path")
         self.assertRegex(prints(TARGET_LEXICON_LIBRARY="/nowhere/libtarget_lexicon.so"), needs)
         self.assertEqual(prints(TARGET_LEXICON_LIBRARY="libc.so.6"),
                          f"ImportError: libc.so.6 isn't libtarget_lexicon {CALLS}: it doesn't have lexicon_version")
@@ -198,62 +210,30 @@ class FindsTheLibrary(Folder):
 
 
 class Command(unittest.TestCase):
-    def answer(self, *arguments, given=""):
-        """What the installed command says, which is what `python -m target_lexicon` says."""
-        installed, module = (subprocess.run([*command, *arguments], input=given, capture_output=True, text=True, check=False)
-                             for command in ([os.path.join(os.path.dirname(sys.executable), "target-lexicon")],
-                                             [sys.executable, "-I", "-m", "target_lexicon"]))
-        self.assertEqual((module.stdout, module.returncode, module.stderr.replace("python -m target_lexicon", "target-lexicon").splitlines()[-1:]),
-                         (installed.stdout, installed.returncode, installed.stderr.splitlines()[-1:]))
-        return installed.stdout, installed.stderr, installed.returncode
-
-    def test_answers(self):
-        with self.assertRaises(ParseError) as caught:
-            Triple("x86_64-pc-linx")
-        refusal = f"{caught.exception}\n"
-        self.assertEqual(self.answer("settle", "-", given="arm64-linux\nx86_64-pc-linx\r\navr\n"),
-                         ("aarch64-unknown-linux\navr-unknown-unknown\n", refusal, 1))
-        self.assertEqual(self.answer("check", "avr", "x86_64-pc-linx"), ("", refusal, 1))
-        self.assertEqual(self.answer("translate", "--to", "debian", "avr-none", "x86_64-linux")[1:], (
-            "no name of debian for avr-none: the tool has no name for this machine on any system\n"
-            "no name of debian for x86_64-linux: it depends on the C library: use `--libc glibc` or `--libc musl`\n", 1))
-        note = "^\n  note: it is a name of another tool: use `target-lexicon read --from go` or `target-lexicon read --from oci`\n"
-        for word in "read", "settle", "facts", "check":
-            self.assertTrue(self.answer(word, "linux/arm64")[1].endswith(note))
-        for word, said in (("write", "`write` is `translate` now"), ("elsewhere", "`elsewhere` is `what` now"),
-                           ("matrix", "only the command in Rust has `matrix`: cargo install --path packages/command --locked")):
-            self.assertTrue(self.answer(word, "avr")[1].endswith(f"error: {said}\n"))
-        self.assertEqual(self.answer("--version"), (f"target_lexicon {target_lexicon.LIBRARY_VERSION}\n", "", 0))
-        for words in [], ["translate", "x"], ["translate", "--to", "podman", "x"], ["read", "--from", "podman", "x"], ["facts", "--yaml", "x"]:
-            self.assertEqual((self.answer(*words)[0], self.answer(*words)[2]), ("", 2), words)
-
-    def test_streams(self):
-        for streams, stdout, stderr in (("<&-", "3\n", "error: standard input is closed\n"),
-                                        (">&- < /dev/null", "3\n", "error: standard output is closed\n"),
-                                        ("avr > /dev/full", "3\n", "error: [Errno 28] No space left on device\n"),
-                                        ("< <(yes avr) | head -n 1", "avr-unknown-unknown\n141\n", "")):
-            ran = run("bash", "-c", f"{sys.executable} -I -m target_lexicon settle {streams}; echo ${{PIPESTATUS[0]}}")
-            self.assertEqual((ran.stdout, ran.stderr), (stdout, stderr))
-
     @unittest.skipUnless(COMMAND, "the command target-lexicon isn't beside PROGRAM")
-    def test_it_writes_what_the_command_in_rust_writes(self):
-        """The same bytes on standard output, and the same status, except that objects of `read` have no `changes` here, there is no
-        `note`, and `what` has no `suggestion`."""
+    def test_answers_are_those_of_the_command(self):
+        """Facts, canonical strings, and names of other tools, or that there are none."""
         targets = ["arm64-apple-ios17.1", "avr", "x86_64-aple-linux", "x86_64-unknown-uefi", "armv6k-nintendo-3ds", "thumbv7m-none-eabi",
                    "x86_64-w64-windows-gnu", "x86_64-pc-linx", "x86_64-\u00e9\U0001f600-x", "", "x86_64-linux-elf-gnu",
                    "x86_64-w64-mingw32", "i686-linux-gnu"]
         names = ["linux/arm64", "amd64", "linux-x64-musl", "js/wasm", "linux/amd46", "x86_64-linux-gnu", "", "x86_64-w64-mingw32", "gnu-\u00e9"]
-        calls = ["facts", "explain", "settle", "check", "read", "what", "read --libc musl", "what --libc musl",
-                 "translate --from oci --to rust --libc musl", "facts --from oci --libc glibc",
-                 "settle --from oci --libc musl", "check --from oci", *(f"translate --to {it}" for it in _dialects.WRITTEN),
-                 *(f"read --from {it}" for it in _dialects.READ)]
-        for words in map(str.split, calls):
-            given = [*targets * ("--from" not in words), *names * (words[0] in ("read", "what") or "--from" in words)]
-            for arguments, line in (given, b""), (["--json", "-", "avr"], "".join(f"{it}\r\n" for it in given).encode()):
-                ran = [subprocess.run([*command, *words, *arguments], input=line, capture_output=True, check=False)
-                       for command in ([sys.executable, "-I", "-m", "target_lexicon"], [COMMAND])]
-                left = rf',"(?:changes|note{"|suggestion" * (words[0] == "what")})":(?:null|\[.*?\]|"(?:[^"\\]|\\.)*")|^    note .*\n'
-                self.assertEqual(*((re.sub(left, "", it.stdout.decode(), flags=re.M).splitlines(), it.returncode) for it in ran), (words, arguments))
+
+        def canonical(call):
+            return lambda it: {"canonical": call(it).canonical}
+        calls = {"facts": lambda it: Triple(it).to_dict(), "settle": canonical(Triple), "settle --libc musl": canonical(lambda it: Triple(it).complete("musl")),
+                 "read": canonical(Triple.read), **{f"read --from {tool}": canonical(lambda it, tool=tool: Triple.read(it, tool)) for tool in _dialects.READ},
+                 "translate --from oci --to rust --libc musl": lambda it: {"name": target_lexicon.translate(it, "oci", "rust", "musl")},
+                 **{f"translate --to {tool}": lambda it, tool=tool: {"name": Triple(it).name_in(tool)} for tool in _dialects.WRITTEN}}
+        for words, call in calls.items():
+            given = names if "--from" in words else targets
+            ran = run(COMMAND, *words.split(), "--json", input="".join(f"{it}\n" for it in given))
+            for target, answer in zip(given, json.loads(ran.stdout)):
+                try:
+                    own = call(target)
+                except ParseError as error:
+                    own = {"start": len(error.text[:error.start].encode()), "part": error.part}
+                self.assertEqual({name: answer.get(name) for name in own}, own, (words, target))
+                self.assertIs("error" in answer, "part" in own or None in own.values() and words.startswith("translate"))
 
 
 class Samples(Folder):
@@ -263,11 +243,6 @@ class Samples(Folder):
         self.assertEqual(results.failed, 0)
         self.assertGreater(results.attempted, 10)
 
-    def test_commands_of_the_page(self):
-        page = pathlib.Path(lists.PACKAGE, "README.md").read_text(encoding="utf-8")
-        (command, expected), = re.findall(r"^```console\n\$ python3 (.*?)\n(.*?)^```$", page, re.M | re.S)
-        self.assertEqual(self.passes(sys.executable, *command.split()), expected)
-
     @unittest.skipUnless(has(PATH_PYTHON, "import pydantic; assert int(pydantic.VERSION.split('.')[0]) == 2"),
                          "pydantic 2 isn't there; Debian 12 doesn't have it")
     def test_models(self):
@@ -276,8 +251,9 @@ class Samples(Folder):
     @unittest.skipUnless(has(DEBIAN_PYTHON, "import pandas"), "no pandas")
     def test_columns_of_pandas(self):
         program = ("import pandas, target_lexicon; it = pandas.Series(['arm64-linux', None, float('nan'), pandas.NA, 'linx'], dtype=object)\n"
-                   "print(target_lexicon.settle_all(it), len(pandas.DataFrame(target_lexicon.facts_all(it)).dropna(how='all')))")
-        self.assertEqual(self.passes(DEBIAN_PYTHON, "-c", program, PYTHONPATH=PACKAGES), "['aarch64-unknown-linux', None, None, None, None] 1\n")
+                   "frame = pandas.DataFrame(target_lexicon.facts_all(it)).convert_dtypes()\n"
+                   "print(target_lexicon.settle_all(it), len(frame.dropna(how='all')), frame.pointer_width.dtype, frame.is_unix.dtype, frame.loc[0, 'pointer_width'])")
+        self.assertEqual(self.passes(DEBIAN_PYTHON, "-c", program, PYTHONPATH=PACKAGES), "['aarch64-unknown-linux', None, None, None, None] 1 Int64 boolean 64\n")
 
     def test_what_few_programs_need_is_not_imported(self):
         """Modules that would make the import take longer."""
@@ -295,12 +271,15 @@ class Samples(Folder):
         self.assertGreater(count, 15)
 
     def test_help(self):
-        """Each public class and call has some, without private types, quotes of quotes, or references."""
+        """Each public class and call has some, without private types, quotes of quotes, references, or what enumerations have of `str`."""
+        self.assertLess(len(pydoc.plain(pydoc.render_doc(target_lexicon)).splitlines()), 4000)
+        self.assertLessEqual({"ARM", "parse"}, {*dir(target_lexicon.Architecture)})
+        self.assertNotIn("casefold", dir(target_lexicon.Architecture))
         self.assertEqual(pydoc.plain(pydoc.render_doc(Triple.replace)).count(" = KEEP"), 6)
         self.assertIn("class ParseError in module target_lexicon\n", pydoc.plain(pydoc.render_doc(ParseError)))
         for name in target_lexicon.__all__:
             value = getattr(target_lexicon, name)
-            if callable(value):
+            if inspect.isclass(value) or inspect.isfunction(value):
                 self.assertTrue(value.__doc__, name)
                 self.assertNotRegex(pydoc.plain(pydoc.render_doc(value)), r""": '.*\b_[A-Z]|"'|ForwardRef""")
             classes = [it for it in getattr(value, "__mro__", ()) if it.__module__.startswith("target_lexicon")]

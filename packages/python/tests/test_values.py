@@ -68,3 +68,11 @@ class Values(unittest.TestCase):
             self.assertRaises(ParseError, CustomVendor, text)
         for value in None, b"acme", 3:
             self.assertRaises(TypeError, CustomVendor, value)
+
+    def test_a_vendor_is_the_string_that_was_parsed(self):
+        class Other(str):
+            def __str__(self):
+                return "a-b\x1b"
+
+        for vendor in CustomVendor(Other("acme")), Vendor.parse(Other("acme")):
+            self.assertEqual((vendor, vendor.text, type(vendor)), ("acme", "acme", CustomVendor))

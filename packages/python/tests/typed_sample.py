@@ -2,12 +2,14 @@
 from typing import Dict, List, Optional, Tuple, Union
 
 import target_lexicon
-from target_lexicon import Architecture, CLibrary, CustomVendor, Dialect, Endianness, LinuxLibc, ParseError, Triple, Vendor
+from target_lexicon import (Architecture, CLibrary, CustomVendor, Dialect, DialectName, Endianness, Errors, LinuxLibc, LinuxLibcName, ParseError, Triple,
+                            Vendor, Version)
 
 triple = Triple("x86_64-linux")
 vendor: Union[Vendor, CustomVendor] = triple.vendor
 order: Optional[Endianness] = triple.endianness
-version: Optional[Tuple[int, int, int]] = triple.version
+version: Optional[Version] = triple.version
+numbers: Optional[Tuple[int, int, int]] = version
 architecture: Architecture = Architecture.parse("arm64")
 known: Union[Vendor, CustomVendor] = Vendor.parse(vendor.value)
 changed: Triple = triple.replace(architecture=architecture, vendor=known, binary_format=None)
@@ -16,10 +18,15 @@ image: Optional[str] = Triple.read("amd64", "debian").name_in(Dialect.OCI)
 package: str = target_lexicon.translate("linux/amd64", "oci", Dialect.DEBIAN, "glibc")
 library: Optional[CLibrary] = triple.complete(LinuxLibc.GLIBC).c_library
 parts: List[str] = [it.names for it in target_lexicon.changes(package)]
-keys: List[Optional[str]] = target_lexicon.settle_all(["avr"])
+column: List[Optional[str]] = ["avr", None]
+keys: List[Optional[str]] = target_lexicon.settle_all(column)
 widths: List[Optional[int]] = [it.pointer_width for it in target_lexicon.facts_all(["avr"], errors="coerce")]
 names: List[Triple] = sorted({triple: "ld"})
 lines: List[str] = [f"{name}: {source}" for name, source in target_lexicon.explain("x86_64-linux").sources]
+
+
+def keys_in(targets: List[str], source: DialectName, libc: LinuxLibcName, errors: Errors) -> List[Optional[str]]:
+    return target_lexicon.settle_all([target_lexicon.translate(it, source, "rust", libc) for it in targets], errors)
 
 
 def described(error: ParseError) -> Dict[str, Union[str, int, None]]:

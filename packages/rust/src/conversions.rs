@@ -1,7 +1,5 @@
-//! Conversions, of which only parsing a [`Triple`] allocates. None is into a type of upstream's by `From`: with a second one rustc would no longer know
+//! Conversions, which allocate nothing. None is into a type of upstream's by `From`: with a second one rustc would no longer know
 //! what `Vendor::from(string.parse()?)` parses.
-#[cfg(feature = "alloc")]
-use crate::ParseTripleError;
 use crate::{
     DeploymentTarget, Field, KnownVendor, Refusal, TextPart, Triple, TripleRef, Vendor, VendorRef,
 };
@@ -48,28 +46,6 @@ impl PartialEq<Triple> for TripleRef<'_> {
     }
 }
 
-#[cfg(feature = "alloc")]
-impl TryFrom<&str> for Triple {
-    type Error = ParseTripleError;
-
-    /// The same as [`TripleExt::parse`](crate::TripleExt::parse).
-    #[inline]
-    fn try_from(text: &str) -> Result<Self, ParseTripleError> {
-        TripleRef::parse(text).map(|triple| triple.to_triple())
-    }
-}
-
-#[cfg(feature = "alloc")]
-impl<'a> TryFrom<&'a str> for TripleRef<'a> {
-    type Error = ParseTripleError;
-
-    /// The same as [`TripleRef::parse`].
-    #[inline]
-    fn try_from(text: &'a str) -> Result<Self, ParseTripleError> {
-        TripleRef::parse(text)
-    }
-}
-
 /// The string is no version.
 ///
 /// # Examples
@@ -77,6 +53,7 @@ impl<'a> TryFrom<&'a str> for TripleRef<'a> {
 /// ```
 /// use target_lexicon::{DeploymentTarget, ParseVersionError};
 ///
+/// assert_eq!("14.1".parse(), Ok(DeploymentTarget { major: 14, minor: 1, patch: 0 }));
 /// let error: ParseVersionError = "14.256".parse::<DeploymentTarget>().unwrap_err();
 /// assert_eq!(error.to_string(), "Not a version: it is one to three numbers, at most 65535.255.255");
 /// ```
@@ -95,15 +72,6 @@ impl FromStr for DeploymentTarget {
     type Err = ParseVersionError;
 
     /// The version that a string such as `10.15.7` or `14` parses as, as after the name of a system.
-    ///
-    /// # Examples
-    ///
-    /// ```
-    /// use target_lexicon::DeploymentTarget;
-    ///
-    /// assert_eq!("14.1".parse(), Ok(DeploymentTarget { major: 14, minor: 1, patch: 0 }));
-    /// assert!("14.256".parse::<DeploymentTarget>().is_err());
-    /// ```
     #[inline]
     fn from_str(text: &str) -> Result<Self, ParseVersionError> {
         DeploymentTarget::from_text(text).ok_or(ParseVersionError)

@@ -10,7 +10,8 @@ mod impls {
     impl Error for crate::NoAnswer {}
     impl Error for crate::NotPlain {}
     impl Error for crate::ParseVersionError {}
-    #[cfg(feature = "alloc")]
+    // As in upstream, only with this feature.
+    #[cfg(feature = "std")]
     impl Error for crate::ParseError {}
     #[cfg(feature = "alloc")]
     impl Error for crate::ParseTripleError {}

@@ -5,7 +5,7 @@ use crate::{
     Environment, OperatingSystem, PointerWidth, RoundTripFamily, Triple, TripleRef,
 };
 #[cfg(feature = "alloc")]
-use crate::{Field, NotPlain, ParseError, ParseTripleError, Suggestion};
+use crate::{Field, NotPlain, ParseError, ParseTripleError};
 #[cfg(feature = "alloc")]
 use alloc::string::String;
 
@@ -18,8 +18,6 @@ use sealed::Sealed;
 /// The calls of a [`Triple`] that upstream doesn't have. A [`TripleRef`] has them itself.
 pub trait TripleExt: Sealed + Sized {
     /// The triple that a string parses as. It is that of `str::parse`, with an error that shows the place and owns the string.
-    ///
-    /// The error looks for the name that was meant, which takes some 60 kB of a program. `str::parse` and [`TripleRef::from_str`] don't.
     ///
     /// # Errors
     ///
@@ -35,7 +33,7 @@ pub trait TripleExt: Sealed + Sized {
     /// }
     ///
     /// assert_eq!(is_windows("x86_64-pc-windows-msvc".into()), Ok(true));
-    /// assert_eq!(is_windows("x86_64-pc-window".into()).unwrap_err().suggestion().unwrap(), "windows");
+    /// assert_eq!(is_windows("x86_64-pc-window".into()).unwrap_err().part(), "window");
     /// ```
     #[cfg(feature = "alloc")]
     fn parse(text: &str) -> Result<Self, ParseTripleError>;
@@ -54,7 +52,8 @@ pub trait TripleExt: Sealed + Sized {
     fn as_triple_ref(&self) -> TripleRef<'_>;
 
     /// Whether the triple comes back: printed and parsed again, it is itself. It does unless it is in one of the five families of
-    /// [`RoundTripFamily`]. Nothing is allocated.
+    /// [`RoundTripFamily`]. With the feature `upstream_printing`, it doesn't either if environment and format are both unknown and another
+    /// format is implied. Nothing is allocated.
     ///
     /// # Examples
     ///
@@ -70,7 +69,8 @@ pub trait TripleExt: Sealed + Sized {
         self.as_triple_ref().comes_back()
     }
 
-    /// The first family of triples that don't come back that the triple is in. `None` if it comes back. Nothing is allocated.
+    /// The first family of triples that don't come back that the triple is in, by this library's printing. `None` if it comes back; with
+    /// the feature `upstream_printing`, also for the triples that only [`comes_back`](TripleExt::comes_back) says. Nothing is allocated.
     ///
     /// # Examples
     ///
@@ -88,7 +88,8 @@ pub trait TripleExt: Sealed + Sized {
 
     /// The canonical form of the triple, which is what its printed string parses as. It comes back, and two canonical triples
     /// with the same string are the same, so the string serves as a key. A triple that [`comes_back`](TripleExt::comes_back)
-    /// is unchanged.
+    /// is unchanged. The feature `upstream_printing` changes what is printed, and so the canonical form of triples whose environment and
+    /// format are both unknown; one of them, which prints `riscv32imc-esp-espidf-unknown`, takes printing and parsing twice.
     ///
     /// # Errors
     ///
@@ -143,22 +144,6 @@ pub trait TripleExt: Sealed + Sized {
     fn to_upstream_text(&self) -> String {
         self.as_triple_ref().to_upstream_text()
     }
-
-    /// The name that was perhaps meant by a custom vendor, as [`TripleRef::vendor_suggestion`] says.
-    ///
-    /// # Examples
-    ///
-    /// ```
-    /// use target_lexicon::{triple, TripleExt};
-    ///
-    /// assert_eq!(triple!("x86_64-linx").vendor_suggestion().unwrap(), "linux");
-    /// ```
-    #[cfg(feature = "alloc")]
-    #[must_use]
-    #[inline]
-    fn vendor_suggestion(&self) -> Option<Suggestion<'_>> {
-        self.as_triple_ref().vendor_suggestion()
-    }
 }
 
 impl Sealed for Triple {}
@@ -176,10 +161,21 @@ impl TripleExt for Triple {
         self.as_triple_ref()
     }
 
-    #[cfg(feature = "alloc")]
+    #[cfg(all(feature = "alloc", not(feature = "upstream_printing")))]
     #[inline]
     fn settle(self) -> Result<Self, NotPlain> {
         if self.vendor.is_plain() {
+            Ok(self.step())
+        } else {
+            Err(NotPlain(self))
+        }
+    }
+
+    #[cfg(all(feature = "alloc", feature = "upstream_printing"))]
+    #[inline]
+    fn settle(mut self) -> Result<Self, NotPlain> {
+        if self.vendor.is_plain() {
+            self.binary_format = self.as_triple_ref().with_printed_format().binary_format;
             Ok(self.step())
         } else {
             Err(NotPlain(self))
@@ -286,19 +282,6 @@ pub trait ParseErrorExt: Sealed {
     /// ```
     #[must_use]
     fn part(&self) -> &str;
-
-    /// The name that was perhaps meant, as [`Refusal::suggestion`](crate::Refusal::suggestion) says.
-    ///
-    /// # Examples
-    ///
-    /// ```
-    /// use target_lexicon::{ParseErrorExt, Triple};
-    ///
-    /// let error = "x86_64-pc-linxu".parse::<Triple>().unwrap_err();
-    /// assert_eq!(error.suggestion().unwrap(), "linux");
-    /// ```
-    #[must_use]
-    fn suggestion(&self) -> Option<Suggestion<'_>>;
 }
 
 #[cfg(feature = "alloc")]
@@ -326,10 +309,5 @@ impl ParseErrorExt for ParseError {
             | ParseError::UnrecognizedBinaryFormat(part)
             | ParseError::UnrecognizedField(part) => part,
         }
-    }
-
-    #[inline]
-    fn suggestion(&self) -> Option<Suggestion<'_>> {
-        crate::suggestions::suggestion(self.expected()?, self.part())
     }
 }

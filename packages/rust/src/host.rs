@@ -27,7 +27,6 @@ macro_rules! host {
             ///
             #[doc = concat!("assert_eq!(", stringify!($name), "::host(), ", stringify!($value), ");")]
             /// ```
-            #[must_use]
             pub const fn host() -> Self {
                 $value
             }

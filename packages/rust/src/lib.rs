@@ -1,8 +1,7 @@
 // SPDX-License-Identifier: Apache-2.0 WITH LLVM-exception
 //! LLVM target triples: what the crate `target-lexicon` 0.13.5 (upstream) has, with the Rust source of a verified port.
 //!
-//! The types and their methods are the proved source, without the parts that only proofs need. What needs another form in
-//! Rust is written by hand: calls that allocate, the host, the macro and serde.
+//! The types and their methods are the proved source, without the parts that only proofs need.
 //!
 //! ```
 //! use target_lexicon::{Architecture, Endianness, OperatingSystem, Triple};
@@ -20,10 +19,9 @@
 //! What upstream doesn't have:
 //!
 //! - **A key**: [`TripleExt::settle`] gives the canonical form.
-//! - **Errors**: [`TripleExt::parse`] has one that owns the string and shows the place, with the name that was perhaps meant.
+//! - **Errors**: [`TripleExt::parse`] has one that owns the string and shows the place.
 //! - **Without an allocator**: [`TripleRef`] borrows from the string. [`TripleRef::write_to`] prints into a buffer.
-//! - **Where each field comes from**: [`TripleRef::explain`] gives an [`Explanation`], whose [`Sources`] have a [`Source`] for each field, which
-//!   may be a [`TextPart`] of the string.
+//! - **Where each field comes from**: [`TripleRef::explain`] says it.
 //!
 //! Upstream's types have upstream's methods. What they have besides is in traits, which a program imports: [`TripleExt`], [`Named`],
 //! [`OperatingSystemExt`] and [`ParseErrorExt`].
@@ -35,12 +33,11 @@
 //! - `alloc`: what owns a string, such as the errors of [`TripleExt::parse`]. Without it no allocator is linked: [`TripleRef`] has its
 //!   calls except `parse`, `settle` and those that make an owned value.
 //! - `serde_support`: a triple and each field is its string in serde.
-//! - `upstream_printing`: each triple is printed as upstream does.
-//! - `std`: the errors implement `Error` before Rust 1.81 too.
+//! - `upstream_printing`: each triple is printed as upstream does, and the calls about round trips and canonical forms say what comes of that.
+//! - `std`: [`ParseError`] implements `Error`, as in upstream; the other errors do before Rust 1.81 too.
 //! - `arch_zkasm` and `arch_z80` change nothing.
 //!
-//! The crate needs Rust 1.65, is `no_std`, and has no dependency except `serde`. Its README says what differs
-//! from upstream, and what is proved.
+//! The README says what differs from upstream, and what is proved.
 #![no_std]
 #![forbid(unsafe_code)]
 // Names and types of upstream's; forms that proofs need; calls that older versions of Rust have from `compat`.
@@ -65,37 +62,29 @@ extern crate alloc;
 #[cfg(all(feature = "std", not(core_error)))]
 extern crate std;
 
-// What parses, prints and answers is in `proved`. By hand are, of calls, those that allocate (`owned`), those of a borrowed triple (`canonical`, `explain`, and
-// `queries`, whose error has a name), the traits of upstream's types (`extensions`) and `host`; of errors, upstream's (`parse_error`), one that owns
-// its string (`parse_triple_error`), and the impls of `Error` (`errors`); of other traits `conversions`, `display`, `hash`, `order` and `serde`.
-// `suggestions` finds the name that was perhaps meant, by the rules of `spellings` and the lists of `words`. `visible` escapes what messages show.
-// `compat` has what older versions of Rust lack.
-mod canonical;
-mod compat;
-mod conversions;
-mod display;
-mod errors;
-mod explain;
-mod extensions;
-mod hash;
-mod host;
-mod order;
+// What parses, prints and answers is in `proved`. By hand is what that source can't say:
+mod canonical; // `settle`, which requires a plain vendor there, and has an error here
+mod compat; // calls that older versions of Rust lack
+mod conversions; // traits of Rust's between the types
+mod display; // `Display` of what isn't printed there
+mod errors; // `Error` of each error, by the version of Rust
+mod explain; // a function there, and a method here
+mod extensions; // the calls of upstream's types that upstream lacks, as traits
+mod hash; // the hash of a borrowed vendor, which is the owned one's
+mod host; // the target of the build
+mod order; // `Ord`, which isn't proved, except of versions
 #[cfg(feature = "alloc")]
-mod owned;
+mod owned; // what allocates, which there may fail and here doesn't return then
 #[cfg(feature = "alloc")]
-mod parse_error;
+mod parse_error; // upstream's error, which has no failure of an allocation
 #[cfg(feature = "alloc")]
-mod parse_triple_error;
+mod parse_triple_error; // the error that owns its string and shows the place
 mod proved;
-mod queries;
+mod queries; // the queries of a `TripleRef`, whose error says which one has no answer
 #[cfg(feature = "serde_support")]
-mod serde;
-#[doc(hidden)]
-pub mod spellings;
-mod suggestions;
-mod visible;
-#[rustfmt::skip]
-mod words;
+mod serde; // serde's traits
+#[cfg(feature = "upstream_printing")]
+mod upstream_printing; // what becomes of round trips by upstream's printing
 
 pub use canonical::NotPlain;
 pub use conversions::ParseVersionError;
@@ -116,7 +105,6 @@ pub use proved::{
     Triple, TripleRef, Vendor, VendorRef, X86_32Architecture, Z80Architecture,
 };
 pub use queries::NoAnswer;
-pub use suggestions::Suggestion;
 
 /// The samples of the page are tested.
 #[cfg(all(doctest, feature = "alloc"))]

@@ -63,7 +63,6 @@ impl OperatingSystem {
     /// let system: OperatingSystem = "ios17.0".parse().unwrap();
     /// assert_eq!(system.into_str(), "ios17.0.0");
     /// ```
-    #[must_use]
     #[inline]
     pub fn into_str(self) -> Cow<'static, str> {
         match self.version() {

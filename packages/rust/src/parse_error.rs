@@ -15,7 +15,7 @@ use core::fmt;
 /// assert_eq!(error, ParseError::UnrecognizedOperatingSystem("foo".to_string()));
 /// assert_eq!(error.to_string(), "Unrecognized operating system: foo");
 /// ```
-#[derive(Clone, Debug, PartialEq, Eq, Hash)]
+#[derive(Clone, Debug, PartialEq, Eq)]
 pub enum ParseError {
     /// The first part is not an architecture.
     UnrecognizedArchitecture(String),

@@ -1,18 +1,17 @@
 //! Why a string doesn't parse as a triple, in an error that owns the string and shows the place in it.
-use crate::visible::visible;
-use crate::{Field, ParseError, Refusal, Suggestion, TextPart, TripleRef};
+use crate::proved::refusal_prefix;
+use crate::{Field, ParseError, Refusal, TripleRef};
 use alloc::boxed::Box;
-use alloc::string::ToString;
+use alloc::string::String;
 use core::fmt::{self, Write as _};
 use core::ops::Range;
 
 /// Why a string doesn't parse as a triple, with the whole string. It owns what it needs, so that `?` takes it out of a
-/// function. It is shown in three lines: what is wrong, the string, and carets below the refused part, followed by the name
-/// that was perhaps meant.
+/// function. It is shown in three lines: what is wrong, the string, and carets below the refused part. Of the string only what
+/// ASCII can print is shown as it is; the rest is escaped.
 ///
-/// [`TripleExt::parse`](crate::TripleExt::parse) and [`TripleRef::parse`] return it, and so do conversions with `TryFrom`. `str::parse` returns upstream's
-/// [`ParseError`] instead, which this one converts into. [`TripleRef::from_str`] returns a [`Refusal`], which borrows from the
-/// string.
+/// [`TripleExt::parse`](crate::TripleExt::parse) and [`TripleRef::parse`] return it. `str::parse` returns upstream's [`ParseError`], and
+/// [`TripleRef::from_str`] a [`Refusal`], which borrows from the string.
 ///
 /// # Examples
 ///
@@ -21,12 +20,11 @@ use core::ops::Range;
 ///
 /// let error = Triple::parse("x86_64-pc-linxu").unwrap_err();
 /// assert_eq!((error.expected(), error.part(), error.range()), (Some(Field::OperatingSystem), "linxu", 10..15));
-/// assert_eq!(error.suggestion().unwrap(), "linux");
 /// assert_eq!(
 ///     error.to_string(),
 ///     "Unrecognized operating system: linxu
 ///   x86_64-pc-linxu
-///             ^^^^^ did you mean `linux`?",
+///             ^^^^^",
 /// );
 /// ```
 #[derive(Clone, Debug, PartialEq, Eq, Hash)]
@@ -48,14 +46,8 @@ impl<'a> TripleRef<'a> {
     /// # Examples
     ///
     /// ```
-    /// use target_lexicon::{ParseTripleError, PointerWidth, TripleRef};
-    ///
-    /// fn has_64_bits(target: String) -> Result<bool, ParseTripleError> {
-    ///     Ok(TripleRef::parse(&target)?.pointer_width() == Ok(PointerWidth::U64))
-    /// }
-    ///
-    /// assert_eq!(has_64_bits("aarch64-apple-ios".into()), Ok(true));
-    /// assert_eq!(has_64_bits("aarch64-apple-iso".into()).unwrap_err().range(), 14..17);
+    /// let error = target_lexicon::TripleRef::parse("aarch64-apple-iso").unwrap_err();
+    /// assert_eq!((error.part(), error.range()), ("iso", 14..17));
     /// ```
     #[inline]
     pub fn parse(text: &'a str) -> Result<TripleRef<'a>, ParseTripleError> {
@@ -70,16 +62,9 @@ impl Refusal<'_> {
     /// # Examples
     ///
     /// ```
-    /// use target_lexicon::{ParseTripleError, Source, TripleRef};
-    ///
-    /// fn implies_its_format(target: String) -> Result<bool, ParseTripleError> {
-    ///     let explanation = TripleRef::explain(&target);
-    ///     explanation.triple.map_err(|refusal| refusal.in_text(&target))?;
-    ///     Ok(explanation.sources.binary_format == Source::Implied)
-    /// }
-    ///
-    /// assert_eq!(implies_its_format("x86_64-linux-elf".into()), Ok(false));
-    /// assert_eq!(implies_its_format("x86_64-foo-bar".into()).unwrap_err().part(), "bar");
+    /// let text = "x86_64-foo-bar";
+    /// let refusal = target_lexicon::TripleRef::explain(text).triple.unwrap_err();
+    /// assert_eq!(refusal.in_text(text).range(), 11..14);
     /// ```
     #[must_use]
     #[inline]
@@ -156,68 +141,57 @@ impl ParseTripleError {
         self.expected
     }
 
-    /// The name that was perhaps meant, as [`Refusal::suggestion_in`] says.
+    /// Upstream's error, with a copy of the part.
     ///
     /// # Examples
     ///
     /// ```
-    /// let error = target_lexicon::TripleRef::parse("amd64-linux").unwrap_err();
-    /// assert_eq!(error.suggestion().unwrap(), "x86_64");
+    /// let error = target_lexicon::TripleRef::parse("x86_64-foo-bar").unwrap_err();
+    /// assert_eq!("x86_64-foo-bar".parse::<target_lexicon::Triple>(), Err(error.to_error()));
     /// ```
     #[must_use]
     #[inline]
-    pub fn suggestion(&self) -> Option<Suggestion<'_>> {
-        self.refusal().suggestion_in(&self.text)
-    }
-
-    /// The refusal, which borrows from the string of the error.
-    #[inline]
-    fn refusal(&self) -> Refusal<'_> {
-        Refusal {
-            expected: self.expected,
-            part: TextPart {
-                text: self.part(),
-                start: self.range.start,
-            },
-        }
+    pub fn to_error(&self) -> ParseError {
+        ParseError::new(self.expected, String::from(self.part()))
     }
 }
 
 impl fmt::Display for ParseTripleError {
-    #[inline]
     fn fmt(&self, f: &mut fmt::Formatter<'_>) -> fmt::Result {
-        let refusal = self.refusal();
-        let [before, part, after] = [
-            &self.text[..self.range.start],
-            refusal.part.text,
-            &self.text[self.range.end..],
-        ]
-        .map(|it| visible(it).to_string());
-        // The line of upstream's error, with the part as it is shown below.
-        let line = Refusal {
-            part: TextPart {
-                text: &part,
-                ..refusal.part
-            },
-            ..refusal
-        };
-        writeln!(f, "{line}\n  {before}{part}{after}")?;
-        f.write_str("  ")?;
-        before.chars().try_for_each(|_| f.write_char(' '))?;
+        f.write_str(refusal_prefix(self.expected))?;
+        write_visible(f, self.part())?;
+        f.write_str("\n  ")?;
+        let before = write_visible(f, &self.text[..self.range.start])?;
+        let part = write_visible(f, self.part())?;
+        write_visible(f, &self.text[self.range.end..])?;
+        f.write_str("\n  ")?;
+        write_times(f, ' ', before)?;
         // An empty part has a caret too.
-        f.write_char('^')?;
-        part.chars().skip(1).try_for_each(|_| f.write_char('^'))?;
-        match refusal.suggestion_in(&self.text) {
-            Some(name) => write!(f, " did you mean `{name}`?"),
-            None => Ok(()),
-        }
+        write_times(f, '^', part.max(1))
     }
 }
 
-impl From<ParseTripleError> for ParseError {
-    /// Upstream's error, with a copy of the part.
-    #[inline]
-    fn from(error: ParseTripleError) -> ParseError {
-        error.refusal().to_error()
+/// Writes a string, and returns how many characters that takes. Each character that ASCII doesn't print is escaped, as `\u{1b}`: it may
+/// control a terminal, turn the direction of text, combine with its neighbour, be invisible or look like another letter.
+fn write_visible(f: &mut fmt::Formatter<'_>, text: &str) -> Result<usize, fmt::Error> {
+    let mut count = 0;
+    for c in text.chars() {
+        if matches!(c, ' '..='~') {
+            f.write_char(c)?;
+            count += 1;
+        } else {
+            for escaped in c.escape_default() {
+                f.write_char(escaped)?;
+                count += 1;
+            }
+        }
     }
+    Ok(count)
+}
+
+fn write_times(f: &mut fmt::Formatter<'_>, c: char, count: usize) -> fmt::Result {
+    for _ in 0..count {
+        f.write_char(c)?;
+    }
+    Ok(())
 }

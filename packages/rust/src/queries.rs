@@ -13,33 +13,30 @@ use core::fmt;
 /// assert_eq!(error.to_string(), "The byte order of the target is unknown");
 /// ```
 #[derive(Clone, Copy, Debug, PartialEq, Eq, Hash)]
-pub struct NoAnswer {
-    what: &'static str,
+pub struct NoAnswer(Question);
+
+/// What wasn't answered. It takes a byte, so an answer is returned in a register.
+#[derive(Clone, Copy, Debug, PartialEq, Eq, Hash)]
+enum Question {
+    Endianness,
+    PointerWidth,
+    CallingConvention,
+    DataModel,
 }
 
 impl fmt::Display for NoAnswer {
     #[inline]
     fn fmt(&self, f: &mut fmt::Formatter<'_>) -> fmt::Result {
-        write!(f, "The {} of the target is unknown", self.what)
+        f.write_str(match self.0 {
+            Question::Endianness => "The byte order of the target is unknown",
+            Question::PointerWidth => "The pointer width of the target is unknown",
+            Question::CallingConvention => "The calling convention of the target is unknown",
+            Question::DataModel => "The data model of C of the target is unknown",
+        })
     }
 }
 
-macro_rules! queries {
-    ($($(#[$documentation:meta])* $name:ident -> $answer:ty, $known:ident, $what:literal;)*) => {
-        impl TripleRef<'_> {
-            $($(#[$documentation])*
-            #[inline]
-            pub const fn $name(&self) -> Result<$answer, NoAnswer> {
-                match self.$known() {
-                    Ok(answer) => Ok(answer),
-                    Err(()) => Err(NoAnswer { what: $what }),
-                }
-            })*
-        }
-    };
-}
-
-queries! {
+impl TripleRef<'_> {
     /// The byte order, as [`Triple::endianness`](crate::Triple::endianness) says.
     ///
     /// # Errors
@@ -54,7 +51,13 @@ queries! {
     /// let triple = TripleRef::from_str("s390x-unknown-linux-gnu").unwrap();
     /// assert_eq!(triple.endianness(), Ok(Endianness::Big));
     /// ```
-    endianness -> Endianness, known_endianness, "byte order";
+    #[inline]
+    pub const fn endianness(&self) -> Result<Endianness, NoAnswer> {
+        match self.known_endianness() {
+            Ok(answer) => Ok(answer),
+            Err(()) => Err(NoAnswer(Question::Endianness)),
+        }
+    }
 
     /// The width of a pointer, as [`Triple::pointer_width`](crate::Triple::pointer_width) says.
     ///
@@ -70,7 +73,13 @@ queries! {
     /// let triple = TripleRef::from_str("avr-unknown-none").unwrap();
     /// assert_eq!(triple.pointer_width(), Ok(PointerWidth::U16));
     /// ```
-    pointer_width -> PointerWidth, known_pointer_width, "pointer width";
+    #[inline]
+    pub const fn pointer_width(&self) -> Result<PointerWidth, NoAnswer> {
+        match self.known_pointer_width() {
+            Ok(answer) => Ok(answer),
+            Err(()) => Err(NoAnswer(Question::PointerWidth)),
+        }
+    }
 
     /// The calling convention, as [`Triple::default_calling_convention`](crate::Triple::default_calling_convention) says.
     ///
@@ -86,7 +95,13 @@ queries! {
     /// let triple = TripleRef::from_str("x86_64-unknown-linux-gnu").unwrap();
     /// assert_eq!(triple.default_calling_convention(), Ok(CallingConvention::SystemV));
     /// ```
-    default_calling_convention -> CallingConvention, known_default_calling_convention, "calling convention";
+    #[inline]
+    pub const fn default_calling_convention(&self) -> Result<CallingConvention, NoAnswer> {
+        match self.known_default_calling_convention() {
+            Ok(answer) => Ok(answer),
+            Err(()) => Err(NoAnswer(Question::CallingConvention)),
+        }
+    }
 
     /// The data model of C, as [`Triple::data_model`](crate::Triple::data_model) says.
     ///
@@ -106,5 +121,11 @@ queries! {
     /// assert_eq!(long("x86_64-pc-windows-msvc").unwrap(), 4);
     /// assert!(long("avr-unknown-none").unwrap_err().is::<NoAnswer>());
     /// ```
-    data_model -> CDataModel, known_data_model, "data model of C";
+    #[inline]
+    pub const fn data_model(&self) -> Result<CDataModel, NoAnswer> {
+        match self.known_data_model() {
+            Ok(answer) => Ok(answer),
+            Err(()) => Err(NoAnswer(Question::DataModel)),
+        }
+    }
 }

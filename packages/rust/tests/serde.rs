@@ -1,7 +1,8 @@
 //! A triple is its string in serde, and so is each field.
 #![cfg(feature = "serde_support")]
-use serde::de::value::{BorrowedStrDeserializer, Error, StrDeserializer};
-use serde::{de::IntoDeserializer, Deserialize, Serialize};
+use serde::de::value::{BorrowedStrDeserializer, Error, StrDeserializer, U8Deserializer};
+use serde::de::{Deserializer, IntoDeserializer, Visitor};
+use serde::{forward_to_deserialize_any, Deserialize, Serialize};
 use std::fmt::{self, Debug};
 use target_lexicon::{
     triple, Architecture, BinaryFormat, Environment, OperatingSystem, Triple, TripleRef, Vendor,
@@ -70,6 +71,62 @@ fn a_field_is_its_string() {
     is_its_string::<BinaryFormat>("macho", "a binary format");
     assert_eq!(borrow("acme"), Ok(VendorRef::Custom("acme")));
     assert_eq!(Written(VendorRef::Custom("acme")).to_string(), "acme");
-    assert!(borrow::<VendorRef<'_>>("ACME").is_err());
+    assert_eq!(
+        borrow::<VendorRef<'_>>("ACME").unwrap_err().to_string(),
+        "invalid value: string \"ACME\", expected the name of a vendor"
+    );
     assert!(read::<Triple>(" x86_64-linux").is_err());
+}
+
+/// A format that isn't for people, in which a byte before a string has its length.
+struct Binary<'de>(&'de [u8]);
+
+impl<'de> Deserializer<'de> for Binary<'de> {
+    type Error = Error;
+
+    fn deserialize_any<V: Visitor<'de>>(self, visitor: V) -> Result<V::Value, Error> {
+        let string = &self.0[1..=usize::from(self.0[0])];
+        visitor.visit_borrowed_str(std::str::from_utf8(string).unwrap())
+    }
+
+    fn is_human_readable(&self) -> bool {
+        false
+    }
+
+    forward_to_deserialize_any! {
+        bool i8 i16 i32 i64 u8 u16 u32 u64 f32 f64 char str string bytes byte_buf option unit unit_struct
+        newtype_struct seq tuple tuple_struct map struct enum identifier ignored_any
+    }
+}
+
+#[test]
+fn a_binary_format_has_the_same_strings() {
+    let bytes = b"\x11x86_64-acme-linux";
+    let triple = triple!("x86_64-acme-linux");
+    assert_eq!(Triple::deserialize(Binary(bytes)), Ok(triple.clone()));
+    assert_eq!(
+        TripleRef::deserialize(Binary(bytes)),
+        Ok(TripleRef::from(&triple))
+    );
+    assert_eq!(
+        Environment::deserialize(Binary(b"\x04musl")),
+        Ok(Environment::Musl)
+    );
+}
+
+#[test]
+fn what_is_no_string_is_an_error() {
+    fn is_refused<'de, T: Deserialize<'de> + Debug>() {
+        let deserializer: U8Deserializer<Error> = 5u8.into_deserializer();
+        let error = T::deserialize(deserializer).unwrap_err().to_string();
+        assert!(error.contains("invalid type: integer `5`"), "{error}");
+    }
+    is_refused::<Triple>();
+    is_refused::<TripleRef<'_>>();
+    is_refused::<Architecture>();
+    is_refused::<Vendor>();
+    is_refused::<VendorRef<'_>>();
+    is_refused::<OperatingSystem>();
+    is_refused::<Environment>();
+    is_refused::<BinaryFormat>();
 }

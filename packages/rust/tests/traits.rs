@@ -6,19 +6,6 @@ use std::hash::{Hash, Hasher};
 use target_lexicon::*;
 
 #[test]
-fn a_suggestion_has_the_width_that_is_asked_for() {
-    let suggestion = |text| TripleRef::from_str(text).unwrap_err().suggestion().unwrap();
-    let (one, versioned) = (
-        suggestion("x86_64-pc-linxu"),
-        suggestion("arm64-apple-iso17"),
-    );
-    assert_eq!(
-        format!("{one:>7}|{versioned:<7}|{versioned:.3}"),
-        "  linux|ios17  |ios"
-    );
-}
-
-#[test]
 fn versions_are_parsed() {
     for (text, version) in [
         ("17", "17.0.0"),
@@ -79,9 +66,9 @@ fn conversions_are_those_of_the_methods() {
         "aarch64-apple-ios17.0",
         "wasm32-wasip1",
     ] {
-        let triple = Triple::try_from(string).unwrap();
+        let triple = Triple::parse(string).unwrap();
         assert_eq!(string.parse(), Ok(triple.clone()));
-        assert_eq!(TripleRef::try_from(string), Ok(TripleRef::from(&triple)));
+        assert_eq!(TripleRef::parse(string), Ok(TripleRef::from(&triple)));
         assert_eq!(triple.as_triple_ref().to_triple(), triple);
         assert_eq!(VendorRef::from(&triple.vendor).to_vendor(), triple.vendor);
     }
@@ -103,7 +90,7 @@ fn an_error_leaves_the_function_that_owns_its_string() {
     assert_eq!(error.to_string(), shown);
     let error = error.downcast::<ParseTripleError>().unwrap();
     assert_eq!(
-        ParseError::from(*error),
+        error.to_error(),
         "x86_64-é-linux".parse::<Triple>().unwrap_err()
     );
 }
@@ -140,12 +127,10 @@ fn hash(value: impl Hash) -> u64 {
 
 #[test]
 fn a_borrowed_triple_is_equal_to_the_owned_one_and_hashed_as_it() {
-    let known = Field::Vendor
-        .names()
-        .iter()
-        .map(|it| it.parse::<Vendor>().unwrap());
+    let known =
+        ["unknown", "apple", "pc", "espressif", "wrs"].map(|it| it.parse::<Vendor>().unwrap());
     let custom = ["", "pc", "acme"].map(|it| Vendor::Custom(CustomVendor::Static(it)));
-    let vendors: Vec<Vendor> = known.chain(custom).collect();
+    let vendors: Vec<Vendor> = known.into_iter().chain(custom).collect();
     let mut values = HashMap::new();
     for vendor in &vendors {
         let mut triple: Triple = "aarch64-apple-ios17.1".parse().unwrap();

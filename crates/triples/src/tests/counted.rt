@@ -4,14 +4,20 @@ use super::faulty::Faulty;
 use crate::counted::Counted;
 use std::io::ErrorKind;
 
-/// Kinds of errors that code may treat in its own way, and another.
-const KINDS: [ErrorKind; 6] = [
-    ErrorKind::Interrupted,
-    ErrorKind::BrokenPipe,
-    ErrorKind::WouldBlock,
-    ErrorKind::UnexpectedEof,
-    ErrorKind::WriteZero,
-    ErrorKind::Other,
+/// All kinds of errors.
+#[rattlefmt::skip]
+pub(super) const KINDS: [ErrorKind; 42] = [
+    ErrorKind::NotFound, ErrorKind::PermissionDenied, ErrorKind::ConnectionRefused, ErrorKind::ConnectionReset,
+    ErrorKind::HostUnreachable, ErrorKind::NetworkUnreachable, ErrorKind::ConnectionAborted, ErrorKind::NotConnected,
+    ErrorKind::AddrInUse, ErrorKind::AddrNotAvailable, ErrorKind::NetworkDown, ErrorKind::BrokenPipe,
+    ErrorKind::AlreadyExists, ErrorKind::WouldBlock, ErrorKind::NotADirectory, ErrorKind::IsADirectory,
+    ErrorKind::DirectoryNotEmpty, ErrorKind::ReadOnlyFilesystem, ErrorKind::FilesystemLoop,
+    ErrorKind::StaleNetworkFileHandle, ErrorKind::InvalidInput, ErrorKind::InvalidData, ErrorKind::TimedOut,
+    ErrorKind::WriteZero, ErrorKind::StorageFull, ErrorKind::NotSeekable, ErrorKind::QuotaExceeded,
+    ErrorKind::FileTooLarge, ErrorKind::ResourceBusy, ErrorKind::ExecutableFileBusy, ErrorKind::Deadlock,
+    ErrorKind::CrossesDevices, ErrorKind::TooManyLinks, ErrorKind::InvalidFilename, ErrorKind::ArgumentListTooLong,
+    ErrorKind::Interrupted, ErrorKind::Unsupported, ErrorKind::UnexpectedEof, ErrorKind::OutOfMemory,
+    ErrorKind::InProgress, ErrorKind::Other, ErrorKind::Uncategorized,
 ];
 
 #[test]

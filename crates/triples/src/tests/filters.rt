@@ -17,15 +17,18 @@ const SIZES: [usize; 6] = [1, 2, 39, 40, 64, 65536];
 /// How many bytes a read gives or a write takes at most.
 const PIECES: [usize; 3] = [1, 7, usize::MAX];
 
+/// Room for the answers to all rows.
+const AMPLE_ROOM: usize = 4096;
+
 fn filter_trace(
     alloc: Global,
-    (mode, size): (LineMode, usize),
+    (mode, size, more): (LineMode, usize, usize),
     reader: Faulty<'_>,
     writer: Faulty<'_>,
     output: &[u8],
 ) -> Trace<FilterError> {
     let mut buffer = vec![in alloc; 0u8; size].ok()?;
-    let mut room = vec![in alloc; 0u8; size.checked_add(ANSWER_ROOM)?].ok()?;
+    let mut room = vec![in alloc; 0u8; size.checked_add(more)?].ok()?;
     if buffer.is_empty() || room.len() < buffer.len().checked_add(ANSWER_ROOM)? {
         return None;
     }
@@ -60,7 +63,41 @@ fn expected(alloc: Global, size: usize, input: &str, output: &str) -> Option<Vec
     Some(bytes)
 }
 
-/// A filter writes what a run writes, however many bytes come at once, and flushes once.
+/// How many reads give the input, of at most `piece` bytes each, and how many writes its answers take, if each is whole: one
+/// after each read in which a line ends, and one for a last line that doesn't end.
+fn calls(size: usize, piece: usize, input: &[u8]) -> (usize, usize) {
+    let mut rest = input;
+    let mut reads = 1usize;
+    let mut writes = 0usize;
+    let mut held = 0usize;
+    let mut is_late = false;
+    for _ in 0..input.len() {
+        if rest.is_empty() {
+            break;
+        }
+        let count = piece.min(size.saturating_sub(held)).min(rest.len());
+        let (given, later) = rest.split_at(count);
+        rest = later;
+        reads = reads.saturating_add(1);
+        match given.rsplit(|b| *b == b'\n').next() {
+            Some(last) if last.len() < count => {
+                writes = writes.saturating_add(1);
+                held = last.len();
+                is_late = false;
+            }
+            _ => held = held.saturating_add(count),
+        }
+        is_late = is_late || held == size;
+        if is_late {
+            held = 0;
+        }
+    }
+    let has_rest = is_late || held > 0;
+    (reads, writes.saturating_add(usize::from(has_rest)))
+}
+
+/// A filter writes what a run writes, however many bytes come at once, makes no more reads and writes than that takes, and
+/// flushes once.
 #[test]
 fn filters_answer_as_runs(rt: HostRuntime) {
     let alloc = rt.alloc();
@@ -73,14 +110,17 @@ fn filters_answer_as_runs(rt: HostRuntime) {
                 panic!(rt; "out of memory");
             };
             for piece in PIECES {
-                let mut reader = Faulty::sound(alloc, input.as_bytes());
-                reader.most = piece;
-                let mut writer = Faulty::sound(alloc, b"");
-                writer.most = piece;
-                let found = filter_trace(alloc, (mode, size), reader, writer, &output);
-                let is_expected =
-                    matches!(found, Some((Ok(()), _, _, 1, kept)) if kept == output.len());
-                assert!(rt; is_expected, "{mode:?} {size} {piece}");
+                let (reads, writes) = calls(size, piece, input.as_bytes());
+                for (most, more) in [(piece, ANSWER_ROOM), (usize::MAX, AMPLE_ROOM)] {
+                    let mut reader = Faulty::sound(alloc, input.as_bytes());
+                    reader.most = piece;
+                    let mut writer = Faulty::sound(alloc, b"");
+                    writer.most = most;
+                    let found = filter_trace(alloc, (mode, size, more), reader, writer, &output);
+                    let is_expected = matches!(found, Some((Ok(()), read, written, 1, kept))
+                        if read == reads && kept == output.len() && (more == ANSWER_ROOM || written == writes));
+                    assert!(rt; is_expected, "{mode:?} {size} {piece} {most}");
+                }
             }
         }
     }
@@ -128,7 +168,7 @@ fn each_read_of_a_filter_fails_in_turn(rt: HostRuntime) {
             let writer = Faulty::sound(alloc, b"");
             let found = filter_trace(
                 alloc,
-                (LineMode::Print, 64),
+                (LineMode::Print, 64, ANSWER_ROOM),
                 reader,
                 writer,
                 output.as_bytes(),
@@ -155,7 +195,7 @@ fn each_write_of_a_filter_fails_in_turn(rt: HostRuntime) {
             writer.flush = Err(ErrorKind::BrokenPipe);
             let found = filter_trace(
                 alloc,
-                (LineMode::Print, 64),
+                (LineMode::Print, 64, ANSWER_ROOM),
                 reader,
                 writer,
                 output.as_bytes(),

@@ -38,7 +38,7 @@ impl Answer for Options<'_> {
         write!(out, "{separator}{}", self.triple.rustc_cfg())
     }
 
-    fn members(&self) -> Object {
+    fn members(&self) -> Object<'_> {
         let cfg = self.triple.rustc_cfg();
         let families = cfg.target_family.iter().map(|family| Json::from(*family));
         vec![

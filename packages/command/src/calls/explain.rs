@@ -3,6 +3,7 @@ use super::*;
 use crate::fields::{name_of, version};
 use crate::reader::{note_of_others, Parsed};
 use target_lexicon::{Field, Source};
+use target_names::vendor_suggestion;
 
 pub fn command() -> Command {
     of_targets(
@@ -39,7 +40,7 @@ impl Explained<'_> {
             Field::BinaryFormat => sources.binary_format,
         };
         let own = match field {
-            Field::OperatingSystem => triple.operating_system.to_string(),
+            Field::OperatingSystem => triple.operating_system.to_string().into(),
             _ => name_of(triple, field),
         };
         match source {
@@ -56,7 +57,7 @@ impl Answer for Explained<'_> {
         let triple = &self.parsed.triple;
         let value = |field| match (field, version(triple)) {
             (Field::OperatingSystem, Some(version)) => {
-                format!("{} {version}", name_of(triple, field))
+                format!("{} {version}", name_of(triple, field)).into()
             }
             _ => name_of(triple, field),
         };
@@ -82,8 +83,7 @@ impl Answer for Explained<'_> {
             }
         }
         let vendor = triple.vendor;
-        let suggestion = triple
-            .vendor_suggestion()
+        let suggestion = vendor_suggestion(triple)
             .map(|name| format!("`{vendor}` is a custom vendor; did you mean `{name}`?"));
         let others = note_of_others(self.text).filter(|_| vendor.is_custom());
         for note in suggestion.into_iter().chain(others) {
@@ -92,7 +92,7 @@ impl Answer for Explained<'_> {
         Ok(())
     }
 
-    fn members(&self) -> Object {
+    fn members(&self) -> Object<'_> {
         let triple = &self.parsed.triple;
         let mut members: Object = Vec::new();
         for (key, field) in FIELDS {
@@ -108,7 +108,7 @@ impl Answer for Explained<'_> {
             }
         }
         members.push(("has_custom_vendor", triple.vendor.is_custom().into()));
-        let suggestion = triple.vendor_suggestion().map(|it| it.to_string());
+        let suggestion = vendor_suggestion(triple).map(|it| it.to_string());
         members.push(("suggestion", suggestion.into()));
         members
     }

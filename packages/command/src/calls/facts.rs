@@ -49,7 +49,7 @@ impl Answer for FactsOf<'_> {
     }
 
     /// Each fact, with the name that it has in every language.
-    fn members(&self) -> Object {
+    fn members(&self) -> Object<'_> {
         let triple = &self.triple;
         let mut members: Object = Vec::new();
         for (key, field) in FIELDS {

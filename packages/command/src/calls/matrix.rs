@@ -23,7 +23,7 @@ struct Row {
     target: String,
     count: usize,
     /// The targets that came to this, and their places: the first one, or all.
-    from: Vec<(Object, String)>,
+    from: Vec<(Json<'static>, String)>,
 }
 
 pub struct Matrix {
@@ -69,7 +69,8 @@ impl Matrix {
         let row = &mut self.rows[row];
         row.count += 1;
         if self.keeps_places || row.count == 1 {
-            row.from.push((target.members(), target.place.to_string()));
+            let members = Json::Object(target.members()).into_owned();
+            row.from.push((members, target.place.to_string()));
         }
     }
 }
@@ -82,11 +83,8 @@ impl Row {
         format!("{canonical}\t{target}\t{count}\t{}", places.join(" "))
     }
 
-    fn members(self) -> Object {
-        let from = self
-            .from
-            .into_iter()
-            .map(|(object, _)| Json::Object(object));
+    fn members(self) -> Object<'static> {
+        let from = self.from.into_iter().map(|(object, _)| object);
         vec![
             ("canonical", self.canonical.into()),
             ("target", self.target.into()),

@@ -65,7 +65,7 @@ pub trait Answer {
     fn write(&self, out: &mut dyn Write) -> io::Result<()>;
 
     /// What an object has after the members of the target.
-    fn members(&self) -> Object;
+    fn members(&self) -> Object<'_>;
 }
 
 impl<'a, T: Answer + 'a> From<T> for Answered<'a> {

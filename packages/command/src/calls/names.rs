@@ -3,6 +3,7 @@ use super::*;
 use crate::arguments::{dialect_of, dialects};
 use clap::builder::PossibleValuesParser;
 use clap::Arg;
+use target_names::known_names;
 
 /// The word for the names of the dialects.
 const DIALECTS: &str = "dialects";
@@ -44,8 +45,7 @@ fn write_names(out: &mut dyn Write, arguments: &ArgMatches) -> io::Result<()> {
             Some(requested) if requested == key => "",
             Some(_) => continue,
         };
-        field
-            .names()
+        known_names(field)
             .iter()
             .try_for_each(|name| writeln!(out, "{indent}{name}"))?;
     }

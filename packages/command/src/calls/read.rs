@@ -72,15 +72,15 @@ impl Answer for Meaning<'_> {
         Ok(())
     }
 
-    fn members(&self) -> Object {
-        let members = |change: Change<'_>| {
+    fn members(&self) -> Object<'_> {
+        fn members(change: Change<'_>) -> Json<'_> {
             Json::Object(vec![
                 ("part", change.part.text.into()),
                 ("start", change.part.start.into()),
                 ("end", change.part.range().end.into()),
                 ("read_as", change.names.to_string().into()),
             ])
-        };
+        }
         let changes = self.spelling.map(|it| changes(it).map(members).collect());
         vec![
             ("canonical", canonical(self.triple).to_string().into()),

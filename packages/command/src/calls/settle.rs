@@ -27,7 +27,7 @@ impl Answer for Canonical<'_> {
         writeln!(out, "{}", canonical(self.0))
     }
 
-    fn members(&self) -> Object {
+    fn members(&self) -> Object<'_> {
         vec![("canonical", canonical(self.0).to_string().into())]
     }
 }

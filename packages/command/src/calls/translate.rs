@@ -65,7 +65,7 @@ impl Translate {
     }
 
     fn name<'a>(&self, text: &'a str, reader: &Reader) -> Result<Name, Refusal<'a>> {
-        let (to, libc) = (self.to, reader.libc);
+        let to = self.to;
         let unwritten = |error| Refusal::of_written(text, to, error);
         if !self.versions.is_empty() {
             let (triple, _) = reader.meaning(text)?;
@@ -73,10 +73,13 @@ impl Translate {
         }
         let Some(from) = reader.from else {
             let triple = reader.parse(text)?.triple;
+            let libc = reader.libc_for(triple);
             let name = to.write_with(triple, libc).map_err(unwritten)?;
             reader.needs_libc_if(|| to.write(triple) != Some(name));
             return Ok(name);
         };
+        let meant = from.read_loosely(text);
+        let libc = meant.map_or(reader.libc, |triple| reader.libc_for(triple));
         let name = from
             .translate(text, libc, to)
             .map_err(|error| match error {
@@ -103,7 +106,7 @@ impl Answer for Name {
         writeln!(out, "{self}")
     }
 
-    fn members(&self) -> Object {
+    fn members(&self) -> Object<'_> {
         vec![("name", self.as_str().into())]
     }
 }

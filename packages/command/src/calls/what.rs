@@ -3,7 +3,7 @@ use super::*;
 use crate::arguments::written;
 use crate::refusal::reason;
 use target_lexicon::{OperatingSystem, VendorRef};
-use target_names::{hint, meanings, Dialect, Hint, LinuxLibc, Meaning};
+use target_names::{meanings, vendor_suggestion, Dialect, Evidence, LinuxLibc, Meaning};
 
 pub fn command() -> Command {
     of_targets(
@@ -91,15 +91,13 @@ impl<'a> Meanings<'a> {
         }
         let has_system = |it: &TripleRef<'_>| !matches!(it.operating_system, None_ | Unknown);
         let is_known = |it: &TripleRef<'_>| !it.vendor.is_custom() && has_system(it);
-        let hint = match hint(self.text) {
-            Some(Hint::Triple(it)) if !self.meanings.iter().any(|(it, _)| is_known(it)) => Some(it),
-            _ => None,
-        };
+        let is_known = self.meanings.iter().any(|(it, _)| is_known(it));
+        let hint = Evidence::of(self.text).triple().filter(|_| !is_known);
         let VendorRef::Custom(vendor) = triple.vendor else {
             let hint = hint.filter(|it| !has_system(triple) && has_system(it));
             return hint.map(|it| format!("it has no system; did you mean `{it}`?"));
         };
-        let vendor_meant = triple.vendor_suggestion().map(|it| it.to_string());
+        let vendor_meant = vendor_suggestion(triple).map(|it| it.to_string());
         let meant = vendor_meant.or_else(|| hint.map(|it| it.to_string()));
         let meant = meant.map_or(String::new(), |it| format!("; did you mean `{it}`?"));
         Some(format!("`{vendor}` is a custom vendor{meant}"))
@@ -139,7 +137,7 @@ impl Answer for Meanings<'_> {
         })
     }
 
-    fn members(&self) -> Object {
+    fn members(&self) -> Object<'_> {
         let meaning = |(triple, tools): &(TripleRef<'_>, Vec<&'static str>)| {
             let (mut names, mut reasons) = (Object::new(), Object::new());
             for dialect in written() {

@@ -1,5 +1,5 @@
 # SPDX-License-Identifier: Apache-2.0 WITH LLVM-exception
-"""Target triples such as `x86_64-unknown-linux-gnu`, with a verified library.
+"""Target triples such as `x86_64-unknown-linux-gnu`: parsing, canonical forms, and the names of other tools.
 
 >>> triple = Triple("wasm32-unknown-wasi")
 >>> print(triple, triple.pointer_width, triple.binary_format)
@@ -9,16 +9,16 @@ wasm32-wasi 32 wasm
 field. `Triple.read` and `Triple.name_in` know the names of other tools, `translate` leads from one to another, and `meanings` says
 whose name a string is. `settle_all` and `facts_all` answer for a column of targets.
 """
-from ._columns import facts_all, settle_all
+from ._columns import Errors, facts_all, settle_all
 from ._errors import ParseError
 from ._explain import Explanation, Origin, Source, explain
 from ._facts import ArmProfile, CallingConvention, CLibrary, DataModel, Endianness, Facts, FloatAbi, Signedness
 from ._fields import CustomVendor
 from ._library import LIBRARY_PATH, LIBRARY_VERSION, LibraryError
 from ._library import VERSION as __version__
-from ._names import Dialect, LinuxLibc
+from ._names import Dialect, DialectName, LinuxLibc, LinuxLibcName
 from ._translation import Change, Meaning, TranslationError, changes, meanings, translate
-from ._triple import Keep, Triple
+from ._triple import Keep, Triple, Version
 from ._values import Architecture, BinaryFormat, Environment, Family, OperatingSystem, Vendor
 
 __all__ = [
@@ -33,8 +33,10 @@ __all__ = [
     "CustomVendor",
     "DataModel",
     "Dialect",
+    "DialectName",
     "Endianness",
     "Environment",
+    "Errors",
     "Explanation",
     "Facts",
     "Family",
@@ -42,6 +44,7 @@ __all__ = [
     "Keep",
     "LibraryError",
     "LinuxLibc",
+    "LinuxLibcName",
     "Meaning",
     "OperatingSystem",
     "Origin",
@@ -51,6 +54,7 @@ __all__ = [
     "TranslationError",
     "Triple",
     "Vendor",
+    "Version",
     "__version__",
     "changes",
     "explain",

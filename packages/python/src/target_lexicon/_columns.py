@@ -30,7 +30,7 @@ _in_order = itemgetter(*map(_names.FACT_NAMES.index, FACTS))
 _value_of: Callable[[Sequence[Any], int], Any] = getitem
 
 
-def settle_all(targets: Iterable[str], errors: Errors = "raise") -> List[Optional[str]]:
+def settle_all(targets: Iterable[Optional[str]], errors: Errors = "raise") -> List[Optional[str]]:
     """The canonical string of each target, or None for one that is refused. Much faster than a loop over `Triple`.
 
     >>> settle_all(["arm64-linux-gnu", "aarch64-unknown-linux-gnu", "x86_64-pc-linx"])
@@ -43,7 +43,7 @@ def settle_all(targets: Iterable[str], errors: Errors = "raise") -> List[Optiona
     return _each(targets, errors, _canonical_texts)
 
 
-def facts_all(targets: Iterable[str], errors: Errors = "raise") -> List[Facts]:
+def facts_all(targets: Iterable[Optional[str]], errors: Errors = "raise") -> List[Facts]:
     """All answers about each target. Of one that is refused every answer is None.
 
     >>> [it.pointer_width for it in facts_all(["arm64-linux-gnu", "avr", "x86_64-pc-linx"])]
@@ -54,7 +54,7 @@ def facts_all(targets: Iterable[str], errors: Errors = "raise") -> List[Facts]:
     return _each(targets, errors, _facts_of_texts)
 
 
-def _each(targets: Iterable[str], errors: Errors, answers_of: Callable[[Sequence[str]], List[Answer]]) -> List[Answer]:
+def _each(targets: Iterable[Any], errors: Errors, answers_of: Callable[[Sequence[str]], List[Answer]]) -> List[Answer]:
     """The answer for each target, by a function that answers for many. It isn't asked again for what is remembered."""
     if isinstance(targets, str):
         raise TypeError("the targets must be an iterable of str, not one str")

@@ -2,7 +2,7 @@
 from __future__ import annotations
 
 import ctypes
-from typing import Callable, Optional, Tuple, Union
+from typing import Optional, Tuple, Union
 
 from . import _library, _names
 from ._dialects import dialect_number
@@ -103,34 +103,29 @@ class ParseError(ValueError):
         return f"Lone surrogate: {part}" if status == _names.NOT_UTF8 else _library.error_line(status, part)
 
     def __str__(self) -> str:
-        note = other_calls(self, lambda it: f"Triple.read(text, {it.value!r})" if it else "Triple.read(text)")
-        return self.report + (f"\n  note: {note}" if note else "")
-
-    @property
-    def report(self) -> str:
-        """The message without the note that names the calls that read the string, where it is a name of another tool."""
         part = shown(self.part if len(self.part) <= _SHOWN_PART else self.part[:_SHOWN_PART] + "...")
         before, after = self.text[: self.start], self.text[self.end:]
         begin = shown(before if len(before) <= _SHOWN_BEFORE else "..." + before[-_SHOWN_BEFORE:])
         end = shown(after if len(after) <= _SHOWN_AFTER else after[:_SHOWN_AFTER] + "...")
         name, reason = self.suggestion, self.reason
         hint = f" did you mean `{name}`?" if name else f" {reason}" if reason else ""
-        return f"{self._line(part)}\n  {begin}{part}{end}\n  {' ' * len(begin)}{'^' * max(1, len(part))}{hint}"
+        note = self._note()
+        return (f"{self._line(part)}\n  {begin}{part}{end}\n  {' ' * len(begin)}{'^' * max(1, len(part))}{hint}"
+                + (f"\n  note: {note}" if note else ""))
 
-
-def other_calls(error: ParseError, call: Callable[[Optional[Dialect]], str]) -> Optional[str]:
-    """That other tools have a refused string as a name, and by which calls it is read, or why no triple means it. None if nobody has it."""
-    if error.dialect is not None or error.start > 0:  # what begins with an architecture has a suggestion
-        return None
-    utf8 = error.text.encode(errors="replace")
-    dialects, calls, reasons = (None, *Dialect), [], []
-    for number, triple in _library.meanings(ctypes.create_string_buffer(utf8, len(utf8))):
-        dialect = dialects[number]
-        if triple is None:
-            reasons.append(f"it is a name of {dialect} without a triple: {_library.reason(number, utf8)}")
-        elif dialect is not Dialect.GNU:  # whose names are spelled like triples
-            calls.append(call(dialect))
-    return f"it is a name of another tool: use {' or '.join(calls)}" if calls else reasons[0] if reasons else None
+    def _note(self) -> Optional[str]:
+        """That other tools have the string as a name, and by which calls it is read, or why no triple means it. None if nobody has it."""
+        if self.dialect is not None or self.start > 0:  # what begins with an architecture has a suggestion
+            return None
+        utf8 = self.text.encode(errors="replace")
+        dialects, calls, reasons = (None, *Dialect), [], []
+        for number, _ in _library.meanings(ctypes.create_string_buffer(utf8, len(utf8))):
+            dialect, reason = dialects[number], _library.reason(number, utf8)
+            if reason is not None:  # also of a name that means several triples
+                reasons.append(f"it is a name of {dialect} without a triple: {reason}")
+            elif dialect is not Dialect.GNU:  # whose names are spelled like triples
+                calls.append(f"Triple.read(text, {dialect.value!r})" if dialect else "Triple.read(text)")
+        return f"it is a name of another tool: use {' or '.join(calls)}" if calls else reasons[0] if reasons else None
 
 
 def encoded(text: object, what: str) -> bytes:

@@ -19,6 +19,7 @@ class CallingConvention(NamedValue):
 
     SYSTEM_V = "SystemV"
     WASM_BASIC_C_ABI = "WasmBasicCAbi"
+    #: Upstream's name for what C has on Windows: Microsoft's x64 convention, and on i686 cdecl, which isn't __fastcall.
     WINDOWS_FASTCALL = "WindowsFastcall"
     APPLE_AARCH64 = "AppleAarch64"
 

@@ -77,7 +77,7 @@ class CustomVendor(Immutable, str):
 
     @classmethod
     def _of(cls, text: str) -> CustomVendor:
-        return str.__new__(cls, text)
+        return str.__new__(cls, str.__str__(text))  # a subclass may answer otherwise than the string that was parsed
 
     @property
     def text(self) -> str:

@@ -9,6 +9,7 @@ from __future__ import annotations
 import ctypes
 import itertools
 import os
+import sys
 from ctypes import POINTER, Structure, c_bool, c_char, c_char_p, c_size_t, c_uint8, c_uint16, c_uint32, c_void_p
 from typing import TYPE_CHECKING, Any, Callable, Iterator, List, Optional, Sequence, Tuple
 
@@ -97,12 +98,8 @@ def _candidates() -> Iterator[str]:
     elif os.environ.get("TARGET_LEXICON_LIBRARY"):
         yield os.environ["TARGET_LEXICON_LIBRARY"]
     else:
-        yield _NAME
-        import ctypes.util  # which takes a sixth of the time of the package
-
-        found = ctypes.util.find_library("target_lexicon")
-        if found is not None:
-            yield found
+        # Not by `ctypes.util.find_library`, which runs the compilers that it finds on the path.
+        yield {"darwin": f"libtarget_lexicon.{_CALLS_VERSION}.dylib", "win32": "target_lexicon.dll"}.get(sys.platform, _NAME)
 
 
 def _load() -> Tuple[str, ctypes.CDLL]:

@@ -4,12 +4,20 @@ from __future__ import annotations
 import enum
 import functools
 from importlib import import_module
-from typing import TYPE_CHECKING, Any, Optional, Tuple, Type, TypeVar
+from typing import TYPE_CHECKING, Any, List, Optional, Tuple, Type, TypeVar
 
 Value = TypeVar("Value", bound="Immutable")
 
 
-class NamedValue(str, enum.Enum):
+class NamedType(enum.EnumMeta):
+    """What `dir` and `help` list of an enumeration: its members, and its own calls without those of `str`."""
+
+    def __dir__(cls) -> List[str]:
+        of_classes = (vars(it) for it in cls.__mro__ if it.__module__.startswith(__package__))
+        return sorted({*cls.__members__, *(name for names in of_classes for name in names if not name.startswith("_"))})
+
+
+class NamedValue(str, enum.Enum, metaclass=NamedType):
     """A value that has a name and a number. It is its name: a `str` that is equal to the name, and sorted and written as the name."""
 
     #: The number of the value in the library for C.

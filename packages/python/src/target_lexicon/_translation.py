@@ -4,7 +4,7 @@ from typing import List, NamedTuple, Optional, Tuple, Union
 
 from . import _library, _names
 from ._dialects import NO_DIALECT, dialect_number, libc_number
-from ._errors import encoded, range_in
+from ._errors import ParseError, encoded, range_in
 from ._named import shown
 from ._names import Dialect, DialectName, LinuxLibc, LinuxLibcName
 from ._triple import Triple, _triple_of
@@ -13,27 +13,39 @@ from ._triple import Triple, _triple_of
 _SHOWN = 60
 
 
-class TranslationError(ValueError):
-    """What a name means has no name in another dialect.
+class TranslationError(ParseError):
+    """What a name means has no name in another dialect. It is a `ParseError`, so that one clause catches all that `translate` refuses.
 
     >>> translate("linux/arm64", "oci", "debian")
     Traceback (most recent call last):
     target_lexicon.TranslationError: No name in the other dialect: linux/arm64: it depends on the C library: say glibc or musl
 
     `reason` says why, and what would help, and `needs_libc` whether that is `libc`. `text` is the name that is read, `source` and `target`
-    are the dialects.
+    are the dialects. The other members are those of a `ParseError` about the whole name.
     """
 
     # The name by which tracebacks and callers know it.
     __module__ = "target_lexicon"
 
     def __init__(self, text: str, source: Optional[str], target: str, needs_libc: bool, reason: str) -> None:
-        self.text, self.source, self.target, self.needs_libc, self.reason = str.__str__(text), source, target, needs_libc, reason
-        super().__init__(self.text, source, target, needs_libc, reason)
+        super().__init__(text, dialect=None if source is None else Dialect(source))
+        self.source, self.target, self.needs_libc, self._reason = source, target, needs_libc, reason
+        self.args = self.text, source, target, needs_libc, reason
+
+    @property
+    def reason(self) -> str:
+        """Why there is no name in the other dialect."""
+        return self._reason
+
+    @property
+    def suggestion(self) -> None:
+        """None: the name is known."""
+
+    def _line(self, part: str) -> str:
+        return f"{_library.error_line(_names.TRIPLE_WITHOUT_NAME, part)}: {shown(self.reason)}"
 
     def __str__(self) -> str:
-        name = self.text if len(self.text) <= _SHOWN else self.text[:_SHOWN] + "..."
-        return f"{_library.error_line(_names.TRIPLE_WITHOUT_NAME, shown(name))}: {shown(self.reason)}"
+        return self._line(shown(self.text if len(self.text) <= _SHOWN else self.text[:_SHOWN] + "..."))
 
 
 def translate(
@@ -47,7 +59,7 @@ def translate(
 
     Where `source` is None, the string is spelled like a triple. Names of Debian, GNU and rustc state the C library of Linux, and those of
     Go, container images and Python don't: from one of the latter to one of the former, say `libc`. A name that isn't read raises a
-    `ParseError`, as `Triple.read` does. What has no name in `target`, or only with a C library, raises a `TranslationError`.
+    `ParseError`, as `Triple.read` does. What has no name in `target`, or only with a C library, raises one that is a `TranslationError`.
     """
     from_number = NO_DIALECT if source is None else dialect_number(source)
     numbers = from_number, 0 if libc is None else libc_number(libc), dialect_number(target)

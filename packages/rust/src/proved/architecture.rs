@@ -244,7 +244,6 @@ impl Architecture {
     ///
     /// assert!(Architecture::Clever(CleverArchitecture::Clever).is_clever());
     /// ```
-    #[must_use]
     pub const fn is_clever(&self) -> bool {
         matches!(self, Architecture::Clever(_))
     }
@@ -264,7 +263,6 @@ impl Architecture {
     /// ```
     /// assert_eq!(target_lexicon::Architecture::Bpfel.into_str(), "bpfel");
     /// ```
-    #[must_use]
     #[cfg(feature = "alloc")]
     pub fn into_str(self) -> Cow<'static, str> {
         Cow::Borrowed(self.name())

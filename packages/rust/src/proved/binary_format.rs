@@ -50,7 +50,6 @@ impl BinaryFormat {
     /// ```
     /// assert_eq!(target_lexicon::BinaryFormat::Elf.into_str(), "elf");
     /// ```
-    #[must_use]
     #[cfg(feature = "alloc")]
     pub fn into_str(self) -> Cow<'static, str> {
         Cow::Borrowed(self.name())

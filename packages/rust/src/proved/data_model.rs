@@ -30,7 +30,6 @@ impl Size {
     /// ```
     /// assert_eq!(target_lexicon::Size::U16.bits(), 16);
     /// ```
-    #[must_use]
     pub const fn bits(self) -> u8 {
         match self {
             Size::U8 => 8,
@@ -47,7 +46,6 @@ impl Size {
     /// ```
     /// assert_eq!(target_lexicon::Size::U16.bytes(), 2);
     /// ```
-    #[must_use]
     pub const fn bytes(self) -> u8 {
         match self {
             Size::U8 => 1,
@@ -104,7 +102,6 @@ impl CDataModel {
     ///
     /// assert_eq!(CDataModel::LLP64.pointer_width(), Size::U64);
     /// ```
-    #[must_use]
     pub const fn pointer_width(self) -> Size {
         match self {
             CDataModel::LP32 | CDataModel::ILP32 => Size::U32,
@@ -121,7 +118,6 @@ impl CDataModel {
     ///
     /// assert_eq!(CDataModel::LLP64.short_size(), Size::U16);
     /// ```
-    #[must_use]
     pub const fn short_size(self) -> Size {
         match self {
             CDataModel::LP32
@@ -141,7 +137,6 @@ impl CDataModel {
     ///
     /// assert_eq!(CDataModel::LLP64.int_size(), Size::U32);
     /// ```
-    #[must_use]
     pub const fn int_size(self) -> Size {
         match self {
             CDataModel::LP32 => Size::U16,
@@ -159,7 +154,6 @@ impl CDataModel {
     ///
     /// assert_eq!(CDataModel::LLP64.long_size(), Size::U32);
     /// ```
-    #[must_use]
     pub const fn long_size(self) -> Size {
         match self {
             CDataModel::LP32 | CDataModel::ILP32 | CDataModel::LLP64 => Size::U32,
@@ -176,7 +170,6 @@ impl CDataModel {
     ///
     /// assert_eq!(CDataModel::LLP64.long_long_size(), Size::U64);
     /// ```
-    #[must_use]
     pub const fn long_long_size(self) -> Size {
         match self {
             CDataModel::LP32
@@ -196,7 +189,6 @@ impl CDataModel {
     ///
     /// assert_eq!(CDataModel::LLP64.float_size(), Size::U32);
     /// ```
-    #[must_use]
     pub const fn float_size(self) -> Size {
         Size::U32
     }
@@ -210,7 +202,6 @@ impl CDataModel {
     ///
     /// assert_eq!(CDataModel::LLP64.double_size(), Size::U64);
     /// ```
-    #[must_use]
     pub const fn double_size(self) -> Size {
         Size::U64
     }

@@ -17,7 +17,6 @@ use crate::proved::{Architecture, BinaryFormat, Environment, OperatingSystem};
 /// triple.operating_system = OperatingSystem::Windows;
 /// assert_eq!(default_binary_format(&triple), BinaryFormat::Coff);
 /// ```
-#[must_use]
 pub fn default_binary_format(triple: &Triple) -> BinaryFormat {
     triple.as_triple_ref().default_binary_format()
 }

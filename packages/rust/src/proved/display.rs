@@ -123,16 +123,7 @@ impl<'a> TripleRef<'a> {
     fn shows_environment(&self) -> bool {
         match self.environment {
             Environment::Unknown => false,
-            Environment::Newlib => !matches!(
-                (self.vendor, self.operating_system),
-                (
-                    VendorRef::Known(KnownVendor::Nintendo),
-                    OperatingSystem::Horizon
-                ) | (
-                    VendorRef::Known(KnownVendor::Espressif),
-                    OperatingSystem::Espidf
-                )
-            ),
+            Environment::Newlib => !self.implies_newlib(),
             _ => true,
         }
     }

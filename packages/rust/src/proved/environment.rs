@@ -108,7 +108,6 @@ impl Environment {
     /// ```
     /// assert_eq!(target_lexicon::Environment::Msvc.into_str(), "msvc");
     /// ```
-    #[must_use]
     #[cfg(feature = "alloc")]
     pub fn into_str(self) -> Cow<'static, str> {
         Cow::Borrowed(self.name())

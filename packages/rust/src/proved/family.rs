@@ -3,8 +3,7 @@
 
 use crate::proved::triple_ref::TripleRef;
 use crate::proved::{
-    Architecture, ArmArchitecture, BinaryFormat, Environment, KnownVendor, OperatingSystem,
-    Riscv32Architecture, VendorRef,
+    Architecture, BinaryFormat, Environment, OperatingSystem, Riscv32Architecture, VendorRef,
 };
 
 /// A family of triples that don't come back: printed and parsed again, they are another triple or none.
@@ -20,11 +19,11 @@ use crate::proved::{
 #[non_exhaustive]
 #[derive(Clone, Copy, Debug, PartialEq, Eq, Hash)]
 pub enum RoundTripFamily {
-    /// The first three fields are those of `armv6k-nintendo-3ds` or `riscv32imc-esp-espidf`, which is printed, and
-    /// environment and format aren't `Newlib` and `Elf`.
+    /// The first three fields are those of a special string, such as `armv6k-nintendo-3ds`, which is printed, and environment and
+    /// format aren't `Newlib` and `Elf`.
     PrintsAsSpecial,
-    /// Vendor and system are those of one of these two, and the environment is `Newlib`, which isn't shown, but the
-    /// architecture is another.
+    /// Vendor and system are those of a special string, and the environment is `Newlib`, which isn't shown, but the architecture is
+    /// another.
     HidesNewlib,
     /// The string is `riscv32imc-esp-espidf`, but the vendor is the custom `esp`.
     PrintsTheEspIdfText,
@@ -47,8 +46,12 @@ impl TripleRef<'_> {
     /// ```
     #[must_use]
     pub fn round_trip_family(&self) -> Option<RoundTripFamily> {
-        if self.prints_as_special() {
-            Some(RoundTripFamily::PrintsAsSpecial)
+        if self.special_text().is_some() {
+            if self.has_newlib_and_elf() {
+                None
+            } else {
+                Some(RoundTripFamily::PrintsAsSpecial)
+            }
         } else if self.hides_newlib() {
             Some(RoundTripFamily::HidesNewlib)
         } else if self.prints_the_esp_idf_text() {
@@ -62,12 +65,7 @@ impl TripleRef<'_> {
         }
     }
 
-    /// Whether the first three fields are those of a special string, which is printed.
-    fn has_special_fields(&self) -> bool {
-        self.special_text().is_some()
-    }
-
-    /// Whether environment and format are those of both special strings.
+    /// Whether environment and format are those of every special string.
     fn has_newlib_and_elf(&self) -> bool {
         matches!(
             (self.environment, self.binary_format),
@@ -75,32 +73,9 @@ impl TripleRef<'_> {
         )
     }
 
-    /// Whether a special string is printed, and environment and format aren't `Newlib` and `Elf`.
-    fn prints_as_special(&self) -> bool {
-        self.has_special_fields() && !self.has_newlib_and_elf()
-    }
-
-    /// Whether the environment is a `Newlib` that isn't shown, and the string isn't special.
+    /// Whether the environment is a `Newlib` that vendor and system imply. Where no special string is printed, it isn't shown.
     fn hides_newlib(&self) -> bool {
-        match (self.vendor, self.operating_system, self.environment) {
-            (
-                VendorRef::Known(KnownVendor::Nintendo),
-                OperatingSystem::Horizon,
-                Environment::Newlib,
-            ) => !matches!(
-                self.architecture,
-                Architecture::Arm(ArmArchitecture::Armv6k)
-            ),
-            (
-                VendorRef::Known(KnownVendor::Espressif),
-                OperatingSystem::Espidf,
-                Environment::Newlib,
-            ) => !matches!(
-                self.architecture,
-                Architecture::Riscv32(Riscv32Architecture::Riscv32imc)
-            ),
-            _ => false,
-        }
+        matches!(self.environment, Environment::Newlib) && self.implies_newlib()
     }
 
     /// Whether the vendor is the custom `esp`, and the string is the special one.

@@ -153,7 +153,6 @@ impl OperatingSystem {
     /// assert!(OperatingSystem::TvOS(None).is_like_darwin());
     /// assert!(!OperatingSystem::Linux.is_like_darwin());
     /// ```
-    #[must_use]
     pub const fn is_like_darwin(&self) -> bool {
         matches!(
             self,

@@ -29,7 +29,6 @@ impl PointerWidth {
     /// ```
     /// assert_eq!(target_lexicon::PointerWidth::U32.bits(), 32);
     /// ```
-    #[must_use]
     pub const fn bits(self) -> u8 {
         match self {
             PointerWidth::U16 => 16,
@@ -45,7 +44,6 @@ impl PointerWidth {
     /// ```
     /// assert_eq!(target_lexicon::PointerWidth::U32.bytes(), 4);
     /// ```
-    #[must_use]
     pub const fn bytes(self) -> u8 {
         match self {
             PointerWidth::U16 => 2,

@@ -8,7 +8,6 @@ use crate::proved::refusal::Refusal;
 use crate::proved::triple_ref::TripleRef;
 
 /// The first part of a string, and what follows its dash, if it has one.
-#[must_use]
 #[inline(always)]
 pub fn first_part(text: &str) -> (&str, Option<&str>) {
     match text.as_bytes().iter().position(|&byte| byte == b'-') {
@@ -23,7 +22,6 @@ pub fn first_part(text: &str) -> (&str, Option<&str>) {
 /// A part is of the first field that it parses as, of those after the field of the part before it. So `nuttx` in
 /// `armv7a-nuttx-eabi` is the vendor, since it is the name of no field. The whole of a special string gives all five
 /// fields; its parts have none of their own.
-#[must_use]
 #[inline(always)]
 pub fn explain(text: &str) -> Explanation<'_> {
     if let Some(triple) = TripleRef::from_special_text(text) {

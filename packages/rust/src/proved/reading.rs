@@ -16,7 +16,6 @@ pub struct Reading<'a> {
 }
 
 impl<'a> Reading<'a> {
-    #[must_use]
     pub fn start() -> Reading<'a> {
         Reading {
             expected: Some(Field::Architecture),
@@ -141,7 +140,6 @@ impl<'a> Reading<'a> {
     }
 
     /// The triple of the parts so far, and its sources. Without a binary format it has the implied one.
-    #[must_use]
     #[inline(always)]
     pub fn finish(self) -> (TripleRef<'a>, Sources<'a>) {
         let mut triple = self.triple;

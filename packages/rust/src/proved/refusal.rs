@@ -62,7 +62,6 @@ impl Refusal<'_> {
 }
 
 /// The words of a refusal's line before the part, such as `Unrecognized vendor: `.
-#[must_use]
 pub fn refusal_prefix(expected: Option<Field>) -> &'static str {
     match expected {
         Some(Field::Architecture) => "Unrecognized architecture: ",

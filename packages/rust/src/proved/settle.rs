@@ -36,6 +36,7 @@ impl<'a> TripleRef<'a> {
     /// ```
     #[must_use]
     #[inline]
+    #[cfg(not(feature = "upstream_printing"))]
     pub fn comes_back(&self) -> bool {
         self.round_trip_family().is_none()
     }

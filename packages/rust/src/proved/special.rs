@@ -1,28 +1,24 @@
 // @generated: erased from crates/target_lexicon/src/special.rt by tools/erase. Don't edit it here.
-//! The two strings that have a triple of their own.
+//! The strings that have a triple of their own.
 
 use crate::proved::triple_ref::TripleRef;
 use crate::proved::{
-    Architecture, ArmArchitecture, BinaryFormat, Environment, KnownVendor, OperatingSystem,
-    Riscv32Architecture, VendorRef,
+    Architecture, BinaryFormat, Environment, KnownVendor, OperatingSystem, VendorRef,
 };
-
-const NINTENDO_3DS: &str = "armv6k-nintendo-3ds";
-
-const ESP_IDF: &str = "riscv32imc-esp-espidf";
+use crate::proved::{ArmArchitecture, Riscv32Architecture};
 
 impl<'a> TripleRef<'a> {
     /// The triple of a special string.
     pub(crate) fn from_special_text(text: &str) -> Option<TripleRef<'a>> {
         match text {
-            NINTENDO_3DS => Some(TripleRef {
+            "armv6k-nintendo-3ds" => Some(TripleRef {
                 architecture: Architecture::Arm(ArmArchitecture::Armv6k),
                 vendor: VendorRef::Known(KnownVendor::Nintendo),
                 operating_system: OperatingSystem::Horizon,
                 environment: Environment::Newlib,
                 binary_format: BinaryFormat::Elf,
             }),
-            ESP_IDF => Some(TripleRef {
+            "riscv32imc-esp-espidf" => Some(TripleRef {
                 architecture: Architecture::Riscv32(Riscv32Architecture::Riscv32imc),
                 vendor: VendorRef::Known(KnownVendor::Espressif),
                 operating_system: OperatingSystem::Espidf,
@@ -40,13 +36,22 @@ impl<'a> TripleRef<'a> {
                 Architecture::Arm(ArmArchitecture::Armv6k),
                 VendorRef::Known(KnownVendor::Nintendo),
                 OperatingSystem::Horizon,
-            ) => Some(NINTENDO_3DS),
+            ) => Some("armv6k-nintendo-3ds"),
             (
                 Architecture::Riscv32(Riscv32Architecture::Riscv32imc),
                 VendorRef::Known(KnownVendor::Espressif),
                 OperatingSystem::Espidf,
-            ) => Some(ESP_IDF),
+            ) => Some("riscv32imc-esp-espidf"),
             _ => None,
+        }
+    }
+
+    /// Whether vendor and system are those of a special string: they imply the environment `Newlib`.
+    pub(crate) fn implies_newlib(&self) -> bool {
+        match (self.vendor, self.operating_system) {
+            (VendorRef::Known(KnownVendor::Nintendo), OperatingSystem::Horizon) => true,
+            (VendorRef::Known(KnownVendor::Espressif), OperatingSystem::Espidf) => true,
+            _ => false,
         }
     }
 }

@@ -48,7 +48,6 @@ enum Meaning {
 type Row = (&'static str, Meaning);
 
 /// The row of the string, or `None` if the string is neither a fixed name nor the alias `arm64`: a binary search.
-#[must_use]
 #[inline(always)]
 pub fn fixed_row(text: &str) -> Option<FixedRow> {
     let (text, meaning) = *row_of(text)?;
@@ -114,7 +113,6 @@ fn row_of(text: &str) -> Option<&'static Row> {
 }
 
 /// The order by bytes of the string of row `i`, counted from 0, relative to `text`.
-#[must_use]
 #[inline(always)]
 pub fn row_order(i: usize, text: &str) -> Ordering {
     // before the row, so that the compilers compute it once for a whole search

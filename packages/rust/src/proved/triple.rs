@@ -40,7 +40,6 @@ impl Triple {
     ///
     /// assert_eq!(Triple::unknown().vendor, Vendor::Unknown);
     /// ```
-    #[must_use]
     pub const fn unknown() -> Self {
         Triple {
             architecture: Architecture::Unknown,

@@ -33,7 +33,6 @@ impl CustomVendor {
     /// ```
     /// assert_eq!(target_lexicon::CustomVendor::Static("acme").as_str(), "acme");
     /// ```
-    #[must_use]
     pub fn as_str(&self) -> &str {
         match self {
             #[cfg(feature = "alloc")]
@@ -114,7 +113,6 @@ impl Vendor {
     /// ```
     /// assert_eq!(target_lexicon::Vendor::Nvidia.as_str(), "nvidia");
     /// ```
-    #[must_use]
     pub fn as_str(&self) -> &str {
         self.as_vendor_ref().as_str()
     }

@@ -13,6 +13,7 @@ loop-at-init g c = record {
   searched = c.requires.searched;
   used = search rules;
   unfailed = refl;
+  moves = refl;
   written = ([], takes-none g.W.Write.contents c.args.w.now, answers-none c.args.mode c.args.is_late c.args.bytes.now);
 }
 
@@ -29,6 +30,7 @@ loop-at-preserved g c =
       searched = no-bytes;
       used = pushed-within _ c.loop-at.output c.push_line-used.new.out c.in-Ok.free c.push_line-used.result (omega (arith, room.1)) pushed.pushed;
       unfailed = room.0 ∙ inv.unfailed;
+      moves = room.5 ∙ inv.moves;
       written = (
         inv.written.0 ++ room.2,
         takes-then g.W.Write.contents c.args.w.now c.loop-at.w c.make_room.new.w inv.written.0 room.2 inv.written.1 room.3,
@@ -52,7 +54,7 @@ returns-in_default-make_room-clause-lines g c =
     let inv = c.loop-at.invariant in
     let failed = c.in_default-make_room.ensures in
     let part = takes-part g.W.Write.contents c.args.w.now c.loop-at.w c.make_room.new.w inv.written.0 (take c.loop-at.used c.loop-at.output) inv.written.1 (failed.2, failed.3) in
-    (refl, omega (arith, failed.1, inv.unfailed), inv.written.0 ++ take c.loop-at.used c.loop-at.output, c.loop-at.late, drop c.loop-at.start c.args.bytes.now, inv.written.2, part.0, part.1)
+    (refl, omega (arith, failed.1, inv.unfailed), inv.written.0 ++ take c.loop-at.used c.loop-at.output, c.loop-at.late, drop c.loop-at.start c.args.bytes.now, inv.written.2, part.0, part.1, (omega (arith, failed.4.0, inv.moves), failed.4.1))
 
 pub returns-in-Ok-write_all-clause-lines : goal.returns-in-Ok-write_all-clause-lines
 returns-in-Ok-write_all-clause-lines g c =
@@ -65,6 +67,7 @@ returns-in-Ok-write_all-clause-lines g c =
       inv.written.0 ++ take c.loop-at.used c.loop-at.output,
       takes-then g.W.Write.contents c.args.w.now c.loop-at.w c.write_all.new.writer inv.written.0 (take c.loop-at.used c.loop-at.output) inv.written.1 wrote.whole,
       inv.written.2,
+      wrote.moves ∙ inv.moves,
     )
 
 pub returns-in-Err-clause-lines : goal.returns-in-Err-clause-lines
@@ -72,4 +75,4 @@ returns-in-Err-clause-lines g c =
     let inv = c.loop-at.invariant in
     let failed = c.in-Err.ensures in
     let part = takes-part g.W.Write.contents c.args.w.now c.loop-at.w c.write_all.new.writer inv.written.0 (take c.loop-at.used c.loop-at.output) inv.written.1 failed.begun in
-    (refl, omega (arith, failed.failed.1, inv.unfailed), inv.written.0 ++ take c.loop-at.used c.loop-at.output, c.loop-at.late, drop c.loop-at.start c.args.bytes.now, inv.written.2, part.0, part.1)
+    (refl, omega (arith, failed.failed.1, inv.unfailed), inv.written.0 ++ take c.loop-at.used c.loop-at.output, c.loop-at.late, drop c.loop-at.start c.args.bytes.now, inv.written.2, part.0, part.1, (omega (arith, failed.failed.2.0, inv.moves), failed.failed.2.1))

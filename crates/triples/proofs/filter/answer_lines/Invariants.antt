@@ -1,6 +1,6 @@
 -- The lines before `start` were answered: what has gone to the writer and what is used of the buffer are their answers.
-use Rattle.std.proofs.Common.{◌≡◌, ◌-◌, ◌≤◌, ◌++◌, ℕ, List, length, take, drop}
-use Rattle.triples.specs.{FilterSteps.AnswersLines, FilterSteps.HasNoFeed, Run.Takes, Run.use_of}
+use Rattle.std.proofs.Common.{◌-◌, ◌≤◌, ◌++◌, ℕ, List, length, take, drop}
+use Rattle.triples.specs.{FilterSteps.AnswersLines, FilterSteps.HasNoFeed, Run.IsUnfailed, Run.OnlyMoves, Run.Takes, Run.use_of}
 use Rattle.triples.proofs.filter.answer_lines.Given as goal
 
 abbrev pub invariant-loop-at : goal.invariant-loop-at
@@ -9,7 +9,8 @@ invariant-loop-at g l = record {
   from : l.from ≤ length (drop l.start l.bytes);
   searched : HasNoFeed (take l.from (drop l.start l.bytes));
   used : l.used ≤ length l.output;
-  unfailed : l.w.failures.count ≡ l.initial.w.failures.count;
+  unfailed : IsUnfailed (use_of g.W.Write.contents l.initial.w l.w);
+  moves : OnlyMoves (use_of g.W.Write.contents l.initial.w l.w);
   written : (gone : List ℕ) × Takes (use_of g.W.Write.contents l.initial.w l.w) gone
       × AnswersLines l.mode l.is_late l.bytes l.late (drop l.start l.bytes) (gone ++ take l.used l.output);
 }

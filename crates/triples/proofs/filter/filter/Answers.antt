@@ -1,11 +1,11 @@
 -- The loop keeps what holds between two reads; each way out of it is one of the ends of `FilterEnds`.
-use Rattle.std.proofs.Common.{◌≡◌, ◌∙◌, ◌+◌, ◌-◌, ◌^◌, ◌<◌, ◌≤◌, ◌++◌, ℕ, List, [], length, take, drop, refl, ap, subst, arith}
+use Rattle.std.proofs.Common.{◌≡◌, ◌∙◌, ◌+◌, ◌-◌, ◌^◌, ◌<◌, ◌≤◌, ◌++◌, ℕ, List, [], ◌∷◌, length, take, drop, refl, ap, subst, arith}
 use Rattle.std.proofs.lemmas.List.{length-append, length-take}
 use Rattle.std.proofs.lemmas.Slice.{take-put_mid_below}
 use borrow.Rule.Slice.PartMut.{put_mid}
-use Rattle.triples.specs.Run.{use_of}
+use Rattle.triples.specs.{Calls.Call, Calls.After, Run.use_of, Streams.calls, Streams.moved}
 use Rattle.triples.specs.FilterSteps.{IsKept, RestAnswered}
-use Rattle.triples.proofs.FilterLoop.{between-none, between-more, between-kept, ends-read, ends-rest, ends-write, ends-endless, read-piece, length-read, none-is-end, part-length, searched-front, some-is-no-end}
+use Rattle.triples.proofs.FilterLoop.{between-none, between-more, between-kept, ends-read, ends-rest, ends-write, ends-endless, read-piece, length-read, none-is-end, none-ends, none-stops, part-length, searched-front, some-is-move, some-is-no-end, some-is-no-stop}
 use Rattle.triples.proofs.filter.filter.Goals as goal
 
 pub loop-init : goal.loop-init
@@ -21,19 +21,22 @@ loop-preserved g c =
     let read = c.in-Ok.ensures in
     let inv = c.loop.invariant in
     let kept = c.keep_rest.ensures in
-    let buffer = put_mid c.loop.held (length c.loop.input - c.loop.held) c.loop.input c.read.new.buf in
+    let buffer = put_mid c.loop.held (length c.loop.input - c.loop.held) c.loop.input c.read_after.new.buf in
     let held = take c.loop.held c.loop.input in
-    let more = take c.in-Ok.taken c.read.new.buf in
+    let more = take c.in-Ok.taken c.read_after.new.buf in
     let piece = take (c.loop.held + c.in-Ok.taken) buffer in
-    let given : length c.read.new.buf ≡ length c.loop.input - c.loop.held = c.read.auto.buf ∙ part-length c.loop.held c.loop.input in
-    let is : piece ≡ held ++ more = read-piece c.loop.held c.in-Ok.taken (length c.loop.input - c.loop.held) c.loop.input c.read.new.buf (omega (arith, inv.held)) read.bound.0 in
+    let given : length c.read_after.new.buf ≡ length c.loop.input - c.loop.held = c.read_after.auto.buf ∙ part-length c.loop.held c.loop.input in
+    let is : piece ≡ held ++ more = read-piece c.loop.held c.in-Ok.taken (length c.loop.input - c.loop.held) c.loop.input c.read_after.new.buf (omega (arith, inv.held)) read.bound.0 in
     let fits : length piece ≤ size =
-    omega (arith, ap (λ (t : List ℕ). length t) is, length-append held more, length-take c.loop.held c.loop.input, length-take c.in-Ok.taken c.read.new.buf, read.bound.0, given, inv.held, inv.same_length) in
+    omega (arith, ap (λ (t : List ℕ). length t) is, length-append held more, length-take c.loop.held c.loop.input, length-take c.in-Ok.taken c.read_after.new.buf, read.bound.0, given, inv.held, inv.same_length) in
     let some : 0 < length more = omega (arith, read.bound.1, c.if-taken-eq0.false) in
-    let whole = length-read c.loop.held c.loop.input c.read.new.buf (omega (arith, inv.held)) given in
+    let whole = length-read c.loop.held c.loop.input c.read_after.new.buf (omega (arith, inv.held)) given in
     let next =
-    between-more g.R.Read.remaining g.W.Write.contents c.args.mode size c.args.r.now c.loop.r c.read.new.self c.args.w.now c.loop.w c.answer_lines.new.w c.loop.is_late held c.loop.counter inv.state
-    more (record { moved = read.moved; known = read.bytes.0 }) (omega (arith, read.count)) (read.ended ∙ some-is-no-end c.in-Ok.taken c.read.new.buf (λ bad. omega (arith, bad, c.if-taken-eq0.false))) piece is fits
+    between-more g.R.Read.remaining g.W.Write.contents c.args.mode size c.args.r.now c.loop.r c.read_after.new.self c.args.w.now c.loop.w c.answer_lines.new.w c.loop.is_late held c.loop.counter inv.state
+    more (record { moved = read.moved; known = read.bytes.0 }) (omega (arith, read.count))
+    (omega (arith, read.stops, some-is-no-stop c.in-Ok.taken c.read_after.new.buf (λ bad. omega (arith, bad, c.if-taken-eq0.false))))
+    (read.ended ∙ some-is-no-end c.in-Ok.taken c.read_after.new.buf (λ bad. omega (arith, bad, c.if-taken-eq0.false)))
+    (read.call ∙ ap (λ (call : Call). call ∷ (After (moved c.loop.w) ∷ calls c.loop.r)) (some-is-move c.in-Ok.taken c.read_after.new.buf (λ bad. omega (arith, bad, c.if-taken-eq0.false)))) piece is fits
     c.in-Ok-answer_lines.start c.in-Ok-answer_lines.late some c.in-Ok-answer_lines.ensures.lines in
     let keeps =
     subst (λ (n : ℕ). IsKept n c.in-Ok-answer_lines.late (drop c.in-Ok-answer_lines.start piece) c.keep_rest.new.buffer c.keep_rest.result.0 c.keep_rest.result.1) (whole ∙ inv.same_length) kept.kept in
@@ -42,7 +45,7 @@ loop-preserved g c =
       same_length = kept.same_length ∙ whole ∙ inv.same_length;
       state =
           between-kept g.R.Read.remaining g.W.Write.contents c.args.mode size c.in-Ok-answer_lines.late c.keep_rest.result.1 (drop c.in-Ok-answer_lines.start piece) c.keep_rest.new.buffer
-          c.keep_rest.result.0 (use_of g.R.Read.remaining c.args.r.now c.read.new.self) (use_of g.W.Write.contents c.args.w.now c.answer_lines.new.w) (c.loop.counter + 1) keeps next;
+          c.keep_rest.result.0 (use_of g.R.Read.remaining c.args.r.now c.read_after.new.self) (use_of g.W.Write.contents c.args.w.now c.answer_lines.new.w) (c.loop.counter + 1) keeps next;
     }
 
 pub answer_lines-requires-clause-searched : goal.answer_lines-requires-clause-searched
@@ -50,16 +53,16 @@ answer_lines-requires-clause-searched g c =
     let read = c.in-Ok.ensures in
     let inv = c.loop.invariant in
     let front = take c.loop.held c.loop.input in
-    let is = read-piece c.loop.held c.in-Ok.taken (length c.loop.input - c.loop.held) c.loop.input c.read.new.buf (omega (arith, inv.held)) read.bound.0 in
-    searched-front c.loop.held front (take c.in-Ok.taken c.read.new.buf) _ (omega (arith, length-take c.loop.held c.loop.input, inv.held)) is inv.state.none
+    let is = read-piece c.loop.held c.in-Ok.taken (length c.loop.input - c.loop.held) c.loop.input c.read_after.new.buf (omega (arith, inv.held)) read.bound.0 in
+    searched-front c.loop.held front (take c.in-Ok.taken c.read_after.new.buf) _ (omega (arith, length-take c.loop.held c.loop.input, inv.held)) is inv.state.none
 
 pub returns-in_default : goal.returns-in_default
 returns-in_default g c =
     let failed = c.in_default.ensures in
     record {
       ends =
-          ends-read g.R.Read.remaining g.W.Write.contents c.args.mode (length c.args.input.now) c.args.r.now c.loop.r c.read.new.self c.args.w.now c.loop.w c.loop.w c.loop.is_late
-          (take c.loop.held c.loop.input) c.loop.counter c.loop.invariant.state failed.bytes failed.moved failed.count failed.ended;
+          ends-read g.R.Read.remaining g.W.Write.contents c.args.mode (length c.args.input.now) c.args.r.now c.loop.r c.read_after.new.self c.args.w.now c.loop.w c.loop.w c.loop.is_late
+          (take c.loop.held c.loop.input) c.loop.counter c.loop.invariant.state failed.bytes failed.moved failed.count failed.stops failed.ended failed.call;
     }
 
 pub returns-then-taken-eq0 : goal.returns-then-taken-eq0
@@ -67,20 +70,22 @@ returns-then-taken-eq0 g c =
     let read = c.in-Ok.ensures in
     let inv = c.loop.invariant in
     let held = take c.loop.held c.loop.input in
-    let more = take c.in-Ok.taken c.read.new.buf in
-    let none : more ≡ [] = ap (λ (n : ℕ). take n c.read.new.buf) c.if-taken-eq0.true in
-    let given : length c.read.new.buf ≡ length c.loop.input - c.loop.held = c.read.auto.buf ∙ part-length c.loop.held c.loop.input in
-    let room : 0 < length c.read.new.buf = omega (arith, given, inv.held) in
-    let same : take c.loop.held (put_mid c.loop.held (length c.loop.input - c.loop.held) c.loop.input c.read.new.buf) ≡ held =
-    take-put_mid_below c.loop.held (length c.loop.input - c.loop.held) c.loop.input c.read.new.buf c.loop.held (omega arith) (omega (arith, inv.held)) in
+    let more = take c.in-Ok.taken c.read_after.new.buf in
+    let none : more ≡ [] = ap (λ (n : ℕ). take n c.read_after.new.buf) c.if-taken-eq0.true in
+    let given : length c.read_after.new.buf ≡ length c.loop.input - c.loop.held = c.read_after.auto.buf ∙ part-length c.loop.held c.loop.input in
+    let room : 0 < length c.read_after.new.buf = omega (arith, given, inv.held) in
+    let same : take c.loop.held (put_mid c.loop.held (length c.loop.input - c.loop.held) c.loop.input c.read_after.new.buf) ≡ held =
+    take-put_mid_below c.loop.held (length c.loop.input - c.loop.held) c.loop.input c.read_after.new.buf c.loop.held (omega arith) (omega (arith, inv.held)) in
     let done = subst (λ (t : List ℕ). RestAnswered c.args.mode c.loop.is_late t (use_of g.W.Write.contents c.loop.w c.finish.new.w) c.finish.result) same c.finish.ensures in
     record {
       ends =
-          ends-rest g.R.Read.remaining g.W.Write.contents c.args.mode (length c.args.input.now) c.args.r.now c.loop.r c.read.new.self c.args.w.now c.loop.w c.finish.new.w c.loop.is_late
-          held c.loop.counter inv.state more c.finish.result none (record { moved = read.moved; known = read.bytes.0 })
+          ends-rest g.R.Read.remaining g.W.Write.contents c.args.mode (length c.args.input.now) c.args.r.now c.loop.r c.read_after.new.self c.args.w.now c.loop.w c.finish.new.w c.loop.is_late
+          held c.loop.counter inv.state more none (record { moved = read.moved; known = read.bytes.0 })
           (omega (arith, read.count))
-          (read.ended ∙ none-is-end c.in-Ok.taken c.read.new.buf c.if-taken-eq0.true room)
-          (read.bytes.1 c.if-taken-eq0.true room) (omega (arith, length-take c.loop.held c.loop.input, inv.held, inv.same_length)) done;
+          (omega (arith, read.stops, none-stops c.in-Ok.taken c.read_after.new.buf c.if-taken-eq0.true room))
+          (read.ended ∙ none-is-end c.in-Ok.taken c.read_after.new.buf c.if-taken-eq0.true room)
+          (read.call ∙ ap (λ (call : Call). call ∷ (After (moved c.loop.w) ∷ calls c.loop.r)) (none-ends c.in-Ok.taken c.read_after.new.buf c.if-taken-eq0.true room))
+          (read.bytes.1 c.if-taken-eq0.true room) (omega (arith, length-take c.loop.held c.loop.input, inv.held, inv.same_length)) c.finish.result done;
     }
 
 pub returns-in_default-answer_lines : goal.returns-in_default-answer_lines
@@ -88,19 +93,21 @@ returns-in_default-answer_lines g c =
     let size = length c.args.input.now in
     let read = c.in-Ok.ensures in
     let inv = c.loop.invariant in
-    let buffer = put_mid c.loop.held (length c.loop.input - c.loop.held) c.loop.input c.read.new.buf in
+    let buffer = put_mid c.loop.held (length c.loop.input - c.loop.held) c.loop.input c.read_after.new.buf in
     let held = take c.loop.held c.loop.input in
-    let more = take c.in-Ok.taken c.read.new.buf in
+    let more = take c.in-Ok.taken c.read_after.new.buf in
     let piece = take (c.loop.held + c.in-Ok.taken) buffer in
-    let given : length c.read.new.buf ≡ length c.loop.input - c.loop.held = c.read.auto.buf ∙ part-length c.loop.held c.loop.input in
-    let is : piece ≡ held ++ more = read-piece c.loop.held c.in-Ok.taken (length c.loop.input - c.loop.held) c.loop.input c.read.new.buf (omega (arith, inv.held)) read.bound.0 in
+    let given : length c.read_after.new.buf ≡ length c.loop.input - c.loop.held = c.read_after.auto.buf ∙ part-length c.loop.held c.loop.input in
+    let is : piece ≡ held ++ more = read-piece c.loop.held c.in-Ok.taken (length c.loop.input - c.loop.held) c.loop.input c.read_after.new.buf (omega (arith, inv.held)) read.bound.0 in
     let fits : length piece ≤ size =
-    omega (arith, ap (λ (t : List ℕ). length t) is, length-append held more, length-take c.loop.held c.loop.input, length-take c.in-Ok.taken c.read.new.buf, read.bound.0, given, inv.held, inv.same_length) in
+    omega (arith, ap (λ (t : List ℕ). length t) is, length-append held more, length-take c.loop.held c.loop.input, length-take c.in-Ok.taken c.read_after.new.buf, read.bound.0, given, inv.held, inv.same_length) in
     record {
       ends =
-          ends-write g.R.Read.remaining g.W.Write.contents c.args.mode size c.args.r.now c.loop.r c.read.new.self c.args.w.now c.loop.w c.answer_lines.new.w c.loop.is_late held c.loop.counter inv.state
+          ends-write g.R.Read.remaining g.W.Write.contents c.args.mode size c.args.r.now c.loop.r c.read_after.new.self c.args.w.now c.loop.w c.answer_lines.new.w c.loop.is_late held c.loop.counter inv.state
           more (record { moved = read.moved; known = read.bytes.0 }) (omega (arith, read.count))
-          (read.ended ∙ some-is-no-end c.in-Ok.taken c.read.new.buf (λ bad. omega (arith, bad, c.if-taken-eq0.false))) piece is fits c.every_text_has_one_outcome.ensures
+          (omega (arith, read.stops, some-is-no-stop c.in-Ok.taken c.read_after.new.buf (λ bad. omega (arith, bad, c.if-taken-eq0.false))))
+          (read.ended ∙ some-is-no-end c.in-Ok.taken c.read_after.new.buf (λ bad. omega (arith, bad, c.if-taken-eq0.false)))
+          (read.call ∙ ap (λ (call : Call). call ∷ (After (moved c.loop.w) ∷ calls c.loop.r)) (some-is-move c.in-Ok.taken c.read_after.new.buf (λ bad. omega (arith, bad, c.if-taken-eq0.false)))) piece is fits c.every_text_has_one_outcome.ensures
           c.in_default-answer_lines.field-0 c.in_default-answer_lines.ensures.lines;
     }
 

@@ -2,7 +2,8 @@
 use Rattle.std.proofs.Common.{◌∙◌, ℕ, List, string_bytes, refl, sym, subst, arith, rules}
 use Rattle.std.specs.Str.{IsUtf8}
 use Rattle.triples.specs.{Output.IsOutput, Run.Gives, Run.Takes, Run.TakesBeginning, Run.use_of}
-use Rattle.triples.proofs.RunLawLemmas.{as-error, json-error-ends, write-ends, written-ends}
+use Rattle.triples.specs.declared.run_error.RunError.TheVariants.{OutOfMemory}
+use Rattle.triples.proofs.RunLawLemmas.{as-error, json-error-ends, memory-ends, write-ends, written-ends}
 use Rattle.triples.proofs.UseLemmas.{takes-all, takes-kept, takes-none}
 use Rattle.triples.proofs.run.run.Goals.{in-Print+in_ok-output-in-Print, in-Show+in_ok-output-in-Show, in-Settle+in_ok-output-in-Settle, in-Matrix+in_ok-output-in-Matrix, in-Json+in_ok-output-in-Json}
 use Rattle.triples.proofs.run.run.Goals as goal
@@ -38,7 +39,7 @@ returns-in_err-write_all g c =
     let failed = c.in_err-write_all.ensures in
     let begun = subst (λ (t : List ℕ). TakesBeginning writer t) c.as_bytes.ensures.value failed.begun in
     let wrote =
-    write-ends c.args.mode reader writer c.in-Ok.input.now gives c.in_ok-bytes.ensures.whole (subst IsUtf8 (sym line.0) line.1) (string_bytes c.match-mode.output) output begun failed.failed.1 in
+    write-ends c.args.mode reader writer c.in-Ok.input.now gives c.in_ok-bytes.ensures.whole (subst IsUtf8 (sym line.0) line.1) (string_bytes c.match-mode.output) output begun failed.failed.1 failed.failed.2 in
     record {
       ends =
           as-error c.args.mode reader writer c.from_residual-in_err-write_all.result c.in_err-write_all.field-0.0 c.from_residual-in_err-write_all.ensures.1 (rw failed.failed.0 wrote);
@@ -63,7 +64,8 @@ returns-in-Ok-flush g c =
     record {
       ends =
           written-ends c.args.mode reader writer c.in-Ok.input.now gives c.in_ok-bytes.ensures.whole (subst IsUtf8 (sym line.0) line.1) (string_bytes c.match-mode.output) output takes
-          c.in-Ok-flush.ensures.ended (omega (arith, c.in-Ok-flush.ensures.count, c.in_ok-write_all.ensures.unfailed));
+          c.in-Ok-flush.ensures.ended (omega (arith, c.in-Ok-flush.ensures.count, c.in_ok-write_all.ensures.unfailed))
+          (omega (arith, c.in-Ok-flush.ensures.stops, c.in_ok-write_all.ensures.moves), c.in-Ok-flush.ensures.last);
     }
 
 pub returns : goal.returns
@@ -85,5 +87,55 @@ returns g c =
     record {
       ends =
           write-ends c.args.mode reader writer c.in-Ok.input.now gives c.in_ok-bytes.ensures.whole (subst IsUtf8 (sym line.0) line.1) (string_bytes c.match-mode.output) output
-          (takes-all writer (string_bytes c.match-mode.output) takes) (omega (arith, c.in-Err.ensures.count, c.in_ok-write_all.ensures.unfailed));
+          (takes-all writer (string_bytes c.match-mode.output) takes) (omega (arith, c.in-Err.ensures.count, c.in_ok-write_all.ensures.unfailed))
+          (omega (arith, c.in-Err.ensures.stops, c.in_ok-write_all.ensures.moves), c.in-Err.ensures.last);
+    }
+
+-- memory ran out after the whole input was read
+pub returns-in_err-output-in-Print : goal.returns-in_err-output-in-Print
+returns-in_err-output-in-Print g c =
+    let line = c.in-Ok.ensures.cases in
+    let reader = use_of g.R.Read.remaining c.args.r.now c.read_all.new.reader in
+    let writer = use_of g.W.Write.contents c.args.w.now c.args.w.now in
+    let gives = subst (λ (t : List ℕ). Gives reader t) (sym (line.0 ∙ c.deref.ensures.value)) c.in_ok-bytes.ensures.bytes in
+    record {
+      ends =
+          as-error c.args.mode reader writer c.from_residual-in_err-output-in-Print.result OutOfMemory c.from_residual-in_err-output-in-Print.ensures.1
+          (memory-ends c.args.mode reader writer c.in-Ok.input.now gives c.in_ok-bytes.ensures.whole (subst IsUtf8 (sym line.0) line.1) (takes-none g.W.Write.contents c.args.w.now) refl c.in_err-output-in-Print.ensures.memory);
+    }
+
+pub returns-in_err-output-in-Show : goal.returns-in_err-output-in-Show
+returns-in_err-output-in-Show g c =
+    let line = c.in-Ok.ensures.cases in
+    let reader = use_of g.R.Read.remaining c.args.r.now c.read_all.new.reader in
+    let writer = use_of g.W.Write.contents c.args.w.now c.args.w.now in
+    let gives = subst (λ (t : List ℕ). Gives reader t) (sym (line.0 ∙ c.deref.ensures.value)) c.in_ok-bytes.ensures.bytes in
+    record {
+      ends =
+          as-error c.args.mode reader writer c.from_residual-in_err-output-in-Show.result OutOfMemory c.from_residual-in_err-output-in-Show.ensures.1
+          (memory-ends c.args.mode reader writer c.in-Ok.input.now gives c.in_ok-bytes.ensures.whole (subst IsUtf8 (sym line.0) line.1) (takes-none g.W.Write.contents c.args.w.now) refl c.in_err-output-in-Show.ensures.memory);
+    }
+
+pub returns-in_err-output-in-Settle : goal.returns-in_err-output-in-Settle
+returns-in_err-output-in-Settle g c =
+    let line = c.in-Ok.ensures.cases in
+    let reader = use_of g.R.Read.remaining c.args.r.now c.read_all.new.reader in
+    let writer = use_of g.W.Write.contents c.args.w.now c.args.w.now in
+    let gives = subst (λ (t : List ℕ). Gives reader t) (sym (line.0 ∙ c.deref.ensures.value)) c.in_ok-bytes.ensures.bytes in
+    record {
+      ends =
+          as-error c.args.mode reader writer c.from_residual-in_err-output-in-Settle.result OutOfMemory c.from_residual-in_err-output-in-Settle.ensures.1
+          (memory-ends c.args.mode reader writer c.in-Ok.input.now gives c.in_ok-bytes.ensures.whole (subst IsUtf8 (sym line.0) line.1) (takes-none g.W.Write.contents c.args.w.now) refl c.in_err-output-in-Settle.ensures.memory);
+    }
+
+pub returns-in_err-output-in-Matrix : goal.returns-in_err-output-in-Matrix
+returns-in_err-output-in-Matrix g c =
+    let line = c.in-Ok.ensures.cases in
+    let reader = use_of g.R.Read.remaining c.args.r.now c.read_all.new.reader in
+    let writer = use_of g.W.Write.contents c.args.w.now c.args.w.now in
+    let gives = subst (λ (t : List ℕ). Gives reader t) (sym (line.0 ∙ c.deref.ensures.value)) c.in_ok-bytes.ensures.bytes in
+    record {
+      ends =
+          as-error c.args.mode reader writer c.from_residual-in_err-output-in-Matrix.result OutOfMemory c.from_residual-in_err-output-in-Matrix.ensures.1
+          (memory-ends c.args.mode reader writer c.in-Ok.input.now gives c.in_ok-bytes.ensures.whole (subst IsUtf8 (sym line.0) line.1) (takes-none g.W.Write.contents c.args.w.now) refl c.in_err-output-in-Matrix.ensures.memory);
     }

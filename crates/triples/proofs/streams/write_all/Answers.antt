@@ -5,7 +5,7 @@ use Rattle.triples.proofs.UseLemmas.{takes-beginning, takes-kept, takes-none, ta
 use Rattle.triples.proofs.streams.write_all.Goals as goal
 
 pub loop-rest-init : goal.loop-rest-init
-loop-rest-init g c = record { taken = ([], refl, takes-none g.W.Write.contents c.args.writer.now); unfailed = refl }
+loop-rest-init g c = record { taken = ([], refl, takes-none g.W.Write.contents c.args.writer.now); unfailed = refl; moves = refl }
 
 pub loop-rest-preserved : goal.loop-rest-preserved
 loop-rest-preserved g c =
@@ -19,6 +19,7 @@ loop-rest-preserved g c =
         takes-then g.W.Write.contents c.args.writer.now c.loop-rest.writer c.write.new.self inv.0 piece inv.2 (record { moved = wrote.moved; known = wrote.bytes }),
       );
       unfailed = grind (arith, common_steps);
+      moves = grind (arith, common_steps);
     }
 
 pub returns-then-taken-eq0-clause-begun : goal.returns-then-taken-eq0-clause-begun

@@ -36,7 +36,6 @@ impl Aarch64Architecture {
     /// ```
     /// assert!(!target_lexicon::Aarch64Architecture::Aarch64.is_thumb());
     /// ```
-    #[must_use]
     #[inline]
     pub const fn is_thumb(self) -> bool {
         false
@@ -51,7 +50,6 @@ impl Aarch64Architecture {
     ///
     /// assert_eq!(Aarch64Architecture::Aarch64.pointer_width(), PointerWidth::U64);
     /// ```
-    #[must_use]
     #[inline]
     pub const fn pointer_width(self) -> PointerWidth {
         PointerWidth::U64
@@ -66,7 +64,6 @@ impl Aarch64Architecture {
     ///
     /// assert_eq!(Aarch64Architecture::Aarch64be.endianness(), Endianness::Big);
     /// ```
-    #[must_use]
     #[inline]
     pub const fn endianness(self) -> Endianness {
         match self {
@@ -91,7 +88,6 @@ impl Aarch64Architecture {
     /// ```
     /// assert_eq!(target_lexicon::Aarch64Architecture::Aarch64be.into_str(), "aarch64_be");
     /// ```
-    #[must_use]
     #[inline]
     #[cfg(feature = "alloc")]
     pub fn into_str(self) -> Cow<'static, str> {

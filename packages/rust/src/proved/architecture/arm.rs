@@ -119,7 +119,6 @@ impl ArmArchitecture {
     /// assert!(ArmArchitecture::Thumbv7em.is_thumb());
     /// assert!(!ArmArchitecture::Armv7a.is_thumb());
     /// ```
-    #[must_use]
     #[inline]
     pub const fn is_thumb(self) -> bool {
         matches!(
@@ -146,7 +145,6 @@ impl ArmArchitecture {
     ///
     /// assert_eq!(ArmArchitecture::Armv7a.pointer_width(), PointerWidth::U32);
     /// ```
-    #[must_use]
     #[inline]
     pub const fn pointer_width(self) -> PointerWidth {
         PointerWidth::U32
@@ -161,7 +159,6 @@ impl ArmArchitecture {
     ///
     /// assert_eq!(ArmArchitecture::Armeb.endianness(), Endianness::Big);
     /// ```
-    #[must_use]
     #[inline]
     pub const fn endianness(self) -> Endianness {
         match self {
@@ -226,7 +223,6 @@ impl ArmArchitecture {
     /// ```
     /// assert_eq!(target_lexicon::ArmArchitecture::Thumbv7em.into_str(), "thumbv7em");
     /// ```
-    #[must_use]
     #[inline]
     #[cfg(feature = "alloc")]
     pub fn into_str(self) -> Cow<'static, str> {

@@ -43,7 +43,6 @@ impl CleverArchitecture {
     /// ```
     /// assert_eq!(target_lexicon::CleverArchitecture::Clever1_0.into_str(), "clever1.0");
     /// ```
-    #[must_use]
     #[inline]
     #[cfg(feature = "alloc")]
     pub fn into_str(self) -> Cow<'static, str> {

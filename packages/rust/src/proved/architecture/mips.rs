@@ -47,7 +47,6 @@ impl Mips32Architecture {
     /// ```
     /// assert_eq!(target_lexicon::Mips32Architecture::Mipsel.into_str(), "mipsel");
     /// ```
-    #[must_use]
     #[inline]
     #[cfg(feature = "alloc")]
     pub fn into_str(self) -> Cow<'static, str> {
@@ -121,7 +120,6 @@ impl Mips64Architecture {
     /// ```
     /// assert_eq!(target_lexicon::Mips64Architecture::Mips64el.into_str(), "mips64el");
     /// ```
-    #[must_use]
     #[inline]
     #[cfg(feature = "alloc")]
     pub fn into_str(self) -> Cow<'static, str> {

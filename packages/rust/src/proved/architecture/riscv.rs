@@ -55,7 +55,6 @@ impl Riscv32Architecture {
     /// ```
     /// assert_eq!(target_lexicon::Riscv32Architecture::Riscv32imac.into_str(), "riscv32imac");
     /// ```
-    #[must_use]
     #[inline]
     #[cfg(feature = "alloc")]
     pub fn into_str(self) -> Cow<'static, str> {
@@ -133,7 +132,6 @@ impl Riscv64Architecture {
     /// ```
     /// assert_eq!(target_lexicon::Riscv64Architecture::Riscv64gc.into_str(), "riscv64gc");
     /// ```
-    #[must_use]
     #[inline]
     #[cfg(feature = "alloc")]
     pub fn into_str(self) -> Cow<'static, str> {

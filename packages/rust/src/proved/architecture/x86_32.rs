@@ -45,7 +45,6 @@ impl X86_32Architecture {
     /// ```
     /// assert_eq!(target_lexicon::X86_32Architecture::I686.into_str(), "i686");
     /// ```
-    #[must_use]
     #[inline]
     #[cfg(feature = "alloc")]
     pub fn into_str(self) -> Cow<'static, str> {

@@ -59,7 +59,6 @@ impl Z80Architecture {
     /// ```
     /// assert_eq!(target_lexicon::Z80Architecture::Z180.into_str(), "z180");
     /// ```
-    #[must_use]
     #[inline]
     #[cfg(feature = "alloc")]
     pub fn into_str(self) -> Cow<'static, str> {

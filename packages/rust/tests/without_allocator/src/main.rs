@@ -2,7 +2,7 @@
 #![no_std]
 #![no_main]
 use target_lexicon::{CDataModel, Field, Source, TripleExt, TripleRef, VendorRef, HOST};
-use target_names::{read, Dialect, LinuxLibc, TargetInfo};
+use target_names::{read, Dialect, LinuxLibc, Suggest as _, TargetInfo};
 
 #[link(name = "c")]
 extern "C" {

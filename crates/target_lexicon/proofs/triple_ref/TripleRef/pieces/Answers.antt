@@ -8,11 +8,11 @@ unfolding shows_operating_system
 returns-clause-text c =
     let t = values_of_ref c.args.self.now in
     let system : not c.match-matches.matches ≡ shows_operating_system t = search rules in
-    text_of_pieces c.args.shows_last_three t c.name.result c.as_str.result c.prefix.result c.name-2.result c.name-3.result _ _ _ _ _ _ _ _ _ c.in_default.ensures.text c.name.ensures
+    text_of_pieces c.args.shows_last_three t c.name.result c.as_str.result c.prefix.result c.name-2.result c.name-3.result _ _ _ _ _ _ _ _ _ c.in_default.ensures c.name.ensures
     c.then_some.ensures c.shows_vendor.ensures c.as_str.ensures
     c.then_some-2.ensures (ap (λ b. c.args.shows_last_three || b) system) c.prefix.ensures c.version.ensures
     c.then_some-3.ensures (ap (λ b. c.args.shows_last_three || b) c.shows_environment.ensures) c.name-2.ensures
     c.then_some-4.ensures (ap (λ b. c.args.shows_last_three || b) c.shows_binary_format.ensures) c.name-3.ensures
 
 pub returns-in-Some-clause-vendor : goal.returns-in-Some-clause-vendor
-returns-in-Some-clause-vendor c = λ none. absurd (let same = c.in-Some.ensures.text ∙ none in cc)
+returns-in-Some-clause-vendor c = λ none. absurd (let same = c.in-Some.ensures ∙ none in cc)

@@ -1,5 +1,5 @@
 -- An empty body. The borrow is opened, and closed at the longer list.
-use Rattle.std.proofs.Common.{false, List, [], ◌∷◌, ◌++◌, refl}
+use Rattle.std.proofs.Common.{List, [], ◌∷◌, refl}
 use Rattle.std.proofs.raw_atomic.Walks.{proved}
 use mir.Syntax.{named}
 use mir.Val.{Val, vunit, vptr}
@@ -16,6 +16,7 @@ use denote.Slice.{ShrSlice, shr_slice_vals, shr_slice_Tells}
 use denote.Signature.{plain}
 use denote.Steps.{opens, closes}
 use denote.Triple.Walked.{says, Stays, stay_ref, stay_none_slice, walk_of, Goes-ref, Goes-none_slice, ends_at}
+use Rattle.triples.specs.Calls.{Moved}
 use Rattle.triples.specs.declared.trace.Trace.{Trace}
 use Rattle.triples.proofs.trace.Trace.add.Statement.{statement}
 use Rattle.triples.specs.contracts.trace.Trace.add as f
@@ -32,7 +33,7 @@ add_spec 𝓤 𝓛 𝓜 𝓡 wired =
     f.Key.name code.function (code.unfolded 𝓤 𝓛.H 𝓜 𝓡 wired)
     (λ κs. (mut_vals, (shr_slice_vals, tt))) (λ κs. (mut_Tells (named 0) κs.0 R, (shr_slice_Tells (named 1) κs.1.0 u8, tt))) (λ κs qs bounds a _ are.
     let b = a.0.ref_ptr.0 in let o = a.0.ref_ptr.1 in let vs : List Val × (List Val × Unit {0}) = (mut_vals a.0, (shr_slice_vals a.1.0, tt)) in
-    let longer : Trace = record { bytes = a.0.now.bytes ++ a.1.0.now; is_ended = false } in
+    let longer : Trace = record { calls = Moved a.1.0.now ∷ a.0.now.calls } in
     let y : W.Ghost = ((κs, qs, bounds, a, vs), tt) in via 𝓤 _ (fst∗ 𝓤 _ (emp 𝓤)) (
     qed 𝓛 ((‵ (flft κs.0 qs.0) ⊛ (‵ (flft κs.1.0 qs.1.0) ⊛ ‵ ftrue)) ∷ ‵ (owns (MutRef (named 0) κs.0 R ∷ ShrSlice (named 1) κs.1.0 u8 ∷ []) a vs) ∷ []) ∵
     split ! $ move ! (2 ∷ []) $ fsplit ! $ fsplit3 ! $ drop ! $ move ! (0 ∷ 1 ∷ 3 ∷ []) $

@@ -1,7 +1,6 @@
 -- `end` changes a ghost field, which has no bytes.
 use mathlib.Core.Path.{refl}
 use mathlib.Core.List.{[], ◌∷◌}
-use Rattle.std.proofs.Common.{true}
 use Rattle.std.proofs.raw_atomic.Walks.{proved}
 use mir.Syntax.{named}
 use mir.Val.{vunit}
@@ -13,6 +12,7 @@ use denote.Ref.{MutRef, mut_vals, mut_Tells}
 use denote.Signature.{plain}
 use denote.Steps.{nothing, opens, closes}
 use denote.Triple.Walked.{Stays, walk_of, says, stay_ref, Goes-ref, ends_at}
+use Rattle.triples.specs.Calls.{Ended}
 use Rattle.triples.proofs.trace.Trace.end.Statement.{statement}
 use Rattle.triples.specs.contracts.trace.Trace.end as f
 use Rattle.triples.specs.contracts.trace.Trace.{the_row as R}
@@ -32,8 +32,8 @@ end_spec 𝓤 𝓛 𝓜 𝓡 wired =
     qed 𝓛 (((‵ (flft κs.0 qs.0) ⊛ ‵ ftrue) ⊛ ‵ ((MutRef (named 0) κs.0 R).own_val a.0 vs) ⊛ ‵ ftrue) ∷ ‵ ftrue ∷ []) ∵
     split ! $ split ! $ move ! (2 ∷ []) $ split ! $ keep ! (0 ∷ 2 ∷ []) $
     enter ! _ _ _ _ _ $ alloc_all ! (λ l. pass_all ! refl ((tt, tt), tt) $
-    fsplit3 ! $ move ! (1 ∷ 2 ∷ 3 ∷ []) $ opens ! tt R b o (λ us. closes ! tt R (record { bytes = a.0.now.bytes; is_ended = true }) us b o $
+    fsplit3 ! $ move ! (1 ∷ 2 ∷ 3 ∷ []) $ opens ! tt R b o (λ us. closes ! tt R (record { calls = Ended ∷ a.0.now.calls }) us b o $
     sets ! (of_opd ! (unit_lit !)) refl (tt, tt) $ returns ! (look_at ! 0 refl) $ free_all ! refl $ move ! (3 ∷ []) $
-    suffices ! _ (ends_at 𝓛 f.ended stayed c y vunit tt (record { bytes = a.0.now.bytes; is_ended = true }, tt) (tt, tt)) $ says ! refl $
+    suffices ! _ (ends_at 𝓛 f.ended stayed c y vunit tt (record { calls = Ended ∷ a.0.now.calls }, tt) (tt, tt)) $ says ! refl $
     group ! 3 $ nothing ! $ move ! (1 ∷ 0 ∷ []) $ join ! $ nothing ! $ move ! (2 ∷ 0 ∷ []) $ join ! $ frame ! $ frame ! $
     feq_i ! _ (vunit ∷ []) _ refl $ done !)))

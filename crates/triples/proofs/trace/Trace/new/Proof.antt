@@ -1,7 +1,6 @@
--- `new` makes the struct of no bytes, of no bytes.
+-- `new` makes the struct of no bytes, of no calls.
 use mathlib.Core.Path.{refl}
 use mathlib.Core.List.{[], ◌∷◌}
-use Rattle.std.proofs.Common.{false}
 use Rattle.std.proofs.raw_atomic.Walks.{proved}
 use mir.Val.{vstruct, vnil}
 use base.Logic.{via, fst∗, emp}
@@ -29,6 +28,6 @@ new_spec 𝓤 𝓛 𝓜 𝓡 wired =
     let bound : W.Ghost = ((κs, qs, bounds, a, tt), n) in via 𝓤 _ (fst∗ 𝓤 _ (emp 𝓤)) (
     qed 𝓛 (raw (alive 𝓛 f.signature κs qs) ∷ ‵ (owns [] a tt) ∷ []) ∵ enter ! 𝓣.C 𝓣.Λ code.function [] _ $
     alloc_all ! (λ l. pass_all ! refl tt $ sets ! (agg ! (no_more !)) refl (tt, tt) $ returns ! (look_at ! 0 refl) $ free_all ! refl $
-    suffices ! _ (ends_at 𝓛 f.ended stayed c bound (vstruct vnil) (record { bytes = []; is_ended = false }) tt tt) $
-    says ! refl $ pure_i ! (made.the_row.own_val (record { bytes = []; is_ended = false }) (vstruct vnil ∷ [])) ((λ vss. (tt, tt)), tt) ((tt, (refl, tt)), tt) $
+    suffices ! _ (ends_at 𝓛 f.ended stayed c bound (vstruct vnil) (record { calls = [] }) tt tt) $
+    says ! refl $ pure_i ! (made.the_row.own_val (record { calls = [] }) (vstruct vnil ∷ [])) ((λ vss. (tt, tt)), tt) ((tt, (refl, tt)), tt) $
     move ! (1 ∷ 2 ∷ 0 ∷ []) $ done !)))

@@ -1,0 +1,706 @@
+//! What words say: evidence.
+//!
+//! Three things are told apart, and none is taken for another:
+//!
+//! - A *name* is a row of a tool's table, or a product of its rules. [`Dialect::read`](crate::Dialect::read) gives its triple.
+//! - *Evidence* is words in any text, such as a file's name, a line of `uname` or a runner's label. Each word that is
+//!   understood is a constraint: on the machine, which is at least of its level, on the width of pointers, on floating-point
+//!   arguments, on the system, on the C library or on another ABI. Of each property the words say one thing, nothing, or things
+//!   that contradict each other.
+//! - A *target* is a triple.
+//!
+//! Constraints are only intersected. Words rule triples out, and they name one only if the triple says just what they say, and
+//! if each of them is understood, from the first that says a machine or a system: what comes before is the name of a program.
+//! What a system always has goes without saying, such as its usual vendor, or the floating-point arguments of Android.
+use crate::buffer::Buffer;
+use crate::levels::is_at_most;
+use crate::shape::{unversioned, usual_vendor};
+use crate::suggestions::{fit_alone, known_names, visible, Abi, Place};
+use crate::table::WORDS;
+use crate::FloatAbi;
+use core::fmt::{self, Write};
+use core::ops::Range;
+use target_lexicon::{
+    Architecture, ArmArchitecture, Environment, Field, Named as _, OperatingSystem, PointerWidth,
+    TripleRef, VendorRef,
+};
+
+/// What words say of a property.
+#[derive(Clone, Copy, Debug, Default, PartialEq, Eq)]
+pub enum Said<T> {
+    /// Nothing.
+    #[default]
+    Unsaid,
+    /// One thing.
+    One(T),
+    /// Several things, which contradict each other.
+    Contradicted,
+}
+
+impl<T: Copy + PartialEq> Said<T> {
+    /// The one thing that is said.
+    #[must_use]
+    pub fn one(self) -> Option<T> {
+        match self {
+            Said::One(it) => Some(it),
+            _ => None,
+        }
+    }
+
+    /// Whether this may be so: nothing else is said.
+    fn allows(self, it: T) -> bool {
+        self == Said::Unsaid || self == Said::One(it)
+    }
+
+    fn add(&mut self, it: T) {
+        *self = if self.allows(it) {
+            Said::One(it)
+        } else {
+            Said::Contradicted
+        };
+    }
+}
+
+/// What the words of a text say of a target. `Display` says it in a sentence.
+///
+/// # Examples
+///
+/// ```
+/// use target_names::Evidence;
+///
+/// for (text, triple) in [
+///     ("arm64-osx", "aarch64-apple-darwin"),
+///     ("linuxArm64", "aarch64-unknown-linux"),
+///     ("debian-12-armhf", "arm-unknown-linux-gnueabihf"),
+///     ("tool-1.2.3-windows-x86_64.zip", "x86_64-pc-windows"),
+/// ] {
+///     assert_eq!(Evidence::of(text).triple().unwrap().to_string(), triple);
+/// }
+/// for (text, sentence) in [
+///     ("ubuntu-22.04", "it names a system, and no single machine known here"),
+///     ("windows-11-arm", "it names a system, and no single machine known here"),
+///     ("macos-arm64_x86_64", "it names several machines"),
+///     ("aarch64-linux-mlibc", "no triple says all that its words say: aarch64, linux, another C library or ABI"),
+///     ("linux-x64-foo", "its words say x86_64, linux; here nobody knows `foo`"),
+/// ] {
+///     let evidence = Evidence::of(text);
+///     assert_eq!((evidence.triple(), evidence.to_string()), (None, sentence.into()));
+/// }
+/// assert!(Evidence::of("foo").is_empty());
+/// ```
+#[derive(Clone, Copy, Debug, Default)]
+pub struct Evidence<'a> {
+    text: &'a str,
+    machine: Said<Architecture>,
+    /// It says `arm` or `armv8`, which may have 32 bits or 64.
+    is_any_arm: bool,
+    /// It has a word for a machine that no triple has.
+    is_other_machine: bool,
+    level: Said<&'static str>,
+    width: Said<PointerWidth>,
+    floats: Said<FloatAbi>,
+    system: Said<&'static str>,
+    library: Said<&'static str>,
+    /// What else an environment says, such as `android`, `sim` or `n64`.
+    form: Said<&'static str>,
+    /// The first word that isn't understood, after the first that says a machine or a system.
+    unknown: Option<(usize, usize)>,
+}
+
+/// The library of words for one that no triple states, and the system of words for one that no triple has.
+const OTHER: &str = "other";
+
+impl<'a> Evidence<'a> {
+    /// What the words of a text say. Nothing is allocated, and the time is linear.
+    #[must_use]
+    pub fn of(text: &'a str) -> Evidence<'a> {
+        // GDB's `i386:x86-64` is one machine of a family.
+        let start = if text.starts_with("i386:") { 5 } else { 0 };
+        let mut evidence = Evidence {
+            text,
+            ..Evidence::default()
+        };
+        let mut words = Words { text, at: start };
+        let mut before = None;
+        while let Some(word) = words.next() {
+            let mut after = words.clone();
+            let (said, last) = match after.next() {
+                Some(next) => match machine_of_pair(text, &word, &next) {
+                    Some(said) => {
+                        words = after;
+                        (Some(said), next)
+                    }
+                    None => (word.said(text), word.clone()),
+                },
+                None => (word.said(text), word.clone()),
+            };
+            before = evidence.take(word.start..last.end, said, before);
+        }
+        evidence
+    }
+
+    /// Takes a word, which says this or isn't known, after one that says a machine or a system, or another one.
+    fn take(
+        &mut self,
+        word: Range<usize>,
+        said: Option<&'static str>,
+        before: Option<Kind>,
+    ) -> Option<Kind> {
+        let has_begun = self.has_begun();
+        let text = &self.text[word.clone()];
+        let is_number = text.bytes().all(|it| it.is_ascii_digit());
+        let joint = self.text[..word.start].bytes().next_back();
+        if let (Some(Kind::Machine | Kind::System), true, "32" | "64") = (before, is_number, text) {
+            self.say(text_of_width(text));
+            return None;
+        }
+        let is_level = before == Some(Kind::Machine) && matches!(text, "v2" | "v3" | "v4");
+        if is_level && self.machine == Said::One(Architecture::X86_64) && joint == Some(b'_') {
+            self.level.add(if text == "v2" {
+                "v2"
+            } else if text == "v3" {
+                "v3"
+            } else {
+                "v4"
+            });
+            return None;
+        }
+        let Some(said) = said else {
+            // A number after a machine may be a part of it: `x86_46`, `arm-7`.
+            let after = self.text[word.end..].strip_prefix('.').unwrap_or("");
+            let is_part = before == Some(Kind::Machine)
+                && text.len() < 3
+                && (joint == Some(b'_') || self.is_any_arm)
+                && !after.starts_with(|it: char| it.is_ascii_digit());
+            let is_part = is_part || before == Some(Kind::Gnu) && text != "2";
+            let is_version = is_version(text) && !is_part && !is_level;
+            if has_begun && !is_version && self.unknown.is_none() {
+                self.unknown = Some((word.start, word.end));
+            }
+            return None;
+        };
+        // In a program's name `gnu`, `soft` and the like say nothing.
+        let says = |kind: Kind| said.split(' ').any(|it| kind_of(it) == kind);
+        let is_title = !has_begun && !says(Kind::Machine) && !says(Kind::System);
+        let may_be_title = ["gnu", "soft", "hard", "32", "64", "sim", "newlib"].contains(&said);
+        if !(is_title && may_be_title) {
+            said.split(' ').for_each(|it| self.say(it));
+        }
+        let kinds = [Kind::Machine, Kind::System, Kind::Gnu];
+        kinds.into_iter().find(|it| says(*it))
+    }
+
+    fn has_begun(&self) -> bool {
+        let has_machine = self.machine != Said::Unsaid || self.is_any_arm || self.is_other_machine;
+        has_machine || self.system != Said::Unsaid
+    }
+
+    fn say(&mut self, what: &'static str) {
+        match what {
+            "nothing" | "version" => {}
+            "several" => self.machine = Said::Contradicted,
+            "arm32|64" => self.is_any_arm = true,
+            "other-machine" => self.is_other_machine = true,
+            "32" => self.width.add(PointerWidth::U32),
+            "64" => self.width.add(PointerWidth::U64),
+            "hard" => self.floats.add(FloatAbi::Hard),
+            "soft" => self.floats.add(FloatAbi::Soft),
+            "v2" | "v3" | "v4" => self.level.add(what),
+            "other-abi" => self.library.add(OTHER),
+            "gnu" | "musl" | "uclibc" | "msvc" | "gnullvm" | "newlib" => self.library.add(what),
+            "android" | "ohos" | "macabi" | "sim" | "n64" | "spe" => self.form.add(what),
+            "other-system" => self.add_system(OTHER),
+            _ => match what.parse::<Architecture>() {
+                Ok(machine) => self.add_machine(machine),
+                Err(_) => self.add_system(what),
+            },
+        }
+    }
+
+    /// Of two levels of a machine both are said: the machine is at least of the higher.
+    fn add_machine(&mut self, machine: Architecture) {
+        self.machine = match self.machine {
+            Said::One(it) if is_at_most((machine, ""), (it, "")) => Said::One(it),
+            Said::One(it) if !is_at_most((it, ""), (machine, "")) => Said::Contradicted,
+            Said::Contradicted => Said::Contradicted,
+            _ => Said::One(machine),
+        };
+    }
+
+    /// `none` is the system only where no other word says one.
+    fn add_system(&mut self, system: &'static str) {
+        match (self.system, system) {
+            (Said::One("none"), _) => self.system = Said::One(system),
+            (Said::One(_), "none") => {}
+            _ => self.system.add(system),
+        }
+    }
+
+    /// Whether no word says a machine or a system.
+    #[must_use]
+    pub fn is_empty(&self) -> bool {
+        !self.has_begun()
+    }
+
+    /// The least machine that the words say. A word such as `arm` says none, which may have 32 bits or 64, unless others say which.
+    #[must_use]
+    pub fn machine(&self) -> Said<Architecture> {
+        let arm = Architecture::Arm(ArmArchitecture::Arm);
+        let is_64 = self.width == Said::One(PointerWidth::U64);
+        let is_arm = |it| matches!(it, Architecture::Arm(_) | Architecture::Aarch64(_));
+        match self.machine {
+            Said::One(it) if self.is_any_arm && !is_arm(it) => Said::Contradicted,
+            Said::Unsaid if self.is_any_arm && self.floats != Said::Unsaid => Said::One(arm),
+            Said::Unsaid if self.is_any_arm && self.width != Said::Unsaid && !is_64 => {
+                Said::One(arm)
+            }
+            said => said,
+        }
+    }
+
+    /// How many bits a pointer has, if a word says it that isn't the machine's own.
+    #[must_use]
+    pub fn pointer_width(&self) -> Said<PointerWidth> {
+        self.width
+    }
+
+    /// How floating-point arguments are passed.
+    #[must_use]
+    pub fn float_abi(&self) -> Said<FloatAbi> {
+        self.floats
+    }
+
+    /// The system, by its known name, or `other`, which no triple has.
+    #[must_use]
+    pub fn system(&self) -> Said<&'static str> {
+        self.system
+    }
+
+    /// The C library: `gnu`, `musl`, `uclibc`, `msvc`, `gnullvm`, `newlib`, or `other`, which no triple states.
+    #[must_use]
+    pub fn c_library(&self) -> Said<&'static str> {
+        self.library
+    }
+
+    /// The first word that isn't understood, after the first that says a machine or a system, and where it is.
+    #[must_use]
+    pub fn unknown_word(&self) -> Option<(&'a str, Range<usize>)> {
+        let (start, end) = self.unknown?;
+        Some((&self.text[start..end], start..end))
+    }
+
+    /// Whether the words name this triple, of a tool whose `arm` has 32 bits.
+    pub(crate) fn names(&self, triple: &TripleRef<'static>) -> bool {
+        let mut known = *self;
+        if known.is_any_arm {
+            known.add_machine(Architecture::Arm(ArmArchitecture::Arm));
+        }
+        known.triple() == Some(*triple)
+    }
+
+    /// The triple that the words name: the one that says just what they say.
+    #[must_use]
+    pub fn triple(&self) -> Option<TripleRef<'static>> {
+        let is_whole =
+            self.unknown.is_none() && self.level == Said::Unsaid && !self.is_other_machine;
+        let (machine, system) = (self.machine().one()?, self.system.one()?);
+        let operating_system: OperatingSystem = system.parse().ok()?;
+        let of = |environment| {
+            let mut triple = TripleRef {
+                architecture: machine,
+                vendor: VendorRef::Known(usual_vendor(operating_system)),
+                operating_system,
+                environment,
+                binary_format: TripleRef::unknown().binary_format,
+            };
+            triple.binary_format = triple.default_binary_format();
+            triple
+        };
+        let mut names = known_names(Field::Environment)
+            .iter()
+            .filter_map(|it| it.parse().ok());
+        let is_named = |it: &Environment| self.is_just(&of(*it), of(Environment::Unknown));
+        names.find(is_named).filter(|_| is_whole).map(of)
+    }
+
+    /// Whether an environment says just what the words say, on a triple without one.
+    fn is_just(&self, triple: &TripleRef<'_>, bare: TripleRef<'_>) -> bool {
+        let (machine, environment) = (triple.architecture, triple.environment);
+        let Some((library, form)) = said_by(environment) else {
+            return false;
+        };
+        let is_arm = matches!(machine, Architecture::Arm(_));
+        let is_x86 = matches!(machine, Architecture::X86_64 | Architecture::X86_32(_));
+        let own = |said: Said<&'static str>, it: &'static str| match it {
+            "" => said == Said::Unsaid,
+            _ => said == Said::One(it),
+        };
+        // As in rustc, which has no `sim` on x86.
+        let is_simulator =
+            is_x86 && self.form == Said::One("sim") && bare.operating_system.is_like_darwin();
+        let has_form = if is_simulator {
+            form.is_empty()
+        } else {
+            own(self.form, form)
+        };
+        let floats = match self.floats {
+            // A library of Arm has one of both ways.
+            Said::Unsaid if is_arm && !library.is_empty() => return false,
+            Said::Unsaid if form == "android" || form == "ohos" => FloatAbi::of(triple),
+            Said::Unsaid => FloatAbi::of(&bare),
+            said => match said.one() {
+                None => return false,
+                floats => floats,
+            },
+        };
+        let width = match self.width {
+            Said::Contradicted => return false,
+            said => said.one().or(bare.pointer_width().ok()),
+        };
+        let abi = Abi::of(environment.name());
+        let is_arms = matches!(environment, Environment::Androideabi);
+        own(self.library, library)
+            && has_form
+            && floats == FloatAbi::of(triple)
+            && width == triple.pointer_width().ok()
+            && (environment != Environment::Android || !is_arm)
+            && (!is_arms || is_arm)
+            && abi.map_or(true, |it| it.is_on(Some(machine)))
+            && (library.is_empty() || form == "n64" || !matches!(machine, Architecture::Mips64(_)))
+    }
+
+    /// Whether the words may be of this triple: it says what they say, and nothing that contradicts them.
+    #[must_use]
+    pub fn allows(&self, triple: &TripleRef<'_>) -> bool {
+        let machine = triple.architecture;
+        let is_arm = matches!(machine, Architecture::Arm(_) | Architecture::Aarch64(_));
+        let has_no_version = match machine {
+            Architecture::Arm(it) => matches!(it, ArmArchitecture::Arm | ArmArchitecture::Armv8),
+            _ => true,
+        };
+        let has_machine = match self.machine() {
+            // A word such as `arm` says no version.
+            Said::Unsaid => !self.is_any_arm || is_arm && has_no_version,
+            Said::One(it) => {
+                is_at_most((it, ""), (machine, ""))
+                    && (is_at_most((machine, ""), (it, "")) || has_no_level(it))
+            }
+            Said::Contradicted => false,
+        };
+        let own_width = machine.pointer_width().ok();
+        let width = triple.pointer_width().ok();
+        let has_width = match self.width {
+            Said::Unsaid => self.machine == Said::Unsaid || width == own_width,
+            said => said.one() == width && width.is_some(),
+        };
+        let (library, form) = said_by(triple.environment).unwrap_or(("", ""));
+        let has_form = match self.form {
+            Said::Unsaid => self.system == Said::Unsaid || !matches!(form, "android" | "ohos"),
+            said => said.one() == Some(form),
+        };
+        let floats = FloatAbi::of(triple);
+        has_machine
+            && !self.is_other_machine
+            && has_width
+            && has_form
+            && self.level == Said::Unsaid
+            && self.allows_system(triple)
+            && match floats {
+                Some(it) => self.floats.allows(it),
+                // Only an Arm without a C library may pass them in either way.
+                None => self.floats == Said::Unsaid || is_arm && self.floats.one().is_some(),
+            }
+            && (self.library == Said::Unsaid || self.library == Said::One(library))
+    }
+
+    /// Whether the system may be that of a triple. Tools say `wasi` of its first preview.
+    pub(crate) fn allows_system(&self, triple: &TripleRef<'_>) -> bool {
+        let own = unversioned(triple.operating_system);
+        let is_own = |it: &str| {
+            let said = it.parse().map(unversioned);
+            said == Ok(own) || (said, own) == (Ok(OperatingSystem::Wasi), OperatingSystem::WasiP1)
+        };
+        match self.system {
+            Said::Unsaid => true,
+            said => said.one().map_or(false, is_own),
+        }
+    }
+
+    /// Whether the C library may be that of a triple.
+    pub(crate) fn allows_library(&self, triple: &TripleRef<'_>) -> bool {
+        let library = said_by(triple.environment).map_or("", |it| it.0);
+        self.library == Said::Unsaid || self.library == Said::One(library)
+    }
+}
+
+/// A word for these says no level, and the machine may have any.
+fn has_no_level(machine: Architecture) -> bool {
+    use target_lexicon::{
+        Riscv32Architecture::Riscv32 as Bits32, Riscv64Architecture::Riscv64 as Bits64,
+    };
+    use Architecture::*;
+    matches!(
+        machine,
+        Arm(ArmArchitecture::Arm | ArmArchitecture::Armeb) | Riscv32(Bits32) | Riscv64(Bits64)
+    )
+}
+
+/// The C library that an environment says, and what else. `None` of one that no word says.
+fn said_by(environment: Environment) -> Option<(&'static str, &'static str)> {
+    use Environment::*;
+    Some(match environment {
+        Unknown | Eabi | Eabihf => ("", ""),
+        Gnu | Gnueabi | Gnueabihf | Gnux32 | GnuIlp32 => ("gnu", ""),
+        Gnuabi64 => ("gnu", "n64"),
+        Gnuspe => ("gnu", "spe"),
+        GnuLlvm => ("gnullvm", ""),
+        Musl | Musleabi | Musleabihf => ("musl", ""),
+        Muslabi64 => ("musl", "n64"),
+        Uclibc | Uclibceabi | Uclibceabihf => ("uclibc", ""),
+        Msvc => ("msvc", ""),
+        Newlib => ("newlib", ""),
+        Android | Androideabi => ("", "android"),
+        Ohos => ("", "ohos"),
+        Macabi => ("", "macabi"),
+        Sim => ("", "sim"),
+        _ => return Option::None,
+    })
+}
+
+impl fmt::Display for Evidence<'_> {
+    fn fmt(&self, f: &mut fmt::Formatter<'_>) -> fmt::Result {
+        if let Some(triple) = self.triple() {
+            return write!(f, "its words name {triple}");
+        }
+        let is_other = self.system == Said::One(OTHER);
+        let begin = match (self.machine(), self.system) {
+            (Said::Contradicted, _) => return f.write_str("it names several machines"),
+            _ if self.is_other_machine => {
+                return f.write_str("it names a machine that no triple has")
+            }
+            (Said::Unsaid, Said::Unsaid) if !self.is_any_arm => {
+                return f.write_str("it names nothing known here")
+            }
+            (Said::Unsaid, Said::Unsaid) => {
+                return f.write_str("it names an Arm of 32 or of 64 bits, and no system");
+            }
+            (Said::Unsaid, _) => {
+                return f.write_str("it names a system, and no single machine known here");
+            }
+            (_, Said::Contradicted) => return f.write_str("it names several systems"),
+            (_, Said::Unsaid) if self.unknown.is_none() => {
+                return f.write_str("it names a machine, and no system");
+            }
+            _ if is_other => {
+                return f.write_str("it names a machine, and a system that no triple has")
+            }
+            (_, Said::Unsaid) => {
+                return f.write_str("it names a machine, and no system known here")
+            }
+            _ if self.unknown.is_some() => "its words say",
+            _ => "no triple says all that its words say:",
+        };
+        f.write_str(begin)?;
+        let mut separator = " ";
+        let mut say = |what: &dyn fmt::Display| {
+            write!(f, "{separator}{what}")?;
+            separator = ", ";
+            Ok(())
+        };
+        if let Some(machine) = self.machine().one() {
+            say(&machine)?;
+        }
+        if let Some(level) = self.level.one() {
+            say(&format_args!("its level {level}"))?;
+        }
+        match self.width {
+            Said::Unsaid => {}
+            Said::One(it) => say(&format_args!("{} bits", it.bits()))?,
+            Said::Contradicted => say(&"several widths")?,
+        }
+        match self.floats {
+            Said::Unsaid => {}
+            Said::One(it) => say(&format_args!("{it}-float"))?,
+            Said::Contradicted => say(&"several floating-point ABIs")?,
+        }
+        for said in [self.system, self.library, self.form] {
+            match said {
+                Said::Unsaid => {}
+                Said::One(OTHER) => say(&"another C library or ABI")?,
+                Said::One(it) => say(&it)?,
+                Said::Contradicted => say(&"several C libraries or ABIs")?,
+            }
+        }
+        match self.unknown_word() {
+            Some((word, _)) => write!(f, "; here nobody knows `{}`", visible(word).shortened()),
+            None => Ok(()),
+        }
+    }
+}
+
+/// What a word is of, as far as it matters which words come next.
+#[derive(Clone, Copy, PartialEq, Eq)]
+enum Kind {
+    Machine,
+    System,
+    /// `gnu`, after which a number may be one of an ABI, as in `gnux32`, unless it is that of glibc.
+    Gnu,
+    Other,
+}
+
+fn kind_of(said: &str) -> Kind {
+    match said {
+        "arm32|64" | "several" | "other-machine" => Kind::Machine,
+        "other-system" => Kind::System,
+        "gnu" => Kind::Gnu,
+        "unknown" => Kind::Other,
+        _ if said.parse::<Architecture>().is_ok() => Kind::Machine,
+        _ if said.parse::<OperatingSystem>().is_ok() => Kind::System,
+        _ => Kind::Other,
+    }
+}
+
+/// A word of a text: letters and digits, up to a sign, or to a capital letter after a small one or before one, unless all of it is known.
+#[derive(Clone)]
+struct Words<'a> {
+    text: &'a str,
+    at: usize,
+}
+
+type Word = Range<usize>;
+
+impl Iterator for Words<'_> {
+    type Item = Word;
+
+    fn next(&mut self) -> Option<Word> {
+        let bytes = self.text.as_bytes();
+        let is_letter = |at: usize| {
+            bytes
+                .get(at)
+                .map_or(false, |it| it.is_ascii_alphanumeric() || !it.is_ascii())
+        };
+        while self.at < bytes.len() && !is_letter(self.at) {
+            self.at += 1;
+        }
+        let start = self.at;
+        let is_after_sign = start == 0 || !is_letter(start - 1);
+        // A longer word isn't known.
+        let whole = (start..=start + LONGEST).find(|at| !is_letter(*at));
+        let is_known = |end: &usize| is_after_sign && (start..*end).said(self.text).is_some();
+        let is_capital = |at: usize| bytes.get(at).map_or(false, u8::is_ascii_uppercase);
+        let is_small = |at: usize| bytes.get(at).map_or(false, u8::is_ascii_lowercase);
+        let begins = |at: usize| is_capital(at) && (!is_capital(at - 1) || is_small(at + 1));
+        let ends = |at: &usize| !is_letter(*at) || *at > start && begins(*at);
+        let end = whole.filter(is_known).or_else(|| (start..).find(ends))?;
+        self.at = end;
+        (start < end).then_some(start..end)
+    }
+}
+
+trait InText {
+    fn said(&self, text: &str) -> Option<&'static str>;
+}
+
+impl InText for Word {
+    /// What the word says.
+    fn said(&self, text: &str) -> Option<&'static str> {
+        let mut lower = Buffer::<LONGEST>::new();
+        lower.write_str(text.get(self.clone())?).ok()?;
+        lower.make_lowercase();
+        said(lower.as_str())
+    }
+}
+
+/// The most bytes of a word that is understood.
+const LONGEST: usize = 24;
+
+/// What a word in lower case says: by the table, or as a known name of a machine, or of a system.
+pub(crate) fn said(word: &str) -> Option<&'static str> {
+    let listed = |word: &str| {
+        let at = WORDS.binary_search_by(|it| it.0.cmp(word)).ok()?;
+        Some(WORDS.get(at)?.1)
+    };
+    let system = || {
+        let mut names = known_names(Field::OperatingSystem).iter().copied();
+        names.find(|it| *it == word && *it != "unknown")
+    };
+    let versioned = || {
+        let name = word.trim_end_matches(|it: char| it.is_ascii_digit());
+        let said = listed(name).or_else(|| system_named(name))?;
+        let first = said.split(' ').next()?;
+        let is_system = kind_of(first) == Kind::System;
+        (is_system || matches!(said, "version" | "musl" | "msvc")).then_some(said)
+    };
+    listed(word)
+        .or_else(|| machine_named(word))
+        .or_else(system)
+        .or_else(versioned)
+}
+
+/// The machine of a text that is only a word for one, and not an Arm of 32 bits.
+pub(crate) fn only_machine(text: &str) -> Option<Architecture> {
+    let mut lower = Buffer::<LONGEST>::new();
+    let mut words = text.split('-');
+    lower.write_str(words.next()?).ok()?;
+    words.try_for_each(|it| write!(lower, "_{it}")).ok()?;
+    lower.make_lowercase();
+    let machine = said(lower.as_str())?.parse().ok()?;
+    (!matches!(machine, Architecture::Arm(_) | Architecture::Unknown)).then_some(machine)
+}
+
+fn system_named(word: &str) -> Option<&'static str> {
+    let mut names = known_names(Field::OperatingSystem).iter().copied();
+    names.find(|it| *it == word && !matches!(*it, "unknown" | "none"))
+}
+
+/// The known name of the machine that a word names.
+fn machine_named(word: &str) -> Option<&'static str> {
+    let mut names = known_names(Field::Architecture).iter().copied();
+    let known = names.find(|it| *it == word && *it != "unknown");
+    known.or_else(|| {
+        if word == "arm64" {
+            Some("aarch64")
+        } else {
+            Some(fit_alone(Place::First, word)?.names)
+        }
+    })
+}
+
+/// What two words say that are one for a machine, such as `x86_64` and `arm-v7`, unless the second is a version.
+fn machine_of_pair(text: &str, first: &Word, second: &Word) -> Option<&'static str> {
+    if second.start > first.end + 1 {
+        return None;
+    }
+    let next = &text[second.clone()];
+    let goes_on = text[second.end..].strip_prefix('.').unwrap_or("");
+    let is_version =
+        next.starts_with('v') || !text[..second.start].ends_with('_') && is_number(next);
+    if is_version && goes_on.starts_with(|it: char| it.is_ascii_digit()) {
+        return None;
+    }
+    ["_", ""].iter().find_map(|sign| {
+        let mut both = Buffer::<LONGEST>::new();
+        write!(both, "{}{sign}{next}", &text[first.clone()]).ok()?;
+        both.make_lowercase();
+        let said = said(both.as_str())?;
+        (kind_of(said.split(' ').next()?) == Kind::Machine).then_some(said)
+    })
+}
+
+fn is_number(word: &str) -> bool {
+    word.bytes().all(|it| it.is_ascii_digit())
+}
+
+/// Whether a word is a number of a version.
+fn is_version(word: &str) -> bool {
+    let digits = word.strip_prefix(['v', 'r', 'V']).unwrap_or(word);
+    !digits.is_empty() && is_number(digits)
+}
+
+fn text_of_width(text: &str) -> &'static str {
+    if text == "32" {
+        "32"
+    } else {
+        "64"
+    }
+}
