@@ -52,7 +52,8 @@ impl Dialect {
         let spelled = read(name)
             .ok()
             .filter(|it| is_known(it) && !has_number_of_abi(name));
-        let named = spelled.or_else(|| evidence.triple());
+        let said = evidence.triple().filter(|_| !evidence.has_title());
+        let named = spelled.or(said);
         let same = || self.name_of_machine(name);
         if let Some(known) = named
             .and_then(|it| self.name_with_floats_of(&it))

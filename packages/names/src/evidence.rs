@@ -105,6 +105,8 @@ pub struct Evidence<'a> {
     form: Said<&'static str>,
     /// The first word that isn't understood, after the first that says a machine or a system.
     unknown: Option<(usize, usize)>,
+    /// Before that, a word isn't understood, as in the name of a program.
+    has_title: bool,
 }
 
 /// The library of words for one that no triple states, and the system of words for one that no triple has.
@@ -168,15 +170,16 @@ impl<'a> Evidence<'a> {
         let Some(said) = said else {
             // A number after a machine may be a part of it: `x86_46`, `arm-7`.
             let after = self.text[word.end..].strip_prefix('.').unwrap_or("");
+            let is_joined = joint == Some(b'_') && text.len() < 4;
             let is_part = before == Some(Kind::Machine)
-                && text.len() < 3
-                && (joint == Some(b'_') || self.is_any_arm)
+                && (is_joined || self.is_any_arm && text.len() < 3)
                 && !after.starts_with(|it: char| it.is_ascii_digit());
             let is_part = is_part || before == Some(Kind::Gnu) && text != "2";
             let is_version = is_version(text) && !is_part && !is_level;
             if has_begun && !is_version && self.unknown.is_none() {
                 self.unknown = Some((word.start, word.end));
             }
+            self.has_title |= !has_begun && !is_version;
             return None;
         };
         // In a program's name `gnu`, `soft` and the like say nothing.
@@ -240,6 +243,11 @@ impl<'a> Evidence<'a> {
     #[must_use]
     pub fn is_empty(&self) -> bool {
         !self.has_begun()
+    }
+
+    /// Whether a word that isn't understood comes before the first that says a machine or a system.
+    pub(crate) fn has_title(&self) -> bool {
+        self.has_title
     }
 
     /// The least machine that the words say. A word such as `arm` says none, which may have 32 bits or 64, unless others say which.
