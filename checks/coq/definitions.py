@@ -354,7 +354,7 @@ class Coq:
 # ---- what is proved
 
 # The files, in order; Specs is written.
-FILES = "Kit Specs Names Texts Families Rounds Upstream Growth Queries".split()
+FILES = "Kit Specs Names Texts Exceptions Rounds Upstream Growth Queries".split()
 
 # Laws that aren't proved here, and why.
 LEFT_OUT = {
@@ -370,7 +370,7 @@ NEEDED = [f"lexicon_fields/{it}" for it in (
     "Architecture.as_mips64 Architecture.as_riscv32 Architecture.as_riscv64 Architecture.as_clever Architecture.as_z80").split()] + [
     f"target_lexicon/{it}" for it in (
         "GreedyReading.reading GreedyReading.finished_sources Explanation.AreSourcesOf Explanation.whole_text_sources Explanation.placed_from Explanation.with_source Refusal.refusal_line "
-        "Printing.upstream_text_of DataModel.sizes_of DataModel.size_bits DataModel.model_name CallingConvention.convention_name").split()]
+        "Printing.upstream_string_of DataModel.sizes_of DataModel.size_bits DataModel.model_name CallingConvention.convention_name").split()]
 # What is proved and isn't a law of laws.rt: it is of no code.
 PROPOSITIONS = {"upstream_round_trips_are_known": "target_lexicon/UpstreamRounds.UpstreamRoundTripsAreKnown"}
 

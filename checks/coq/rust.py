@@ -53,7 +53,7 @@ SOURCE_LEFT_OUT = {it: "an allocation" for it in """OperatingSystem::into_str Cu
     Vendor::clone DefaultToHost::clone DefaultToUnknown::clone Triple::to_text Triple::to_upstream_text Triple::from_str
     Refusal::to_error""".split()} | {"CustomVendor::hash": "a hash", "DefaultToHost::default": "the host"}
 NOT_SHIPPED = """VendorError_eqb Architecture_host BinaryFormat_host decimal_text Environment_host OperatingSystem_host
-    Vendor_host Triple_write_to Triple_normal TripleRef_normal Triple_round_trip_family Triple_comes_back Triple_settle
+    Vendor_host Triple_write_to Triple_normal TripleRef_normal Triple_round_trip_exception Triple_comes_back Triple_settle
     TripleRef_settle Triple_settles_as""".split()
 RENAMED = {"VendorRef_from_str": "VendorRef_from_text", **{f"TripleRef_{it}": f"TripleRef_known_{it}" for it in (
     "endianness", "pointer_width", "default_calling_convention", "data_model")}}
@@ -605,7 +605,7 @@ class Body:
             if name == "to_string" and type[0] == "T" and (type[1], "fmt") in self.crate.functions:
                 f, result = self.coq.need(type[1], "fmt"), self.coq.new("it")
                 self.f.fuel |= f.fuel
-                shown = f"{self.coq.called(f)}{' fuel' * f.fuel} {code} (string_of [])"
+                shown = f"{self.coq.called(f)}{' fuel' * f.fuel} {code} (formatter_of [])"
                 return self.bind(f"displayed ({shown if f.impure else f'Some ({shown})'})", result, k(result, STR))
             if kind == "number" and name == "saturating_add":
                 return self.ex(args[0], env, lambda more, _: k(f"(saturating_add {bits(type[1])} {code} {more})", type))

@@ -99,7 +99,7 @@ fn triple(word: &str) -> Result<V, String> {
     let others = (1..parts.len()).find_map(|count| {
         let others = [&parts[..1], &parts[count + 1..]].concat().join("-");
         let t = with(reading(&others).ok()?, &[("vendor", vendor(&parts[1..=count].join("-")))]);
-        eq(s::text_of(t), text(word)).then_some(t)
+        eq(s::string_of(t), text(word)).then_some(t)
     });
     reading(word).or_else(|why| others.ok_or(format!("no triple is written {word:?}: {why}")))
 }

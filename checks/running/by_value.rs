@@ -1,4 +1,4 @@
-//! Equality, order, hashing and conversions. Two values of the crate are equal exactly if those of the definitions are, and what they feed a hasher
+//! Equality, order, hashing and conversions. Two values of the crate are equal if and only if those of the definitions are, and what they feed a hasher
 //! is as `HashInjectiveOn` says. Of orders the definitions have only `version_cmp`, and upstream has none but that of versions: the
 //! others are compared with what the crate's `order.rs` says, over the names that the definitions give.
 use crate::inputs::{self, Fields, Random};
@@ -220,7 +220,7 @@ pub fn triples(r: &mut Report, i: usize, fields: &Fields) {
         mixed("binary_format", |it, other| it.binary_format = other.binary_format),
     ];
     #[cfg(feature = "port")]
-    all.extend(triple.clone().settle().ok().map(|it| (s::settled_values(t), it)));
+    all.extend(triple.clone().settle().ok().map(|it| (s::canonical_values(t), it)));
     let owned = |(x, triple): &(V, Triple)| {
         let (x, triple) = (*x, triple.clone());
         vendors(x, &triple.vendor).into_iter().map(move |(_, vendor)| (x, Triple { vendor, ..triple.clone() }))

@@ -173,11 +173,11 @@ pub fn triple(r: &mut Report, t: V, owned: &Triple) {
     let triple = owned.as_triple_ref();
     let input = &triple;
     answers! { r, input, (t):
-        text_of = triple.to_string();
-        upstream_text_of = triple.to_upstream_text();
-        upstream_text_of = owned.to_upstream_text();
-        family = triple.round_trip_family();
-        family = owned.round_trip_family();
+        string_of = triple.to_string();
+        upstream_string_of = triple.to_upstream_text();
+        upstream_string_of = owned.to_upstream_text();
+        exception = triple.round_trip_exception();
+        exception = owned.round_trip_exception();
         default_binary_format = triple.default_binary_format();
         default_binary_format = target_lexicon::default_binary_format(owned);
         endianness = triple.endianness().ok();
@@ -189,19 +189,19 @@ pub fn triple(r: &mut Report, t: V, owned: &Triple) {
     let silent = !crate::allocates(|| {
         let mut room = [0; 64];
         let written = (triple.write_to(&mut room), triple.default_binary_format(), owned.comes_back(), triple.comes_back(), triple.settles_as(*input));
-        let family = (owned.round_trip_family(), triple.round_trip_family(), owned.settles_as(owned), owned.as_triple_ref() == triple);
-        (written, family, owned.endianness(), owned.pointer_width(), owned.default_calling_convention(), owned.data_model(), triple.data_model())
+        let exception = (owned.round_trip_exception(), triple.round_trip_exception(), owned.settles_as(owned), owned.as_triple_ref() == triple);
+        (written, exception, owned.endianness(), owned.pointer_width(), owned.default_calling_convention(), owned.data_model(), triple.data_model())
     });
     r.holds("queries allocate nothing", silent, input);
-    let (plain, settled, step) = (s::is_plain(s::get_vendor(t)).yes(), s::settled_values(t), s::normal_step(t));
-    let comes_back = eq(s::family(t), V::C(s::Option__None, &[]));
+    let (plain, settled, step) = (s::is_plain(s::get_vendor(t)).yes(), s::canonical_values(t), s::normal_step(t));
+    let comes_back = eq(s::exception(t), V::C(s::Option__None, &[]));
     r.holds("comes_back", triple.comes_back() == comes_back && owned.comes_back() == comes_back, input);
     r.holds("one step settles", eq(step, settled), input);
-    r.holds("the round trip is the normal step", !plain || eq(s::reading(s::text_of(t)), con(s::Result__Ok, &[step])), input);
+    r.holds("the round trip is the normal step", !plain || eq(s::reading(s::string_of(t)), con(s::Result__Ok, &[step])), input);
     match (triple.settle(), owned.clone().settle()) {
         (Ok(it), Ok(other)) if plain => {
-            r.same("settled_values", settled, &it, input);
-            r.same("settled_values", settled, &Shown(&other), input);
+            r.same("canonical_values", settled, &it, input);
+            r.same("canonical_values", settled, &Shown(&other), input);
         }
         (Err(NotPlain(same)), Err(error)) if !plain => {
             let shown = format!("No text parses as the vendor {:?}", s::vendor_name(s::get_vendor(t)).string());
@@ -222,11 +222,11 @@ pub fn triple(r: &mut Report, t: V, owned: &Triple) {
         ("binary_format", value("BinaryFormat", "Wasm"), |it| it.binary_format = BinaryFormat::Wasm),
     ];
     for (field, value, change) in others {
-        let (expected, mut other) = (eq(s::settled_values(with(t, &[(field, value)])), settled), owned.clone());
+        let (expected, mut other) = (eq(s::canonical_values(with(t, &[(field, value)])), settled), owned.clone());
         change(&mut other);
         r.holds("settles_as of a neighbour", owned.settles_as(&other) == expected && triple.settles_as(&other) == expected, &(input, &other));
     }
-    let printed = s::text_of(t).bytes();
+    let printed = s::string_of(t).bytes();
     let (mut buffer, count) = (vec![7; printed.len() + 9], printed.len());
     r.holds("write_to", triple.write_to(&mut buffer) == count && buffer[..count] == printed && buffer[count..].iter().all(|it| *it == 7), input);
     r.holds("write_to of a buffer of its size", triple.write_to(&mut buffer[..count]) == count && buffer[..count] == printed, input);
@@ -252,7 +252,7 @@ pub fn neighbours(r: &mut Report, string: &str) {
         for value in all.list() {
             let other = with(read, &[(field, *value)]);
             let is_it = eq(s::reading(x), con(s::Result__Ok, &[other]));
-            r.holds("ReadsAs of a neighbour", s::ReadsAs(x, other).yes() == is_it, &(string, definitions::values::shown(*value)));
+            r.holds("ParsesAs of a neighbour", s::ParsesAs(x, other).yes() == is_it, &(string, definitions::values::shown(*value)));
         }
     }
 }
@@ -262,10 +262,10 @@ pub fn relations(r: &mut Report, string: &str) {
     let (x, reading) = (v(string), s::reading(v(string)));
     let V::C(tag, it) = reading else { panic!("a result") };
     if tag == s::Result__Ok {
-        r.holds("ReadsAs", s::ReadsAs(x, it[0]).yes(), &string);
+        r.holds("ParsesAs", s::ParsesAs(x, it[0]).yes(), &string);
         for field in ["architecture", "vendor", "operating_system", "environment", "binary_format"] {
             let other = with(it[0], &[(field, s::special_triple(s::special_rows().list()[0]).field(field))]);
-            r.holds("ReadsAs of a neighbour", s::ReadsAs(x, other).yes() == eq(other, it[0]), &string);
+            r.holds("ParsesAs of a neighbour", s::ParsesAs(x, other).yes() == eq(other, it[0]), &string);
         }
         let refusal = s::refusal_with(con(s::Option__Some, &[V::C(s::Field__Architecture, &[])]), library::seq(&[]));
         r.holds("IsRefusedAs of what is read", !s::IsRefusedAs(x, refusal).yes(), &string);
@@ -275,7 +275,7 @@ pub fn relations(r: &mut Report, string: &str) {
         }
         let all = found(TripleRef::explain(string).sources, Source::NotGiven);
         let (environment, format) = (all.field("environment"), all.field("binary_format"));
-        r.holds("AreSourcesOf", s::AreSourcesOf(x, all).yes() && s::AreInText(x, all).yes(), &string);
+        r.holds("AreSourcesOf", s::AreSourcesOf(x, all).yes() && s::AreInString(x, all).yes(), &string);
         let others = with(all, &[("environment", format), ("binary_format", environment)]);
         r.holds("AreSourcesOf of others", !s::AreSourcesOf(x, others).yes() || eq(environment, format), &string);
     } else {
@@ -291,6 +291,6 @@ pub fn relations(r: &mut Report, string: &str) {
             let other = with(it[0], &[("expected", con(s::Option__Some, &[*other]))]);
             r.holds("IsRefusedAs of a neighbour", s::IsRefusedAs(x, other).yes() == eq(other, it[0]), &string);
         }
-        r.holds("ReadsAs of what is refused", !s::ReadsAs(x, s::unknown_values()).yes(), &string);
+        r.holds("ParsesAs of what is refused", !s::ParsesAs(x, s::unknown_values()).yes(), &string);
     }
 }

@@ -11,7 +11,7 @@ use target_lexicon::{
 };
 
 /// What a triple prints as: upstream's own crate has no `shows_unknowns`.
-pub const PRINTED: fn(V) -> V = if cfg!(feature = "port") { s::text_of } else { s::upstream_text_of };
+pub const PRINTED: fn(V) -> V = if cfg!(feature = "port") { s::string_of } else { s::upstream_string_of };
 
 /// `answers!(report, input, (arguments): definition = call; ..)`
 #[macro_export]
@@ -215,9 +215,9 @@ pub fn triple(r: &mut Report, t: V, triple: &Triple) {
         data_model = triple.data_model().ok();
     }
     let again = printed.parse::<Triple>();
-    let hides_unknowns = !eq(PRINTED(t), s::text_of(t));
-    let is_in_none = eq(s::family(t), V::C(s::Option__None, &[])) && !hides_unknowns;
-    r.holds("a triple comes back exactly if it is in no family", (again.as_ref() == Ok(triple)) == is_in_none, &input);
+    let hides_unknowns = !eq(PRINTED(t), s::string_of(t));
+    let is_in_none = eq(s::exception(t), V::C(s::Option__None, &[])) && !hides_unknowns;
+    r.holds("a triple comes back if and only if it has no exception", (again.as_ref() == Ok(triple)) == is_in_none, &input);
     if s::is_plain(s::get_vendor(t)).yes() && !hides_unknowns {
         r.same("the round trip", con(s::Result__Ok, &[s::normal_step(t)]), &again.as_ref().map(Shown), &input);
     }

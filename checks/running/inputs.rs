@@ -159,8 +159,8 @@ fn of_special(field: &str, others: &str) -> String {
     found.chain([others.to_string()]).collect::<Vec<_>>().join(" ")
 }
 
-/// The values of which families, special strings and rules of printing speak, and one of each other kind.
-pub fn near_families() -> Fields {
+/// The values of which exceptions, special strings and rules of printing speak, and one of each other kind.
+pub fn near_exceptions() -> Fields {
     let all = fields();
     let (made, others) = all.vendors.split_last().expect("vendors");
     let vendors = only(&others.concat(), &of_special("vendor", "Known(Unknown) Custom(\"esp\") Custom(\"q-9\")"));
@@ -173,7 +173,7 @@ pub fn near_families() -> Fields {
     }
 }
 
-/// Each custom vendor with values of which a family speaks.
+/// Each custom vendor with values of which an exception speaks.
 pub fn near_vendors() -> Fields {
     let all = fields();
     Fields {

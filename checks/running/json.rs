@@ -83,10 +83,10 @@ pub fn value(r: &mut Report, value: &Value) {
     let no_text = V::C(s::JsonErrorValue__NotText, &[]);
     match (from_value::<Triple>(value.clone()), from_str::<Triple>(&to_string(value).expect("JSON"))) {
         (Ok(triple), Ok(other)) => {
-            let V::C(s::Result__Ok, it) = s::reading(v(value.as_str().unwrap_or("no text"))) else { return r.holds("JsonReadsAs", false, value) };
-            r.same("JsonReadsAs", it[0], &triple.as_triple_ref(), value);
-            r.same("JsonReadsAs", it[0], &TripleRef::deserialize(value).expect("a triple"), value);
-            r.holds("JsonReadsAs", triple == other && s::JsonReadsAs(x, it[0]).yes() && !s::IsJsonErrorOf(x, no_text).yes(), value);
+            let V::C(s::Result__Ok, it) = s::reading(v(value.as_str().unwrap_or("no text"))) else { return r.holds("JsonParsesAs", false, value) };
+            r.same("JsonParsesAs", it[0], &triple.as_triple_ref(), value);
+            r.same("JsonParsesAs", it[0], &TripleRef::deserialize(value).expect("a triple"), value);
+            r.holds("JsonParsesAs", triple == other && s::JsonParsesAs(x, it[0]).yes() && !s::IsJsonErrorOf(x, no_text).yes(), value);
         }
         (Err(shown), Err(_)) => {
             let Some(error) = error else { return r.holds("IsJsonErrorOf", false, value) };
@@ -108,11 +108,11 @@ pub fn list(r: &mut Report, value: &Value) {
     let errors: Vec<V> = errors.into_iter().filter(|it| s::IsListErrorOf(x, *it).yes()).collect();
     match from_value::<Vec<Triple>>(value.clone()) {
         Ok(triples) => {
-            readings.iter().zip(&triples).for_each(|(t, triple)| r.same("ListReadsAs", *t, &triple.as_triple_ref(), value));
-            r.holds("ListReadsAs", readings.len() == triples.len() && s::ListReadsAs(x, library::seq(&readings)).yes() && errors.is_empty(), value);
+            readings.iter().zip(&triples).for_each(|(t, triple)| r.same("ListParsesAs", *t, &triple.as_triple_ref(), value));
+            r.holds("ListParsesAs", readings.len() == triples.len() && s::ListParsesAs(x, library::seq(&readings)).yes() && errors.is_empty(), value);
         }
         Err(shown) => {
-            r.holds("ListReadsAs of a list with an error", !s::ListReadsAs(x, library::seq(&readings)).yes() && errors.len() == 1, value);
+            r.holds("ListParsesAs of a list with an error", !s::ListParsesAs(x, library::seq(&readings)).yes() && errors.len() == 1, value);
             if let [V::C(s::ListErrorValue__Element, [_, error @ V::C(s::JsonErrorValue__Parse, _)])] = errors[..] {
                 r.holds("IsListErrorOf", shown.to_string() == s::json_error_line(*error).string(), &(value, shown));
             }

@@ -7,10 +7,10 @@ use definitions::values::{con, forget, keep, some_values, text, with, FORM, N, T
 /// How many cases of a law there are first, which are all tried, how many in all, and one of them.
 type Cases = (usize, usize, Box<dyn Fn(usize) -> Vec<V>>);
 
-/// First those that print as a special string; then the values near the families, with a custom vendor of a known one's name too, and with
+/// First those that print as a special string; then the values near the exceptions, with a custom vendor of a known one's name too, and with
 /// versions that the types of the code don't have; and as many of all.
 fn triples() -> Cases {
-    let (near, all) = (inputs::near_families(), inputs::fields());
+    let (near, all) = (inputs::near_exceptions(), inputs::fields());
     let count = near.count();
     let step = inputs::prime_from(all.count() / count);
     let rows = s::special_rows().list();
@@ -40,7 +40,7 @@ fn pairs() -> Cases {
         let t = case(i / 8)[0];
         let other = |field| with(t, &[(field, s::special_triple(s::special_rows().list()[0]).field(field))]);
         let custom = with(t, &[("vendor", con(s::VendorValue__Custom, &[s::vendor_name(s::get_vendor(t))]))]);
-        let others = [t, s::settled_values(t), custom, other("architecture"), other("vendor"), other("operating_system"), other("environment"), other("binary_format")];
+        let others = [t, s::canonical_values(t), custom, other("architecture"), other("vendor"), other("operating_system"), other("environment"), other("binary_format")];
         vec![t, others[i % 8]]
     };
     (0, 8 * count, Box::new(pair))
@@ -65,7 +65,7 @@ fn cases(variables: &[(&str, &str)]) -> Cases {
 }
 
 /// Laws of which a case takes long, since they search: they are tried with an eighth of the cases.
-const SLOW: [&str; 4] = ["EqualTextsEqualTriples", "EveryTextHasOneOutcome", "ReadingIsComputed", "RefusedPartsDoNotGrow"];
+const SLOW: [&str; 4] = ["EqualTextsEqualTriples", "EveryStringHasOneOutcome", "ReadingIsComputed", "RefusedPartsDoNotGrow"];
 
 /// Runs each law on some of its cases, as many as the step at least if it has so many. Prints the forms that are false.
 pub fn run(r: &mut Report, chosen: Chosen) {

@@ -106,7 +106,7 @@ fn run(part: &str, chosen: Chosen, r: &mut Report) {
             _ => r.holds("a target that is refused needs another one", host.contains("doesn't parse"), target),
         }),
         "strings" => strings(chosen, r, calls::string),
-        "families" => triples(chosen, inputs::near_families(), r, calls::triple),
+        "exceptions" => triples(chosen, inputs::near_exceptions(), r, calls::triple),
         "vendors" => triples(chosen, inputs::near_vendors(), r, calls::triple),
         "triples" => triples(chosen, inputs::fields(), r, calls::triple),
         #[cfg(feature = "port")]

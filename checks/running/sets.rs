@@ -14,7 +14,7 @@ fn main() {
         let count = t.write_to(&mut room);
         let printed = t.to_string();
         let comes_back = t.comes_back() == (TripleRef::from_str(&printed) == Ok(t));
-        let format = (t.default_binary_format(), t.vendor.is_plain(), comes_back, t.round_trip_family(), t.step(), t.settles_as(&t));
+        let format = (t.default_binary_format(), t.vendor.is_plain(), comes_back, t.round_trip_exception(), t.step(), t.settles_as(&t));
         let answers = (t.endianness(), t.pointer_width(), t.default_calling_convention(), t.data_model());
         print!("{:?} {answers:?} {format:?} {t:?}\t{printed} {}", TripleRef::explain(&line), String::from_utf8_lossy(&room[..count]));
         #[cfg(feature = "alloc")]

@@ -28,7 +28,7 @@ NOT_RUN = {
     "Text": "it is a type", "FieldValues": "it is a type",
 }
 # The function that gives the last argument of a relation: the constructor of its result, with that argument.
-GIVEN_BY = {"ReadsAs": ("reading", "Result__Ok"), "IsRefusedAs": ("reading", "Result__Err")}
+GIVEN_BY = {"ParsesAs": ("reading", "Result__Ok"), "IsRefusedAs": ("reading", "Result__Err")}
 # What a variable of a proposition ranges over, where no condition gives its values. The fields of a placement increase, so no other list
 # of fields matters. The values that are tried, and what hashers are fed, are those of the Rust file that asks.
 DOMAINS = {"ℕ": "numbers()", "Field": "fields()", "List Field": "field_lists()", "List ( List ℕ )": "library::seq(&[parts_of(text_)])",

@@ -49,7 +49,7 @@ fn main() {
 fn literal(triple: TripleRef<'_>) -> String {
     let architecture = format!("{:?}", triple.architecture);
     let architecture = match architecture.split_once('(') {
-        Some((family, of_family)) => format!("{family}(crate::{family}Architecture::{of_family}"),
+        Some((exception, of_exception)) => format!("{exception}(crate::{exception}Architecture::{of_exception}"),
         None => architecture,
     };
     let vendor = match triple.vendor {

@@ -236,7 +236,7 @@ def check_triple(triple, known, of, name):
 def check_row(lines, name, triple, ways):
     """No name has two meanings, and no triple two names that are written."""
     if ("*" in triple) != ("*" in name and bool(re.search("macosx|ios", triple))):
-        raise Mistake("a triple of macOS or iOS has a star exactly if its name has one, and no other triple has one")
+        raise Mistake("a triple of macOS or iOS has a star if and only if its name has one, and no other triple has one")
     same = [it for it in lines if it[0] == name]
     if same and (ways != "w" or same[0][2] not in ("-", "r")):
         raise Mistake(f"`{name}` means {same[0][1]} already: only rows `w` share a name, after a row `r` or `-` that says what it means or why it isn't read")

@@ -28,7 +28,7 @@ writes_after_first (write ∷ writes) = writes
 abbrev pub Distinguishes : {V W : Type 0} → (V → Type 0) → (V → W) → (V → HashWrites) → V → V → Type 0
 Distinguishes IsOfKind value feed x y = (a b : HashWrites) → IsOfKind x → IsOfKind y → feed x ++ a ≡ feed y ++ b → (value x ≡ value y) × (a ≡ b)
 
--- values feed the same exactly if they are the same, provided that this holds whatever follows
+-- values feed the same if and only if they are the same, provided that this holds whatever follows
 pub hash_injective_on : {V W : Type 0} {IsOfKind : V → Type 0} {value : V → W} {feed : V → HashWrites}
     → ((x y : V) → Distinguishes IsOfKind value feed x y) → ((x y : V) → value x ≡ value y → feed x ≡ feed y) → HashInjectiveOn IsOfKind value feed
 hash_injective_on distinguishes respects = record {

@@ -4,7 +4,7 @@ use Rattle.std.specs.{Char.is_ascii_lowercase, List.list_all, Option.option_or}
 use Rattle.std.proofs.{Math.Bool.and-false, lemmas.Bool.and_parts, lemmas.Option.MatchOption-at_some, lemmas.Option.cond_some}
 use Rattle.lexicon_fields.specs.Names.{dash}
 use Rattle.lexicon_fields.specs.{declared.vendor.Vendor.Vendor, declared.known_vendor.KnownVendor.KnownVendor, declared.known_vendor.KnownVendor.TheVariants.Unknown, Names.named_values, Names.is_dash_free}
-use Rattle.lexicon_fields.specs.Vendor.{VendorValue, Known, Custom, known_vendor_name, known_vendors, custom_vendor_of, vendor_name, is_plain, is_free, is_vendor_character, has_vendor_form, vendor_of, vendor_value, owns_text, known_vendor_of, is_admitted, IsCustom, OwnsCustomText}
+use Rattle.lexicon_fields.specs.Vendor.{VendorValue, Known, Custom, known_vendor_name, known_vendors, custom_vendor_of, vendor_name, is_plain, is_free, is_vendor_character, has_vendor_form, vendor_of, vendor_value, owns_string, known_vendor_of, is_admitted, IsCustom, OwnsCustomString}
 use Rattle.lexicon_fields.specs.{Architecture.architecture_of, Environment.environment_of, BinaryFormat.binary_format_of, FixedRow.has_row}
 use Rattle.lexicon_fields.specs.OperatingSystem.{darwin_prefixes, darwin_like_system, fixed_operating_system_of, operating_system_of}
 use Rattle.lexicon_fields.proofs.LookUpLemmas.{value_named-passes, holds-if_read, option_map-holds, option_or-holds, option_or-none, none_is, test_apart, all-dash_free}
@@ -66,7 +66,7 @@ admitted_parts text admitted =
     let whole = and_parts (is_free text) (has_vendor_form text) admitted in
     ((and_parts _ _ (and_parts _ _ (and_parts _ _ (and_parts _ _ whole.0).0).0).0).0, whole.1)
 
--- a string is admitted exactly if it parses as a custom vendor
+-- a string is admitted if and only if it parses as a custom vendor
 
 abbrev pub is_read_custom : Option VendorValue → Bool
 is_read_custom (Some (Custom text)) = true
@@ -88,7 +88,7 @@ pub custom_is_admitted : (text : List ℕ) (v : VendorValue) → vendor_of text 
 custom_is_admitted text (Custom custom) is _ = admitted_as_custom text _ is
 custom_is_admitted text (Known known) is bad = absurd cc
 
-pub owner_is_admitted : (text : List ℕ) (v : Vendor) → vendor_of text ≡ Some (vendor_value v) → OwnsCustomText v → owns_text v ≡ is_admitted text
+pub owner_is_admitted : (text : List ℕ) (v : Vendor) → vendor_of text ≡ Some (vendor_value v) → OwnsCustomString v → owns_string v ≡ is_admitted text
 owner_is_admitted text (vendor.Custom custom) is owns = owns refl ∙ sym (admitted_as_custom text _ is)
 owner_is_admitted text _ is owns = sym (admitted_as_custom text _ is)
 

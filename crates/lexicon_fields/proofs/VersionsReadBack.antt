@@ -15,7 +15,7 @@ use Rattle.lexicon_fields.proofs.LookUpLemmas.{test_apart, all_apart}
 pub digits_model : IsNumeralModel (λ ds. list_all is_ascii_digit ds ≡ true) (digits_value 10)
 digits_model = numerals_by_value _ (search rules)
 
--- a result that is `Ok v` exactly if a test passes
+-- a result that is `Ok v` if and only if a test passes
 ok_by_test : {E : Type 0} (r : Result ℕ E) (b : Bool) (P : Type 0) (v : ℕ) → (P → b ≡ true) → (b ≡ true → P) → OkIff r P v → result_ok r ≡ cond b (Some v) None
 ok_by_test (Ok x) true P v to from is = ap Some is.1
 ok_by_test (Ok x) false P v to from is = absurd (let bad = to is.0 in cc)

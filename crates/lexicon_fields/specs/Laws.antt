@@ -45,7 +45,7 @@ HasVersionInRange s = IfSome (system_version s) IsVersionInRange
 abbrev pub version_cmp : DeploymentTarget → DeploymentTarget → Ordering
 version_cmp = then_cmp (on (λ v. v.major) nat_cmp) (then_cmp (on (λ v. v.minor) nat_cmp) (on (λ v. v.patch) nat_cmp))
 
--- two values compare equal exactly if they are the same
+-- two values compare equal if and only if they are the same
 abbrev pub ComparesByValue : {V : Type 0} → (V → V → Bool) → Type 0
 ComparesByValue {V} eq = (x y : V) → IsTrue (eq x y) ↔ (x ≡ y)
 
@@ -53,7 +53,7 @@ ComparesByValue {V} eq = (x y : V) → IsTrue (eq x y) ↔ (x ≡ y)
 abbrev pub CopiesEqualTheirSources : {V : Type 0} → (V → V → Type 0) → (V → Type 0) → Type 0
 CopiesEqualTheirSources {V} IsCopy NeedsNoMemory = (source : V) → NeedsNoMemory source × ((copy : V) → IsCopy source copy → copy ≡ source)
 
--- two values of this kind feed a hasher the same exactly if what they represent is the same, and what is fed after
+-- two values of this kind feed a hasher the same if and only if what they represent is the same, and what is fed after
 -- them, such as the next field of a struct, can be distinguished from what they feed
 pub record HashInjectiveOn {V W : Type 0} (IsOfKind : V → Type 0) (value : V → W) (feed : V → HashWrites) : Type 0 where
   pub exactly : (x y : V) → IsOfKind x → IsOfKind y → (feed x ≡ feed y) ↔ (value x ≡ value y)

@@ -16,9 +16,9 @@ pub data VendorValue : Type 0 where
   Custom : List ℕ → VendorValue
 
 -- the string of a custom vendor, owned or static
-abbrev pub custom_text : CustomVendor → List ℕ
-custom_text (Owned text) = string_bytes text.value
-custom_text (Static text) = text.now
+abbrev pub custom_string : CustomVendor → List ℕ
+custom_string (Owned text) = string_bytes text.value
+custom_string (Static text) = text.now
 
 -- whether a custom vendor owns its string
 abbrev pub is_owned : CustomVendor → Bool
@@ -26,9 +26,9 @@ is_owned (Owned text) = true
 is_owned (Static text) = false
 
 -- whether a vendor is a custom one that owns its string
-abbrev pub owns_text : Vendor → Bool
-owns_text (vendor.Custom custom) = is_owned custom
-owns_text _ = false
+abbrev pub owns_string : Vendor → Bool
+owns_string (vendor.Custom custom) = is_owned custom
+owns_string _ = false
 
 -- the value of a vendor
 abbrev pub vendor_value : Vendor → VendorValue
@@ -49,7 +49,7 @@ vendor_value vendor.Sun = Known known_vendor.Sun
 vendor_value vendor.Uwp = Known known_vendor.Uwp
 vendor_value vendor.Wrs = Known known_vendor.Wrs
 -- end of what is written
-vendor_value (vendor.Custom custom) = Custom (custom_text custom)
+vendor_value (vendor.Custom custom) = Custom (custom_string custom)
 
 -- the name of a known vendor
 abbrev pub known_vendor_name : KnownVendor → List ℕ
@@ -135,8 +135,8 @@ abbrev pub IsCustom : VendorValue → Type 0
 IsCustom v = IsTrue (is_custom v)
 
 -- if the vendor is custom, it owns its string
-abbrev pub OwnsCustomText : Vendor → Type 0
-OwnsCustomText v = IsCustom (vendor_value v) → owns_text v ≡ true
+abbrev pub OwnsCustomString : Vendor → Type 0
+OwnsCustomString v = IsCustom (vendor_value v) → owns_string v ≡ true
 
 -- why a string doesn't parse as a vendor: it is no vendor, or it is admitted and the allocation for it failed
 abbrev pub IsVendorErrorOf : List ℕ → VendorError → Type 0

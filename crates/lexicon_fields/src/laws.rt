@@ -13,7 +13,7 @@ ghost use Rattle.lexicon_fields.specs.BinaryFormat.{binary_format_name, binary_f
 ghost use Rattle.lexicon_fields.specs.FixedRow.{has_row, row_count, row_texts, HaveSameValues};
 ghost use Rattle.lexicon_fields.specs.declared.vendor.CustomVendor.{CustomVendor};
 ghost use Rattle.lexicon_fields.specs.declared.vendor.Vendor.{Vendor};
-ghost use Rattle.lexicon_fields.specs.Vendor.{custom_text, known_vendor_name, vendor_value, vendor_name, vendor_of, is_plain};
+ghost use Rattle.lexicon_fields.specs.Vendor.{custom_string, known_vendor_name, vendor_value, vendor_name, vendor_of, is_plain};
 ghost use Rattle.lexicon_fields.specs.declared.vendor_ref.VendorRef.{VendorRef};
 ghost use Rattle.lexicon_fields.specs.VendorRef.{ref_value};
 
@@ -103,10 +103,10 @@ pub fn versions_are_ordered()
     ensures { (x y : DeploymentTarget) → ⟦<DeploymentTarget as Ord>⟧.cmp x y ≡ version_cmp x y }
 {}
 
-/// Two custom vendors are equal exactly if their strings are, owned or static.
+/// Two custom vendors are equal if and only if their strings are, owned or static.
 pub fn custom_vendors_are_equal_by_text()
     ensures { (x y : CustomVendor) →
-        IsTrue (⟦<CustomVendor as PartialEq>⟧.eq x y) ↔ (custom_text x ≡ custom_text y) }
+        IsTrue (⟦<CustomVendor as PartialEq>⟧.eq x y) ↔ (custom_string x ≡ custom_string y) }
 {}
 
 /// Known vendors are equal by variant, custom ones by string, and a custom vendor never equals a known one.
@@ -135,7 +135,7 @@ pub fn rows_are_sorted_and_complete()
     ensures whole { (text : List ℕ) → IsTrue (has_row text) ↔ Contains row_texts text }
 {}
 
-/// Values of each other type are equal exactly if their variants and fields are, the strings of rows by bytes.
+/// Values of each other type are equal if and only if their variants and fields are, the strings of rows by bytes.
 pub fn values_are_equal_by_variant_and_fields()
     ensures architecture { ComparesByValue ⟦<Architecture as PartialEq>⟧.eq }
     ensures arm { ComparesByValue ⟦<ArmArchitecture as PartialEq>⟧.eq }
@@ -160,14 +160,14 @@ pub fn values_are_equal_by_variant_and_fields()
         IsTrue (⟦<FixedRow as PartialEq>⟧.eq x y) ↔ HaveSameValues x y }
 {}
 
-/// Two custom vendors feed a hasher equally exactly if their strings are equal.
+/// Two custom vendors feed a hasher equally if and only if their strings are equal.
 pub fn custom_vendors_hash_by_text()
     ensures { (x y : CustomVendor) →
         (⟦<CustomVendor as Hash>⟧.hash_input x ≡ ⟦<CustomVendor as Hash>⟧.hash_input y)
-        ↔ (custom_text x ≡ custom_text y) }
+        ↔ (custom_string x ≡ custom_string y) }
 {}
 
-/// Two values of a type feed a hasher the same exactly if they are equal, and what is fed after a value can be
+/// Two values of a type feed a hasher the same if and only if they are equal, and what is fed after a value can be
 /// distinguished from what the value feeds. For systems with a version this holds if the version is in range.
 pub fn values_hash_by_variant_and_fields()
     ensures architecture { HashInjective ⟦<Architecture as Hash>⟧.hash_input }

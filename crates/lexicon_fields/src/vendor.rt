@@ -39,7 +39,7 @@ impl CustomVendor {
     /// assert_eq!(rt; target_lexicon::CustomVendor::Static("acme").as_str(), "acme");
     /// ```
     pub fn as_str(&self) -> &str
-        ensures { result.now ≡ spec.custom_text self.now }
+        ensures { result.now ≡ spec.custom_string self.now }
     {
         match self {
             CustomVendor::Owned(text) => text.as_str(),
@@ -49,7 +49,7 @@ impl CustomVendor {
 
     /// A copy of the same variant: it owns its string if this one does. `Err` if the allocation for that string fails.
     pub fn clone(&self, alloc: Global) -> Result<Self, AllocError>
-        ensures text { IfOk result (λ copy. spec.custom_text copy ≡ spec.custom_text self.now) }
+        ensures text { IfOk result (λ copy. spec.custom_string copy ≡ spec.custom_string self.now) }
         ensures variant { IfOk result (λ copy. spec.is_owned copy ≡ spec.is_owned self.now) }
         ensures succeeds { spec.is_owned self.now ≡ false → IsOk result }
     {
@@ -61,7 +61,7 @@ impl CustomVendor {
 
     /// A custom vendor that owns a copy of the string.
     pub(crate) fn owned_copy(alloc: Global, text: &str) -> Result<Self, AllocError>
-        ensures text { IfOk result (λ custom. spec.custom_text custom ≡ text.now) }
+        ensures text { IfOk result (λ custom. spec.custom_string custom ≡ text.now) }
         ensures owned { IfOk result (λ custom. spec.is_owned custom ≡ true) }
     {
         let copy = String::from_str(alloc, text)?;
@@ -70,9 +70,9 @@ impl CustomVendor {
 }
 
 impl PartialEq for CustomVendor {
-    ghost eq = { λ x y. pointwise nat_eq (spec.custom_text x) (spec.custom_text y) };
+    ghost eq = { λ x y. pointwise nat_eq (spec.custom_string x) (spec.custom_string y) };
 
-    ghost laws = { on_per spec.custom_text (Cmp.partial_equiv_from_equiv nat_list_eq_equiv) };
+    ghost laws = { on_per spec.custom_string (Cmp.partial_equiv_from_equiv nat_list_eq_equiv) };
 
     fn eq(&self, other: &Self) -> bool {
         self.as_str() == other.as_str()
@@ -80,13 +80,13 @@ impl PartialEq for CustomVendor {
 }
 
 impl Eq for CustomVendor {
-    ghost laws = { on_equiv spec.custom_text nat_list_eq_equiv };
+    ghost laws = { on_equiv spec.custom_string nat_list_eq_equiv };
 }
 
 impl Hash for CustomVendor {
-    ghost hash_input = { λ custom. fed.str (spec.custom_text custom) };
+    ghost hash_input = { λ custom. fed.str (spec.custom_string custom) };
 
-    ghost respects_eq = { (on_Alike spec.custom_text (same_Alike fed.str bytes_decides)).fed };
+    ghost respects_eq = { (on_Alike spec.custom_string (same_Alike fed.str bytes_decides)).fed };
 
     fn hash<H: Hasher>(&self, state: &mut H) {
         self.as_str().hash(state);
@@ -165,7 +165,7 @@ impl Vendor {
     pub fn from_str(alloc: Global, s: &str) -> Result<Self, VendorError>
         ensures ok { IfOk result
             (λ vendor. spec.vendor_of s.now ≡ Some (spec.vendor_value vendor)) }
-        ensures owned { IfOk result (λ vendor. spec.owns_text vendor ≡ spec.is_admitted s.now) }
+        ensures owned { IfOk result (λ vendor. spec.owns_string vendor ≡ spec.is_admitted s.now) }
         ensures err { IfErr result (IsVendorErrorOf s.now) }
     {
         match VendorRef::from_str(s) {
@@ -201,8 +201,8 @@ impl Vendor {
     /// A copy of the same variant: it owns its string if this one does. `Err` if the allocation for that string fails.
     pub fn clone(&self, alloc: Global) -> Result<Self, AllocError>
         ensures value { IfOk result (λ copy. spec.vendor_value copy ≡ spec.vendor_value self.now) }
-        ensures variant { IfOk result (λ copy. spec.owns_text copy ≡ spec.owns_text self.now) }
-        ensures succeeds { spec.owns_text self.now ≡ false → IsOk result }
+        ensures variant { IfOk result (λ copy. spec.owns_string copy ≡ spec.owns_string self.now) }
+        ensures succeeds { spec.owns_string self.now ≡ false → IsOk result }
     {
         match self {
             Vendor::Custom(custom) => Ok(Vendor::Custom(custom.clone(alloc)?)),

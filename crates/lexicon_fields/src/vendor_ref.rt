@@ -1,7 +1,7 @@
 //! The vendors, of which a custom one borrows its string.
 ghost use Rattle.std.specs.Prelude.{◌≡◌, None, Some, IfOk, OnErr};
 ghost use Rattle.lexicon_fields.specs.Vendor as spec;
-ghost use Rattle.lexicon_fields.specs.Vendor.{IsCustom, OwnsCustomText};
+ghost use Rattle.lexicon_fields.specs.Vendor.{IsCustom, OwnsCustomString};
 ghost use Rattle.lexicon_fields.specs.VendorRef.{ref_value};
 
 use crate::known_vendor::KnownVendor;
@@ -116,7 +116,7 @@ impl<'a> VendorRef<'a> {
     /// The same vendor, of which a custom one owns a copy of its string. `Err` if the allocation for that string fails.
     pub fn to_vendor(&self, alloc: Global) -> Result<Vendor, AllocError>
         ensures value { IfOk result (λ vendor. spec.vendor_value vendor ≡ ref_value self.now) }
-        ensures owned { IfOk result OwnsCustomText }
+        ensures owned { IfOk result OwnsCustomString }
         ensures memory { OnErr result (IsCustom (ref_value self.now)) }
     {
         match *self {

@@ -3,9 +3,9 @@ use Rattle.std.proofs.Common.{◌≡◌, ℕ, ◌≤◌, List, [], ◌∷◌, tr
 use Rattle.std.specs.Prelude.{MatchResult, is_some}
 use Rattle.lexicon_fields.specs.{declared.architecture.Architecture.Architecture as AnyArchitecture, declared.operating_system.OperatingSystem.OperatingSystem as AnySystem, Environment.environment_of}
 use Rattle.lexicon_fields.specs.{declared.environment.Environment.Environment as AnyEnvironment, Architecture.architecture_of, declared.known_vendor.KnownVendor.TheVariants.Unknown, Vendor.vendor_of, OperatingSystem.operating_system_of, BinaryFormat.binary_format_of}
-use Rattle.target_lexicon.specs.{Values.VendorValue, Values.Known, Values.Values, Values.values, ImpliedFormat.implied_format, Laws.EveryTextHasOneOutcome, Laws.ReadingIsComputed, SpecialTexts.special_values, Reading.parts_of, Refusal.Refusal, Refusal.refusal_with}
+use Rattle.target_lexicon.specs.{Values.VendorValue, Values.Known, Values.Values, Values.values, ImpliedFormat.implied_format, Laws.EveryStringHasOneOutcome, Laws.ReadingIsComputed, SpecialStrings.special_values, Reading.parts_of, Refusal.Refusal, Refusal.refusal_with}
 use Rattle.target_lexicon.specs.Field.{Field, Architecture, Vendor, OperatingSystem, Environment, BinaryFormat, field_number, parses_as}
-use Rattle.target_lexicon.specs.Reading.{part_at, IsValueOf, HoldsParts, ReadsAs, IsRefusal, IsRefusedAs, IsRefused, expected_after, last_field}
+use Rattle.target_lexicon.specs.Reading.{part_at, IsValueOf, HoldsParts, ParsesAs, IsRefusal, IsRefusedAs, IsRefused, expected_after, last_field}
 use Rattle.target_lexicon.specs.GreedyReading.{reading_of_parts, reading_unless_special, reading}
 use Rattle.target_lexicon.proofs.FieldReading.{by_fields, field_reading_by, field_reading, final_reading, reading_from_binary_format, reading_from_environment, reading_from_operating_system, reading_from_vendor, reading_after_architecture}
 use Rattle.target_lexicon.proofs.{PartLemmas.parts_of-are, PartLemmas.parts_of-some, GreedyPlacement.IsPlacedAfter, GreedyPlacement.Follows, GreedyPlacement.filled, GreedyPlacement.unread, GreedyPlacement.filled-placed, GreedyPlacement.after_architecture, GreedyPlacement.greedy-least, RefusalLemmas.refused_first, RefusalLemmas.left-refused, UniqueReading.values_unique, UniqueReading.refusal_unique, UniqueReading.read_not_refused}
@@ -94,7 +94,7 @@ vendor-gives a =
 
 -- what holds for a string: the function gives what it reads as, or how it is refused
 abbrev pub Holds : List ℕ → Result Values Refusal → Type 0
-Holds text found = MatchResult found (λ t. ReadsAs text t) (λ refusal. IsRefusedAs text refusal)
+Holds text found = MatchResult found (λ t. ParsesAs text t) (λ refusal. IsRefusedAs text refusal)
 
 module _ (text p : List ℕ) (ps : List (List ℕ)) (ordinary : special_values text ≡ None) (are : parts_of text ≡ p ∷ ps) where
   is_refused : (x : Refusal) → IsRefusal (p ∷ ps) x → IsRefusedAs text x
@@ -133,9 +133,9 @@ reading-holds text = by_special text (special_values text) refl
 
 -- a string has at most one outcome, so it has the one that the function gives
 computed : (text : List ℕ) (found : Result Values Refusal) → Holds text found
-    → ((t : Values) → ReadsAs text t ↔ (found ≡ Ok t)) × ((x : Refusal) → IsRefusedAs text x ↔ (found ≡ Err x))
+    → ((t : Values) → ParsesAs text t ↔ (found ≡ Ok t)) × ((x : Refusal) → IsRefusedAs text x ↔ (found ≡ Err x))
 computed text (Ok u) h = (
-  λ t. (λ r. ap Ok (values_unique text u t h r), λ e. let same : u ≡ t = cc in subst (ReadsAs text) same h),
+  λ t. (λ r. ap Ok (values_unique text u t h r), λ e. let same : u ≡ t = cc in subst (ParsesAs text) same h),
   λ x. (λ r. absurd (read_not_refused text u h (x, r)), λ e. absurd cc),
 )
 computed text (Err y) h = (
@@ -147,11 +147,11 @@ pub reading_computed : ReadingIsComputed
 reading_computed text = let both = computed text (reading text) (reading-holds text) in record { read = both.0; refused = both.1 }
 
 -- a string reads or is refused
-outcome : (text : List ℕ) (found : Result Values Refusal) → Holds text found → ((t : Values) × ReadsAs text t) ⊎ IsRefused text
+outcome : (text : List ℕ) (found : Result Values Refusal) → Holds text found → ((t : Values) × ParsesAs text t) ⊎ IsRefused text
 outcome text (Ok t) h = inl (t, h)
 outcome text (Err x) h = inr (x, h)
 
-pub one_outcome : EveryTextHasOneOutcome
+pub one_outcome : EveryStringHasOneOutcome
 one_outcome text = record {
   some = outcome text (reading text) (reading-holds text);
   values = values_unique text;

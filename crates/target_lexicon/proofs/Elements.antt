@@ -2,7 +2,7 @@
 use Rattle.std.proofs.Common.{◌≡◌, ℕ, zero, suc, ◌+◌, ◌<◌, ◌≤◌, List, [], ◌∷◌, ◌++◌, Option, Some, MatchOption, All, length, get_or, take, map, add-one, arith, subst, refl}
 use Rattle.std.proofs.lemmas.{List.map-append, List.take_all, List.Elements.All-append}
 use Rattle.serde_json.specs.{Data.Data, Data.Items, Find.get_item, View.view, View.items_view, declared.value.Value.Value}
-use Rattle.target_lexicon.specs.{Json.JsonReadsAs, Json.ElementsReadAs, Json.IsElementRead, Json.JsonErrorValue, Json.IsJsonErrorOf, Json.IsFirstError, Values.Values, Values.values_of}
+use Rattle.target_lexicon.specs.{Json.JsonParsesAs, Json.ElementsParseAs, Json.IsElementParsed, Json.JsonErrorValue, Json.IsJsonErrorOf, Json.IsFirstError, Values.Values, Values.values_of}
 use Rattle.target_lexicon.specs.declared.triple.Triple.{Triple}
 
 -- an element of an array, by its index
@@ -19,22 +19,22 @@ at_array P elements xs ys found same holds =
 
 -- one more element parses
 read-more : (xs : List Value) (i : ℕ) (x : Value) (ts : List Values) (t : Values) → i < length xs
-    → ElementsReadAs (items_view (take i xs)) ts → JsonReadsAs (view (get_or xs i x)) t → ElementsReadAs (items_view (take (suc i) xs)) (ts ++ t ∷ [])
+    → ElementsParseAs (items_view (take i xs)) ts → JsonParsesAs (view (get_or xs i x)) t → ElementsParseAs (items_view (take (suc i) xs)) (ts ++ t ∷ [])
 read-more [] i x ts t within read reads = absurd (omega arith)
 read-more (y ∷ ys) zero x [] t within read reads = (reads, tt)
 read-more (y ∷ ys) (suc i) x (u ∷ us) t within read reads = (read.0, read-more ys i x us t (omega arith) read.1 reads)
 read-more _ _ x _ t within read reads = absurd read
 
 pub elements_read-more : (xs : List Value) (i : ℕ) (x : Value) (old new : List Triple) (t : Triple) → i < length xs → x ≡ get_or xs i x → new ≡ old ++ t ∷ []
-    → ElementsReadAs (items_view (take i xs)) (map values_of old) → JsonReadsAs (view x) (values_of t)
-    → ElementsReadAs (items_view (take (i + 1) xs)) (map values_of new)
+    → ElementsParseAs (items_view (take i xs)) (map values_of old) → JsonParsesAs (view x) (values_of t)
+    → ElementsParseAs (items_view (take (i + 1) xs)) (map values_of new)
 elements_read-more xs i x old new t within is grown read reads =
-    let here : JsonReadsAs (view (get_or xs i x)) (values_of t) = subst (λ (v : Value). JsonReadsAs (view v) (values_of t)) is reads in
+    let here : JsonParsesAs (view (get_or xs i x)) (values_of t) = subst (λ (v : Value). JsonParsesAs (view v) (values_of t)) is reads in
     rw (add-one, grown, map-append) (read-more xs i x (map values_of old) (values_of t) within read here)
 
 -- each earlier element parses
-read-before : (xs : List Value) (i : ℕ) (ts : List Values) (k : ℕ) → k < i → i ≤ length xs → ElementsReadAs (items_view (take i xs)) ts
-    → IsElementRead (items_view xs) k
+read-before : (xs : List Value) (i : ℕ) (ts : List Values) (k : ℕ) → k < i → i ≤ length xs → ElementsParseAs (items_view (take i xs)) ts
+    → IsElementParsed (items_view xs) k
 read-before [] i ts k before within read = absurd (omega arith)
 read-before (y ∷ ys) zero ts k before within read = absurd (omega arith)
 read-before (y ∷ ys) (suc i) [] k before within read = absurd read
@@ -43,7 +43,7 @@ read-before (y ∷ ys) (suc i) (u ∷ us) (suc k) before within read = read-befo
 
 -- the element at i is the first that doesn't parse
 pub elements_refused : (xs : List Value) (i : ℕ) (x : Value) (ts : List Values) (error : JsonErrorValue) → i < length xs → x ≡ get_or xs i x
-    → ElementsReadAs (items_view (take i xs)) ts → IsJsonErrorOf (view x) error → IsFirstError (items_view xs) i error
+    → ElementsParseAs (items_view (take i xs)) ts → IsJsonErrorOf (view x) error → IsFirstError (items_view xs) i error
 elements_refused xs i x ts error within is read refused =
     let here : IsJsonErrorOf (view (get_or xs i x)) error = subst (λ (v : Value). IsJsonErrorOf (view v) error) is refused in
     record {
@@ -53,9 +53,9 @@ elements_refused xs i x ts error within is read refused =
 
 -- if one more element parses, the first element parses
 pub elements_begun : (xs : List Value) (i : ℕ) (x : Value) (ts : List Values) (t : Values) → i < length xs → x ≡ get_or xs i x
-    → ElementsReadAs (items_view (take i xs)) ts → JsonReadsAs (view x) t → IsElementRead (items_view xs) 0
+    → ElementsParseAs (items_view (take i xs)) ts → JsonParsesAs (view x) t → IsElementParsed (items_view xs) 0
 elements_begun xs i x ts t within is read reads =
-    let here : JsonReadsAs (view (get_or xs i x)) t = subst (λ (v : Value). JsonReadsAs (view v) t) is reads in
+    let here : JsonParsesAs (view (get_or xs i x)) t = subst (λ (v : Value). JsonParsesAs (view v) t) is reads in
     read-before xs (suc i) (ts ++ t ∷ []) 0 (omega arith) (omega arith) (read-more xs i x ts t within read here)
 
 -- a fact about each triple so far, and about one more, is one about each
@@ -67,5 +67,5 @@ pub all_triples-more : (P : Triple → Type 0) (old new : List Triple) (t : Trip
 all_triples-more P old new t grown all here = rw grown (All-append P old (t ∷ []) all (all-one P t here))
 
 -- all elements parse if those before the end do
-pub elements_read : (xs : List Value) (i : ℕ) (ts : List Values) → length xs ≤ i → ElementsReadAs (items_view (take i xs)) ts → ElementsReadAs (items_view xs) ts
+pub elements_read : (xs : List Value) (i : ℕ) (ts : List Values) → length xs ≤ i → ElementsParseAs (items_view (take i xs)) ts → ElementsParseAs (items_view xs) ts
 elements_read xs i ts whole read = rw (take_all i xs whole) at read

@@ -1,8 +1,8 @@
--- The normal step leaves a triple unchanged exactly outside the families.
+-- The normal step leaves a triple unchanged exactly outside the exceptions.
 use Rattle.std.proofs.Common.{◌≡◌, true, sym, ap, subst}
 use Rattle.lexicon_fields.specs.{Vendor.is_plain, Laws.HasVersionInRange}
-use Rattle.target_lexicon.specs.{FixedPoints.FixedExactlyOutsideFamilies, FixedPoints.RoundIsNormalStep, Laws.ComesBack, NormalStep.normal_step, Printing.text_of, Reading.ReadsAs, Values.Values}
-use Rattle.target_lexicon.proofs.StepCases.{IsOutside, step_cases, outside-fixed, plain-family, none-plain_outside}
+use Rattle.target_lexicon.specs.{FixedPoints.FixedExactlyOutsideFamilies, FixedPoints.RoundIsNormalStep, Laws.ComesBack, NormalStep.normal_step, Printing.string_of, Reading.ParsesAs, Values.Values}
+use Rattle.target_lexicon.proofs.StepCases.{IsOutside, step_cases, outside-fixed, plain-exception, none-plain_outside}
 use Rattle.target_lexicon.proofs.{ReadValues.read_plain, UniqueReading.values_unique}
 
 pub fixed-outside : (t : Values) → normal_step t ≡ t → IsOutside t
@@ -18,15 +18,15 @@ fixed-outside t = step_cases (λ u. u ≡ t → IsOutside t) t
 module _ (round : RoundIsNormalStep) where
   back-outside : (t : Values) → HasVersionInRange t.operating_system → ComesBack t → (is_plain t.vendor ≡ true) × IsOutside t
   back-outside t range back =
-      let plain = read_plain (text_of t) t back in
-      (plain, fixed-outside t (values_unique (text_of t) (normal_step t) t (round t (record { vendor = plain; version = range })) back))
+      let plain = read_plain (string_of t) t back in
+      (plain, fixed-outside t (values_unique (string_of t) (normal_step t) t (round t (record { vendor = plain; version = range })) back))
 
   outside-back : (t : Values) → HasVersionInRange t.operating_system → is_plain t.vendor ≡ true → IsOutside t → ComesBack t
-  outside-back t range plain outside = subst (λ (u : Values). ReadsAs (text_of t) u) (outside-fixed t outside) (round t (record { vendor = plain; version = range }))
+  outside-back t range plain outside = subst (λ (u : Values). ParsesAs (string_of t) u) (outside-fixed t outside) (round t (record { vendor = plain; version = range }))
 
-  -- a triple comes back exactly outside the families
+  -- a triple comes back exactly outside the exceptions
   pub fixed_exactly_outside : FixedExactlyOutsideFamilies
   fixed_exactly_outside t range = (
-    λ back. let is = back-outside t range back in plain-family t is.0 is.1,
+    λ back. let is = back-outside t range back in plain-exception t is.0 is.1,
     λ found. let is = none-plain_outside t found in outside-back t range is.0 is.1,
   )

@@ -6,10 +6,10 @@ use Rattle.std.proofs.{lemmas.List.length-append, lemmas.List.Splits.join_with_b
 use Rattle.lexicon_fields.specs.Names.{dash}
 use Rattle.target_lexicon.specs.Values.{Architecture, OperatingSystem, Environment, BinaryFormat, VendorValue, Known, Values, values, is_unknown_vendor, is_clever_without_system, is_same_format}
 use Rattle.target_lexicon.specs.{Field.Field, ImpliedFormat.default_binary_format, ImpliedFormat.implied_format, Laws.ReadingIsComputed, Reading.parts_of, NormalStep.normal_step, NormalStep.elf_if_unknown}
-use Rattle.target_lexicon.specs.{FixedPoints.PrintedTextsGrowAtMost, FixedPoints.CanonicalTextsGrowAtMost, FixedPoints.RefusedPartsDoNotGrow}
-use Rattle.target_lexicon.specs.SpecialTexts.{SpecialRow, special_triple, special_text, special_values, implies_newlib}
-use Rattle.target_lexicon.specs.FamilyFacts.{HasFieldsOf, HasSystemOf, HasSpecialFields, HidesNewlib, PrintsTheEspIdfText, ShowsOnlyNone}
-use Rattle.target_lexicon.specs.Printing.{architecture_implies_format, is_none_or_unknown, shows_vendor, shows_operating_system, shows_environment, shows_implied_format, shows_binary_format, shows_unknowns, shown_names, cons_if, text_of, text_with}
+use Rattle.target_lexicon.specs.{FixedPoints.PrintedStringsGrowAtMost, FixedPoints.CanonicalStringsGrowAtMost, FixedPoints.RefusedPartsDoNotGrow}
+use Rattle.target_lexicon.specs.SpecialStrings.{SpecialRow, special_triple, special_string, special_values, implies_newlib}
+use Rattle.target_lexicon.specs.ExceptionFacts.{HasFieldsOf, HasSystemOf, HasSpecialFields, HidesNewlib, PrintsTheEspIdfString, ShowsOnlyNone}
+use Rattle.target_lexicon.specs.Printing.{architecture_implies_format, is_none_or_unknown, shows_vendor, shows_operating_system, shows_environment, shows_implied_format, shows_binary_format, shows_unknowns, shown_names, cons_if, string_of, text_with}
 use Rattle.target_lexicon.specs.GreedyReading.{reading_of_parts, reading_unless_special, reading}
 use Rattle.target_lexicon.proofs.FieldReading.{FieldReading, by_fields, field_reading_by, field_reading, final_reading, reading_after_architecture}
 use Rattle.lexicon_fields.specs.{declared.architecture.clever.CleverArchitecture.CleverArchitecture, Architecture.architecture_name, Architecture.architecture_of, Laws.TextsAreNames, Laws.NamesGrowAtMost, Laws.NamesAreShort, Laws.max_name_length, Vendor.vendor_name, Vendor.known_vendor_name, Vendor.vendor_of}
@@ -124,14 +124,14 @@ weight-row t b row is facts = omega (arith, facts.short, weight-shown t b, at_le
       or-true b,
     ) (omega arith)
 
-special-short : (t : Values) (b : Bool) (n : ℕ) → length (join_with_byte dash (shown_names b t)) ≤ n → length (unwrap_or (special_text t) (join_with_byte dash (shown_names b t))) ≤ n
-special-short t b n short = by_special (special_text t) refl
+special-short : (t : Values) (b : Bool) (n : ℕ) → length (join_with_byte dash (shown_names b t)) ≤ n → length (unwrap_or (special_string t) (join_with_byte dash (shown_names b t))) ≤ n
+special-short t b n short = by_special (special_string t) refl
   where
-    by_special : (special : Option (List ℕ)) → special_text t ≡ special → length (unwrap_or special (join_with_byte dash (shown_names b t))) ≤ n
+    by_special : (special : Option (List ℕ)) → special_string t ≡ special → length (unwrap_or special (join_with_byte dash (shown_names b t))) ≤ n
     by_special None is = short
     by_special (Some text) is =
         let at = row_of_fields t (fields_of_special t (ap is_some is)) in
-        let of : special_text t ≡ Some at.0.text = prints_row t at.0 at.1 at.2 in
+        let of : special_string t ≡ Some at.0.text = prints_row t at.0 at.1 at.2 in
         let same : text ≡ at.0.text = cc in
         rw same (omega (arith, short, weight-row t b at.0 at.1 at.2))
 
@@ -190,10 +190,10 @@ module _ (formats : TextsAreNames binary_format_name binary_format_of) (environm
 
   module _ (architectures : NamesGrowAtMost 2 architecture_name architecture_of) (vendors : TextsAreNames vendor_name vendor_of) (systems : NamesGrowAtMost 4 operating_system_name operating_system_of) where
     abbrev GrowsAtMost : List ℕ → Values → Type 0
-    GrowsAtMost text t = length (text_of t) ≤ length text + 22
+    GrowsAtMost text t = length (string_of t) ≤ length text + 22
 
     by_architecture : (p : List ℕ) (ps : List (List ℕ)) (o : Option Architecture) (t : Values) → architecture_of p ≡ o → reading_after_architecture o p ps ≡ Ok t → GrowsAtMost (join_with_byte dash (p ∷ ps)) t
-    unfolding text_of
+    unfolding string_of
     by_architecture p ps None t is read = absurd cc
     by_architecture p ps (Some a) t is read =
         let v = field_reading field.Vendor vendor_of (Known Unknown) field.Architecture ps in
@@ -218,7 +218,7 @@ module _ (formats : TextsAreNames binary_format_name binary_format_of) (environm
     by_parts (p ∷ ps) t read = by_architecture p ps (architecture_of p) t refl (sym (by_fields (p ∷ ps)) ∙ read)
 
     row-grows : (row : SpecialRow) → RowFacts row → GrowsAtMost row.text (special_triple row)
-    unfolding text_of
+    unfolding string_of
     row-grows row facts = rw (facts.prints environment.Newlib binary_format.Elf) (omega arith)
 
     by_special : (text : List ℕ) (o : Option Values) (t : Values) → special_values text ≡ o → reading_unless_special o text ≡ Ok t → GrowsAtMost text t
@@ -228,7 +228,7 @@ module _ (formats : TextsAreNames binary_format_name binary_format_of) (environm
         let same : special_triple at.0 ≡ t = (let of : u ≡ t = cc in sym at.2 ∙ of) in
         subst (GrowsAtMost text) same (subst (λ (x : List ℕ). GrowsAtMost x (special_triple at.0)) (sym at.1) (row-grows at.0 at.3))
 
-    pub printed_max_growth : ReadingIsComputed → PrintedTextsGrowAtMost
+    pub printed_max_growth : ReadingIsComputed → PrintedStringsGrowAtMost
     unfolding reading
     printed_max_growth computed text t reads = by_special text (special_values text) t refl (((computed text).read t).0 reads)
 
@@ -247,19 +247,19 @@ refused_does_not_grow text refusal (ordinary, (p ∷ ps, are, is)) =
 -- the normal step makes no string longer
 
 abbrev DoesNotGrow : Values → Values → Type 0
-DoesNotGrow u t = length (text_of u) ≤ length (text_of t)
+DoesNotGrow u t = length (string_of u) ≤ length (string_of t)
 
 -- if both print the same special string or none
-by_weight : (u t : Values) → special_text u ≡ special_text t → weight (printed_names u) ≤ weight (printed_names t) → DoesNotGrow u t
-unfolding text_of
-by_weight u t special lighter = rw special (by_option (special_text t))
+by_weight : (u t : Values) → special_string u ≡ special_string t → weight (printed_names u) ≤ weight (printed_names t) → DoesNotGrow u t
+unfolding string_of
+by_weight u t special lighter = rw special (by_option (special_string t))
   where
     by_option : (o : Option (List ℕ)) → length (unwrap_or o (join_with_byte dash (printed_names u))) ≤ length (unwrap_or o (join_with_byte dash (printed_names t)))
     by_option (Some text) = omega arith
     by_option None = omega (arith, weight-shown u (shows_unknowns u), weight-shown t (shows_unknowns t))
 
 row-does_not_grow : (t : Values) (row : SpecialRow) → HasFieldsOf row t → RowFacts row → DoesNotGrow (values t.architecture t.vendor t.operating_system environment.Newlib binary_format.Elf) t
-unfolding text_of
+unfolding string_of
 row-does_not_grow t row is facts =
     let u = values t.architecture t.vendor t.operating_system environment.Newlib binary_format.Elf in
     let of_u : HasFieldsOf row u = record { architecture = is.architecture; system = record { vendor = is.system.vendor; operating_system = is.system.operating_system } } in
@@ -268,8 +268,8 @@ row-does_not_grow t row is facts =
 special-does_not_grow : (t : Values) → HasSpecialFields t → DoesNotGrow (values t.architecture t.vendor t.operating_system environment.Newlib binary_format.Elf) t
 special-does_not_grow t has = let at = row_of_fields t has in row-does_not_grow t at.0 at.1 at.2
 
-esp-does_not_grow : (t : Values) → PrintsTheEspIdfText t → DoesNotGrow (values t.architecture (Known Espressif) t.operating_system environment.Newlib binary_format.Elf) t
-unfolding text_of shown_names shows_vendor shows_operating_system shows_environment shows_binary_format implied_format special_text implies_newlib
+esp-does_not_grow : (t : Values) → PrintsTheEspIdfString t → DoesNotGrow (values t.architecture (Known Espressif) t.operating_system environment.Newlib binary_format.Elf) t
+unfolding string_of shown_names shows_vendor shows_operating_system shows_environment shows_binary_format implied_format special_string implies_newlib
 esp-does_not_grow t is = rw is (omega arith)
 
 row-lighter : (a : Architecture) (row : SpecialRow) → RowFacts row → (f : BinaryFormat)
@@ -300,7 +300,7 @@ clever-lighter c v f = rw (or-true (not (is_unknown_vendor v) || false), without
 
 clever-does_not_grow : (a : Architecture) (v : VendorValue) (f : BinaryFormat) → is_clever a ≡ true
     → DoesNotGrow (values a v operating_system.None_ environment.Unknown f) (values a v operating_system.Unknown environment.None f)
-unfolding special_text
+unfolding special_string
 clever-does_not_grow (architecture.Clever c) v f is = by_weight _ _ refl (clever-lighter c v f)
 clever-does_not_grow _ v f is = absurd (true≢false (sym is))
 
@@ -308,18 +308,18 @@ none-does_not_grow : (t : Values) → ShowsOnlyNone t → DoesNotGrow (values t.
 none-does_not_grow t is = rw (is.operating_system, is.environment) (clever-does_not_grow t.architecture t.vendor t.binary_format is.architecture)
 
 step-does_not_grow : (t : Values) → DoesNotGrow (normal_step t) t
-unfolding special_text
+unfolding special_string
 step-does_not_grow t = step_cases (λ u. DoesNotGrow u t) t
     (λ is. special-does_not_grow t is.fields) (λ is. by_weight (values t.architecture t.vendor t.operating_system environment.Unknown (elf_if_unknown t.binary_format)) t refl (newlib-lighter t t.binary_format refl is)) (esp-does_not_grow t) (none-does_not_grow t) (λ _. omega arith)
 
-pub canonical_max_growth : PrintedTextsGrowAtMost → CanonicalTextsGrowAtMost
+pub canonical_max_growth : PrintedStringsGrowAtMost → CanonicalStringsGrowAtMost
 canonical_max_growth printed text t reads = omega (arith, step-does_not_grow (normal_step t), step-does_not_grow t, printed text t reads)
 
 -- a string with a vendor that fits into memory fits into memory
 pub text_with-short : (b : Bool) (t : Values) → NamesAreShort architecture_name → NamesAreShort environment_name → NamesAreShort binary_format_name
-    → length (operating_system_name t.operating_system) ≤ max_name_length → (special_text t ≡ None → length (vendor_name t.vendor) < 2 ^ 63)
+    → length (operating_system_name t.operating_system) ≤ max_name_length → (special_string t ≡ None → length (vendor_name t.vendor) < 2 ^ 63)
     → length (text_with b t) < 2 ^ 64
-text_with-short b t architecture environment binary_format system vendor = by_special (special_text t) refl
+text_with-short b t architecture environment binary_format system vendor = by_special (special_string t) refl
   where
     names : List ℕ
     names = join_with_byte dash (shown_names b t)
@@ -337,10 +337,10 @@ text_with-short b t architecture environment binary_format system vendor = by_sp
       system,
     )
 
-    by_special : (special : Option (List ℕ)) → special_text t ≡ special → length (unwrap_or special names) < 2 ^ 64
+    by_special : (special : Option (List ℕ)) → special_string t ≡ special → length (unwrap_or special names) < 2 ^ 64
     by_special None is = omega (arith, names-short, vendor is)
     by_special (Some text) is =
         let at = row_of_fields t (fields_of_special t (ap is_some is)) in
-        let of : special_text t ≡ Some at.0.text = prints_row t at.0 at.1 at.2 in
+        let of : special_string t ≡ Some at.0.text = prints_row t at.0 at.1 at.2 in
         let same : text ≡ at.0.text = cc in
         rw same (omega (arith, at.2.bound))

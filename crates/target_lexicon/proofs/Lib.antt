@@ -3,7 +3,7 @@
 -- function to the least placement); FieldReading (that function field by field); ReadParts, SourceLemmas (part by part,
 -- and the source of each field); ReadValues, Vendors (facts about all parsed triples). Printing: PrintingLemmas,
 -- Upstream, Lengths (how much longer than the string). Round trips: RoundTrips, TextRoundTrips (a printed string parsed
--- again); SpecialRows (the facts of each special string), StepCases (those of each family), FixedPointLemmas, RoundCall, SettleLemmas, ModelsKnown, QueriesKept.
+-- again); SpecialRows (the facts of each special string), StepCases (those of each exception), FixedPointLemmas, RoundCall, SettleLemmas, ModelsKnown, QueriesKept.
 -- Elements: JSON lists. SameValues: equality of triples. HashInputPairs, VariantHashes: what is fed to a hasher.
 -- OnLiterals: for proofs of callers.
 pub mod ComputedReading

@@ -6,7 +6,7 @@ use Rattle.std.specs.List.{join_with_byte}
 use Rattle.std.proofs.{lemmas.List.append-nil, Math.Bool.and-false}
 use Rattle.lexicon_fields.specs.Names.{dash}
 use Rattle.lexicon_fields.specs.{Architecture.architecture_name, Vendor.vendor_name, OperatingSystem.operating_system_name, OperatingSystem.system_version, OperatingSystem.version_suffix, Environment.environment_name, BinaryFormat.binary_format_name, declared.deployment_target.DeploymentTarget.DeploymentTarget}
-use Rattle.target_lexicon.specs.{Values.Values, Values.Architecture, Values.OperatingSystem, Values.Environment, Values.is_unknown_environment, Values.is_newlib, Values.is_clever_without_system, Private.name_piece, SpecialTexts.implies_newlib, SpecialTexts.special_text}
+use Rattle.target_lexicon.specs.{Values.Values, Values.Architecture, Values.OperatingSystem, Values.Environment, Values.is_unknown_environment, Values.is_newlib, Values.is_clever_without_system, Private.name_piece, SpecialStrings.implies_newlib, SpecialStrings.special_string}
 use Rattle.target_lexicon.specs.Values.architecture
 use Rattle.target_lexicon.specs.Values.operating_system
 use Rattle.target_lexicon.specs.Values.environment
@@ -67,8 +67,8 @@ system-shown false t before prefix false b_is name_is = rw (version-hidden t.arc
 system-shown true t before prefix false b_is name_is = absurd cc
 
 -- without a special string these pieces are the string
-pub text_of_pieces : (last_three : Bool) (t : Values) (a v s e f : Bor (List ℕ)) (vendor system environment format : Option (Bor (List ℕ))) (version : Option DeploymentTarget) (w x y z : Bool)
-    → None ≡ special_text t → a.now ≡ architecture_name t.architecture
+pub string_of_pieces : (last_three : Bool) (t : Values) (a v s e f : Bor (List ℕ)) (vendor system environment format : Option (Bor (List ℕ))) (version : Option DeploymentTarget) (w x y z : Bool)
+    → None ≡ special_string t → a.now ≡ architecture_name t.architecture
     → vendor ≡ then_some w v → w ≡ shows_vendor t → v.now ≡ vendor_name t.vendor
     → system ≡ then_some x s → x ≡ (last_three || shows_operating_system t) → s.now ++ version_suffix (system_version t.operating_system) ≡ operating_system_name t.operating_system
     → version ≡ system_version t.operating_system
@@ -76,7 +76,7 @@ pub text_of_pieces : (last_three : Bool) (t : Values) (a v s e f : Bor (List ℕ
     → format ≡ then_some z f → z ≡ (last_three || shows_binary_format t) → f.now ≡ binary_format_name t.binary_format
     → ((((a.now ++ name_piece vendor) ++ name_piece system) ++ version_suffix version) ++ name_piece environment) ++ name_piece format ≡ text_with last_three t
 unfolding shown_names
-text_of_pieces last_three t a v s e f vendor system environment format version w x y z none a_is vendor_is w_is v_is system_is x_is s_is version_is environment_is y_is e_is format_is z_is f_is =
+string_of_pieces last_three t a v s e f vendor system environment format version w x y z none a_is vendor_is w_is v_is system_is x_is s_is version_is environment_is y_is e_is format_is z_is f_is =
     rw (
       system_is,
       version_is,

@@ -1,7 +1,7 @@
 -- The normal step keeps the answers of the four queries.
 use Rattle.std.proofs.Common.{◌≡◌, ◌∙◌, sym, ap, refl, Bool, true, false, cond, true≢false, Some}
 use Rattle.target_lexicon.specs.Values.{Architecture, OperatingSystem, Environment, BinaryFormat, VendorValue, Values, values}
-use Rattle.target_lexicon.specs.{NormalStep.normal_step, FamilyFacts.PrintsAsSpecial, Queries.is_ilp32, Queries.convention_on, Queries.model_of_width, Queries.pointer_width, Queries.data_model, QueryLaws.HaveSameAnswers}
+use Rattle.target_lexicon.specs.{NormalStep.normal_step, ExceptionFacts.PrintsAsSpecial, Queries.is_ilp32, Queries.convention_on, Queries.model_of_width, Queries.pointer_width, Queries.data_model, QueryLaws.HaveSameAnswers}
 use Rattle.lexicon_fields.specs.{declared.pointer_width.PointerWidth.TheVariants.U32, ArchitectureQueries.is_clever, ArchitectureQueries.architecture_width}
 use Rattle.target_lexicon.proofs.{SpecialRows.row_of_fields, StepCases.step_cases}
 use Rattle.target_lexicon.specs.Values.architecture

@@ -11,10 +11,10 @@ use Rattle.target_lexicon.specs.Explanation.{PlacedPart, SourceValue, SourceValu
 use Rattle.target_lexicon.specs.GreedyReading.{HasFilled, IsTaken, field_for, finished_sources, first_field, open_fields, reading_from, reading_of_parts, with_value}
 use Rattle.target_lexicon.proofs.GreedyPlacement.{Follows, after_architecture, filled, unread}
 
-abbrev pub texts_of : List PlacedPart → List (List ℕ)
-texts_of parts = map (λ (part : PlacedPart). part.text) parts
+abbrev pub strings_of : List PlacedPart → List (List ℕ)
+strings_of parts = map (λ (part : PlacedPart). part.text) parts
 
-pub texts-placed : (start : ℕ) (ps : List (List ℕ)) → texts_of (placed_from start ps) ≡ ps
+pub texts-placed : (start : ℕ) (ps : List (List ℕ)) → strings_of (placed_from start ps) ≡ ps
 texts-placed start [] = refl
 texts-placed start (p ∷ ps) = ap (λ qs. p ∷ qs) (texts-placed (start + length p + 1) ps)
 
@@ -98,7 +98,7 @@ pub no-fields : (p : List ℕ) (ps : List (List ℕ)) → parses_as field.Archit
 no-fields p ps skips = rw skips (refl, refl)
 
 -- a field has no part in a placement of later fields
-absent-filled : (f l : Field) (fs : List Field) (ps : List PlacedPart) → field_number f ≤ field_number l → Follows l fs → part_at f ps (filled fs (texts_of ps)) ≡ None
+absent-filled : (f l : Field) (fs : List Field) (ps : List PlacedPart) → field_number f ≤ field_number l → Follows l fs → part_at f ps (filled fs (strings_of ps)) ≡ None
 absent-filled f l fs [] h o = refl
 absent-filled f l [] (p ∷ ps) h o = refl
 absent-filled f l (g ∷ fs) (p ∷ ps) h o =
@@ -109,8 +109,8 @@ absent-filled f l (g ∷ fs) (p ∷ ps) h o =
       | inr skips ↦ rw skips (absent-filled f g fs (p ∷ ps) after o.1)
     ]
 
-absent : (f : Field) (ps : List PlacedPart) → part_at f ps (fields_from (expected_after f) (texts_of ps)) ≡ None
-absent f ps = ap (part_at f ps) (sym (filled-from f (texts_of ps))) ∙ absent-filled f f (open_fields (expected_after f)) ps (omega arith) (follows-after f)
+absent : (f : Field) (ps : List PlacedPart) → part_at f ps (fields_from (expected_after f) (strings_of ps)) ≡ None
+absent f ps = ap (part_at f ps) (sym (filled-from f (strings_of ps))) ∙ absent-filled f f (open_fields (expected_after f)) ps (omega arith) (follows-after f)
 
 -- these sources, and those of the parts that are assigned to these fields
 abbrev merged_sources : SourceValues → List PlacedPart → List Field → SourceValues
@@ -125,8 +125,8 @@ with_format unfilled None s = s
 with_format unfilled (Some x) s = with_source field.BinaryFormat unfilled s
 
 sources-next : (unfilled : SourceValue) (x f : Field) (s : SourceValues) (p : PlacedPart) (ps : List PlacedPart)
-    → merged_sources (with_format unfilled (expected_after f) (with_source f (FromPart p) s)) ps (fields_from (expected_after f) (texts_of ps))
-    ≡ merged_sources (with_format unfilled (Some x) s) (p ∷ ps) (f ∷ fields_from (expected_after f) (texts_of ps))
+    → merged_sources (with_format unfilled (expected_after f) (with_source f (FromPart p) s)) ps (fields_from (expected_after f) (strings_of ps))
+    ≡ merged_sources (with_format unfilled (Some x) s) (p ∷ ps) (f ∷ fields_from (expected_after f) (strings_of ps))
 sources-next unfilled x field.Architecture s p ps = rw (absent field.Architecture ps) refl
 sources-next unfilled x field.Vendor s p ps = rw (absent field.Vendor ps) refl
 sources-next unfilled x field.OperatingSystem s p ps = rw (absent field.OperatingSystem ps) refl
@@ -146,10 +146,10 @@ format-next x field.Environment s p is = is
 
 -- what is left of the parts of a string goes on as all of them began
 pub record GoesOn (expected : Option Field) (t : Values) (s : SourceValues) (left parts : List PlacedPart) : Type 0 where
-  pub outcome : reading_from expected t (texts_of left) ≡ reading_of_parts (texts_of parts)
-  pub unread : left_from expected (texts_of left) ≡ left_from (Some field.Architecture) (texts_of parts)
-  pub sources : (unfilled : SourceValue) → merged_sources (with_format unfilled expected s) left (fields_from expected (texts_of left))
-      ≡ sources_at unfilled parts (fields_from (Some field.Architecture) (texts_of parts))
+  pub outcome : reading_from expected t (strings_of left) ≡ reading_of_parts (strings_of parts)
+  pub unread : left_from expected (strings_of left) ≡ left_from (Some field.Architecture) (strings_of parts)
+  pub sources : (unfilled : SourceValue) → merged_sources (with_format unfilled expected s) left (fields_from expected (strings_of left))
+      ≡ sources_at unfilled parts (fields_from (Some field.Architecture) (strings_of parts))
   pub format : HasOpenFormat expected s
   pub before : List PlacedPart
   pub end : parts ≡ before ++ left
@@ -184,11 +184,11 @@ goes_on-next p ps parts old new on taken = by_field (field_for old.expected p.te
 
 -- the sources at the end, and at a part that is refused
 pub read-sources : (expected : Option Field) (t : Values) (s : SourceValues) (parts : List PlacedPart) → GoesOn expected t s [] parts
-    → finished_sources expected s ≡ sources_at Implied parts (fields_from (Some field.Architecture) (texts_of parts))
+    → finished_sources expected s ≡ sources_at Implied parts (fields_from (Some field.Architecture) (strings_of parts))
 read-sources None t s parts on = on.sources Implied
 read-sources (Some x) t s parts on = on.sources Implied
 
 pub refused-sources : (expected : Option Field) (t : Values) (s : SourceValues) (p : PlacedPart) (ps parts : List PlacedPart) → GoesOn expected t s (p ∷ ps) parts → field_for expected p.text ≡ None
-    → s ≡ sources_at NotGiven parts (fields_from (Some field.Architecture) (texts_of parts))
+    → s ≡ sources_at NotGiven parts (fields_from (Some field.Architecture) (strings_of parts))
 refused-sources None t s p ps parts on none = on.sources NotGiven
 refused-sources (Some x) t s p ps parts on none = ap (λ (format : SourceValue). with_source field.BinaryFormat format s) on.format ∙ (rw none at on.sources NotGiven)

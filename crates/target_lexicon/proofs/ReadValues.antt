@@ -1,8 +1,8 @@
 -- Facts about all parsed triples: the vendor is plain, and the version in range.
 use Rattle.std.proofs.Common.{refl, ◌≡◌, ◌∙◌, ℕ, List, true, Option, Some, None, MatchOption, sym, subst}
 use Rattle.target_lexicon.specs.{Values.OperatingSystem, Values.VendorValue, Values.Known, Values.Values, Field.Field, Laws.ReadVendorsArePlain, Reading.ArePartsOf}
-use Rattle.target_lexicon.specs.Reading.{HoldsParts, ReadsAs, PartsReadAs, IsValueOf}
-use Rattle.target_lexicon.specs.SpecialTexts.{SpecialRow, special_triple, special_values}
+use Rattle.target_lexicon.specs.Reading.{HoldsParts, ParsesAs, PartsParseAs, IsValueOf}
+use Rattle.target_lexicon.specs.SpecialStrings.{SpecialRow, special_triple, special_values}
 use Rattle.lexicon_fields.specs.{Laws.HasVersionInRange, OperatingSystem.operating_system_of, declared.known_vendor.KnownVendor.TheVariants.Unknown, Vendor.vendor_of, Vendor.is_plain}
 use Rattle.target_lexicon.proofs.{SpecialRows.RowFacts, SpecialRows.row_of_text, Vendors.vendor-plain}
 use Rattle.target_lexicon.specs.Values.operating_system
@@ -10,11 +10,11 @@ use Rattle.target_lexicon.specs.Values.operating_system
 -- a fact about the triples of special strings, and about all triples from parts, holds for all parsed triples
 read-holds : (P : Values → Type 0) → ((row : SpecialRow) → RowFacts row → P (special_triple row))
     → ((parts : List (List ℕ)) (fields : List Field) (t : Values) → HoldsParts parts fields t → P t)
-    → (text : List ℕ) (t : Values) → ReadsAs text t → P t
+    → (text : List ℕ) (t : Values) → ParsesAs text t → P t
 read-holds P of_row held text t reads = by_special (special_values text) refl reads
   where
     by_special : (special : Option Values) → special_values text ≡ special
-        → MatchOption special ((parts : List (List ℕ)) × ArePartsOf text parts × PartsReadAs parts t) (λ values. t ≡ values) → P t
+        → MatchOption special ((parts : List (List ℕ)) × ArePartsOf text parts × PartsParseAs parts t) (λ values. t ≡ values) → P t
     by_special None is (parts, are, (fields, least, holds)) = held parts fields t holds
     by_special (Some s) is same = let at = row_of_text text s is in subst P (sym (same ∙ at.2)) (of_row at.0 at.3)
 
@@ -34,5 +34,5 @@ module _ (version-in_range : (text : List ℕ) (s : OperatingSystem) → operati
   placed-in_range None s is = rw is tt
   placed-in_range (Some part) s is = version-in_range part s is
 
-  pub read_in_range : (text : List ℕ) (t : Values) → ReadsAs text t → HasVersionInRange t.operating_system
+  pub read_in_range : (text : List ℕ) (t : Values) → ParsesAs text t → HasVersionInRange t.operating_system
   read_in_range = read-holds (λ t. HasVersionInRange t.operating_system) (λ row facts. facts.in_range) (λ parts fields t holds. placed-in_range _ t.operating_system holds.operating_system)

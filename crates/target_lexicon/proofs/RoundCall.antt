@@ -2,33 +2,33 @@
 use Rattle.std.proofs.Common.{◌≡◌, ◌∙◌, ℕ, List, Bool, true, false, Option, Some, None, sym, subst}
 use Rattle.std.specs.Prelude.{◌↔◌, IfSome, MatchOption}
 use Rattle.lexicon_fields.specs.{Laws.HasVersionInRange, Vendor.is_plain}
-use Rattle.target_lexicon.specs.{Families.family, FixedPoints.FixedExactlyOutsideFamilies, FixedPoints.RoundIsNormalStep, FixedPoints.OneStepSettles, FixedPoints.SettledTextsAreKeys, Laws.ComesBack, Laws.EveryTextHasOneOutcome, NormalStep.normal_step, Printing.text_of}
-use Rattle.target_lexicon.specs.{QueryLaws.HaveSameAnswers, QueryLaws.QueriesKept, Reading.ReadsAs, Reading.IsErrorOf, Reading.IsRefusalOrOutOfMemory, Reading.MayAllocate, Reading.IsRefusedAs, Refusal.Refusal, Refusal.refusal_of, Values.Values, declared.parse_error.ParseError.ParseError}
+use Rattle.target_lexicon.specs.{Exceptions.exception, FixedPoints.FixedExactlyOutsideFamilies, FixedPoints.RoundIsNormalStep, FixedPoints.OneStepSettles, FixedPoints.CanonicalStringsAreKeys, Laws.ComesBack, Laws.EveryStringHasOneOutcome, NormalStep.normal_step, Printing.string_of}
+use Rattle.target_lexicon.specs.{QueryLaws.HaveSameAnswers, QueryLaws.QueriesKept, Reading.ParsesAs, Reading.IsErrorOf, Reading.IsRefusalOrOutOfMemory, Reading.MayAllocate, Reading.IsRefusedAs, Refusal.Refusal, Refusal.refusal_of, Values.Values, declared.parse_error.ParseError.ParseError}
 
-pub read-step : EveryTextHasOneOutcome → RoundIsNormalStep → (t u : Values) → is_plain t.vendor ≡ true → HasVersionInRange t.operating_system
-    → ReadsAs (text_of t) u → u ≡ normal_step t
-read-step texts round t u plain range reads = (texts (text_of t)).values u (normal_step t) reads (round t (record { vendor = plain; version = range }))
+pub read-step : EveryStringHasOneOutcome → RoundIsNormalStep → (t u : Values) → is_plain t.vendor ≡ true → HasVersionInRange t.operating_system
+    → ParsesAs (string_of t) u → u ≡ normal_step t
+read-step texts round t u plain range reads = (texts (string_of t)).values u (normal_step t) reads (round t (record { vendor = plain; version = range }))
 
 pub step-queries : QueriesKept → (t u : Values) → u ≡ normal_step t → HaveSameAnswers u t
 step-queries kept t u step = subst (λ (x : Values). HaveSameAnswers x t) (sym step) (kept t)
 
-pub step-back : OneStepSettles → SettledTextsAreKeys → (t u : Values) → is_plain t.vendor ≡ true → HasVersionInRange t.operating_system → u ≡ normal_step t → ComesBack u
+pub step-back : OneStepSettles → CanonicalStringsAreKeys → (t u : Values) → is_plain t.vendor ≡ true → HasVersionInRange t.operating_system → u ≡ normal_step t → ComesBack u
 step-back steps keys t u plain range step = subst ComesBack (steps t ∙ sym step) (keys.comes_back t (record { vendor = plain; version = range }))
 
-pub read-fixed : EveryTextHasOneOutcome → FixedExactlyOutsideFamilies → (t u : Values) → HasVersionInRange t.operating_system
-    → ReadsAs (text_of t) u → (u ≡ t) ↔ (family t ≡ None)
+pub read-fixed : EveryStringHasOneOutcome → FixedExactlyOutsideFamilies → (t u : Values) → HasVersionInRange t.operating_system
+    → ParsesAs (string_of t) u → (u ≡ t) ↔ (exception t ≡ None)
 read-fixed texts fixed t u range reads = (
-  λ same. (fixed t range).0 (subst (λ (x : Values). ReadsAs (text_of t) x) same reads),
-  λ none. (texts (text_of t)).values u t reads ((fixed t range).1 none),
+  λ same. (fixed t range).0 (subst (λ (x : Values). ParsesAs (string_of t) x) same reads),
+  λ none. (texts (string_of t)).values u t reads ((fixed t range).1 none),
 )
 
-pub not_refused : EveryTextHasOneOutcome → RoundIsNormalStep → (t : Values) → is_plain t.vendor ≡ true → HasVersionInRange t.operating_system
-    → (x : Refusal) → IsRefusedAs (text_of t) x → ⊥
-not_refused texts round t plain range x refused = (texts (text_of t)).apart (normal_step t) (round t (record { vendor = plain; version = range })) (x, refused)
+pub not_refused : EveryStringHasOneOutcome → RoundIsNormalStep → (t : Values) → is_plain t.vendor ≡ true → HasVersionInRange t.operating_system
+    → (x : Refusal) → IsRefusedAs (string_of t) x → ⊥
+not_refused texts round t plain range x refused = (texts (string_of t)).apart (normal_step t) (round t (record { vendor = plain; version = range })) (x, refused)
 
 -- a refusal comes only if the vendor isn't plain
-pub refused-vendor : EveryTextHasOneOutcome → RoundIsNormalStep → (t : Values) (b : Bool) → is_plain t.vendor ≡ b → HasVersionInRange t.operating_system
-    → (found : Option Refusal) → IfSome found (λ x. IsRefusedAs (text_of t) x) → IfSome found (λ _. is_plain t.vendor ≡ false)
+pub refused-vendor : EveryStringHasOneOutcome → RoundIsNormalStep → (t : Values) (b : Bool) → is_plain t.vendor ≡ b → HasVersionInRange t.operating_system
+    → (found : Option Refusal) → IfSome found (λ x. IsRefusedAs (string_of t) x) → IfSome found (λ _. is_plain t.vendor ≡ false)
 refused-vendor texts round t false is range (Some x) refused = is
 refused-vendor texts round t true is range (Some x) refused = absurd (not_refused texts round t is range x refused)
 refused-vendor texts round t b is range None refused = tt

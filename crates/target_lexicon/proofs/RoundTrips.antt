@@ -1,7 +1,7 @@
 -- The shown parts of a triple with a plain vendor parse as its normal step, if no special string is printed.
 use Rattle.std.proofs.Common.{◌≡◌, ◌≢◌, ◌∙◌, ℕ, Bool, true, false, not, ◌&&◌, ◌||◌, cond, List, [], ◌∷◌, None, Result, Ok, is_some, refl, sym, ap, ◌⊎◌, inl, inr}
 use Rattle.target_lexicon.specs.Values.{Architecture, Environment, OperatingSystem, BinaryFormat, VendorValue, Known, Values, values, is_same_format, is_clever_without_system}
-use Rattle.target_lexicon.specs.{Field.Field, ImpliedFormat.default_binary_format, ImpliedFormat.implied_format, FamilyFacts.HasSystemOf, FamilyFacts.PrintsAsSpecial, FamilyFacts.HidesNewlib, FamilyFacts.PrintsTheEspIdfText, FamilyFacts.ShowsOnlyNone, Refusal.Refusal, SpecialTexts.SpecialRow, SpecialTexts.implies_newlib, SpecialTexts.special_text}
+use Rattle.target_lexicon.specs.{Field.Field, ImpliedFormat.default_binary_format, ImpliedFormat.implied_format, ExceptionFacts.HasSystemOf, ExceptionFacts.PrintsAsSpecial, ExceptionFacts.HidesNewlib, ExceptionFacts.PrintsTheEspIdfString, ExceptionFacts.ShowsOnlyNone, Refusal.Refusal, SpecialStrings.SpecialRow, SpecialStrings.implies_newlib, SpecialStrings.special_string}
 use Rattle.target_lexicon.specs.NormalStep.{normal_step, elf_if_unknown}
 use Rattle.target_lexicon.specs.Printing.{shows_vendor, omits_unknown_vendor, shows_operating_system, shows_environment, is_none_or_unknown, shows_implied_format, shows_binary_format, shows_unknowns, shown_names, cons_if}
 use Rattle.target_lexicon.specs.GreedyReading.{reading_of_parts}
@@ -53,11 +53,11 @@ are_unknown a v s _ _ shown = absurd (false≢true shown)
 
 -- if no special string is printed
 
-none-apart : (t : Values) → special_text t ≡ None → ¬ PrintsAsSpecial t
+none-apart : (t : Values) → special_string t ≡ None → ¬ PrintsAsSpecial t
 none-apart t none is = true≢false (sym (special_of_fields t is.fields) ∙ ap is_some none)
 
 -- an environment that isn't shown is unknown, or a hidden `Newlib`
-not_shown : (a : Architecture) (v : VendorValue) (s : OperatingSystem) (e : Environment) (f : BinaryFormat) → special_text (values a v s e f) ≡ None → shows_environment (values a v s e f) ≡ false
+not_shown : (a : Architecture) (v : VendorValue) (s : OperatingSystem) (e : Environment) (f : BinaryFormat) → special_string (values a v s e f) ≡ None → shows_environment (values a v s e f) ≡ false
     → (e ≡ environment.Unknown) ⊎ HidesNewlib (values a v s e f)
 unfolding shows_environment
 not_shown a v s environment.Unknown f none hidden = inl refl
@@ -145,7 +145,7 @@ module _ (names : NamesAreRead) where
       → ReadsAfter t last (values t.architecture t.vendor t.operating_system environment.Unknown (elf_if_unknown t.binary_format))
   newlib-read t last is = let at = row_of_system t is.system in row-read t last at.0 at.1 at.2 is.environment
 
-  module _ (a : Architecture) (v : VendorValue) (s : OperatingSystem) (e : Environment) (f : BinaryFormat) (none : special_text (values a v s e f) ≡ None)
+  module _ (a : Architecture) (v : VendorValue) (s : OperatingSystem) (e : Environment) (f : BinaryFormat) (none : special_string (values a v s e f) ≡ None)
       (hidden : shows_unknowns (values a v s e f) ≡ false) where
     unknown-read : (last : Field) → e ≡ environment.Unknown
         → reading_from_environment a v s last (cons_if (shows_binary_format (values a v s e f)) (binary_format_name f) []) ≡ Ok (values a v s e f)
@@ -160,7 +160,7 @@ module _ (names : NamesAreRead) where
       | inr newlib ↦ absurd (outside newlib)
     ]
 
-    tail-round : (last : Field) → ¬ PrintsTheEspIdfText (values a v s e f) → ¬ ShowsOnlyNone (values a v s e f)
+    tail-round : (last : Field) → ¬ PrintsTheEspIdfString (values a v s e f) → ¬ ShowsOnlyNone (values a v s e f)
         → ReadsAfter (values a v s e f) last (normal_step (values a v s e f))
     tail-round last apart only_none = step_cases (ReadsAfter (values a v s e f) last) (values a v s e f)
         (λ is. absurd (none-apart _ none is))
@@ -222,7 +222,7 @@ module _ (names : NamesAreRead) where
       (λ h. absurd (let is = (hidden_vendor (architecture.Clever c) v operating_system.Unknown e f h).1 in cc)) (λ last. clever-read c v e f last hidden)
 
   module _ (a : Architecture) (v : VendorValue) (s : OperatingSystem) (e : Environment) (f : BinaryFormat) (plain : is_plain v ≡ true) (range : HasVersionInRange s)
-      (none : special_text (values a v s e f) ≡ None) (apart : ¬ PrintsTheEspIdfText (values a v s e f)) where
+      (none : special_string (values a v s e f) ≡ None) (apart : ¬ PrintsTheEspIdfString (values a v s e f)) where
     clever_by : (c : CleverArchitecture) → a ≡ architecture.Clever c → s ≡ operating_system.Unknown → shows_unknowns (values a v s e f) ≡ false
         → reading_by_fields (shown_names false (values a v s e f)) ≡ Ok (normal_step (values a v s e f))
     clever_by c is_a is_s hidden = rw (is_a, is_s) (clever-round c v e f plain (rw (is_a, is_s) at hidden))

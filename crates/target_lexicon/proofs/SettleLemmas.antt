@@ -1,8 +1,8 @@
 -- A second step changes no triple.
 use Rattle.std.proofs.Common.{◌≡◌, ℕ, List, true, refl, sym, ap, subst, Option, true≢false}
 use Rattle.target_lexicon.specs.{Values.Architecture, Values.BinaryFormat, Values.VendorValue, Values.Known, Values.Values, Values.values, Laws.ComesBack, NormalStep.normal_step, NormalStep.step_of, NormalStep.elf_if_unknown}
-use Rattle.target_lexicon.specs.{Families.family, Families.RoundTripFamily, FamilyFacts.HasSpecialFields, FamilyFacts.HidesNewlib, FamilyFacts.PrintsTheEspIdfText, Printing.text_of, Reading.ReadsAs, SpecialTexts.special_text}
-use Rattle.target_lexicon.specs.FixedPoints.{IsPlainTriple, RoundIsNormalStep, settled_values, OneStepSettles, SettledTextsAreKeys}
+use Rattle.target_lexicon.specs.{Exceptions.exception, Exceptions.RoundTripException, ExceptionFacts.HasSpecialFields, ExceptionFacts.HidesNewlib, ExceptionFacts.PrintsTheEspIdfString, Printing.string_of, Reading.ParsesAs, SpecialStrings.special_string}
+use Rattle.target_lexicon.specs.FixedPoints.{IsPlainTriple, RoundIsNormalStep, canonical_values, OneStepSettles, CanonicalStringsAreKeys}
 use Rattle.lexicon_fields.specs.{Vendor.is_plain, Laws.HasVersionInRange, declared.known_vendor.KnownVendor.TheVariants.Espressif}
 use Rattle.target_lexicon.proofs.{SpecialRows.fields_of_special, SpecialRows.special_of_fields, SpecialRows.row_of_system, SpecialRows.special_system, StepCases.outside-fixed, StepCases.special-own, StepCases.step_cases, UniqueReading.values_unique}
 use Rattle.target_lexicon.specs.Values.architecture
@@ -14,17 +14,17 @@ use Rattle.target_lexicon.specs.Values.binary_format
 -- with the environment and the format of special strings
 special-stays : (t : Values) → HasSpecialFields t
     → normal_step (values t.architecture t.vendor t.operating_system environment.Newlib binary_format.Elf) ≡ values t.architecture t.vendor t.operating_system environment.Newlib binary_format.Elf
-unfolding normal_step special_text
+unfolding normal_step special_string
 special-stays t has =
     let u = values t.architecture t.vendor t.operating_system environment.Newlib binary_format.Elf in
-    ap (λ (found : Option RoundTripFamily). step_of found u) (special-own u (fields_of_special u (special_of_fields t has)) (refl, refl))
+    ap (λ (found : Option RoundTripException). step_of found u) (special-own u (fields_of_special u (special_of_fields t has)) (refl, refl))
 
 esp_idf-stays : let u = values (architecture.Riscv32 riscv32.Riscv32imc) (Known Espressif) operating_system.Espidf environment.Newlib binary_format.Elf in normal_step u ≡ u
-unfolding normal_step family special_text
+unfolding normal_step exception special_string
 esp_idf-stays = refl
 
 -- with an unknown environment only the special strings decide whether a triple is unchanged
-unknown-stays : (t : Values) → t.environment ≡ environment.Unknown → ¬ HasSpecialFields t → ¬ PrintsTheEspIdfText t → normal_step t ≡ t
+unknown-stays : (t : Values) → t.environment ≡ environment.Unknown → ¬ HasSpecialFields t → ¬ PrintsTheEspIdfString t → normal_step t ≡ t
 unknown-stays t unknown special esp = outside-fixed t (record {
   special = λ is. special is.fields;
   newlib = λ is. let newlib = is.environment in cc;
@@ -34,7 +34,7 @@ unknown-stays t unknown special esp = outside-fixed t (record {
 
 newlib-stays : (t : Values) → HidesNewlib t
     → let u = values t.architecture t.vendor t.operating_system environment.Unknown (elf_if_unknown t.binary_format) in normal_step u ≡ u
-unfolding special_text
+unfolding special_string
 newlib-stays t is =
     let u = values t.architecture t.vendor t.operating_system environment.Unknown (elf_if_unknown t.binary_format) in
     unknown-stays u refl (λ special. is.others (fields_of_special t (special_of_fields u special)))
@@ -67,14 +67,14 @@ step-plain t plain = record { vendor = step-vendor_plain t plain.vendor; version
 -- a canonical form comes back, so no other one has its string
 
 module _ (round : RoundIsNormalStep) where
-  pub settled_values-comes_back : (t : Values) → IsPlainTriple t → ComesBack (settled_values t)
-  settled_values-comes_back t plain =
-      subst (λ (u : Values). ReadsAs (text_of (settled_values t)) u) (second_changes_none (normal_step t)) (round (settled_values t) (step-plain (normal_step t) (step-plain t plain)))
+  pub canonical_values-comes_back : (t : Values) → IsPlainTriple t → ComesBack (canonical_values t)
+  canonical_values-comes_back t plain =
+      subst (λ (u : Values). ParsesAs (string_of (canonical_values t)) u) (second_changes_none (normal_step t)) (round (canonical_values t) (step-plain (normal_step t) (step-plain t plain)))
 
-  pub settled_are_keys : SettledTextsAreKeys
-  settled_are_keys = record {
-    comes_back = settled_values-comes_back;
+  pub canonical_are_keys : CanonicalStringsAreKeys
+  canonical_are_keys = record {
+    comes_back = canonical_values-comes_back;
     own = λ t u plain_t plain_u same.
-        values_unique (text_of (settled_values t)) (settled_values t) (settled_values u) (settled_values-comes_back t plain_t)
-        (subst (λ (text : List ℕ). ReadsAs text (settled_values u)) (sym same) (settled_values-comes_back u plain_u));
+        values_unique (string_of (canonical_values t)) (canonical_values t) (canonical_values u) (canonical_values-comes_back t plain_t)
+        (subst (λ (text : List ℕ). ParsesAs text (canonical_values u)) (sym same) (canonical_values-comes_back u plain_u));
   }

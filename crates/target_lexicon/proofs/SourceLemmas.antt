@@ -6,12 +6,12 @@ use Rattle.std.specs.List.{join_with_byte}
 use Rattle.std.proofs.{Math.Seq.take-append_seam, Math.Seq.drop-append_seam, Math.Seq.take-length, lemmas.Bool.cases_Bool, lemmas.List.append-nil, lemmas.List.length-append}
 use Rattle.lexicon_fields.specs.Names.{dash}
 use Rattle.target_lexicon.specs.Field.{Field, Architecture, Vendor, OperatingSystem, Environment, BinaryFormat, field_number, parses_as}
-use Rattle.target_lexicon.specs.Explanation.{PlacedPart, part_from, placed_from, SourceValue, NotGiven, Implied, SourceValues, source_at, sources_at, whole_text_sources, AreSourcesOf, IsRefusalAfter, IsRefusedAfter, IsInText, IsSourceInText, AreInText}
-use Rattle.target_lexicon.specs.{Reading.ArePartsOf, Reading.IsLeastPlacement, Reading.HasPlacement, Reading.parts_of, SpecialTexts.special_values, Values.Values}
-use Rattle.target_lexicon.specs.Reading.{IsRefusal, IsRefusedAs, PartsReadAs, ReadsAs, expected_after, last_field}
+use Rattle.target_lexicon.specs.Explanation.{PlacedPart, part_from, placed_from, SourceValue, NotGiven, Implied, SourceValues, source_at, sources_at, whole_text_sources, AreSourcesOf, IsRefusalAfter, IsRefusedAfter, IsInString, IsSourceInString, AreInString}
+use Rattle.target_lexicon.specs.{Reading.ArePartsOf, Reading.IsLeastPlacement, Reading.HasPlacement, Reading.parts_of, SpecialStrings.special_values, Values.Values}
+use Rattle.target_lexicon.specs.Reading.{IsRefusal, IsRefusedAs, PartsParseAs, ParsesAs, expected_after, last_field}
 use Rattle.target_lexicon.specs.Refusal.{Refusal, refusal_with}
 use Rattle.target_lexicon.proofs.GreedyPlacement.{filled, unread, after_architecture, greedy-finds, greedy-least, placement_prefix}
-use Rattle.target_lexicon.proofs.ReadParts.{all-fields, all-left, fields_from, left_from, no-fields, texts-placed, texts_of}
+use Rattle.target_lexicon.proofs.ReadParts.{all-fields, all-left, fields_from, left_from, no-fields, texts-placed, strings_of}
 use Rattle.target_lexicon.proofs.{PartLemmas.parts_of-are, PartLemmas.parts_of-some, PartLemmas.parts-only, RefusalLemmas.stop, RefusalLemmas.refused_first, RefusalLemmas.refused-at, UniqueReading.refusal_at, UniqueReading.refusal_unique}
 
 -- what the parts of a string give, if a format without a part has this source
@@ -23,13 +23,13 @@ pub record LeftAt (parts : List (List ℕ)) (q : PlacedPart) : Type 0 where
   pub before : List PlacedPart
   pub rest : List PlacedPart
   pub end : placed_from 0 parts ≡ before ++ (q ∷ rest)
-  pub left : left_from (Some Architecture) parts ≡ q.text ∷ texts_of rest
+  pub left : left_from (Some Architecture) parts ≡ q.text ∷ strings_of rest
 
 get-placed : (before : List PlacedPart) (q : PlacedPart) (rest : List PlacedPart) (k : ℕ) → k ≡ length before → slice_get (before ++ (q ∷ rest)) k ≡ Some q
 get-placed [] q rest k is = rw is refl
 get-placed (p ∷ before) q rest k is = rw is (get-placed before q rest (length before) refl)
 
-length-texts : (ps : List PlacedPart) → length (texts_of ps) ≡ length ps
+length-texts : (ps : List PlacedPart) → length (strings_of ps) ≡ length ps
 length-texts [] = refl
 length-texts (p ∷ ps) = ap suc (length-texts ps)
 
@@ -80,10 +80,10 @@ refused-later p ps r rest q takes unplaced at =
 
 module _ (text : List ℕ) (ordinary : special_values text ≡ None) where
   -- the sources of a string that parses
-  pub sources-explained : (t : Values) → ReadsAs text t → AreSourcesOf text (all_sources Implied (parts_of text))
+  pub sources-explained : (t : Values) → ParsesAs text t → AreSourcesOf text (all_sources Implied (parts_of text))
   sources-explained t reads = with_parts (parts_of text) refl (rw ordinary at reads)
     where
-      with_parts : (parts : List (List ℕ)) → parts_of text ≡ parts → ((parts : List (List ℕ)) × ArePartsOf text parts × PartsReadAs parts t)
+      with_parts : (parts : List (List ℕ)) → parts_of text ≡ parts → ((parts : List (List ℕ)) × ArePartsOf text parts × PartsParseAs parts t)
           → AreSourcesOf text (all_sources Implied parts)
       with_parts [] are (parts, of_text, (fields, least, holds)) = absurd (parts_of-some text are)
       with_parts (p ∷ ps) are (parts, of_text, (fields, least, holds)) =
@@ -138,7 +138,7 @@ range-at before p rest =
     ap (λ n. take n (drop (length before) (before ++ (p ++ rest)))) size ∙ ap (take (length p)) (drop-append_seam before (p ++ rest)) ∙ take-append_seam p rest
 
 -- a part that is followed by these bytes
-pub part-in : (text before p rest : List ℕ) (start : ℕ) → length before ≡ start → text ≡ before ++ (p ++ rest) → IsInText text (part_from start p)
+pub part-in : (text before p rest : List ℕ) (start : ℕ) → length before ≡ start → text ≡ before ++ (p ++ rest) → IsInString text (part_from start p)
 part-in text before p rest start at is =
     let whole = length-append before (p ++ rest) in
     let inner = length-append p rest in
@@ -146,7 +146,7 @@ part-in text before p rest start at is =
 
 -- the first of the parts, and those after it
 first-in : (text : List ℕ) (start : ℕ) (p : List ℕ) (ps : List (List ℕ)) → AreAt text start (p ∷ ps)
-    → IsInText text (part_from start p) × AreAt text (start + length p + 1) ps
+    → IsInString text (part_from start p) × AreAt text (start + length p + 1) ps
 first-in text start p [] (before, at, is) = (part-in text before p [] start at (is ∙ ap (λ (k : List ℕ). before ++ k) (sym (append-nil p))), tt)
 first-in text start p (q ∷ ps) (before, at, is) =
     let rest = join_with_byte dash (q ∷ ps) in
@@ -158,7 +158,7 @@ first-in text start p (q ∷ ps) (before, at, is) =
 
 abbrev AreIn : List ℕ → List PlacedPart → Type 0
 AreIn text [] = Unit {0}
-AreIn text (p ∷ ps) = IsInText text p × AreIn text ps
+AreIn text (p ∷ ps) = IsInString text p × AreIn text ps
 
 all-in : (text : List ℕ) (start : ℕ) (ps : List (List ℕ)) → AreAt text start ps → AreIn text (placed_from start ps)
 all-in text start [] at = tt
@@ -168,8 +168,8 @@ placed-in : (text : List ℕ) (parts : List (List ℕ)) → ArePartsOf text part
 placed-in text [] are = tt
 placed-in text (p ∷ ps) are = all-in text 0 (p ∷ ps) ([], refl, sym are.joined)
 
-source-in : (text : List ℕ) (unfilled : SourceValue) (f : Field) (ps : List PlacedPart) (gs : List Field) → IsSourceInText text unfilled → AreIn text ps
-    → IsSourceInText text (source_at unfilled f ps gs)
+source-in : (text : List ℕ) (unfilled : SourceValue) (f : Field) (ps : List PlacedPart) (gs : List Field) → IsSourceInString text unfilled → AreIn text ps
+    → IsSourceInString text (source_at unfilled f ps gs)
 source-in text unfilled f [] gs none are = none
 source-in text unfilled f (p ∷ ps) [] none are = none
 source-in text unfilled f (p ∷ ps) (g ∷ gs) none are =
@@ -178,13 +178,13 @@ source-in text unfilled f (p ∷ ps) (g ∷ gs) none are =
       | inr later ↦ rw later (source-in text unfilled f ps gs none are.1)
     ]
 
-get-in : (text : List ℕ) (ps : List PlacedPart) (k : ℕ) (q : PlacedPart) → AreIn text ps → slice_get ps k ≡ Some q → IsInText text q
+get-in : (text : List ℕ) (ps : List PlacedPart) (k : ℕ) (q : PlacedPart) → AreIn text ps → slice_get ps k ≡ Some q → IsInString text q
 get-in text [] k q are is = absurd cc
-get-in text (p ∷ ps) zero q are is = let same : p ≡ q = cc in subst (IsInText text) same are.0
+get-in text (p ∷ ps) zero q are is = let same : p ≡ q = cc in subst (IsInString text) same are.0
 get-in text (p ∷ ps) (suc k) q are is = get-in text ps k q are.1 is
 
-all-sources-in : (text : List ℕ) (unfilled : SourceValue) (ps : List PlacedPart) (gs : List Field) → IsSourceInText text unfilled → AreIn text ps
-    → AreInText text (sources_at unfilled ps gs)
+all-sources-in : (text : List ℕ) (unfilled : SourceValue) (ps : List PlacedPart) (gs : List Field) → IsSourceInString text unfilled → AreIn text ps
+    → AreInString text (sources_at unfilled ps gs)
 all-sources-in text unfilled ps gs none are = record {
   architecture = source-in text NotGiven Architecture ps gs tt are;
   vendor = source-in text NotGiven Vendor ps gs tt are;
@@ -193,22 +193,22 @@ all-sources-in text unfilled ps gs none are = record {
   binary_format = source-in text unfilled BinaryFormat ps gs none are;
 }
 
-whole-in : (text : List ℕ) → AreInText text (whole_text_sources text)
+whole-in : (text : List ℕ) → AreInString text (whole_text_sources text)
 whole-in text =
     let size : 0 + length text - 0 ≡ length text = omega arith in
-    let whole : IsInText text (part_from 0 text) = (omega arith, ap (λ n. take n text) size ∙ take-length text) in
+    let whole : IsInString text (part_from 0 text) = (omega arith, ap (λ n. take n text) size ∙ take-length text) in
     record { architecture = whole; vendor = whole; operating_system = whole; environment = whole; binary_format = whole }
 
-pub sources-in : (text : List ℕ) (s : SourceValues) → AreSourcesOf text s → AreInText text s
+pub sources-in : (text : List ℕ) (s : SourceValues) → AreSourcesOf text s → AreInString text s
 sources-in text s are = by_special (special_values text) are
   where
     by_special : (special : Option Values)
         → MatchOption special ((parts : List (List ℕ)) × ArePartsOf text parts × ((fields : List Field) × IsLeastPlacement parts fields × (s ≡ sources_at Implied (placed_from 0 parts) fields)))
-        (λ values. s ≡ whole_text_sources text) → AreInText text s
-    by_special None (parts, of_text, (fields, least, same)) = subst (AreInText text) (sym same) (all-sources-in text Implied (placed_from 0 parts) fields tt (placed-in text parts of_text))
-    by_special (Some t) same = subst (AreInText text) (sym same) (whole-in text)
+        (λ values. s ≡ whole_text_sources text) → AreInString text s
+    by_special None (parts, of_text, (fields, least, same)) = subst (AreInString text) (sym same) (all-sources-in text Implied (placed_from 0 parts) fields tt (placed-in text parts of_text))
+    by_special (Some t) same = subst (AreInString text) (sym same) (whole-in text)
 
-pub refused-in : (text : List ℕ) (x : Refusal) (s : SourceValues) (q : PlacedPart) → IsRefusedAfter text x s q → AreInText text s × IsInText text q
+pub refused-in : (text : List ℕ) (x : Refusal) (s : SourceValues) (q : PlacedPart) → IsRefusedAfter text x s q → AreInString text s × IsInString text q
 refused-in text x s q (parts, of_text, after) =
     let are = placed-in text parts of_text in
-    (subst (AreInText text) (sym after.sources) (all-sources-in text NotGiven (placed_from 0 parts) after.fields tt are), get-in text (placed_from 0 parts) after.refusal_holds.count q are after.refused)
+    (subst (AreInString text) (sym after.sources) (all-sources-in text NotGiven (placed_from 0 parts) after.fields tt are), get-in text (placed_from 0 parts) after.refusal_holds.count q are after.refused)

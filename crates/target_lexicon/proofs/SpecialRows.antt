@@ -6,9 +6,9 @@ use Rattle.lexicon_fields.specs.{Laws.HasVersionInRange, Names.value_named, Arch
 use Rattle.lexicon_fields.specs.{Architecture.architecture_of, Vendor.vendor_of, Vendor.known_vendor_of, Vendor.is_admitted, OperatingSystem.operating_system_of, OperatingSystem.fixed_operating_system_of, Environment.environment_of, BinaryFormat.binary_format_of}
 use Rattle.lexicon_fields.specs.declared.pointer_width.PointerWidth.TheVariants.{U32}
 use Rattle.lexicon_fields.specs.declared.known_vendor.KnownVendor.TheVariants as known_vendor
-use Rattle.target_lexicon.specs.SpecialTexts.{SpecialRow, special_rows, special_pair, special_triple, special_values, special_text, implies_newlib}
-use Rattle.target_lexicon.specs.FamilyFacts.{SomeRow, HasSystemOf, HasFieldsOf, HasSpecialFields}
-use Rattle.target_lexicon.specs.{Families.is_custom_esp, Field.parses_as, ImpliedFormat.implied_format, Printing.is_none_or_unknown, Reading.parts_of, GreedyReading.reading_of_parts, Refusal.Refusal}
+use Rattle.target_lexicon.specs.SpecialStrings.{SpecialRow, special_rows, special_pair, special_triple, special_values, special_string, implies_newlib}
+use Rattle.target_lexicon.specs.ExceptionFacts.{SomeRow, HasSystemOf, HasFieldsOf, HasSpecialFields}
+use Rattle.target_lexicon.specs.{Exceptions.is_custom_esp, Field.parses_as, ImpliedFormat.implied_format, Printing.is_none_or_unknown, Reading.parts_of, GreedyReading.reading_of_parts, Refusal.Refusal}
 use Rattle.target_lexicon.specs.Values.{Architecture, OperatingSystem, Environment, BinaryFormat, VendorValue, Known, Values, values, is_unknown_vendor}
 use Rattle.target_lexicon.specs.Values.architecture
 use Rattle.target_lexicon.specs.Values.operating_system
@@ -23,14 +23,14 @@ use Rattle.target_lexicon.specs.Values.riscv32
 -- the parts of a special string are refused, or give a triple that is known to print the string
 abbrev pub is_known_to_print : Result Values Refusal → Bool
 is_known_to_print (Err refusal) = true
-is_known_to_print (Ok t) = cond (is_some (special_text t)) true (is_custom_esp t.architecture t.vendor t.operating_system t.environment t.binary_format)
+is_known_to_print (Ok t) = cond (is_some (special_string t)) true (is_custom_esp t.architecture t.vendor t.operating_system t.environment t.binary_format)
 
 pub record RowFacts (row : SpecialRow) : Type 0 where
   -- the string parses as the triple, and by its parts as one that is known
   pub parses : special_values row.text ≡ Some (special_triple row)
   pub parts : is_known_to_print (reading_of_parts (parts_of row.text)) ≡ true
   -- the triple prints the string, whatever environment and format are
-  pub prints : (e : Environment) (f : BinaryFormat) → special_text (values row.architecture (Known row.vendor) row.operating_system e f) ≡ Some row.text
+  pub prints : (e : Environment) (f : BinaryFormat) → special_string (values row.architecture (Known row.vendor) row.operating_system e f) ≡ Some row.text
   pub newlib : implies_newlib (Known row.vendor) row.operating_system ≡ true
   -- the string is not longer than the three names with dashes between them
   pub short : length row.text ≤ length (architecture_name row.architecture) + (1 + length (known_vendor_name row.vendor)) + (1 + length (operating_system_name row.operating_system))
@@ -47,7 +47,7 @@ EachRow P [] = Unit {0}
 EachRow P (row ∷ rows) = P row × EachRow P rows
 
 row-facts : EachRow RowFacts special_rows
-unfolding special_values special_text implies_newlib implied_format parses_as architecture_of vendor_of known_vendor_of is_admitted operating_system_of fixed_operating_system_of environment_of binary_format_of
+unfolding special_values special_string implies_newlib implied_format parses_as architecture_of vendor_of known_vendor_of is_admitted operating_system_of fixed_operating_system_of environment_of binary_format_of
 -- written by tools/names/write: facts of special strings
 row-facts = (
   record { parses = refl; parts = refl; prints = λ e f. refl; newlib = refl; short = omega arith; bound = omega arith; vendor = refl; operating_system = refl; implied = λ a e. refl; in_range = tt; narrow = refl },
@@ -61,8 +61,8 @@ row-facts = (
 
 -- a triple that prints a special string has the fields of its row
 fields-by : (a : Architecture) (v : VendorValue) (s : OperatingSystem) (e : Environment) (f : BinaryFormat)
-    → is_some (special_text (values a v s e f)) ≡ true → HasSpecialFields (values a v s e f)
-unfolding special_text
+    → is_some (special_string (values a v s e f)) ≡ true → HasSpecialFields (values a v s e f)
+unfolding special_string
 -- written by tools/names/write: fields of special strings
 fields-by (architecture.Arm arm.Armv6k) (Known known_vendor.Nintendo) operating_system.Horizon e f is =
     inl (record { architecture = refl; system = record { vendor = refl; operating_system = refl } })
@@ -95,26 +95,26 @@ row_of_fields t has = of_row (λ row. HasFieldsOf row t) RowFacts special_rows r
 pub row_of_system : (t : Values) → SomeRow (λ row. HasSystemOf row t) special_rows → (row : SpecialRow) × HasSystemOf row t × RowFacts row
 row_of_system t has = of_row (λ row. HasSystemOf row t) RowFacts special_rows row-facts has
 
--- a triple has such fields exactly if it prints a special string
+-- a triple has such fields if and only if it prints a special string
 
-pub fields_of_special : (t : Values) → is_some (special_text t) ≡ true → HasSpecialFields t
+pub fields_of_special : (t : Values) → is_some (special_string t) ≡ true → HasSpecialFields t
 fields_of_special t is = fields-by t.architecture t.vendor t.operating_system t.environment t.binary_format is
 
-pub prints_row : (t : Values) (row : SpecialRow) → HasFieldsOf row t → RowFacts row → special_text t ≡ Some row.text
-unfolding special_text
+pub prints_row : (t : Values) (row : SpecialRow) → HasFieldsOf row t → RowFacts row → special_string t ≡ Some row.text
+unfolding special_string
 prints_row t row is facts = rw (is.architecture, is.system.vendor, is.system.operating_system) (facts.prints t.environment t.binary_format)
 
-pub special_of_fields : (t : Values) → HasSpecialFields t → is_some (special_text t) ≡ true
+pub special_of_fields : (t : Values) → HasSpecialFields t → is_some (special_string t) ≡ true
 special_of_fields t has = let at = row_of_fields t has in ap is_some (prints_row t at.0 at.1 at.2)
 
-pub no_special : (t : Values) → ¬ HasSpecialFields t → is_some (special_text t) ≡ false
-no_special t other = elim (cases_Bool (is_some (special_text t))) [ inl is ↦ absurd (other (fields_of_special t is)) | inr is ↦ is ]
+pub no_special : (t : Values) → ¬ HasSpecialFields t → is_some (special_string t) ≡ false
+no_special t other = elim (cases_Bool (is_some (special_string t))) [ inl is ↦ absurd (other (fields_of_special t is)) | inr is ↦ is ]
 
 pub none_of_not : {A : Type 0} (o : Option A) → is_some o ≡ false → o ≡ None
 none_of_not None is = refl
 none_of_not (Some x) is = absurd (true≢false is)
 
--- and vendor and system of a row exactly if they imply `Newlib`
+-- and vendor and system of a row if and only if they imply `Newlib`
 
 pub system_of_newlib : (t : Values) → implies_newlib t.vendor t.operating_system ≡ true → SomeRow (λ row. HasSystemOf row t) special_rows
 system_of_newlib t is = system-by t.architecture t.vendor t.operating_system t.environment t.binary_format is

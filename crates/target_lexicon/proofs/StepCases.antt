@@ -1,12 +1,12 @@
--- The facts of the five fields of each family. So a fact that holds in the case of each family, and outside them, holds
+-- The facts of the five fields of each exception. So a fact that holds in the case of each exception, and outside them, holds
 -- for the step.
 use Rattle.std.proofs.Common.{◌≡◌, ◌∙◌, ◌⊎◌, ℕ, List, inl, inr, Bool, true, false, cond, ◌&&◌, codes, Option, Some, None, is_some, refl, sym, ap, subst}
 use Rattle.std.specs.Str.{bytes_eq}
 use Rattle.std.proofs.{lemmas.Slice.Eq.bytes_eq-Decides, lemmas.Bool.and_parts, lemmas.Bool.cases_Bool, lemmas.Bool.false≢true, Math.Bool.and-false}
 use Rattle.target_lexicon.specs.Values.{Architecture, OperatingSystem, Environment, BinaryFormat, VendorValue, Known, Custom, Values, values, is_newlib, is_none_environment, is_same_format, is_clever_without_system}
-use Rattle.target_lexicon.specs.{SpecialTexts.special_text, SpecialTexts.implies_newlib, Families.RoundTripFamily, Families.family, Families.has_newlib_and_elf, Families.is_custom_esp}
-use Rattle.target_lexicon.specs.declared.family.RoundTripFamily.TheVariants as families
-use Rattle.target_lexicon.specs.FamilyFacts.{HasSpecialFields, HasNewlibAndElf, PrintsAsSpecial, HidesNewlib, PrintsTheEspIdfText, ShowsOnlyNone, VendorIsNotPlain, FamiliesAreFactsOfFields}
+use Rattle.target_lexicon.specs.{SpecialStrings.special_string, SpecialStrings.implies_newlib, Exceptions.RoundTripException, Exceptions.exception, Exceptions.has_newlib_and_elf, Exceptions.is_custom_esp}
+use Rattle.target_lexicon.specs.declared.exception.RoundTripException.TheVariants as exceptions
+use Rattle.target_lexicon.specs.ExceptionFacts.{HasSpecialFields, HasNewlibAndElf, PrintsAsSpecial, HidesNewlib, PrintsTheEspIdfString, ShowsOnlyNone, VendorIsNotPlain, ExceptionsAreFactsOfFields}
 use Rattle.target_lexicon.specs.NormalStep.{normal_step, step_of, elf_if_unknown}
 use Rattle.lexicon_fields.specs.{ArchitectureQueries.is_clever, Vendor.is_plain, Vendor.is_admitted, Vendor.known_vendor_of, Architecture.architecture_of, OperatingSystem.operating_system_of, OperatingSystem.fixed_operating_system_of, Environment.environment_of, BinaryFormat.binary_format_of}
 use Rattle.lexicon_fields.specs.declared.known_vendor.KnownVendor.TheVariants.{Espressif}
@@ -17,14 +17,14 @@ use Rattle.target_lexicon.specs.Values.operating_system
 use Rattle.target_lexicon.specs.Values.environment
 use Rattle.target_lexicon.specs.Values.binary_format
 
--- from the family to the facts
+-- from the exception to the facts
 
-abbrev pub FactsOf : Option RoundTripFamily → Values → Type 0
-FactsOf (Some families.PrintsAsSpecial) t = PrintsAsSpecial t
-FactsOf (Some families.HidesNewlib) t = HidesNewlib t
-FactsOf (Some families.PrintsTheEspIdfText) t = PrintsTheEspIdfText t
-FactsOf (Some families.ShowsOnlyNone) t = ShowsOnlyNone t
-FactsOf (Some families.VendorIsNotPlain) t = is_plain t.vendor ≡ false
+abbrev pub FactsOf : Option RoundTripException → Values → Type 0
+FactsOf (Some exceptions.PrintsAsSpecial) t = PrintsAsSpecial t
+FactsOf (Some exceptions.HidesNewlib) t = HidesNewlib t
+FactsOf (Some exceptions.PrintsTheEspIdfString) t = PrintsTheEspIdfString t
+FactsOf (Some exceptions.ShowsOnlyNone) t = ShowsOnlyNone t
+FactsOf (Some exceptions.VendorIsNotPlain) t = is_plain t.vendor ≡ false
 FactsOf None t = is_plain t.vendor ≡ true
 
 special-plain : (t : Values) → HasSpecialFields t → is_plain t.vendor ≡ true
@@ -59,13 +59,13 @@ clever-is : (a : Architecture) (s : OperatingSystem) → is_clever_without_syste
 clever-is (architecture.Clever sub) operating_system.Unknown is = (refl, refl)
 clever-is _ _ is = absurd (false≢true is)
 
--- the tests of the list of families, one after the other
+-- the tests of the list of exceptions, one after the other
 facts-by : (t : Values) (special both newlib esp none plain : Bool)
-    → is_some (special_text t) ≡ special → has_newlib_and_elf t ≡ both → (implies_newlib t.vendor t.operating_system && is_newlib t.environment) ≡ newlib
+    → is_some (special_string t) ≡ special → has_newlib_and_elf t ≡ both → (implies_newlib t.vendor t.operating_system && is_newlib t.environment) ≡ newlib
     → is_custom_esp t.architecture t.vendor t.operating_system t.environment t.binary_format ≡ esp
     → (is_clever_without_system t.architecture t.operating_system && is_none_environment t.environment) ≡ none → is_plain t.vendor ≡ plain
-    → FactsOf (cond special (cond both None (Some families.PrintsAsSpecial)) (cond newlib (Some families.HidesNewlib) (cond esp (Some families.PrintsTheEspIdfText)
-    (cond none (Some families.ShowsOnlyNone) (cond plain None (Some families.VendorIsNotPlain)))))) t
+    → FactsOf (cond special (cond both None (Some exceptions.PrintsAsSpecial)) (cond newlib (Some exceptions.HidesNewlib) (cond esp (Some exceptions.PrintsTheEspIdfString)
+    (cond none (Some exceptions.ShowsOnlyNone) (cond plain None (Some exceptions.VendorIsNotPlain)))))) t
 facts-by t true true newlib esp none plain is_s is_b is_n is_e is_o is_p = special-plain t (fields_of_special t is_s)
 facts-by t true false newlib esp none plain is_s is_b is_n is_e is_o is_p = record {
   fields = fields_of_special t is_s;
@@ -85,31 +85,31 @@ facts-by t false both false false true plain is_s is_b is_n is_e is_o is_p =
 facts-by t false both false false false true is_s is_b is_n is_e is_o is_p = is_p
 facts-by t false both false false false false is_s is_b is_n is_e is_o is_p = is_p
 
-pub facts : (t : Values) → FactsOf (family t) t
-unfolding family
+pub facts : (t : Values) → FactsOf (exception t) t
+unfolding exception
 facts t = facts-by t _ _ _ _ _ _ refl refl refl refl refl refl
 
--- from the facts to the family
+-- from the facts to the exception
 
 not_both : (t : Values) → ¬ HasNewlibAndElf t → has_newlib_and_elf t ≡ false
 not_both t others = elim (cases_Bool (has_newlib_and_elf t)) [ inl is ↦ absurd (others (both-is t is)) | inr is ↦ is ]
 
-pub special-family : (t : Values) → PrintsAsSpecial t → family t ≡ Some families.PrintsAsSpecial
-unfolding family
-special-family t is = rw (special_of_fields t is.fields, not_both t is.others) refl
+pub special-exception : (t : Values) → PrintsAsSpecial t → exception t ≡ Some exceptions.PrintsAsSpecial
+unfolding exception
+special-exception t is = rw (special_of_fields t is.fields, not_both t is.others) refl
 
 -- with the special string's own environment and format
-pub special-own : (t : Values) → HasSpecialFields t → HasNewlibAndElf t → family t ≡ None
-unfolding family
+pub special-own : (t : Values) → HasSpecialFields t → HasNewlibAndElf t → exception t ≡ None
+unfolding exception
 special-own t has is = rw (special_of_fields t has, is.0, is.1) refl
 
-pub newlib-family : (t : Values) → HidesNewlib t → family t ≡ Some families.HidesNewlib
-unfolding family
-newlib-family t is = rw (no_special t is.others, newlib_of_system t is.system, is.environment) refl
+pub newlib-exception : (t : Values) → HidesNewlib t → exception t ≡ Some exceptions.HidesNewlib
+unfolding exception
+newlib-exception t is = rw (no_special t is.others, newlib_of_system t is.system, is.environment) refl
 
-pub esp-family : (t : Values) → PrintsTheEspIdfText t → family t ≡ Some families.PrintsTheEspIdfText
-unfolding family special_text implies_newlib
-esp-family t is = ap family is
+pub esp-exception : (t : Values) → PrintsTheEspIdfString t → exception t ≡ Some exceptions.PrintsTheEspIdfString
+unfolding exception special_string implies_newlib
+esp-exception t is = ap exception is
 
 unknown_system-other : (t : Values) → t.operating_system ≡ operating_system.Unknown → ¬ HasSpecialFields t
 unknown_system-other t unknown special = let known = special_system t special in false≢true (sym known ∙ rw unknown refl)
@@ -119,110 +119,110 @@ if_clever : (a : Architecture) (v : VendorValue) (f : BinaryFormat) → is_cleve
 if_clever (architecture.Clever sub) v f clever = (refl, refl)
 if_clever _ v f clever = absurd (false≢true clever)
 
-pub only_none-family : (t : Values) → ShowsOnlyNone t → family t ≡ Some families.ShowsOnlyNone
-unfolding family
-only_none-family t is =
+pub only_none-exception : (t : Values) → ShowsOnlyNone t → exception t ≡ Some exceptions.ShowsOnlyNone
+unfolding exception
+only_none-exception t is =
     let clever = if_clever t.architecture t.vendor t.binary_format is.architecture in
     rw (no_special t (unknown_system-other t is.operating_system), is.operating_system, is.environment, and-false, clever.0, clever.1) refl
 
--- in none of the four families in which a triple with a plain vendor changes
+-- none of the four exceptions applies by which a triple with a plain vendor changes
 pub record IsOutside (t : Values) : Type 0 where
   pub special : ¬ PrintsAsSpecial t
   pub newlib : ¬ HidesNewlib t
-  pub esp : ¬ PrintsTheEspIdfText t
+  pub esp : ¬ PrintsTheEspIdfString t
   pub none : ¬ ShowsOnlyNone t
 
--- the family of a triple that is outside
-outside-family : (t : Values) (found : Option RoundTripFamily) → FactsOf found t → IsOutside t → found ≡ cond (is_plain t.vendor) None (Some families.VendorIsNotPlain)
-outside-family t (Some families.PrintsAsSpecial) is outside = absurd (outside.special is)
-outside-family t (Some families.HidesNewlib) is outside = absurd (outside.newlib is)
-outside-family t (Some families.PrintsTheEspIdfText) is outside = absurd (outside.esp is)
-outside-family t (Some families.ShowsOnlyNone) is outside = absurd (outside.none is)
-outside-family t (Some families.VendorIsNotPlain) is outside = rw is refl
-outside-family t None is outside = rw is refl
+-- the exception of a triple that is outside
+outside-exception : (t : Values) (found : Option RoundTripException) → FactsOf found t → IsOutside t → found ≡ cond (is_plain t.vendor) None (Some exceptions.VendorIsNotPlain)
+outside-exception t (Some exceptions.PrintsAsSpecial) is outside = absurd (outside.special is)
+outside-exception t (Some exceptions.HidesNewlib) is outside = absurd (outside.newlib is)
+outside-exception t (Some exceptions.PrintsTheEspIdfString) is outside = absurd (outside.esp is)
+outside-exception t (Some exceptions.ShowsOnlyNone) is outside = absurd (outside.none is)
+outside-exception t (Some exceptions.VendorIsNotPlain) is outside = rw is refl
+outside-exception t None is outside = rw is refl
 
-pub plain-family : (t : Values) → is_plain t.vendor ≡ true → IsOutside t → family t ≡ None
-plain-family t plain outside = outside-family t (family t) (facts t) outside ∙ rw plain refl
+pub plain-exception : (t : Values) → is_plain t.vendor ≡ true → IsOutside t → exception t ≡ None
+plain-exception t plain outside = outside-exception t (exception t) (facts t) outside ∙ rw plain refl
 
-esp-plain : (t : Values) → PrintsTheEspIdfText t → is_plain t.vendor ≡ true
+esp-plain : (t : Values) → PrintsTheEspIdfString t → is_plain t.vendor ≡ true
 unfolding is_admitted known_vendor_of architecture_of operating_system_of fixed_operating_system_of environment_of binary_format_of
 esp-plain t is = rw is refl
 
-pub vendor-family : (t : Values) → VendorIsNotPlain t → family t ≡ Some families.VendorIsNotPlain
-vendor-family t is = outside-family t (family t) (facts t) (record {
+pub vendor-exception : (t : Values) → VendorIsNotPlain t → exception t ≡ Some exceptions.VendorIsNotPlain
+vendor-exception t is = outside-exception t (exception t) (facts t) (record {
   special = λ special. false≢true (sym is.vendor ∙ special-plain t special.fields);
   newlib = λ newlib. false≢true (sym is.vendor ∙ newlib-plain t newlib);
   esp = λ esp. false≢true (sym is.vendor ∙ esp-plain t esp);
   none = is.others;
 }) ∙ rw is.vendor refl
 
-facts_if : (t : Values) (found : Option RoundTripFamily) → family t ≡ found → FactsOf found t
-facts_if t found is = subst (λ (o : Option RoundTripFamily). FactsOf o t) is (facts t)
+facts_if : (t : Values) (found : Option RoundTripException) → exception t ≡ found → FactsOf found t
+facts_if t found is = subst (λ (o : Option RoundTripException). FactsOf o t) is (facts t)
 
--- a triple of the last family, or of none, is outside
-none-outside : (t : Values) → family t ≡ None → IsOutside t
+-- a triple of the last exception, or of none, is outside
+none-outside : (t : Values) → exception t ≡ None → IsOutside t
 none-outside t found = record {
-  special = λ is. let bad = special-family t is in cc;
-  newlib = λ is. let bad = newlib-family t is in cc;
-  esp = λ is. let bad = esp-family t is in cc;
-  none = λ is. let bad = only_none-family t is in cc;
+  special = λ is. let bad = special-exception t is in cc;
+  newlib = λ is. let bad = newlib-exception t is in cc;
+  esp = λ is. let bad = esp-exception t is in cc;
+  none = λ is. let bad = only_none-exception t is in cc;
 }
 
-last-outside : (t : Values) → family t ≡ Some families.VendorIsNotPlain → IsOutside t
+last-outside : (t : Values) → exception t ≡ Some exceptions.VendorIsNotPlain → IsOutside t
 last-outside t found = record {
-  special = λ is. let bad = special-family t is in cc;
-  newlib = λ is. let bad = newlib-family t is in cc;
-  esp = λ is. let bad = esp-family t is in cc;
-  none = λ is. let bad = only_none-family t is in cc;
+  special = λ is. let bad = special-exception t is in cc;
+  newlib = λ is. let bad = newlib-exception t is in cc;
+  esp = λ is. let bad = esp-exception t is in cc;
+  none = λ is. let bad = only_none-exception t is in cc;
 }
 
-pub families_are_facts : FamiliesAreFactsOfFields
-families_are_facts t = record {
-  special = (facts_if t _, special-family t);
-  newlib = (facts_if t _, newlib-family t);
-  esp = (facts_if t _, esp-family t);
-  only_none = (facts_if t _, only_none-family t);
-  vendor = (λ found. record { vendor = facts_if t _ found; others = (last-outside t found).none }, vendor-family t);
+pub exceptions_are_facts : ExceptionsAreFactsOfFields
+exceptions_are_facts t = record {
+  special = (facts_if t _, special-exception t);
+  newlib = (facts_if t _, newlib-exception t);
+  esp = (facts_if t _, esp-exception t);
+  only_none = (facts_if t _, only_none-exception t);
+  vendor = (λ found. record { vendor = facts_if t _ found; others = (last-outside t found).none }, vendor-exception t);
 }
 
-pub none-plain_outside : (t : Values) → family t ≡ None → (is_plain t.vendor ≡ true) × IsOutside t
+pub none-plain_outside : (t : Values) → exception t ≡ None → (is_plain t.vendor ≡ true) × IsOutside t
 none-plain_outside t found = (facts_if t None found, none-outside t found)
 
--- the step, by the family
+-- the step, by the exception
 
 pub step_cases : (P : Values → Type 0) (t : Values)
     → (PrintsAsSpecial t → P (values t.architecture t.vendor t.operating_system environment.Newlib binary_format.Elf))
     → (HidesNewlib t → P (values t.architecture t.vendor t.operating_system environment.Unknown (elf_if_unknown t.binary_format)))
-    → (PrintsTheEspIdfText t → P (values t.architecture (Known Espressif) t.operating_system environment.Newlib binary_format.Elf))
+    → (PrintsTheEspIdfString t → P (values t.architecture (Known Espressif) t.operating_system environment.Newlib binary_format.Elf))
     → (ShowsOnlyNone t → P (values t.architecture t.vendor operating_system.None_ environment.Unknown t.binary_format))
     → (IsOutside t → P t)
     → P (normal_step t)
 unfolding normal_step
-step_cases P t special newlib esp none outside = by_family (family t) refl
+step_cases P t special newlib esp none outside = by_exception (exception t) refl
   where
-    by_family : (found : Option RoundTripFamily) → family t ≡ found → P (step_of found t)
-    by_family (Some families.PrintsAsSpecial) is = special (facts_if t _ is)
-    by_family (Some families.HidesNewlib) is = newlib (facts_if t _ is)
-    by_family (Some families.PrintsTheEspIdfText) is = esp (facts_if t _ is)
-    by_family (Some families.ShowsOnlyNone) is = none (facts_if t _ is)
-    by_family (Some families.VendorIsNotPlain) is = outside (last-outside t is)
-    by_family None is = outside (none-outside t is)
+    by_exception : (found : Option RoundTripException) → exception t ≡ found → P (step_of found t)
+    by_exception (Some exceptions.PrintsAsSpecial) is = special (facts_if t _ is)
+    by_exception (Some exceptions.HidesNewlib) is = newlib (facts_if t _ is)
+    by_exception (Some exceptions.PrintsTheEspIdfString) is = esp (facts_if t _ is)
+    by_exception (Some exceptions.ShowsOnlyNone) is = none (facts_if t _ is)
+    by_exception (Some exceptions.VendorIsNotPlain) is = outside (last-outside t is)
+    by_exception None is = outside (none-outside t is)
 
--- the step of one family, and outside
+-- the step of one exception, and outside
 
 pub only_none-step : (t : Values) → ShowsOnlyNone t → normal_step t ≡ values t.architecture t.vendor operating_system.None_ environment.Unknown t.binary_format
 unfolding normal_step
-only_none-step t is = ap (λ (o : Option RoundTripFamily). step_of o t) (only_none-family t is)
+only_none-step t is = ap (λ (o : Option RoundTripException). step_of o t) (only_none-exception t is)
 
 pub outside-fixed : (t : Values) → IsOutside t → normal_step t ≡ t
 outside-fixed t outside = step_cases (λ u. u ≡ t) t
     (λ is. absurd (outside.special is)) (λ is. absurd (outside.newlib is)) (λ is. absurd (outside.esp is))
     (λ is. absurd (outside.none is)) (λ _. refl)
 
--- whether the triple is the one of the third family
-pub is_esp : (t : Values) → PrintsTheEspIdfText t ⊎ ¬ PrintsTheEspIdfText t
-is_esp t = by_family (family t) refl
+-- whether the triple is the one of the third exception
+pub is_esp : (t : Values) → PrintsTheEspIdfString t ⊎ ¬ PrintsTheEspIdfString t
+is_esp t = by_exception (exception t) refl
   where
-    by_family : (found : Option RoundTripFamily) → family t ≡ found → PrintsTheEspIdfText t ⊎ ¬ PrintsTheEspIdfText t
-    by_family (Some families.PrintsTheEspIdfText) found = inl (facts_if t _ found)
-    by_family _ found = inr (λ is. let bad = esp-family t is in cc)
+    by_exception : (found : Option RoundTripException) → exception t ≡ found → PrintsTheEspIdfString t ⊎ ¬ PrintsTheEspIdfString t
+    by_exception (Some exceptions.PrintsTheEspIdfString) found = inl (facts_if t _ found)
+    by_exception _ found = inr (λ is. let bad = esp-exception t is in cc)

@@ -4,15 +4,15 @@ use Rattle.std.specs.{List.list_all, List.join_with_byte}
 use Rattle.std.proofs.{lemmas.Bool.cases_Bool, lemmas.Bool.false≢true}
 use Rattle.lexicon_fields.specs.Names.{dash}
 use Rattle.target_lexicon.specs.Values.{Architecture, OperatingSystem, Environment, BinaryFormat, VendorValue, Known, Custom, Values, values}
-use Rattle.target_lexicon.specs.{FixedPoints.RoundIsNormalStep, ImpliedFormat.implied_format, NormalStep.normal_step, NormalStep.step_of, NormalStep.elf_if_unknown, Families.RoundTripFamily, Families.family, Families.has_newlib_and_elf, Families.is_custom_esp, FamilyFacts.HasFieldsOf, FamilyFacts.HasSpecialFields, FamilyFacts.PrintsTheEspIdfText, Reading.parts_of}
-use Rattle.target_lexicon.specs.Printing.{shows_vendor, shows_operating_system, shows_environment, shows_binary_format, shows_unknowns, shown_names, text_of, cons_if}
-use Rattle.target_lexicon.specs.{Field.parses_as, Reading.ReadsAs, GreedyReading.reading_of_parts, GreedyReading.reading_unless_special, GreedyReading.reading}
-use Rattle.target_lexicon.specs.SpecialTexts.{SpecialRow, special_triple, special_text, special_values, implies_newlib}
+use Rattle.target_lexicon.specs.{FixedPoints.RoundIsNormalStep, ImpliedFormat.implied_format, NormalStep.normal_step, NormalStep.step_of, NormalStep.elf_if_unknown, Exceptions.RoundTripException, Exceptions.exception, Exceptions.has_newlib_and_elf, Exceptions.is_custom_esp, ExceptionFacts.HasFieldsOf, ExceptionFacts.HasSpecialFields, ExceptionFacts.PrintsTheEspIdfString, Reading.parts_of}
+use Rattle.target_lexicon.specs.Printing.{shows_vendor, shows_operating_system, shows_environment, shows_binary_format, shows_unknowns, shown_names, string_of, cons_if}
+use Rattle.target_lexicon.specs.{Field.parses_as, Reading.ParsesAs, GreedyReading.reading_of_parts, GreedyReading.reading_unless_special, GreedyReading.reading}
+use Rattle.target_lexicon.specs.SpecialStrings.{SpecialRow, special_triple, special_string, special_values, implies_newlib}
 use Rattle.lexicon_fields.specs.{Names.is_dash_free, Architecture.architecture_name, Laws.HasVersionInRange, Environment.environment_name}
 use Rattle.lexicon_fields.specs.{Vendor.vendor_name, Vendor.is_custom, Vendor.is_plain, BinaryFormat.binary_format_name}
 use Rattle.lexicon_fields.specs.OperatingSystem.{operating_system_name}
 use Rattle.target_lexicon.proofs.SpecialRows.{RowFacts, is_known_to_print, prints_row, row_of_fields, row_of_system, row_of_text, fields_of_special, special_of_fields, no_special, special_system}
-use Rattle.target_lexicon.proofs.{ComputedReading.reading_computed, NamesAcross.NamesAreRead, PartLemmas.parts_of-joined, PrintingLemmas.printed_names, RoundTrips.parts-round, SameValues.same_values, StepCases.both-is, StepCases.esp-is, StepCases.special-own, StepCases.special-family, StepCases.step_cases, StepCases.is_esp}
+use Rattle.target_lexicon.proofs.{ComputedReading.reading_computed, NamesAcross.NamesAreRead, PartLemmas.parts_of-joined, PrintingLemmas.printed_names, RoundTrips.parts-round, SameValues.same_values, StepCases.both-is, StepCases.esp-is, StepCases.special-own, StepCases.special-exception, StepCases.step_cases, StepCases.is_esp}
 use Rattle.target_lexicon.specs.Values.architecture
 use Rattle.target_lexicon.specs.Values.riscv32
 use Rattle.target_lexicon.specs.Values.operating_system
@@ -35,21 +35,21 @@ special-step : (t : Values) → HasSpecialFields t → normal_step t ≡ values 
 unfolding normal_step
 special-step t has = elim (cases_Bool (has_newlib_and_elf t)) [
   | inl is ↦ let both = both-is t is in
-      ap (λ (found : Option RoundTripFamily). step_of found t) (special-own t has both)
+      ap (λ (found : Option RoundTripException). step_of found t) (special-own t has both)
       ∙ same_values t (values t.architecture t.vendor t.operating_system environment.Newlib binary_format.Elf) refl refl refl both.0 both.1
-  | inr other ↦ ap (λ (found : Option RoundTripFamily). step_of found t)
-      (special-family t (record { fields = has; others = λ is. false≢true (sym other ∙ rw (is.0, is.1) refl) }))
+  | inr other ↦ ap (λ (found : Option RoundTripException). step_of found t)
+      (special-exception t (record { fields = has; others = λ is. false≢true (sym other ∙ rw (is.0, is.1) refl) }))
 ]
 
 row-round : (t : Values) (row : SpecialRow) → HasFieldsOf row t → RowFacts row
-    → normal_step t ≡ values t.architecture t.vendor t.operating_system environment.Newlib binary_format.Elf → reading (text_of t) ≡ Ok (normal_step t)
-unfolding reading text_of
+    → normal_step t ≡ values t.architecture t.vendor t.operating_system environment.Newlib binary_format.Elf → reading (string_of t) ≡ Ok (normal_step t)
+unfolding reading string_of
 row-round t row is facts step =
     let of : special_triple row ≡ values t.architecture t.vendor t.operating_system environment.Newlib binary_format.Elf =
     same_values _ _ (sym is.architecture) (sym is.system.vendor) (sym is.system.operating_system) refl refl in
     rw (prints_row t row is facts, facts.parses) (ap Ok (of ∙ sym step))
 
-special-round : (t : Values) → HasSpecialFields t → reading (text_of t) ≡ Ok (normal_step t)
+special-round : (t : Values) → HasSpecialFields t → reading (string_of t) ≡ Ok (normal_step t)
 special-round t has =
     let at = row_of_fields t has in
     row-round t at.0 at.1 at.2 (special-step t has)
@@ -59,8 +59,8 @@ special-round t has =
 abbrev custom_esp : Values
 custom_esp = values (architecture.Riscv32 riscv32.Riscv32imc) (Custom (codes "esp")) operating_system.Espidf environment.Unknown binary_format.Elf
 
-custom_esp-round : reading (text_of custom_esp) ≡ Ok (normal_step custom_esp)
-unfolding reading parses_as text_of special_text special_values implies_newlib shown_names shows_vendor shows_operating_system shows_environment shows_binary_format implied_format family normal_step
+custom_esp-round : reading (string_of custom_esp) ≡ Ok (normal_step custom_esp)
+unfolding reading parses_as string_of special_string special_values implies_newlib shown_names shows_vendor shows_operating_system shows_environment shows_binary_format implied_format exception normal_step
 custom_esp-round = refl
 
 -- a string that isn't special is parsed by its parts
@@ -74,7 +74,7 @@ by_parts text ps t (Some s) is are reads apart =
 
 -- a triple that isn't the one that prints another's special string
 
-no_esp : (t : Values) → ¬ PrintsTheEspIdfText t → is_custom_esp t.architecture t.vendor t.operating_system t.environment t.binary_format ≡ false
+no_esp : (t : Values) → ¬ PrintsTheEspIdfString t → is_custom_esp t.architecture t.vendor t.operating_system t.environment t.binary_format ≡ false
 no_esp t apart = elim (cases_Bool (is_custom_esp t.architecture t.vendor t.operating_system t.environment t.binary_format)) [
   | inl is ↦ absurd (apart (esp-is t.architecture t.vendor t.operating_system t.environment t.binary_format is))
   | inr is ↦ is
@@ -87,10 +87,10 @@ no_esp-none : (a : Architecture) (v : VendorValue) (f : BinaryFormat) → is_cus
 no_esp-none a v f = no_esp (values a v operating_system.None_ environment.Unknown f) (λ is. let of = ap (λ x. x.operating_system) is in cc)
 
 module _ (names : NamesAreRead) (a : Architecture) (v : VendorValue) (s : OperatingSystem) (e : Environment) (f : BinaryFormat) (plain : is_plain v ≡ true) (range : HasVersionInRange s)
-    (none : special_text (values a v s e f) ≡ None) (apart : ¬ PrintsTheEspIdfText (values a v s e f)) where
+    (none : special_string (values a v s e f) ≡ None) (apart : ¬ PrintsTheEspIdfString (values a v s e f)) where
   -- the step is none of the triples that print a special string
   step-apart : is_known_to_print (Ok (normal_step (values a v s e f))) ≡ false
-  unfolding special_text
+  unfolding special_string
   step-apart =
       let t = values a v s e f in
       let other : ¬ HasSpecialFields t = λ special. true≢false (sym (special_of_fields t special) ∙ ap is_some none) in
@@ -112,22 +112,22 @@ module _ (names : NamesAreRead) (a : Architecture) (v : VendorValue) (s : Operat
       (cons_if-free (shows_environment (values a v s e f)) (environment_name e) _ (names.environment.name_dash_free e tt)
       (cons_if-free (shows_binary_format (values a v s e f)) (binary_format_name f) [] (names.binary_format.name_dash_free f tt) refl))))
 
-  shown-round : reading (text_of (values a v s e f)) ≡ Ok (normal_step (values a v s e f))
-  unfolding reading text_of
+  shown-round : reading (string_of (values a v s e f)) ≡ Ok (normal_step (values a v s e f))
+  unfolding reading string_of
   shown-round =
       let t = values a v s e f in
       rw none (by_parts (join_with_byte dash (printed_names t)) (printed_names t) (normal_step t) _ refl
       (joined-parts (shows_unknowns t)) (parts-round names a v s e f plain range none apart) step-apart)
 
-round_by : NamesAreRead → (t : Values) (special : Option (List ℕ)) → is_plain t.vendor ≡ true → HasVersionInRange t.operating_system → special_text t ≡ special
-    → PrintsTheEspIdfText t ⊎ ¬ PrintsTheEspIdfText t → reading (text_of t) ≡ Ok (normal_step t)
+round_by : NamesAreRead → (t : Values) (special : Option (List ℕ)) → is_plain t.vendor ≡ true → HasVersionInRange t.operating_system → special_string t ≡ special
+    → PrintsTheEspIdfString t ⊎ ¬ PrintsTheEspIdfString t → reading (string_of t) ≡ Ok (normal_step t)
 round_by names t (Some text) plain range is _ = special-round t (fields_of_special t (ap is_some is))
 round_by names t None plain range is (inl esp) = rw esp custom_esp-round
 round_by names t None plain range is (inr apart) = shown-round names t.architecture t.vendor t.operating_system t.environment t.binary_format plain range is apart
 
 -- the round trip of a plain triple is its normal step
 pub round : NamesAreRead → RoundIsNormalStep
-round names t plain = ((reading_computed (text_of t)).read (normal_step t)).1 (round_by names t _ plain.vendor plain.version refl (is_esp t))
+round names t plain = ((reading_computed (string_of t)).read (normal_step t)).1 (round_by names t _ plain.vendor plain.version refl (is_esp t))
 
-pub round_by_step : RoundIsNormalStep → (t u : Values) → is_plain t.vendor ≡ true → HasVersionInRange t.operating_system → u ≡ normal_step t → ReadsAs (text_of t) u
-round_by_step round t u plain range is = subst (λ (x : Values). ReadsAs (text_of t) x) (sym is) (round t (record { vendor = plain; version = range }))
+pub round_by_step : RoundIsNormalStep → (t u : Values) → is_plain t.vendor ≡ true → HasVersionInRange t.operating_system → u ≡ normal_step t → ParsesAs (string_of t) u
+round_by_step round t u plain range is = subst (λ (x : Values). ParsesAs (string_of t) x) (sym is) (round t (record { vendor = plain; version = range }))

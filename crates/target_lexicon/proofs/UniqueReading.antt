@@ -2,9 +2,9 @@
 use Rattle.std.proofs.Common.{◌≡◌, ℕ, ◌<◌, List, [], ◌∷◌, take, refl, sym, ◌∙◌, ap, subst, Option, Some, None, arith}
 use Rattle.std.specs.Prelude.{MatchOption, slice_get}
 use Rattle.lexicon_fields.specs.{Architecture.architecture_of, Vendor.vendor_of, OperatingSystem.operating_system_of, Environment.environment_of, BinaryFormat.binary_format_of}
-use Rattle.target_lexicon.specs.{Field.Field, ImpliedFormat.default_binary_format, Reading.ArePartsOf, Reading.parts_of, Reading.HasPlacement, SpecialTexts.special_values, Values.Values}
+use Rattle.target_lexicon.specs.{Field.Field, ImpliedFormat.default_binary_format, Reading.ArePartsOf, Reading.parts_of, Reading.HasPlacement, SpecialStrings.special_values, Values.Values}
 use Rattle.target_lexicon.specs.Refusal.{Refusal, refusal_with}
-use Rattle.target_lexicon.specs.Reading.{IsValueOf, HoldsParts, PartsReadAs, ReadsAs, IsRefusal, IsExpectedAfter, IsRefusedAs, IsRefused, expected_after, last_field}
+use Rattle.target_lexicon.specs.Reading.{IsValueOf, HoldsParts, PartsParseAs, ParsesAs, IsRefusal, IsExpectedAfter, IsRefusedAs, IsRefused, expected_after, last_field}
 use Rattle.target_lexicon.proofs.{GreedyPlacement.placement_prefix, GreedyPlacement.least-unique, PartLemmas.parts-only, SameValues.same_values}
 
 same_value : {A : Type 0} (find : List ℕ → Option A) (d e : A) (o : Option (List ℕ)) (x y : A) → d ≡ e → IsValueOf find d o x → IsValueOf find e o y → x ≡ y
@@ -21,19 +21,19 @@ same_held parts fields t u h k =
     let f = same_value binary_format_of _ _ _ t.binary_format u.binary_format i h.binary_format k.binary_format in
     same_values t u a v s e f
 
-same_least : (parts : List (List ℕ)) (t u : Values) → PartsReadAs parts t → PartsReadAs parts u → t ≡ u
+same_least : (parts : List (List ℕ)) (t u : Values) → PartsParseAs parts t → PartsParseAs parts u → t ≡ u
 same_least parts t u (fs, least, holds) (gs, other, held) =
     same_held parts gs t u (subst (λ fields. HoldsParts parts fields t) (least-unique parts fs gs least other) holds) held
 
 -- a string reads as at most one triple
-pub values_unique : (text : List ℕ) (t u : Values) → ReadsAs text t → ReadsAs text u → t ≡ u
+pub values_unique : (text : List ℕ) (t u : Values) → ParsesAs text t → ParsesAs text u → t ≡ u
 values_unique text t u h k = by_special (special_values text) h k
   where
-    by_special : (o : Option Values) → MatchOption o ((parts : List (List ℕ)) × ArePartsOf text parts × PartsReadAs parts t) (λ s. t ≡ s)
-        → MatchOption o ((parts : List (List ℕ)) × ArePartsOf text parts × PartsReadAs parts u) (λ s. u ≡ s) → t ≡ u
+    by_special : (o : Option Values) → MatchOption o ((parts : List (List ℕ)) × ArePartsOf text parts × PartsParseAs parts t) (λ s. t ≡ s)
+        → MatchOption o ((parts : List (List ℕ)) × ArePartsOf text parts × PartsParseAs parts u) (λ s. u ≡ s) → t ≡ u
     by_special (Some s) h k = h ∙ sym k
     by_special None (ps, are, h) (qs, others, k) =
-        same_least qs t u (subst (λ parts. PartsReadAs parts t) (parts-only text ps are ∙ sym (parts-only text qs others)) h) k
+        same_least qs t u (subst (λ parts. PartsParseAs parts t) (parts-only text ps are ∙ sym (parts-only text qs others)) h) k
 
 -- refusals of the same parts are at the same part
 same_count : (parts : List (List ℕ)) (x y : Refusal) (a : IsRefusal parts x) (b : IsRefusal parts y) → a.count ≡ b.count
@@ -68,10 +68,10 @@ pub refusal_unique : (text : List ℕ) (x y : Refusal) → IsRefusedAs text x �
 refusal_unique text x y h r = same_refusal (parts_of text) x y (refusal_at text x h) (refusal_at text y r)
 
 -- a string that is refused doesn't read
-pub read_not_refused : (text : List ℕ) (t : Values) → ReadsAs text t → IsRefused text → ⊥
+pub read_not_refused : (text : List ℕ) (t : Values) → ParsesAs text t → IsRefused text → ⊥
 read_not_refused text t h (refusal, r) = by_parts (rw (r.0) at h)
   where
-    by_parts : (parts : List (List ℕ)) × ArePartsOf text parts × PartsReadAs parts t → ⊥
+    by_parts : (parts : List (List ℕ)) × ArePartsOf text parts × PartsParseAs parts t → ⊥
     by_parts (parts, are, (fs, least, holds)) =
         let at = refusal_at text refusal r in
         at.unplaced (placement_prefix at.count (parts_of text) (subst HasPlacement (parts-only text parts are) (fs, least.placed)))

@@ -4,8 +4,8 @@ use Rattle.std.specs.List.{join_with_byte}
 use Rattle.std.proofs.{lemmas.List.append_cancel_left, lemmas.List.length-append, lemmas.Bool.and_parts, lemmas.Bool.not-true, lemmas.Bool.true≢false}
 use Rattle.lexicon_fields.specs.Names.{dash}
 use Rattle.target_lexicon.specs.Values.{Architecture, OperatingSystem, BinaryFormat, VendorValue, Values, values, is_same_format}
-use Rattle.target_lexicon.specs.{ImpliedFormat.default_binary_format, SpecialTexts.special_text}
-use Rattle.target_lexicon.specs.Printing.{shows_vendor, shows_operating_system, shows_environment, shows_binary_format, shows_unknowns, cons_if, shown_names, text_of, upstream_text_of, HasUnimpliedUnknowns, OnlyUnknownsDifferFromUpstream}
+use Rattle.target_lexicon.specs.{ImpliedFormat.default_binary_format, SpecialStrings.special_string}
+use Rattle.target_lexicon.specs.Printing.{shows_vendor, shows_operating_system, shows_environment, shows_binary_format, shows_unknowns, cons_if, shown_names, string_of, upstream_string_of, HasUnimpliedUnknowns, OnlyUnknownsDifferFromUpstream}
 use Rattle.lexicon_fields.specs.{Architecture.architecture_name, Vendor.vendor_name, OperatingSystem.operating_system_name}
 use Rattle.target_lexicon.proofs.{PrintingLemmas.dashed, PrintingLemmas.dashed_joined, RoundTrips.are_unknown}
 use Rattle.target_lexicon.specs.Values.environment
@@ -43,14 +43,14 @@ unknowns_shown : (i : BinaryFormat) → i ≢ binary_format.Unknown → is_same_
 unknowns_shown binary_format.Unknown other = absurd (other refl)
 unknowns_shown _ other = refl
 
-other_text : (t : Values) → HasUnimpliedUnknowns t → text_of t ≢ upstream_text_of t
-unfolding text_of upstream_text_of
+other_text : (t : Values) → HasUnimpliedUnknowns t → string_of t ≢ upstream_string_of t
+unfolding string_of upstream_string_of
 other_text t is same =
     other_names t.architecture t.vendor t.operating_system (rw (is.special, is.environment, is.binary_format, unknowns_shown _ (rw (is.environment) at is.implied)) at same)
 
 -- the triples for which this is so
-shows_unknowns_by : (t : Values) (special : Option (List ℕ)) (b : Bool) → special_text t ≡ special → shows_unknowns t ≡ b → text_of t ≢ upstream_text_of t → HasUnimpliedUnknowns t
-unfolding text_of upstream_text_of
+shows_unknowns_by : (t : Values) (special : Option (List ℕ)) (b : Bool) → special_string t ≡ special → shows_unknowns t ≡ b → string_of t ≢ upstream_string_of t → HasUnimpliedUnknowns t
+unfolding string_of upstream_string_of
 shows_unknowns_by t (Some text) b special shown other = absurd (other (rw special refl))
 shows_unknowns_by t None false special shown other = absurd (other (rw shown refl))
 shows_unknowns_by t None true special shown other =

@@ -2,7 +2,7 @@
 use Rattle.std.specs.Prelude.{◌≡◌, ℕ, ◌+◌, ◌≤◌, List, [], ◌∷◌, length, take, Some, MatchOption, slice_get}
 use Rattle.std.specs.{List.slice_range, Option.option_map_or}
 use Rattle.target_lexicon.specs.declared.explanation.{Source.Source, Sources.Sources, TextPart.TextPart}
-use Rattle.target_lexicon.specs.{Field.Field, Reading.ArePartsOf, Reading.IsLeastPlacement, Reading.part_at, Reading.IsRefusal, Refusal.Refusal, SpecialTexts.special_values}
+use Rattle.target_lexicon.specs.{Field.Field, Reading.ArePartsOf, Reading.IsLeastPlacement, Reading.part_at, Reading.IsRefusal, Refusal.Refusal, SpecialStrings.special_values}
 use Rattle.target_lexicon.specs.declared.explanation.Source.TheVariants as source
 use Rattle.target_lexicon.specs.Field as field
 
@@ -111,19 +111,19 @@ abbrev pub IsRefusedAt : List ℕ → Refusal → PlacedPart → Type 0
 IsRefusedAt text refusal part = (s : SourceValues) × IsRefusedAfter text refusal s part
 
 -- the bytes of the string in the range of the part are the part
-abbrev pub IsInText : List ℕ → PlacedPart → Type 0
-IsInText text part = (part_end part ≤ length text) × (slice_range text part.start (part_end part) ≡ part.text)
+abbrev pub IsInString : List ℕ → PlacedPart → Type 0
+IsInString text part = (part_end part ≤ length text) × (slice_range text part.start (part_end part) ≡ part.text)
 
 -- the part from which the value comes, if it comes from one, is in the string
-abbrev pub IsSourceInText : List ℕ → SourceValue → Type 0
-IsSourceInText text (FromPart part) = IsInText text part
-IsSourceInText text NotGiven = Unit {0}
-IsSourceInText text Implied = Unit {0}
+abbrev pub IsSourceInString : List ℕ → SourceValue → Type 0
+IsSourceInString text (FromPart part) = IsInString text part
+IsSourceInString text NotGiven = Unit {0}
+IsSourceInString text Implied = Unit {0}
 
 -- this holds for the source of each field
-pub record AreInText (text : List ℕ) (s : SourceValues) : Type 0 where
-  pub architecture : IsSourceInText text s.architecture
-  pub vendor : IsSourceInText text s.vendor
-  pub operating_system : IsSourceInText text s.operating_system
-  pub environment : IsSourceInText text s.environment
-  pub binary_format : IsSourceInText text s.binary_format
+pub record AreInString (text : List ℕ) (s : SourceValues) : Type 0 where
+  pub architecture : IsSourceInString text s.architecture
+  pub vendor : IsSourceInString text s.vendor
+  pub operating_system : IsSourceInString text s.operating_system
+  pub environment : IsSourceInString text s.environment
+  pub binary_format : IsSourceInString text s.binary_format

@@ -4,8 +4,8 @@ use Rattle.std.specs.Prelude.{◌≡◌, ℕ, List, [], ◌∷◌, Option, Some,
 use Rattle.std.specs.Option.{option_map_or}
 use Rattle.lexicon_fields.specs.{Vendor.IsCustom, Vendor.vendor_of, Architecture.architecture_of, Environment.environment_of}
 use Rattle.lexicon_fields.specs.{OperatingSystem.operating_system_of, BinaryFormat.binary_format_of}
-use Rattle.target_lexicon.specs.{declared.parse_error.ParseError.ParseError, declared.reading.Reading.Reading, declared.refusal.Refusal.Refusal as BorrowedRefusal, declared.triple.Triple.Triple, Reading.ReadsAs, Reading.IsErrorOf, Reading.expected_after, Field.Field, Field.parses_as, Reading.parts_of}
-use Rattle.target_lexicon.specs.{Refusal.refusal_of, Refusal.Refusal, Refusal.refusal_with, ImpliedFormat.default_binary_format, SpecialTexts.special_values}
+use Rattle.target_lexicon.specs.{declared.parse_error.ParseError.ParseError, declared.reading.Reading.Reading, declared.refusal.Refusal.Refusal as BorrowedRefusal, declared.triple.Triple.Triple, Reading.ParsesAs, Reading.IsErrorOf, Reading.expected_after, Field.Field, Field.parses_as, Reading.parts_of}
+use Rattle.target_lexicon.specs.{Refusal.refusal_of, Refusal.Refusal, Refusal.refusal_with, ImpliedFormat.default_binary_format, SpecialStrings.special_values}
 use Rattle.target_lexicon.specs.Explanation.{FromPart, Implied, PlacedPart, SourceValues, part_value, sources_of, with_source}
 use Rattle.target_lexicon.specs.Values.{Values, unknown_values, values, values_of}
 use Rattle.target_lexicon.specs.ValuesRef.{values_of_ref}
@@ -73,7 +73,7 @@ IsResultOf (Err refusal) (Err error) = IfSome (refusal_of error) (λ other. othe
 -- a result that is what the string reads as, or its error, is the answer that `reading` gives
 abbrev pub ResultsAreComputed : Type 0
 ResultsAreComputed = (text : List ℕ) (result : Result Triple ParseError)
-    → IfOk result (λ triple. ReadsAs text (values_of triple)) → IfErr result (λ error. IsErrorOf text error) → IsResultOf (reading text) result
+    → IfOk result (λ triple. ParsesAs text (values_of triple)) → IfErr result (λ error. IsErrorOf text error) → IsResultOf (reading text) result
 
 -- a reading after this part has filled this field
 pub record HasFilled (f : Field) (part : PlacedPart) (old new : Reading) : Type 0 where

@@ -1,7 +1,7 @@
 -- Laws of parsing and printing.
 use Rattle.std.specs.Prelude.{◌≡◌, ◌↔◌, ℕ, List, true, Ok, Err, ◌⊎◌}
 use Rattle.lexicon_fields.specs.Vendor.{is_plain}
-use Rattle.target_lexicon.specs.{Field.Field, Reading.IsLeastPlacement, Printing.text_of, Reading.ReadsAs, Reading.IsRead, Reading.IsRefusedAs, Reading.IsRefused, GreedyReading.reading, Refusal.Refusal}
+use Rattle.target_lexicon.specs.{Field.Field, Reading.IsLeastPlacement, Printing.string_of, Reading.ParsesAs, Reading.IsParsed, Reading.IsRefusedAs, Reading.IsRefused, GreedyReading.reading, Refusal.Refusal}
 use Rattle.target_lexicon.specs.Values.{Values}
 pub use Rattle.lexicon_fields.specs.Laws.{ComparesByValue, CopiesEqualTheirSources}
 
@@ -13,18 +13,18 @@ pub record HasOneLeastPlacement (parts : List (List ℕ)) : Type 0 where
 
 -- a string reads or is refused, in exactly one way
 pub record HasOneOutcome (text : List ℕ) : Type 0 where
-  pub some : IsRead text ⊎ IsRefused text
-  pub values : (t u : Values) → ReadsAs text t → ReadsAs text u → t ≡ u
+  pub some : IsParsed text ⊎ IsRefused text
+  pub values : (t u : Values) → ParsesAs text t → ParsesAs text u → t ≡ u
   pub refusal : (x y : Refusal) → IsRefusedAs text x → IsRefusedAs text y → x ≡ y
-  pub apart : (t : Values) → ReadsAs text t → IsRefused text → ⊥
+  pub apart : (t : Values) → ParsesAs text t → IsRefused text → ⊥
 
 -- every string has exactly one outcome
-abbrev pub EveryTextHasOneOutcome : Type 0
-EveryTextHasOneOutcome = (text : List ℕ) → HasOneOutcome text
+abbrev pub EveryStringHasOneOutcome : Type 0
+EveryStringHasOneOutcome = (text : List ℕ) → HasOneOutcome text
 
 -- the function `reading` gives the triple that the string reads as, and how it is refused
 pub record HasComputedReading (text : List ℕ) : Type 0 where
-  pub read : (t : Values) → ReadsAs text t ↔ (reading text ≡ Ok t)
+  pub read : (t : Values) → ParsesAs text t ↔ (reading text ≡ Ok t)
   pub refused : (refusal : Refusal) → IsRefusedAs text refusal ↔ (reading text ≡ Err refusal)
 
 -- this holds for every string
@@ -33,12 +33,12 @@ ReadingIsComputed = (text : List ℕ) → HasComputedReading text
 
 -- every triple that a string reads as has a plain vendor
 abbrev pub ReadVendorsArePlain : Type 0
-ReadVendorsArePlain = (text : List ℕ) (t : Values) → ReadsAs text t → is_plain t.vendor ≡ true
+ReadVendorsArePlain = (text : List ℕ) (t : Values) → ParsesAs text t → is_plain t.vendor ≡ true
 
 -- the triple comes back: its printed string reads as the triple
 abbrev pub ComesBack : Values → Type 0
-ComesBack t = ReadsAs (text_of t) t
+ComesBack t = ParsesAs (string_of t) t
 
--- two triples that come back are equal exactly if their strings are
+-- two triples that come back are equal if and only if their strings are
 abbrev pub EqualTextsEqualTriples : Type 0
-EqualTextsEqualTriples = (t u : Values) → ComesBack t → ComesBack u → (t ≡ u) ↔ (text_of t ≡ text_of u)
+EqualTextsEqualTriples = (t u : Values) → ComesBack t → ComesBack u → (t ≡ u) ↔ (string_of t ≡ string_of u)

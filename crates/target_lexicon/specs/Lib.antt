@@ -1,8 +1,8 @@
 pub mod CallingConvention
 pub mod DataModel
 pub mod Explanation
-pub mod Families
-pub mod FamilyFacts
+pub mod Exceptions
+pub mod ExceptionFacts
 pub mod Field
 pub mod FixedPoints
 pub mod ImpliedFormat
@@ -17,7 +17,7 @@ pub mod QueryLaws
 pub mod Reading
 pub mod GreedyReading
 pub mod Refusal
-pub mod SpecialTexts
+pub mod SpecialStrings
 pub mod UpstreamRounds
 pub mod Values
 pub mod ValuesRef

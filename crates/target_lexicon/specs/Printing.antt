@@ -6,7 +6,7 @@ use Rattle.std.specs.Prelude.{◌≡◌, ◌≢◌, ◌↔◌, ℕ, Bool, true, 
 use Rattle.std.specs.List.{join_with_byte}
 use Rattle.lexicon_fields.specs.Names.{dash}
 use Rattle.target_lexicon.specs.Values.{Architecture, OperatingSystem, Environment, Values, is_unknown_vendor, is_unknown_environment, is_newlib, is_clever_without_system, is_same_format}
-use Rattle.target_lexicon.specs.{ImpliedFormat.default_binary_format, SpecialTexts.implies_newlib, SpecialTexts.special_text}
+use Rattle.target_lexicon.specs.{ImpliedFormat.default_binary_format, SpecialStrings.implies_newlib, SpecialStrings.special_string}
 use Rattle.lexicon_fields.specs.{declared.architecture.arm.ArmArchitecture.ArmArchitecture, Architecture.architecture_name, OperatingSystem.operating_system_name, Vendor.vendor_name, Environment.environment_name, BinaryFormat.binary_format_name}
 use Rattle.target_lexicon.specs.Values.architecture
 use Rattle.target_lexicon.specs.Values.arm
@@ -114,23 +114,23 @@ shows_unknowns t = is_unknown_environment t.environment && is_same_format t.bina
 
 -- the special string of a triple, or else these names joined by dashes
 abbrev pub text_with : Bool → Values → List ℕ
-text_with shows_last_three t = unwrap_or (special_text t) (join_with_byte dash (shown_names shows_last_three t))
+text_with shows_last_three t = unwrap_or (special_string t) (join_with_byte dash (shown_names shows_last_three t))
 
 -- the printed string of a triple
-unfoldable pub text_of : Values → List ℕ
-text_of t = text_with (shows_unknowns t) t
+unfoldable pub string_of : Values → List ℕ
+string_of t = text_with (shows_unknowns t) t
 
 -- the string that upstream prints for the triple
-unfoldable pub upstream_text_of : Values → List ℕ
-upstream_text_of t = text_with false t
+unfoldable pub upstream_string_of : Values → List ℕ
+upstream_string_of t = text_with false t
 
 -- environment and format are unknown, another format is implied, and no special string is printed
 pub record HasUnimpliedUnknowns (t : Values) : Type 0 where
   pub implied : default_binary_format t ≢ binary_format.Unknown
   pub environment : t.environment ≡ environment.Unknown
   pub binary_format : t.binary_format ≡ binary_format.Unknown
-  pub special : special_text t ≡ None
+  pub special : special_string t ≡ None
 
 -- exactly the strings of these triples differ from upstream's
 abbrev pub OnlyUnknownsDifferFromUpstream : Type 0
-OnlyUnknownsDifferFromUpstream = (t : Values) → (text_of t ≢ upstream_text_of t) ↔ HasUnimpliedUnknowns t
+OnlyUnknownsDifferFromUpstream = (t : Values) → (string_of t ≢ upstream_string_of t) ↔ HasUnimpliedUnknowns t

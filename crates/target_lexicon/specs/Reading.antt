@@ -6,7 +6,7 @@ use Rattle.std.specs.{List.AllZip, List.join_with_byte, List.list_all, List.slic
 use Rattle.lexicon_fields.specs.Names.{dash, is_dash_free}
 use Rattle.lexicon_fields.specs.{Architecture.architecture_of, Vendor.IsCustom, Vendor.vendor_of, OperatingSystem.operating_system_of, Environment.environment_of, BinaryFormat.binary_format_of}
 use Rattle.target_lexicon.specs.{declared.parse_error.ParseError.ParseError, Field.Field, Field.field_number, Field.parses_as, ImpliedFormat.default_binary_format}
-use Rattle.target_lexicon.specs.{Refusal.Refusal, Refusal.refusal_of, SpecialTexts.special_values, Values.Values}
+use Rattle.target_lexicon.specs.{Refusal.Refusal, Refusal.refusal_of, SpecialStrings.special_values, Values.Values}
 use Rattle.target_lexicon.specs.Values.architecture
 use Rattle.target_lexicon.specs.Values.operating_system
 use Rattle.target_lexicon.specs.Values.environment
@@ -68,13 +68,13 @@ pub record HoldsParts (parts : List (List ℕ)) (fields : List Field) (t : Value
   pub binary_format : IsValueOf binary_format_of (default_binary_format t) (part_at field.BinaryFormat parts fields) t.binary_format
 
 -- the triple that the least placement of the parts gives
-abbrev pub PartsReadAs : List (List ℕ) → Values → Type 0
-PartsReadAs parts t = (fields : List Field) × IsLeastPlacement parts fields × HoldsParts parts fields t
+abbrev pub PartsParseAs : List (List ℕ) → Values → Type 0
+PartsParseAs parts t = (fields : List Field) × IsLeastPlacement parts fields × HoldsParts parts fields t
 
 -- the triple that a string reads as: a special string as its triple, every other string by its parts
-abbrev pub ReadsAs : List ℕ → Values → Type 0
-ReadsAs text t = MatchOption (special_values text)
-    ((parts : List (List ℕ)) × ArePartsOf text parts × PartsReadAs parts t) (λ values. t ≡ values)
+abbrev pub ParsesAs : List ℕ → Values → Type 0
+ParsesAs text t = MatchOption (special_values text)
+    ((parts : List (List ℕ)) × ArePartsOf text parts × PartsParseAs parts t) (λ values. t ≡ values)
 
 -- what is expected after this field is filled: the next field, and none after the binary format
 abbrev pub expected_after : Field → Option Field
@@ -111,8 +111,8 @@ IsRefusedAs text refusal =
     (special_values text ≡ None) × ((parts : List (List ℕ)) × ArePartsOf text parts × IsRefusal parts refusal)
 
 -- the string reads as some triple
-abbrev pub IsRead : List ℕ → Type 0
-IsRead text = (t : Values) × ReadsAs text t
+abbrev pub IsParsed : List ℕ → Type 0
+IsParsed text = (t : Values) × ParsesAs text t
 
 -- the string is refused in some way
 abbrev pub IsRefused : List ℕ → Type 0
@@ -120,7 +120,7 @@ IsRefused text = (refusal : Refusal) × IsRefusedAs text refusal
 
 -- the only strings whose parsing may allocate: those that are refused, or read with a custom vendor
 abbrev pub MayAllocate : List ℕ → Type 0
-MayAllocate text = IsRefused text ⊎ ((t : Values) × ReadsAs text t × IsCustom t.vendor)
+MayAllocate text = IsRefused text ⊎ ((t : Values) × ParsesAs text t × IsCustom t.vendor)
 
 -- the error is the refusal of the string, or out of memory if its parsing may allocate
 abbrev pub IsErrorOf : List ℕ → ParseError → Type 0

@@ -1,6 +1,6 @@
 //! Triples with a default.
 ghost use Rattle.std.specs.Prelude.{◌≡◌, IfOk, IsOk, false};
-ghost use Rattle.lexicon_fields.specs.Vendor.{owns_text};
+ghost use Rattle.lexicon_fields.specs.Vendor.{owns_string};
 ghost use Rattle.target_lexicon.specs.Values.{values_of};
 
 use crate::triple::Triple;
@@ -33,8 +33,8 @@ impl DefaultToHost {
     pub fn clone(&self, alloc: Global) -> Result<Self, AllocError>
         ensures values { IfOk result (λ copy. values_of copy.0 ≡ values_of self.now.0) }
         ensures variant { IfOk result
-            (λ copy. owns_text copy.0.vendor ≡ owns_text self.now.0.vendor) }
-        ensures succeeds { owns_text self.now.0.vendor ≡ false → IsOk result }
+            (λ copy. owns_string copy.0.vendor ≡ owns_string self.now.0.vendor) }
+        ensures succeeds { owns_string self.now.0.vendor ≡ false → IsOk result }
     {
         Ok(DefaultToHost(self.0.clone(alloc)?))
     }
@@ -67,8 +67,8 @@ impl DefaultToUnknown {
     pub fn clone(&self, alloc: Global) -> Result<Self, AllocError>
         ensures values { IfOk result (λ copy. values_of copy.0 ≡ values_of self.now.0) }
         ensures variant { IfOk result
-            (λ copy. owns_text copy.0.vendor ≡ owns_text self.now.0.vendor) }
-        ensures succeeds { owns_text self.now.0.vendor ≡ false → IsOk result }
+            (λ copy. owns_string copy.0.vendor ≡ owns_string self.now.0.vendor) }
+        ensures succeeds { owns_string self.now.0.vendor ≡ false → IsOk result }
     {
         Ok(DefaultToUnknown(self.0.clone(alloc)?))
     }

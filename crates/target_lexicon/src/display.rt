@@ -8,7 +8,7 @@ ghost use Rattle.lexicon_fields.specs.Vendor.{vendor_name};
 ghost use Rattle.lexicon_fields.specs.VendorRef.{ref_value};
 ghost use Rattle.target_lexicon.specs.Printing as spec;
 ghost use Rattle.target_lexicon.specs.Private.{name_piece};
-ghost use Rattle.target_lexicon.specs.SpecialTexts.{special_text};
+ghost use Rattle.target_lexicon.specs.SpecialStrings.{special_string};
 ghost use Rattle.target_lexicon.specs.Values as values;
 ghost use Rattle.target_lexicon.specs.Values.{values_of};
 ghost use Rattle.target_lexicon.specs.ValuesRef.{values_of_ref};
@@ -26,9 +26,9 @@ use std::alloc::{AllocError, Global};
 use std::fmt;
 
 impl fmt::Display for TripleRef<'_> {
-    ghost output = { λ it. Some (spec.text_of (values_of_ref it)) };
+    ghost output = { λ it. Some (spec.string_of (values_of_ref it)) };
 
-    ghost styled_output = { λ it _. Some (spec.text_of (values_of_ref it)) };
+    ghost styled_output = { λ it _. Some (spec.string_of (values_of_ref it)) };
 
     #[inline(always)]
     fn fmt<W: fmt::Write>(&self, f: &mut fmt::Formatter<W>) -> fmt::Result {
@@ -37,9 +37,9 @@ impl fmt::Display for TripleRef<'_> {
 }
 
 impl fmt::Display for Triple {
-    ghost output = { λ it. Some (spec.text_of (values_of it)) };
+    ghost output = { λ it. Some (spec.string_of (values_of it)) };
 
-    ghost styled_output = { λ it _. Some (spec.text_of (values_of it)) };
+    ghost styled_output = { λ it _. Some (spec.string_of (values_of it)) };
 
     fn fmt<W: fmt::Write>(&self, f: &mut fmt::Formatter<W>) -> fmt::Result {
         self.as_triple_ref().fmt(f)
@@ -49,7 +49,7 @@ impl fmt::Display for Triple {
 impl Triple {
     /// The printed string. `Err` if the allocation for it fails.
     pub fn to_text(&self, alloc: Global) -> Result<String, AllocError>
-        ensures { IfOk result (λ text. string_bytes text ≡ spec.text_of (values_of self.now)) }
+        ensures { IfOk result (λ text. string_bytes text ≡ spec.string_of (values_of self.now)) }
     {
         self.as_triple_ref().to_text(alloc)
     }
@@ -59,7 +59,7 @@ impl Triple {
     /// `only_unknowns_differ_from_upstream`); then upstream parses it as another triple.
     pub fn to_upstream_text(&self, alloc: Global) -> Result<String, AllocError>
         ensures { IfOk result
-            (λ text. string_bytes text ≡ spec.upstream_text_of (values_of self.now)) }
+            (λ text. string_bytes text ≡ spec.upstream_string_of (values_of self.now)) }
     {
         self.as_triple_ref().to_upstream_text(alloc)
     }
@@ -68,7 +68,7 @@ impl Triple {
     /// fit, the buffer is unchanged: compare the result with `out.len()`. Nothing is allocated.
     // Not in Rust.
     pub fn write_to(&self, out: &mut [u8]) -> usize
-        ensures { IsWritten (spec.text_of (values_of self.now)) out.old out.new result }
+        ensures { IsWritten (spec.string_of (values_of self.now)) out.old out.new result }
     {
         self.as_triple_ref().write_to(out)
     }
@@ -79,7 +79,8 @@ impl<'a> TripleRef<'a> {
 
     /// The printed string. `Err` if the allocation for it fails.
     pub fn to_text(&self, alloc: Global) -> Result<String, AllocError>
-        ensures { IfOk result (λ text. string_bytes text ≡ spec.text_of (values_of_ref self.now)) }
+        ensures { IfOk result (λ text.
+            string_bytes text ≡ spec.string_of (values_of_ref self.now)) }
     {
         // few strings are longer
         let mut text = String::with_capacity(alloc, 32)?;
@@ -90,7 +91,7 @@ impl<'a> TripleRef<'a> {
     /// The string that upstream prints for the triple, as [`Triple::to_upstream_text`] says.
     pub fn to_upstream_text(&self, alloc: Global) -> Result<String, AllocError>
         ensures { IfOk result
-            (λ text. string_bytes text ≡ spec.upstream_text_of (values_of_ref self.now)) }
+            (λ text. string_bytes text ≡ spec.upstream_string_of (values_of_ref self.now)) }
     {
         self.pieces(false).to_string(alloc)
     }
@@ -109,7 +110,7 @@ impl<'a> TripleRef<'a> {
     /// ```
     // In Rust: #[inline].
     pub fn write_to(&self, out: &mut [u8]) -> usize
-        ensures { IsWritten (spec.text_of (values_of_ref self.now)) out.old out.new result }
+        ensures { IsWritten (spec.string_of (values_of_ref self.now)) out.old out.new result }
     {
         names_are_short();
         versions_are_in_range(self.operating_system);
@@ -119,7 +120,7 @@ impl<'a> TripleRef<'a> {
     /// Writes the string that upstream prints for the triple, as [`TripleRef::write_to`] writes the printed one.
     // In Rust: pub(crate), #[inline].
     pub fn write_upstream_to(&self, out: &mut [u8]) -> usize
-        ensures { IsWritten (spec.upstream_text_of (values_of_ref self.now))
+        ensures { IsWritten (spec.upstream_string_of (values_of_ref self.now))
             out.old out.new result }
     {
         names_are_short();
@@ -132,10 +133,10 @@ impl<'a> TripleRef<'a> {
     fn pieces(&self, shows_last_three: bool) -> Pieces<'a>
         ensures text { pieces_text result
             ≡ spec.text_with shows_last_three (values_of_ref self.now) }
-        ensures vendor { special_text (values_of_ref self.now) ≡ None →
+        ensures vendor { special_string (values_of_ref self.now) ≡ None →
             length (vendor_name (ref_value self.now.vendor)) < 2 ^ 63 }
     {
-        if let Some(text) = self.special_text() {
+        if let Some(text) = self.special_string() {
             return Pieces {
                 first: text,
                 vendor: None,

@@ -1,9 +1,9 @@
 //! Triples and lists of triples as JSON values.
 ghost use Rattle.std.specs.Prelude.{◌≡◌, true, map, All, IfOk, IfErr};
 ghost use Rattle.serde_json.specs.View.{view};
-ghost use Rattle.lexicon_fields.specs.Vendor.{OwnsCustomText, is_plain, vendor_value};
+ghost use Rattle.lexicon_fields.specs.Vendor.{OwnsCustomString, is_plain, vendor_value};
 ghost use Rattle.target_lexicon.specs.Json as spec;
-ghost use Rattle.target_lexicon.specs.Json.{JsonReadsAs, IsJsonErrorOf, ListReadsAs, IsListErrorOf};
+ghost use Rattle.target_lexicon.specs.Json.{JsonParsesAs, IsJsonErrorOf, ListParsesAs, IsListErrorOf};
 ghost use Rattle.target_lexicon.specs.Values.{values_of};
 ghost use Rattle.target_lexicon.specs.ValuesRef.{values_of_ref};
 
@@ -30,8 +30,8 @@ impl Triple {
     /// - [`JsonError::Parse`] if the string is refused, or an allocation for parsing it fails. Nothing is
     ///   allocated for another value.
     pub fn from_json(alloc: Global, value: &Value) -> Result<Triple, JsonError>
-        ensures ok { IfOk result (λ triple. JsonReadsAs (view value.now) (values_of triple)) }
-        ensures owned { IfOk result (λ triple. OwnsCustomText triple.vendor) }
+        ensures ok { IfOk result (λ triple. JsonParsesAs (view value.now) (values_of triple)) }
+        ensures owned { IfOk result (λ triple. OwnsCustomString triple.vendor) }
         ensures plain { IfOk result (λ triple. is_plain (vendor_value triple.vendor) ≡ true) }
         ensures err { IfErr result
             (λ error. IsJsonErrorOf (view value.now) (spec.json_error_value error)) }
@@ -77,9 +77,9 @@ pub fn list_to_json(alloc: Global, triples: &[Triple]) -> Result<Value, AllocErr
 ///   element does not parse, allocate nothing for the list.
 pub fn list_from_json(alloc: Global, value: &Value) -> Result<Vec<Triple>, ListError>
     ensures ok { IfOk result
-        (λ triples. ListReadsAs (view value.now) (map values_of triples.items)) }
+        (λ triples. ListParsesAs (view value.now) (map values_of triples.items)) }
     ensures owned { IfOk result
-        (λ triples. All (λ triple. OwnsCustomText triple.vendor) triples.items) }
+        (λ triples. All (λ triple. OwnsCustomString triple.vendor) triples.items) }
     ensures plain { IfOk result
         (λ triples. All (λ triple. is_plain (vendor_value triple.vendor) ≡ true) triples.items) }
     ensures err { IfErr result

@@ -1,11 +1,11 @@
 //! Laws of the definitions. Each function's contract is a law; a call does nothing.
 ghost use Rattle.std.specs.Prelude.{◌≡◌, ◌≢◌, ◌↔◌, ℕ, suc, List, All, take, IsTrue};
 ghost use Rattle.target_lexicon.specs.GreedyReading.{ResultsAreComputed};
-ghost use Rattle.target_lexicon.specs.Laws.{ComesBack, HasOneLeastPlacement, EveryTextHasOneOutcome, ReadingIsComputed, ReadVendorsArePlain, EqualTextsEqualTriples};
+ghost use Rattle.target_lexicon.specs.Laws.{ComesBack, HasOneLeastPlacement, EveryStringHasOneOutcome, ReadingIsComputed, ReadVendorsArePlain, EqualTextsEqualTriples};
 ghost use Rattle.lexicon_fields.specs.Laws.{HashInjectiveOn, HashInjective, ComparesByValue, CopiesEqualTheirSources, HasVersionInRange};
-ghost use Rattle.target_lexicon.specs.FixedPoints.{ReadTriplesArePlain, FixedExactlyOutsideFamilies, RoundIsNormalStep, OneStepSettles, SettledTextsAreKeys, RoundTripsAreKnown, PrintedTextsGrowAtMost, CanonicalTextsGrowAtMost, RefusedPartsDoNotGrow};
-ghost use Rattle.target_lexicon.specs.FamilyFacts.{FamiliesAreFactsOfFields};
-ghost use Rattle.target_lexicon.specs.Json.{ListReadsAs, list_json_of, json_error_value, list_error_value};
+ghost use Rattle.target_lexicon.specs.FixedPoints.{ParsedTriplesArePlain, FixedExactlyOutsideFamilies, RoundIsNormalStep, OneStepSettles, CanonicalStringsAreKeys, RoundTripsAreKnown, PrintedStringsGrowAtMost, CanonicalStringsGrowAtMost, RefusedPartsDoNotGrow};
+ghost use Rattle.target_lexicon.specs.ExceptionFacts.{ExceptionsAreFactsOfFields};
+ghost use Rattle.target_lexicon.specs.Json.{ListParsesAs, list_json_of, json_error_value, list_error_value};
 ghost use Rattle.target_lexicon.specs.Reading.{HasPlacement};
 ghost use Rattle.target_lexicon.specs.Queries.{data_model};
 ghost use Rattle.target_lexicon.specs.QueryLaws.{ModelWidth, IntegersGrow, QueriesKept};
@@ -16,7 +16,7 @@ ghost use Rattle.target_lexicon.specs.ValuesRef.{values_of_ref, placed_outcome, 
 ghost use Rattle.target_lexicon.specs.declared.data_model.CDataModel.{CDataModel};
 ghost use Rattle.target_lexicon.specs.Explanation.{part_value, source_value, sources_of};
 ghost use Rattle.target_lexicon.specs.declared.explanation.Explanation.{Explanation};
-ghost use Rattle.target_lexicon.specs.declared.family.RoundTripFamily.{RoundTripFamily};
+ghost use Rattle.target_lexicon.specs.declared.exception.RoundTripException.{RoundTripException};
 ghost use Rattle.target_lexicon.specs.declared.reading.Reading.{Reading};
 ghost use Rattle.target_lexicon.specs.declared.explanation.Source.{Source};
 ghost use Rattle.target_lexicon.specs.declared.explanation.Sources.{Sources};
@@ -33,8 +33,8 @@ ghost use Rattle.target_lexicon.specs.declared.defaults.DefaultToUnknown.{Defaul
 use crate::calling_convention::CallingConvention;
 use crate::data_model::{CDataModel, Size};
 use crate::defaults::{DefaultToHost, DefaultToUnknown};
+use crate::exception::RoundTripException;
 use crate::explanation::{Explanation, Source, Sources, TextPart};
-use crate::family::RoundTripFamily;
 use crate::json_error::JsonError;
 use crate::list_error::ListError;
 use crate::parse_error::ParseError;
@@ -61,8 +61,8 @@ pub fn one_least_placement()
 {}
 
 /// Every string parses or is refused, in exactly one way. So a program that answers each line has one output.
-pub fn every_text_has_one_outcome()
-    ensures { EveryTextHasOneOutcome }
+pub fn every_string_has_one_outcome()
+    ensures { EveryStringHasOneOutcome }
 {}
 
 /// The function `reading` of the definitions gives the triple that a string parses as, or how it is refused. So a
@@ -91,28 +91,28 @@ pub fn versions_are_in_range(operating_system: OperatingSystem)
 /// Every triple that a string parses as has a plain vendor, and a version in range if its system has one. So the laws
 /// of round trips apply to it.
 pub fn read_triples_are_plain()
-    ensures { ReadTriplesArePlain }
+    ensures { ParsedTriplesArePlain }
 {
     read_versions_are_in_range();
 }
 
 /// The printed string of a triple is at most 22 bytes longer than each string that parses as it, and so is the string
 /// of the canonical triple. A refused part is not longer than the string. So a caller knows how large a buffer must be.
-pub fn printed_texts_grow_at_most()
-    ensures printed { PrintedTextsGrowAtMost }
-    ensures settled { CanonicalTextsGrowAtMost }
+pub fn printed_strings_grow_at_most()
+    ensures printed { PrintedStringsGrowAtMost }
+    ensures settled { CanonicalStringsGrowAtMost }
     ensures refused { RefusedPartsDoNotGrow }
 {
     reading_is_computed();
     names_grow_at_most();
 }
 
-/// Two triples that come back are equal exactly if their printed strings are.
+/// Two triples that come back are equal if and only if their printed strings are.
 pub fn equal_texts_equal_triples()
     ensures { EqualTextsEqualTriples }
 {}
 
-/// Two triples are equal exactly if their five values are. The value of a custom vendor is its string.
+/// Two triples are equal if and only if their five values are. The value of a custom vendor is its string.
 pub fn triples_are_equal_by_value()
     ensures { (x y : Triple) →
         IsTrue (⟦<Triple as PartialEq>⟧.eq x y) ↔ (values_of x ≡ values_of y) }
@@ -121,7 +121,7 @@ pub fn triples_are_equal_by_value()
     vendors_are_equal_by_value();
 }
 
-/// Two borrowed triples are equal exactly if their five values are.
+/// Two borrowed triples are equal if and only if their five values are.
 pub fn triple_refs_are_equal_by_value()
     ensures { (x y : TripleRef) →
         IsTrue (⟦<TripleRef<'static> as PartialEq>⟧.eq x y) ↔ (values_of_ref x ≡ values_of_ref y) }
@@ -130,13 +130,13 @@ pub fn triple_refs_are_equal_by_value()
     vendor_refs_are_equal_by_value();
 }
 
-/// Two errors are equal exactly if both are the same refusal, or both are `OutOfMemory`.
+/// Two errors are equal if and only if both are the same refusal, or both are `OutOfMemory`.
 pub fn errors_are_equal_by_value()
     ensures { (x y : ParseError) →
         IsTrue (⟦<ParseError as PartialEq>⟧.eq x y) ↔ (refusal_of x ≡ refusal_of y) }
 {}
 
-/// Two refusals are equal exactly if they expected the same field, and their parts and where these begin are the same.
+/// Two refusals are equal if and only if they expected the same field, and their parts and where these begin are the same.
 pub fn refusals_are_equal_by_value()
     ensures { (x y : Refusal) →
         IsTrue (⟦<Refusal<'static> as PartialEq>⟧.eq x y) ↔ (placed_refusal x ≡ placed_refusal y) }
@@ -164,16 +164,16 @@ pub fn queries_kept()
     ensures { QueriesKept }
 {}
 
-/// Two sizes, two data models, two calling conventions or two reasons why a triple doesn't round-trip are equal exactly if they are the
+/// Two sizes, two data models, two calling conventions or two reasons why a triple doesn't round-trip are equal if and only if they are the
 /// same variant.
 pub fn answers_are_equal_by_variant()
     ensures size { ComparesByValue ⟦<Size as PartialEq>⟧.eq }
     ensures data_model { ComparesByValue ⟦<CDataModel as PartialEq>⟧.eq }
     ensures calling_convention { ComparesByValue ⟦<CallingConvention as PartialEq>⟧.eq }
-    ensures family { ComparesByValue ⟦<RoundTripFamily as PartialEq>⟧.eq }
+    ensures exception { ComparesByValue ⟦<RoundTripException as PartialEq>⟧.eq }
 {}
 
-/// Two `DefaultToHost`, or two `DefaultToUnknown`, are equal exactly if the triples in them have the same five fields.
+/// Two `DefaultToHost`, or two `DefaultToUnknown`, are equal if and only if the triples in them have the same five fields.
 pub fn defaults_are_equal_by_value()
     ensures host { (x y : DefaultToHost) →
         IsTrue (⟦<DefaultToHost as PartialEq>⟧.eq x y) ↔ (values_of x.0 ≡ values_of y.0) }
@@ -183,13 +183,13 @@ pub fn defaults_are_equal_by_value()
     triples_are_equal_by_value();
 }
 
-/// Each family is the facts of the five fields that its record states. So a reader of [`Triple::round_trip_family`] need not follow
+/// Each exception is the facts of the five fields that its record states. So a reader of [`Triple::round_trip_exception`] need not follow
 /// the order of a list of cases.
-pub fn families_are_facts_of_fields()
-    ensures { FamiliesAreFactsOfFields }
+pub fn exceptions_are_facts_of_fields()
+    ensures { ExceptionsAreFactsOfFields }
 {}
 
-/// A triple comes back (it is printed and parsed again as itself) exactly if it is in none of five families, also if
+/// A triple comes back (it is printed and parsed again as itself) if and only if none of the five exceptions applies, also if
 /// its vendor is not plain.
 pub fn fixed_exactly_outside_families()
     ensures { FixedExactlyOutsideFamilies }
@@ -212,29 +212,29 @@ pub fn second_step_changes_one()
 
 /// The canonical form of a triple with a plain vendor comes back, and no other canonical triple has its string. So the
 /// string serves as a key.
-pub fn settled_texts_are_keys()
-    ensures { SettledTextsAreKeys }
+pub fn canonical_strings_are_keys()
+    ensures { CanonicalStringsAreKeys }
 {
     round_is_normal_step();
 }
 
 /// The headline, all of these laws in one: every string parses or is refused, in exactly one way. Each parsed triple
-/// has a plain vendor. A triple comes back exactly if it is in none of five families. The round trip of each triple
+/// has a plain vendor. A triple comes back if and only if none of the five exceptions applies. The round trip of each triple
 /// with a plain vendor succeeds, is the normal step, keeps the answers of the four queries, and gives the canonical
 /// form; and each canonical triple has a string of its own.
 pub fn round_trips_are_known()
     ensures { RoundTripsAreKnown }
 {
-    every_text_has_one_outcome();
+    every_string_has_one_outcome();
     read_triples_are_plain();
     fixed_exactly_outside_families();
     round_is_normal_step();
     queries_kept();
     second_step_changes_one();
-    settled_texts_are_keys();
+    canonical_strings_are_keys();
 }
 
-/// The printed string of a triple differs from upstream's exactly if environment and format are unknown, another format
+/// The printed string of a triple differs from upstream's if and only if environment and format are unknown, another format
 /// is implied, and no special string is printed.
 pub fn only_unknowns_differ_from_upstream()
     ensures { OnlyUnknownsDifferFromUpstream }
@@ -245,25 +245,25 @@ pub fn only_unknowns_differ_from_upstream()
 pub fn lists_read_back()
     ensures { (ts us : List Values) →
         All ComesBack ts →
-        ListReadsAs (list_json_of ts) us ↔ (us ≡ ts) }
+        ListParsesAs (list_json_of ts) us ↔ (us ≡ ts) }
 {
-    every_text_has_one_outcome();
+    every_string_has_one_outcome();
 }
 
-/// Two errors of a JSON value are equal exactly if both say that it is not a string, or the same about the string.
+/// Two errors of a JSON value are equal if and only if both say that it is not a string, or the same about the string.
 pub fn json_errors_are_equal_by_value()
     ensures { (x y : JsonError) →
         IsTrue (⟦<JsonError as PartialEq>⟧.eq x y) ↔ (json_error_value x ≡ json_error_value y) }
 {}
 
-/// Two errors of a JSON list are equal exactly if they are of one kind, with the same element and the same error of it.
+/// Two errors of a JSON list are equal if and only if they are of one kind, with the same element and the same error of it.
 pub fn list_errors_are_equal_by_value()
     ensures { (x y : ListError) →
         IsTrue (⟦<ListError as PartialEq>⟧.eq x y) ↔ (list_error_value x ≡ list_error_value y) }
 {}
 
-/// Two parts are equal exactly if their bytes are and they begin at the same index. Two sources are equal exactly if
-/// they are the same variant, with equal parts. Two explanations are equal exactly if their triples or refusals are,
+/// Two parts are equal if and only if their bytes are and they begin at the same index. Two sources are equal if and only if
+/// they are the same variant, with equal parts. Two explanations are equal if and only if their triples or refusals are,
 /// and their sources.
 pub fn explanations_are_equal_by_value()
     ensures part { (x y : TextPart) →
@@ -289,8 +289,8 @@ pub fn copies_equal_their_sources()
         ⟦<CDataModel as Clone>⟧.is_infallible }
     ensures calling_convention { CopiesEqualTheirSources ⟦<CallingConvention as Clone>⟧.is_clone
         ⟦<CallingConvention as Clone>⟧.is_infallible }
-    ensures family { CopiesEqualTheirSources ⟦<RoundTripFamily as Clone>⟧.is_clone
-        ⟦<RoundTripFamily as Clone>⟧.is_infallible }
+    ensures exception { CopiesEqualTheirSources ⟦<RoundTripException as Clone>⟧.is_clone
+        ⟦<RoundTripException as Clone>⟧.is_infallible }
     ensures reading { CopiesEqualTheirSources ⟦<Reading<'static> as Clone>⟧.is_clone
         ⟦<Reading<'static> as Clone>⟧.is_infallible }
     ensures triple_ref { CopiesEqualTheirSources ⟦<TripleRef<'static> as Clone>⟧.is_clone
@@ -307,14 +307,14 @@ pub fn copies_equal_their_sources()
         ⟦<Explanation<'static> as Clone>⟧.is_infallible }
 {}
 
-/// Sizes, data models and calling conventions feed a hasher the same exactly if their variants are the same.
+/// Sizes, data models and calling conventions feed a hasher the same if and only if their variants are the same.
 pub fn answers_hash_by_variant()
     ensures size { HashInjective ⟦<Size as Hash>⟧.hash_input }
     ensures data_model { HashInjective ⟦<CDataModel as Hash>⟧.hash_input }
     ensures calling_convention { HashInjective ⟦<CallingConvention as Hash>⟧.hash_input }
 {}
 
-/// Two triples, with a default or without, feed a hasher the same exactly if their five values are the same, and what
+/// Two triples, with a default or without, feed a hasher the same if and only if their five values are the same, and what
 /// is fed after a triple can be distinguished from what it feeds. This is said of triples whose version is in range.
 pub fn triples_hash_by_value()
     ensures triple { HashInjectiveOn (λ t. HasVersionInRange t.operating_system) values_of
@@ -327,7 +327,7 @@ pub fn triples_hash_by_value()
     values_hash_by_variant_and_fields();
 }
 
-/// Two borrowed triples feed a hasher the same exactly if their five values are the same, as [`triples_hash_by_value`]
+/// Two borrowed triples feed a hasher the same if and only if their five values are the same, as [`triples_hash_by_value`]
 /// says of triples.
 pub fn triple_refs_hash_by_value()
     ensures { HashInjectiveOn (λ t. HasVersionInRange t.operating_system) values_of_ref

@@ -2,7 +2,7 @@
 //!
 //! The calls of [`Triple`] are in files by topic: `triple` (the type, `unknown`, `clone`), `host`, `read`
 //! (`from_str`), `display` (`Display`, `to_text`, and which fields are shown), `special` (the two special strings),
-//! `queries` (byte order, pointer width, calling convention, data model), `family`, `settle` (`comes_back`, `normal`,
+//! `queries` (byte order, pointer width, calling convention, data model), `exception`, `settle` (`comes_back`, `normal`,
 //! `settle`), `settles_as`, `json`. Most of them call the same of [`TripleRef`], a borrowed triple (`triple_ref`).
 //! `round_trip` prints and parses a triple.
 //!
@@ -17,8 +17,8 @@ mod data_model;
 mod default_format;
 mod defaults;
 mod display;
+mod exception;
 mod explanation;
-mod family;
 mod host;
 mod json;
 mod json_error;
@@ -41,8 +41,8 @@ pub use calling_convention::CallingConvention;
 pub use data_model::{CDataModel, Size};
 pub use default_format::default_binary_format;
 pub use defaults::{DefaultToHost, DefaultToUnknown};
+pub use exception::RoundTripException;
 pub use explanation::{Explanation, Source, Sources, TextPart};
-pub use family::RoundTripFamily;
 pub use json::{list_from_json, list_to_json};
 pub use json_error::JsonError;
 pub use lexicon_fields::{

@@ -1,10 +1,10 @@
 //! Parsing: the triple of a string, or why it is refused, and the part that each field takes.
 //! Functions are inlined if they return a wide value, so that a caller that drops the sources doesn't compute them.
 ghost use Rattle.std.specs.Prelude.{◌≡◌, ◌+◌, ◌∷◌, length, true, IfOk, IfErr, IfSome};
-ghost use Rattle.lexicon_fields.specs.Vendor.{OwnsCustomText, vendor_value, is_plain};
+ghost use Rattle.lexicon_fields.specs.Vendor.{OwnsCustomString, vendor_value, is_plain};
 ghost use Rattle.lexicon_fields.specs.VendorRef.{ref_value};
-ghost use Rattle.target_lexicon.specs.Explanation.{AreInText, AreSourcesOf, IsInText, IsRefusedAfter, IsRefusedAt, part_value, sources_of};
-ghost use Rattle.target_lexicon.specs.Reading.{ReadsAs, IsErrorOf, IsRefusedAs, parts_after, parts_of};
+ghost use Rattle.target_lexicon.specs.Explanation.{AreInString, AreSourcesOf, IsInString, IsRefusedAfter, IsRefusedAt, part_value, sources_of};
+ghost use Rattle.target_lexicon.specs.Reading.{ParsesAs, IsErrorOf, IsRefusedAs, parts_after, parts_of};
 ghost use Rattle.target_lexicon.specs.Values.{values_of};
 ghost use Rattle.target_lexicon.specs.ValuesRef.{refusal_value, values_of_ref};
 
@@ -37,7 +37,7 @@ pub fn first_part(text: &str) -> (&str, Option<&str>)
 /// fields; its parts have none of their own.
 #[inline(always)]
 pub fn explain(text: &str) -> Explanation<'_>
-    ensures triple { IfOk result.triple (λ it. ReadsAs text.entry.now (values_of_ref it)) }
+    ensures triple { IfOk result.triple (λ it. ParsesAs text.entry.now (values_of_ref it)) }
     ensures sources { IfOk result.triple
         (λ _. AreSourcesOf text.entry.now (sources_of result.sources)) }
     ensures error { IfErr result.triple
@@ -45,11 +45,11 @@ pub fn explain(text: &str) -> Explanation<'_>
     ensures refused { IfErr result.triple
         (λ it. IsRefusedAfter text.entry.now (refusal_value it)
         (sources_of result.sources) (part_value it.part)) }
-    ensures ranges { AreInText text.entry.now (sources_of result.sources) }
+    ensures ranges { AreInString text.entry.now (sources_of result.sources) }
     ensures range { IfErr result.triple
-        (λ it. IsInText text.entry.now (part_value it.part)) }
+        (λ it. IsInString text.entry.now (part_value it.part)) }
 {
-    if let Some(triple) = TripleRef::from_special_text(text) {
+    if let Some(triple) = TripleRef::from_special_string(text) {
         let whole = Source::Part(TextPart { text, start: 0 });
         return Explanation {
             triple: Ok(triple),
@@ -103,12 +103,12 @@ impl<'a> TripleRef<'a> {
     /// ```
     // In Rust: #[inline].
     pub fn from_str(text: &'a str) -> Result<TripleRef<'a>, Refusal<'a>>
-        ensures ok { IfOk result (λ triple. ReadsAs text.entry.now (values_of_ref triple)) }
+        ensures ok { IfOk result (λ triple. ParsesAs text.entry.now (values_of_ref triple)) }
         ensures plain { IfOk result (λ triple. is_plain (ref_value triple.vendor) ≡ true) }
         ensures err { IfErr result (λ it. IsRefusedAs text.entry.now (refusal_value it)) }
         ensures refused { IfErr result
             (λ it. IsRefusedAt text.entry.now (refusal_value it) (part_value it.part)) }
-        ensures range { IfErr result (λ it. IsInText text.entry.now (part_value it.part)) }
+        ensures range { IfErr result (λ it. IsInString text.entry.now (part_value it.part)) }
     {
         explain(text).triple
     }
@@ -128,8 +128,8 @@ impl Triple {
     /// allocating a custom vendor or the refused part failed; nothing else is allocated.
     #[inline(always)]
     pub fn from_str(alloc: Global, text: &str) -> Result<Triple, ParseError>
-        ensures ok { IfOk result (λ triple. ReadsAs text.now (values_of triple)) }
-        ensures owned { IfOk result (λ triple. OwnsCustomText triple.vendor) }
+        ensures ok { IfOk result (λ triple. ParsesAs text.now (values_of triple)) }
+        ensures owned { IfOk result (λ triple. OwnsCustomString triple.vendor) }
         ensures plain { IfOk result (λ triple. is_plain (vendor_value triple.vendor) ≡ true) }
         ensures err { IfErr result (λ error. IsErrorOf text.now error) }
     {

@@ -1,21 +1,21 @@
-//! Round trips of a triple: the five families that don't come back, the normal step, and the canonical form.
+//! Round trips of a triple: the five exceptions that don't come back, the normal step, and the canonical form.
 ghost use Rattle.std.specs.Prelude.{◌≡◌, ◌↔◌, ◌⊎◌, true, IsTrue};
 ghost use Rattle.lexicon_fields.specs.Vendor.{is_plain, vendor_value};
 ghost use Rattle.lexicon_fields.specs.VendorRef.{ref_value};
 ghost use Rattle.lexicon_fields.specs.declared.known_vendor.KnownVendor.TheVariants as known_vendor;
 ghost use Rattle.lexicon_fields.specs.declared.vendor.Vendor.TheVariants.{Espressif};
 ghost use Rattle.lexicon_fields.specs.declared.vendor_ref.VendorRef.TheVariants.{Known};
-ghost use Rattle.target_lexicon.specs.FixedPoints.{settled_values};
+ghost use Rattle.target_lexicon.specs.FixedPoints.{canonical_values};
 ghost use Rattle.target_lexicon.specs.Laws.{ComesBack};
 ghost use Rattle.target_lexicon.specs.NormalStep as spec;
-ghost use Rattle.target_lexicon.specs.Printing.{text_of};
-ghost use Rattle.target_lexicon.specs.Reading.{ReadsAs};
+ghost use Rattle.target_lexicon.specs.Printing.{string_of};
+ghost use Rattle.target_lexicon.specs.Reading.{ParsesAs};
 ghost use Rattle.target_lexicon.specs.Values.{values_of};
 ghost use Rattle.target_lexicon.specs.ValuesRef.{values_of_ref};
 
-use crate::family::RoundTripFamily;
+use crate::exception::RoundTripException;
 use crate::laws::{
-    fixed_exactly_outside_families, round_is_normal_step, settled_texts_are_keys,
+    canonical_strings_are_keys, fixed_exactly_outside_families, round_is_normal_step,
     versions_are_in_range,
 };
 use crate::triple::Triple;
@@ -26,7 +26,7 @@ impl Triple {
     /// Whether the triple comes back: printed and parsed again, it is itself. No string is made and nothing is
     /// allocated.
     ///
-    /// A triple comes back unless it is in one of five families, which [`RoundTripFamily`] lists, and [`Triple::round_trip_family`] names.
+    /// A triple comes back unless one of five exceptions applies, which [`RoundTripException`] lists, and [`Triple::round_trip_exception`] names.
     // Not in Rust.
     pub fn comes_back(&self) -> bool
         ensures { IsTrue result ↔ ComesBack (values_of self.now) }
@@ -38,16 +38,16 @@ impl Triple {
     /// of every parsed triple is. Nothing is copied or allocated.
     ///
     /// A triple that comes back is unchanged. Otherwise the first of these cases that holds decides, by the
-    /// [`RoundTripFamily`]:
+    /// [`RoundTripException`]:
     /// - `PrintsAsSpecial`: environment and format become `Newlib` and `Elf`.
     /// - `HidesNewlib`: the environment becomes `Unknown`, and an `Unknown` format becomes `Elf`.
-    /// - `PrintsTheEspIdfText`: the vendor becomes `Espressif`, environment and format become `Newlib` and `Elf`.
+    /// - `PrintsTheEspIdfString`: the vendor becomes `Espressif`, environment and format become `Newlib` and `Elf`.
     /// - `ShowsOnlyNone`: the system becomes `None_`, and the environment `Unknown`.
     // Not in Rust.
     pub fn normal(self) -> Triple
         requires { is_plain (vendor_value self.vendor) ≡ true }
         ensures step { values_of result ≡ spec.normal_step (values_of self) }
-        ensures round { ReadsAs (text_of (values_of self)) (values_of result) }
+        ensures round { ParsesAs (string_of (values_of self)) (values_of result) }
         ensures vendor { (result.vendor ≡ self.vendor) ⊎ (result.vendor ≡ Espressif) }
     {
         round_is_normal_step();
@@ -57,17 +57,17 @@ impl Triple {
 
     /// The canonical form of the triple, which is what one normal step gives: it comes back, and a second step changes
     /// nothing (law `second_step_changes_one`). The vendor must be plain, as for `normal`. A triple that comes back is
-    /// unchanged. No other canonical triple has the same string (law `settled_texts_are_keys`), so the string serves as
+    /// unchanged. No other canonical triple has the same string (law `canonical_strings_are_keys`), so the string serves as
     /// a key. Nothing is allocated.
     // Not in Rust.
     pub fn settle(self) -> Triple
         requires { is_plain (vendor_value self.vendor) ≡ true }
-        ensures steps { values_of result ≡ settled_values (values_of self) }
+        ensures steps { values_of result ≡ canonical_values (values_of self) }
         ensures back { ComesBack (values_of result) }
         ensures stays { ComesBack (values_of self) → values_of result ≡ values_of self }
         ensures vendor { (result.vendor ≡ self.vendor) ⊎ (result.vendor ≡ Espressif) }
     {
-        settled_texts_are_keys();
+        canonical_strings_are_keys();
         versions_are_in_range(self.operating_system);
         Triple::normal(self)
     }
@@ -106,7 +106,7 @@ impl<'a> TripleRef<'a> {
     {
         fixed_exactly_outside_families();
         versions_are_in_range(self.operating_system);
-        self.round_trip_family().is_none()
+        self.round_trip_exception().is_none()
     }
 
     /// The triple that the printed string parses as, as [`Triple::normal`] says. The vendor must be plain.
@@ -114,7 +114,7 @@ impl<'a> TripleRef<'a> {
     pub fn normal(self) -> TripleRef<'a>
         requires { is_plain (ref_value self.vendor) ≡ true }
         ensures step { values_of_ref result ≡ spec.normal_step (values_of_ref self.entry) }
-        ensures round { ReadsAs (text_of (values_of_ref self.entry)) (values_of_ref result) }
+        ensures round { ParsesAs (string_of (values_of_ref self.entry)) (values_of_ref result) }
         ensures vendor { (result.vendor ≡ self.entry.vendor)
             ⊎ (result.vendor ≡ Known known_vendor.Espressif) }
     {
@@ -127,14 +127,14 @@ impl<'a> TripleRef<'a> {
     // Not in Rust.
     pub fn settle(self) -> TripleRef<'a>
         requires { is_plain (ref_value self.vendor) ≡ true }
-        ensures steps { values_of_ref result ≡ settled_values (values_of_ref self.entry) }
+        ensures steps { values_of_ref result ≡ canonical_values (values_of_ref self.entry) }
         ensures back { ComesBack (values_of_ref result) }
         ensures stays { ComesBack (values_of_ref self.entry) →
             values_of_ref result ≡ values_of_ref self.entry }
         ensures vendor { (result.vendor ≡ self.entry.vendor)
             ⊎ (result.vendor ≡ Known known_vendor.Espressif) }
     {
-        settled_texts_are_keys();
+        canonical_strings_are_keys();
         versions_are_in_range(self.operating_system);
         self.normal()
     }
@@ -147,25 +147,25 @@ impl<'a> TripleRef<'a> {
         ensures vendor { (result.vendor ≡ self.entry.vendor)
             ⊎ (result.vendor ≡ Known known_vendor.Espressif) }
     {
-        match self.round_trip_family() {
-            Some(RoundTripFamily::PrintsAsSpecial) => {
+        match self.round_trip_exception() {
+            Some(RoundTripException::PrintsAsSpecial) => {
                 self.environment = Environment::Newlib;
                 self.binary_format = BinaryFormat::Elf;
             }
-            Some(RoundTripFamily::HidesNewlib) => {
+            Some(RoundTripException::HidesNewlib) => {
                 self.environment = Environment::Unknown;
                 self.binary_format = elf_if_unknown(self.binary_format);
             }
-            Some(RoundTripFamily::PrintsTheEspIdfText) => {
+            Some(RoundTripException::PrintsTheEspIdfString) => {
                 self.vendor = VendorRef::Known(KnownVendor::Espressif);
                 self.environment = Environment::Newlib;
                 self.binary_format = BinaryFormat::Elf;
             }
-            Some(RoundTripFamily::ShowsOnlyNone) => {
+            Some(RoundTripException::ShowsOnlyNone) => {
                 self.operating_system = OperatingSystem::None_;
                 self.environment = Environment::Unknown;
             }
-            Some(RoundTripFamily::VendorIsNotPlain) | None => {}
+            Some(RoundTripException::VendorIsNotPlain) | None => {}
         }
         self
     }

@@ -1,6 +1,6 @@
 //! Whether two borrowed triples have the same canonical form.
 ghost use Rattle.std.specs.Prelude.{◌≡◌, ◌↔◌, IsTrue};
-ghost use Rattle.target_lexicon.specs.FixedPoints.{settled_values};
+ghost use Rattle.target_lexicon.specs.FixedPoints.{canonical_values};
 ghost use Rattle.target_lexicon.specs.Values.{values_of};
 ghost use Rattle.target_lexicon.specs.ValuesRef.{values_of_ref};
 
@@ -14,7 +14,7 @@ impl Triple {
     // Not in Rust.
     pub fn settles_as(&self, other: &Triple) -> bool
         ensures { IsTrue result
-            ↔ (settled_values (values_of self.now) ≡ settled_values (values_of other.now)) }
+            ↔ (canonical_values (values_of self.now) ≡ canonical_values (values_of other.now)) }
     {
         self.as_triple_ref().settles_as(&other.as_triple_ref())
     }
@@ -34,7 +34,8 @@ impl TripleRef<'_> {
     /// ```
     pub fn settles_as(&self, other: &TripleRef<'_>) -> bool
         ensures { IsTrue result
-            ↔ (settled_values (values_of_ref self.now) ≡ settled_values (values_of_ref other.now)) }
+            ↔ (canonical_values (values_of_ref self.now)
+            ≡ canonical_values (values_of_ref other.now)) }
     {
         triple_refs_are_equal_by_value();
         second_step_changes_one();

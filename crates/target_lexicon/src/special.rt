@@ -1,6 +1,6 @@
 //! The strings that have a triple of their own.
 ghost use Rattle.std.specs.Prelude.{◌≡◌, option_map, List, ℕ};
-ghost use Rattle.target_lexicon.specs.SpecialTexts as spec;
+ghost use Rattle.target_lexicon.specs.SpecialStrings as spec;
 ghost use Rattle.target_lexicon.specs.ValuesRef.{values_of_ref};
 ghost use Rattle.lexicon_fields.specs.VendorRef.{ref_value};
 
@@ -14,8 +14,8 @@ use lexicon_fields::{ArmArchitecture, Riscv32Architecture};
 
 impl<'a> TripleRef<'a> {
     /// The triple of a special string.
-    #[tactic(auto, unfolding(crate::specs::SpecialTexts::special_values))]
-    pub(crate) fn from_special_text(text: &str) -> Option<TripleRef<'a>>
+    #[tactic(auto, unfolding(crate::specs::SpecialStrings::special_values))]
+    pub(crate) fn from_special_string(text: &str) -> Option<TripleRef<'a>>
         ensures { option_map values_of_ref result ≡ spec.special_values text.now }
     {
         match text {
@@ -40,10 +40,10 @@ impl<'a> TripleRef<'a> {
     }
 
     /// The special string that the triple prints, if any. Environment and format don't matter.
-    #[tactic(auto, unfolding(crate::specs::SpecialTexts::special_text))]
-    pub(crate) fn special_text(&self) -> Option<&'static str>
+    #[tactic(auto, unfolding(crate::specs::SpecialStrings::special_string))]
+    pub(crate) fn special_string(&self) -> Option<&'static str>
         ensures { option_map {U = List ℕ} (λ text. text.now) result
-            ≡ spec.special_text (values_of_ref self.now) }
+            ≡ spec.special_string (values_of_ref self.now) }
     {
         match (self.architecture, self.vendor, self.operating_system) {
             // written by tools/names/write: the special strings of triples
@@ -63,7 +63,7 @@ impl<'a> TripleRef<'a> {
     }
 
     /// Whether vendor and system are those of a special string: they imply the environment `Newlib`.
-    #[tactic(auto, unfolding(crate::specs::SpecialTexts::implies_newlib))]
+    #[tactic(auto, unfolding(crate::specs::SpecialStrings::implies_newlib))]
     pub(crate) fn implies_newlib(&self) -> bool
         ensures { result ≡ spec.implies_newlib (ref_value self.now.vendor)
             self.now.operating_system }

@@ -1,6 +1,6 @@
 //! The type [`Triple`].
 ghost use Rattle.std.specs.Prelude.{◌≡◌, IfOk, IsOk, false};
-ghost use Rattle.lexicon_fields.specs.Vendor.{owns_text};
+ghost use Rattle.lexicon_fields.specs.Vendor.{owns_string};
 
 use lexicon_fields::{Architecture, BinaryFormat, Environment, OperatingSystem, Vendor};
 use std::alloc::{AllocError, Global};
@@ -59,8 +59,9 @@ impl Triple {
     /// A copy. Its vendor owns its string if this one's does. `Err` if the allocation for that string fails.
     pub fn clone(&self, alloc: Global) -> Result<Self, AllocError>
         ensures values { IfOk result (λ copy. values_of copy ≡ values_of self.now) }
-        ensures variant { IfOk result (λ copy. owns_text copy.vendor ≡ owns_text self.now.vendor) }
-        ensures succeeds { owns_text self.now.vendor ≡ false → IsOk result }
+        ensures variant { IfOk result (λ copy.
+            owns_string copy.vendor ≡ owns_string self.now.vendor) }
+        ensures succeeds { owns_string self.now.vendor ≡ false → IsOk result }
     {
         Ok(Triple {
             architecture: self.architecture,

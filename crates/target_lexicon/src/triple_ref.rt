@@ -1,6 +1,6 @@
 //! The type [`TripleRef`].
 ghost use Rattle.std.specs.Prelude.{◌≡◌, IfOk, OnErr};
-ghost use Rattle.lexicon_fields.specs.Vendor.{IsCustom, OwnsCustomText};
+ghost use Rattle.lexicon_fields.specs.Vendor.{IsCustom, OwnsCustomString};
 
 use crate::triple::Triple;
 use lexicon_fields::{
@@ -63,7 +63,7 @@ impl<'a> TripleRef<'a> {
     /// fails.
     pub fn to_triple(&self, alloc: Global) -> Result<Triple, AllocError>
         ensures values { IfOk result (λ triple. values_of triple ≡ values_of_ref self.now) }
-        ensures owned { IfOk result (λ triple. OwnsCustomText triple.vendor) }
+        ensures owned { IfOk result (λ triple. OwnsCustomString triple.vendor) }
         ensures memory { OnErr result (IsCustom (values_of_ref self.now).vendor) }
     {
         Ok(Triple {

@@ -5,7 +5,7 @@ use std::process::Abort;
 use target_lexicon::{
     Architecture, DefaultToHost, DefaultToUnknown, OperatingSystem, PointerWidth, Triple, triple,
 };
-use uses::{CacheKey, canonical_text, host_by_text, image_facts, triple_by_macro};
+use uses::{CacheKey, canonical_string, host_by_text, image_facts, triple_by_macro};
 
 #[test]
 fn callers_have_their_answers(rt: HostRuntime) {
@@ -19,7 +19,7 @@ fn callers_have_their_answers(rt: HostRuntime) {
         )
     );
     assert!(rt; is_answer(triple!(alloc, "x86_64-unknown-linux-gnu",), host));
-    match canonical_text(alloc, "arm64-linux-gnu") {
+    match canonical_string(alloc, "arm64-linux-gnu") {
         Ok(text) => assert!(rt; text.as_str() == "aarch64-unknown-linux-gnu"),
         Err(_) => panic!(rt; "no key"),
     }

@@ -4,7 +4,7 @@ use crate::known_triples::KNOWN_TRIPLES;
 use crate::values::{hash_alike, is_answer, prints, writes};
 use std::alloc::Global;
 use std::process::Abort;
-use target_lexicon::{Architecture, CustomVendor, RoundTripFamily, Triple, Vendor, round};
+use target_lexicon::{Architecture, CustomVendor, RoundTripException, Triple, Vendor, round};
 
 /// Whether the triple and the borrowed one display this string, and `to_text` returns it.
 fn is_printed(alloc: Global, triple: &Triple, text: &str) -> bool {
@@ -62,7 +62,7 @@ fn is_round(alloc: Global, triple: &Triple, back: &Triple) -> bool {
     }
 }
 
-/// Whether the triple of the string prints this, and comes back and is in no family exactly if that parses as the triple;
+/// Whether the triple of the string prints this, and comes back and has no exception if and only if that parses as the triple;
 /// and the triple of the printed string is the round trip, the next step and the canonical triple, and prints the last
 /// string.
 fn is_round_trip(alloc: Global, text: &str, print: &str, last: &str) -> bool {
@@ -74,7 +74,7 @@ fn is_round_trip(alloc: Global, text: &str, print: &str, last: &str) -> bool {
         (Ok(triple), Ok(same), Ok(back)) => is_printed(alloc, &triple, print)
             && is_printed(alloc, &back, last)
             && triple.comes_back() == (triple == back)
-            && triple.round_trip_family().is_none() == (triple == back)
+            && triple.round_trip_exception().is_none() == (triple == back)
             && is_round(alloc, &triple, &back)
             && triple.normal() == back
             && same.settle() == back,
@@ -118,7 +118,7 @@ unknown-linux x86_64-unknown-unknown-unknown-elf=x86_64-unknown-linux-unknown-el
 none x86_64-unknown-linux-unknown-elf=x86_64-none-linux=Unrecognized environment: linux";
 
 /// Whether the triple of the string with this vendor prints this string, which parses as that, as a round trip does; and it
-/// comes back and is in no family exactly if its vendor is plain.
+/// comes back and has no exception if and only if its vendor is plain.
 fn is_built(alloc: Global, text: &str, vendor: &'static str, print: &str, expected: &str) -> bool {
     let Ok(parsed) = Triple::from_str(alloc, text) else {
         return false;
@@ -132,8 +132,8 @@ fn is_built(alloc: Global, text: &str, vendor: &'static str, print: &str, expect
     triple.comes_back() == is_back
         && triple.vendor.is_plain() == is_back
         && matches!(
-            triple.round_trip_family(),
-            Some(RoundTripFamily::VendorIsNotPlain)
+            triple.round_trip_exception(),
+            Some(RoundTripException::VendorIsNotPlain)
         ) != is_back
         && is_printed(alloc, &triple, print)
         && is_answer(round(alloc, &triple), expected)

@@ -30,7 +30,7 @@ impl fmt::Write for Target<'_> {
     }
 }
 
-/// Whether the value is written as this string, and writing it fails exactly if its target does, with no piece after that:
+/// Whether the value is written as this string, and writing it fails if and only if its target does, with no piece after that:
 /// tried with room for each number of its bytes.
 pub(crate) fn writes<T: Display>(value: &T, text: &str) -> bool {
     for room in 0..text.len() + 1 {

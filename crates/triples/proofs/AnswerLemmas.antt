@@ -4,7 +4,7 @@ use Rattle.std.proofs.{lemmas.List.append-nil, lemmas.List.Folds.list_any-append
 use Rattle.std.proofs.lemmas.{Bool.Decides.same_from_decides, Map.Text.hash_set_updates_text, Slice.Eq.bytes_eq-Decides}
 use Rattle.std.specs.{HashSet.IsEmpty, HashSet.UpdatesBy, HashSet.contains_text, List.list_any, Str.bytes_eq, String.string_bytes, String.string_eq}
 use Rattle.std.specs.declared.alloc.Global.{Global}
-use Rattle.target_lexicon.specs.{FixedPoints.canonical_text, Reading.ReadsAs, Reading.IsErrorOf, Reading.IsRefusedAs, Reading.MayAllocate, Refusal.Refusal, Refusal.refusal_of, Values.Values, declared.parse_error.ParseError.ParseError}
+use Rattle.target_lexicon.specs.{FixedPoints.canonical_string, Reading.ParsesAs, Reading.IsErrorOf, Reading.IsRefusedAs, Reading.MayAllocate, Refusal.Refusal, Refusal.refusal_of, Values.Values, declared.parse_error.ParseError.ParseError}
 use Rattle.triples.specs.Lines.{line_feed}
 use Rattle.triples.specs.Output.{Answer, Shown, Refused, IsAnswer, AreAnswers, IsLineOutput, IsMatrix, shows, is_kept_after, kept_answers, matrix_of, answer_bytes, written_lines}
 use Rattle.triples.specs.Private.{Seen, HasOneMore, is_repeated, refused_answer, AddsAnswer, AddsEntry, AddsRefusal}
@@ -32,7 +32,7 @@ so-far-none empty = record { before = []; answers = record { whole = λ more are
 -- the same for a matrix: the answers that stay were written, and what they show was seen
 pub record IsMatrixSoFar (lines rest : List (List ℕ)) (output : List ℕ) (seen : Seen) : Type 0 where
   pub before : List Answer
-  pub answers : AreAnswersSoFar canonical_text lines rest before
+  pub answers : AreAnswersSoFar canonical_string lines rest before
   pub written_lines : output ≡ written_lines (matrix_of before)
   pub agree : (text : List ℕ) → contains_text seen text ≡ list_any (shows text) before
 
@@ -119,7 +119,7 @@ refusal-adds (Ok _) shown line old new error is adds =
 refusal-adds (Err _) shown line old new error is adds = tt
 
 -- what is shown of a triple, and then a line feed
-pub shown-adds : {T E : Type 0} (done : Result T E) (shown : Values → List ℕ) (line old unended new : List ℕ) (t : Values) → ReadsAs line t
+pub shown-adds : {T E : Type 0} (done : Result T E) (shown : Values → List ℕ) (line old unended new : List ℕ) (t : Values) → ParsesAs line t
     → unended ≡ old ++ shown t → OnOk done (new ≡ unended ++ line_feed ∷ []) → OnOk done (AddsAnswer shown line old new)
 shown-adds (Ok _) shown line old unended new t reads grown ended = record {
   answer = Shown (shown t);
@@ -133,7 +133,7 @@ module _ (line old new : List ℕ) (seen_old seen_new : Seen) where
   unless-seen true text = refl
   unless-seen false text = refl
 
-  pub read-enters : {T E : Type 0} (done : Result T E) (t : Values) (text : List ℕ) → ReadsAs line t → text ≡ canonical_text t
+  pub read-enters : {T E : Type 0} (done : Result T E) (t : Values) (text : List ℕ) → ParsesAs line t → text ≡ canonical_string t
       → OnOk done (new ≡ old ++ (if contains_text seen_old text then [] else text ++ line_feed ∷ []))
       → OnOk done (HasOneMore seen_old seen_new text)
       → OnOk done (AddsEntry line old new seen_old seen_new)

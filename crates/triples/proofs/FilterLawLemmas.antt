@@ -4,7 +4,7 @@ use Rattle.std.proofs.lemmas.Bool.{cases_lt}
 use Rattle.std.proofs.lemmas.Str.{IsUtf8-from_is_utf8, is_utf8-from_IsUtf8}
 use Rattle.std.specs.List.{AllByRecursion, AllZip}
 use Rattle.std.specs.Str.{IsUtf8, is_utf8}
-use Rattle.target_lexicon.specs.{Laws.EveryTextHasOneOutcome, Refusal.refusal_line}
+use Rattle.target_lexicon.specs.{Laws.EveryStringHasOneOutcome, Refusal.refusal_line}
 use Rattle.triples.specs.Filter.{AreFilterAnswers, IsFilterAnswer, complete_lines, not_utf8, too_long}
 use Rattle.triples.specs.FilterLaws.{ErrorsOfFiltersAreExact, EveryInputIsFiltered, FilterGives, FiltersAgreeWithRuns, FiltersEndOneWay, run_mode}
 use Rattle.triples.specs.{Lines.lines_of, Output.Answer, Output.Shown, Output.Refused, Output.AreAnswers, Output.IsAnswer, Output.IsLineOutput, Output.IsOutput, Output.shown_by, Output.written_lines}
@@ -22,7 +22,7 @@ record OneAnswer (mode : LineMode) (size : ℕ) (line : List ℕ) : Type 0 where
   is : IsFilterAnswer mode size line answer
   only : (other : Answer) → IsFilterAnswer mode size line other → other ≡ answer
 
-module _ (one : EveryTextHasOneOutcome) (mode : LineMode) (size : ℕ) where
+module _ (one : EveryStringHasOneOutcome) (mode : LineMode) (size : ℕ) where
   shows : (line : List ℕ) (answer : Answer) → length line < size → IsUtf8 line → IsAnswer (shown_by mode) line answer → OneAnswer mode size line
   shows line answer less utf8 is = record {
     answer = answer;
@@ -72,7 +72,7 @@ module _ (one : EveryTextHasOneOutcome) (mode : LineMode) (size : ℕ) where
   all-only (line ∷ lines) (other ∷ others) are =
       ap (λ (a : Answer). a ∷ others) ((one-answer line).only other are.0) ∙ ap (λ (rest : List Answer). (one-answer line).answer ∷ rest) (all-only lines others are.1)
 
-pub every_input_is_filtered : EveryTextHasOneOutcome → EveryInputIsFiltered
+pub every_input_is_filtered : EveryStringHasOneOutcome → EveryInputIsFiltered
 every_input_is_filtered one mode size lines = record {
   output = written_lines (all-answers one mode size lines);
   is = (all-answers one mode size lines, all-are one mode size lines, refl);

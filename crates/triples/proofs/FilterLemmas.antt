@@ -12,7 +12,7 @@ use Rattle.target_lexicon.specs.{CallingConvention.convention_name, DataModel.mo
 use Rattle.target_lexicon.specs.declared.calling_convention.CallingConvention.TheVariants.{SystemV, WasmBasicCAbi, WindowsFastcall, AppleAarch64}
 use Rattle.target_lexicon.specs.declared.data_model.CDataModel.TheVariants.{LP32, ILP32, LLP64, LP64, ILP64}
 use Rattle.target_lexicon.specs.Queries.{endianness_name, width_name, endianness, pointer_width, calling_convention, data_model}
-use Rattle.target_lexicon.specs.{FixedPoints.PrintedTextsGrowAtMost, FixedPoints.CanonicalTextsGrowAtMost, Laws.EveryTextHasOneOutcome, Printing.text_of, Reading.ReadsAs, Reading.IsRefusedAs, Refusal.Refusal, Refusal.refusal_line, Values.Values}
+use Rattle.target_lexicon.specs.{FixedPoints.PrintedStringsGrowAtMost, FixedPoints.CanonicalStringsGrowAtMost, Laws.EveryStringHasOneOutcome, Printing.string_of, Reading.ParsesAs, Reading.IsRefusedAs, Refusal.Refusal, Refusal.refusal_line, Values.Values}
 use Rattle.triples.specs.{Facts.facts_of, Facts.spaced_word, Filter.AreFilterAnswers, Filter.IsFilterAnswer}
 use Rattle.triples.specs.FilterSteps.{AnswersLines, AnswersRest, HasNoFeed, IsFilteredTo, IsLate, IsLineAnswer, IsLineEnd, IsShortAnswer, Pushes, PushesAnswer, with_feeds}
 use Rattle.triples.specs.Lines.{line_feed, lines_of, ended_lines_of, parts_without_empty_last, parts_without_last}
@@ -32,7 +32,7 @@ pushes-then a b old mid new at m end first next = record {
 }
 
 -- what is shown of a triple, or the words of a refusal, and then a line feed
-pub shown-pushes : (mode : LineMode) (line : List ℕ) (t : Values) (text old mid new : List ℕ) (at m end : ℕ) → IsUtf8 line → ReadsAs line t → text ≡ shown_by mode t
+pub shown-pushes : (mode : LineMode) (line : List ℕ) (t : Values) (text old mid new : List ℕ) (at m end : ℕ) → IsUtf8 line → ParsesAs line t → text ≡ shown_by mode t
     → Pushes text old at mid m → Pushes (line_feed ∷ []) mid m new end → PushesAnswer (IsShortAnswer mode line) old at new end
 shown-pushes mode line t text old mid new at m end utf8 reads is first next = record {
   answer = Shown text;
@@ -94,9 +94,9 @@ facts-short t =
     )
 
 -- what a mode shows is not much longer than the line
-pub shown-short : PrintedTextsGrowAtMost → CanonicalTextsGrowAtMost → (mode : LineMode) (line : List ℕ) (t : Values) → ReadsAs line t → length (shown_by mode t) ≤ length line + 54
+pub shown-short : PrintedStringsGrowAtMost → CanonicalStringsGrowAtMost → (mode : LineMode) (line : List ℕ) (t : Values) → ParsesAs line t → length (shown_by mode t) ≤ length line + 54
 shown-short printed canonical Print line t reads = omega (arith, printed line t reads)
-shown-short printed canonical Show line t reads = omega (arith, printed line t reads, facts-short t, length-append (text_of t) (facts_of t))
+shown-short printed canonical Show line t reads = omega (arith, printed line t reads, facts-short t, length-append (string_of t) (facts_of t))
 shown-short printed canonical Settle line t reads = omega (arith, canonical line t reads)
 
 -- no byte is no line feed
@@ -205,7 +205,7 @@ module _ (mode : LineMode) (size : ℕ) where
       subst (λ (t : List (List ℕ)). AreFilterAnswers mode size t output) (sym lines) far.answered
 
   -- what was answered is a beginning of the answers to all lines that have ended
-  pub filtered-part : EveryTextHasOneOutcome → (bytes rest output : List ℕ) → IsFilteredTo mode size bytes rest output
+  pub filtered-part : EveryStringHasOneOutcome → (bytes rest output : List ℕ) → IsFilteredTo mode size bytes rest output
       → (answers : List ℕ) × AreFilterAnswers mode size (ended_lines_of bytes) answers × (more : List ℕ) × (answers ≡ output ++ more)
   filtered-part one bytes rest output far =
       let others = every_input_is_filtered one mode size (ended_lines_of rest) in

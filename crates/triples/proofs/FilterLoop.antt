@@ -15,7 +15,7 @@ use Rattle.triples.specs.declared.counted.Counted.{Counted}
 use Rattle.triples.specs.declared.filter_error.FilterError.{FilterError}
 use Rattle.triples.specs.declared.filter_error.FilterError.TheVariants as filter_error
 use Rattle.triples.specs.declared.line_mode.LineMode.{LineMode}
-use Rattle.target_lexicon.specs.Laws.{EveryTextHasOneOutcome}
+use Rattle.target_lexicon.specs.Laws.{EveryStringHasOneOutcome}
 use Rattle.triples.proofs.FilterLemmas.{filtered-none, filtered-then, filtered-more, filtered-end, filtered-part, filtered-so-far, late-no-feed, no-bytes}
 use Rattle.triples.proofs.UseLemmas.{gives-kept, gives-none, gives-then, not-both, takes-none, takes-part, takes-then}
 
@@ -282,7 +282,7 @@ module _ {A B : Type 0} (rem : A → Option (List ℕ)) (con : B → Option (Lis
           }
 
       -- a write failed
-      pub ends-write : EveryTextHasOneOutcome → (e : FilterError) → LinesAnswered mode late piece (use_of con w1 w2) (Err e)
+      pub ends-write : EveryStringHasOneOutcome → (e : FilterError) → LinesAnswered mode late piece (use_of con w1 w2) (Err e)
           → FilterEndsAs mode size (use_of rem r0 r2) (use_of con w0 w2) (Err filter_error.Write)
       ends-write one e done =
           let next = done.5 size state.before fits state.is_late in

@@ -3,23 +3,23 @@ use Rattle.std.proofs.Common.{◌≡◌, ℕ, Bool, true, false, ◌||◌, not, 
 use Rattle.std.proofs.{lemmas.List.append-nil, Math.Bool.or-false, Math.Bool.or-true, lemmas.Bool.not-false, lemmas.List.Elements.filter-append}
 use Rattle.std.proofs.lemmas.Slice.Eq.{bytes_eq-Decides}
 use Rattle.std.specs.{Cmp.Lexicographic.same_text, List.filter, List.list_any, Str.bytes_eq}
-use Rattle.target_lexicon.specs.{FixedPoints.ReadTriplesArePlain, FixedPoints.RoundIsNormalStep, FixedPoints.SettledTextsAreKeys, FixedPoints.settled_values, FixedPoints.canonical_text, NormalStep.normal_step, Laws.EqualTextsEqualTriples, Laws.EveryTextHasOneOutcome, Printing.text_of, Reading.ReadsAs, Values.Values}
-use Rattle.triples.specs.MatrixLaws.{EntriesAreSettledTriples, entries_of, is_refusal, FirstEntriesStayInOrder, EachSettledTripleHasAnEntry, only_entries, MatricesAreTheirOwn}
+use Rattle.target_lexicon.specs.{FixedPoints.ParsedTriplesArePlain, FixedPoints.RoundIsNormalStep, FixedPoints.CanonicalStringsAreKeys, FixedPoints.canonical_values, FixedPoints.canonical_string, NormalStep.normal_step, Laws.EqualTextsEqualTriples, Laws.EveryStringHasOneOutcome, Printing.string_of, Reading.ParsesAs, Values.Values}
+use Rattle.triples.specs.MatrixLaws.{EntriesAreCanonicalTriples, entries_of, is_refusal, FirstEntriesStayInOrder, EachCanonicalTripleHasAnEntry, only_entries, MatricesAreTheirOwn}
 use Rattle.triples.specs.Output.{Answer, Shown, Refused, IsAnswer, AreAnswers, shows, is_kept_after, kept_answers, matrix_of, answer_bytes}
 use Rattle.triples.proofs.AnswerLemmas.{if_stays, push-any, staying-push}
 
--- two lines that parse have the same entry exactly if their canonical triples are equal
+-- two lines that parse have the same entry if and only if their canonical triples are equal
 
-pub entries_are_settled_triples : EveryTextHasOneOutcome → ReadTriplesArePlain → SettledTextsAreKeys → EqualTextsEqualTriples → EntriesAreSettledTriples
-entries_are_settled_triples one plain settled equal a b t u reads_a reads_b = (
+pub entries_are_canonical_triples : EveryStringHasOneOutcome → ParsedTriplesArePlain → CanonicalStringsAreKeys → EqualTextsEqualTriples → EntriesAreCanonicalTriples
+entries_are_canonical_triples one plain settled equal a b t u reads_a reads_b = (
   λ shared.
       let first : shared.1.0 ≡ t = (one a).values shared.1.0 t shared.1.1 reads_a in
       let second : shared.2.0 ≡ u = (one b).values shared.2.0 u shared.2.1 reads_b in
       let back_t = settled.comes_back t (plain a t reads_a) in
       let back_u = settled.comes_back u (plain b u reads_b) in
-      (equal (settled_values t) (settled_values u) back_t back_u).1
-      (ap canonical_text (sym first) ∙ sym shared.1.2 ∙ shared.2.2 ∙ ap canonical_text second),
-  λ same. (canonical_text t, (t, reads_a, refl), (u, reads_b, ap text_of same)),
+      (equal (canonical_values t) (canonical_values u) back_t back_u).1
+      (ap canonical_string (sym first) ∙ sym shared.1.2 ∙ shared.2.2 ∙ ap canonical_string second),
+  λ same. (canonical_string t, (t, reads_a, refl), (u, reads_b, ap string_of same)),
 )
 
 -- the matrix keeps the first entry for each string and no other
@@ -60,7 +60,7 @@ refusals-staying before (Refused message ∷ lines) =
 
 -- each line is added to the matrix of the earlier ones
 
--- no element passes exactly if none is kept
+-- no element passes if and only if none is kept
 none-passes : {X : Type 0} (test : X → Bool) (xs : List X) → filter test xs ≡ [] → list_any test xs ≡ false
 none-passes test [] none = refl
 none-passes test (x ∷ xs) none =
@@ -97,24 +97,24 @@ first-entry text (Shown other ∷ lines) some =
     (λ is. bytes_eq text other ≡ is → (is || list_any (shows text) lines) ≡ true → take 1 (cond is (Shown other ∷ rest) rest) ≡ Shown text ∷ [])
     [ true ↦ λ is here. ap (λ (t : List ℕ). Shown t ∷ []) (sym (same_text text other (sym is))) | false ↦ λ is later. first-entry text lines later ]) refl some
 
-module _ (one : EveryTextHasOneOutcome) (line : List ℕ) (t : Values) (reads : ReadsAs line t) where
-  own-entry : (answer : Answer) → IsAnswer canonical_text line answer → shows (canonical_text t) answer ≡ true
+module _ (one : EveryStringHasOneOutcome) (line : List ℕ) (t : Values) (reads : ParsesAs line t) where
+  own-entry : (answer : Answer) → IsAnswer canonical_string line answer → shows (canonical_string t) answer ≡ true
   own-entry (Shown text) is =
       let same : is.0 ≡ t = (one line).values is.0 t is.1 reads in
-      (bytes_eq-Decides (canonical_text t) text).1 (ap canonical_text (sym same) ∙ sym is.2)
+      (bytes_eq-Decides (canonical_string t) text).1 (ap canonical_string (sym same) ∙ sym is.2)
   own-entry (Refused message) is = absurd ((one line).apart t reads (is.0, is.1))
 
-  some-entry : (earlier back : List (List ℕ)) (answers : List Answer) → AreAnswers canonical_text (earlier ++ line ∷ back) answers
-      → list_any (shows (canonical_text t)) answers ≡ true
+  some-entry : (earlier back : List (List ℕ)) (answers : List Answer) → AreAnswers canonical_string (earlier ++ line ∷ back) answers
+      → list_any (shows (canonical_string t)) answers ≡ true
   some-entry [] back [] are = absurd are
-  some-entry [] back (first ∷ others) are = ap (λ (b : Bool). b || list_any (shows (canonical_text t)) others) (own-entry first are.0)
+  some-entry [] back (first ∷ others) are = ap (λ (b : Bool). b || list_any (shows (canonical_string t)) others) (own-entry first are.0)
   some-entry (other ∷ earlier) back [] are = absurd are
   some-entry (other ∷ earlier) back (first ∷ others) are =
-      ap (λ (b : Bool). shows (canonical_text t) first || b) (some-entry earlier back others are.1) ∙ or-true (shows (canonical_text t) first)
+      ap (λ (b : Bool). shows (canonical_string t) first || b) (some-entry earlier back others are.1) ∙ or-true (shows (canonical_string t) first)
 
-pub each_settled_triple_has_an_entry : EveryTextHasOneOutcome → EachSettledTripleHasAnEntry
-each_settled_triple_has_an_entry one earlier back line answers are t reads =
-    entries-staying (canonical_text t) [] answers ∙ first-entry (canonical_text t) answers (some-entry one line t reads earlier back answers are)
+pub each_canonical_triple_has_an_entry : EveryStringHasOneOutcome → EachCanonicalTripleHasAnEntry
+each_canonical_triple_has_an_entry one earlier back line answers are t reads =
+    entries-staying (canonical_string t) [] answers ∙ first-entry (canonical_string t) answers (some-entry one line t reads earlier back answers are)
 
 -- the entries of a matrix are their own matrix
 
@@ -157,7 +157,7 @@ stay-again before entries (Shown text ∷ lines) same =
 
 -- each entry is what mode `settle` writes for its own string
 abbrev AreOwn : List Answer → Type 0
-AreOwn lines = AreAnswers canonical_text (map answer_bytes (only_entries lines)) (only_entries lines)
+AreOwn lines = AreAnswers canonical_string (map answer_bytes (only_entries lines)) (only_entries lines)
 
 staying-own : (before lines : List Answer) → AreOwn lines → AreOwn (kept_answers before lines)
 staying-own before [] own = tt
@@ -167,20 +167,20 @@ staying-own before (Shown text ∷ lines) own =
     let rest = staying-own more lines own.1 in
     elim (is_kept_after before (Shown text)) as (λ stays. AreOwn (if_stays stays (Shown text) ++ kept_answers more lines)) [ true ↦ (own.0, rest) | false ↦ rest ]
 
-module _ (one : EveryTextHasOneOutcome) (plain : ReadTriplesArePlain) (round : RoundIsNormalStep) (keys : SettledTextsAreKeys) where
+module _ (one : EveryStringHasOneOutcome) (plain : ParsedTriplesArePlain) (round : RoundIsNormalStep) (keys : CanonicalStringsAreKeys) where
   -- a canonical triple stays, since it comes back and a round trip is a normal step
-  settled_values-stays : (t : Values) → ReadsAs (text_of (settled_values t)) (settled_values t) → settled_values (settled_values t) ≡ settled_values t
-  settled_values-stays t back =
-      let u = settled_values t in
-      let step : normal_step u ≡ u = (one (text_of u)).values (normal_step u) u (round u (plain (text_of u) u back)) back in
+  canonical_values-stays : (t : Values) → ParsesAs (string_of (canonical_values t)) (canonical_values t) → canonical_values (canonical_values t) ≡ canonical_values t
+  canonical_values-stays t back =
+      let u = canonical_values t in
+      let step : normal_step u ≡ u = (one (string_of u)).values (normal_step u) u (round u (plain (string_of u) u back)) back in
       ap normal_step step ∙ step
 
-  own-line : (line text : List ℕ) → IsAnswer canonical_text line (Shown text) → IsAnswer canonical_text text (Shown text)
+  own-line : (line text : List ℕ) → IsAnswer canonical_string line (Shown text) → IsAnswer canonical_string text (Shown text)
   own-line line text is =
       let back = keys.comes_back is.0 (plain line is.0 is.1) in
-      (settled_values is.0, subst (λ (x : List ℕ). ReadsAs x (settled_values is.0)) (sym is.2) back, is.2 ∙ ap text_of (sym (settled_values-stays is.0 back)))
+      (canonical_values is.0, subst (λ (x : List ℕ). ParsesAs x (canonical_values is.0)) (sym is.2) back, is.2 ∙ ap string_of (sym (canonical_values-stays is.0 back)))
 
-  are-own : (lines : List (List ℕ)) (answers : List Answer) → AreAnswers canonical_text lines answers → AreOwn answers
+  are-own : (lines : List (List ℕ)) (answers : List Answer) → AreAnswers canonical_string lines answers → AreOwn answers
   are-own [] [] are = tt
   are-own (line ∷ lines) (Shown text ∷ answers) are = (own-line line text are.0, are-own lines answers are.1)
   are-own (line ∷ lines) (Refused message ∷ answers) are = are-own lines answers are.1

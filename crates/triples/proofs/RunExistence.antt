@@ -4,8 +4,8 @@ use Rattle.std.proofs.lemmas.List.{append-nil}
 use Rattle.std.proofs.lemmas.Str.{IsUtf8-from_is_utf8, is_utf8-from_IsUtf8}
 use Rattle.std.specs.Str.{IsUtf8, is_utf8}
 use Rattle.serde_json.specs.{Data.Data, Data.Items, Data.no_items, Data.item, Find.as_array, Find.as_str, Read.read, Written.compact_text}
-use Rattle.target_lexicon.specs.Json.{JsonReadsAs, JsonErrorValue, NotText, Parse, Element, IsElementRead, IsJsonErrorOf, ElementsReadAs, IsFirstError, list_json_of, list_error_line}
-use Rattle.target_lexicon.specs.{FixedPoints.canonical_text, Laws.EveryTextHasOneOutcome, Printing.text_of, Reading.ReadsAs, Reading.IsRefusedAs, Refusal.Refusal, Refusal.refusal_line, Values.Values}
+use Rattle.target_lexicon.specs.Json.{JsonParsesAs, JsonErrorValue, NotText, Parse, Element, IsElementParsed, IsJsonErrorOf, ElementsParseAs, IsFirstError, list_json_of, list_error_line}
+use Rattle.target_lexicon.specs.{FixedPoints.canonical_string, Laws.EveryStringHasOneOutcome, Printing.string_of, Reading.ParsesAs, Reading.IsRefusedAs, Refusal.Refusal, Refusal.refusal_line, Values.Values}
 use Rattle.triples.specs.{Facts.text_with_facts, Lines.line_feed, Lines.lines_of}
 use Rattle.triples.specs.Output.{Answer, Shown, Refused, AreAnswers, matrix_of, written_lines}
 use Rattle.triples.specs.Calls.{Moved, Ended, Flushed}
@@ -22,7 +22,7 @@ use Rattle.triples.proofs.RunLawLemmas.{Outcome}
 abbrev HasOutcome : Mode → List ℕ → Type 0
 HasOutcome mode text = (result : Result (Unit {0}) RunError) × (bytes : List ℕ) × Outcome mode text result bytes
 
-module _ (one : EveryTextHasOneOutcome) where
+module _ (one : EveryStringHasOneOutcome) where
   some-answers : (shown : Values → List ℕ) (lines : List (List ℕ)) → (answers : List Answer) × AreAnswers shown lines answers
   some-answers shown [] = ([], tt)
   some-answers shown (line ∷ lines) =
@@ -33,45 +33,45 @@ module _ (one : EveryTextHasOneOutcome) where
       ]
 
   -- what a string, or a value that is none, is
-  text-outcome : (text : Option (List ℕ)) → ((t : Values) × MatchOption text ⊥ (λ s. ReadsAs s t)) ⊎ ((text ≡ None) ⊎ ((refusal : Refusal) × MatchOption text ⊥ (λ s. IsRefusedAs s refusal)))
+  text-outcome : (text : Option (List ℕ)) → ((t : Values) × MatchOption text ⊥ (λ s. ParsesAs s t)) ⊎ ((text ≡ None) ⊎ ((refusal : Refusal) × MatchOption text ⊥ (λ s. IsRefusedAs s refusal)))
   text-outcome None = inr (inl refl)
   text-outcome (Some s) =
-      elim ((one s).some) as (λ _. ((t : Values) × ReadsAs s t) ⊎ ((Some s ≡ None) ⊎ ((refusal : Refusal) × IsRefusedAs s refusal))) [ inl read ↦ inl read | inr refused ↦ inr (inr refused) ]
+      elim ((one s).some) as (λ _. ((t : Values) × ParsesAs s t) ⊎ ((Some s ≡ None) ⊎ ((refusal : Refusal) × IsRefusedAs s refusal))) [ inl read ↦ inl read | inr refused ↦ inr (inr refused) ]
 
-  value-outcome : (value : Data) → ((t : Values) × JsonReadsAs value t) ⊎ ((error : JsonErrorValue) × IsJsonErrorOf value error × (error ≢ Parse None))
+  value-outcome : (value : Data) → ((t : Values) × JsonParsesAs value t) ⊎ ((error : JsonErrorValue) × IsJsonErrorOf value error × (error ≢ Parse None))
   value-outcome value =
-      elim (text-outcome (as_str value)) as (λ _. ((t : Values) × JsonReadsAs value t) ⊎ ((error : JsonErrorValue) × IsJsonErrorOf value error × (error ≢ Parse None))) [
+      elim (text-outcome (as_str value)) as (λ _. ((t : Values) × JsonParsesAs value t) ⊎ ((error : JsonErrorValue) × IsJsonErrorOf value error × (error ≢ Parse None))) [
         | inl read ↦ inl read
-        | inr other ↦ elim other as (λ _. ((t : Values) × JsonReadsAs value t) ⊎ ((error : JsonErrorValue) × IsJsonErrorOf value error × (error ≢ Parse None))) [
+        | inr other ↦ elim other as (λ _. ((t : Values) × JsonParsesAs value t) ⊎ ((error : JsonErrorValue) × IsJsonErrorOf value error × (error ≢ Parse None))) [
           | inl none ↦ inr (NotText, none, λ bad. absurd cc)
           | inr refused ↦ inr (Parse (Some refused.0), refused.1, λ bad. absurd cc)
         ]
       ]
 
-  before-next : (value : Data) (values : Items) (i : ℕ) → ((t : Values) × JsonReadsAs value t) → ((k : ℕ) → k < i → IsElementRead values k) → (k : ℕ) → k < suc i → IsElementRead (item value values) k
+  before-next : (value : Data) (values : Items) (i : ℕ) → ((t : Values) × JsonParsesAs value t) → ((k : ℕ) → k < i → IsElementParsed values k) → (k : ℕ) → k < suc i → IsElementParsed (item value values) k
   before-next value values i read before zero less = read
   before-next value values i read before (suc k) less = before k (omega (arith, less))
 
-  elements-outcome : (elements : Items) → ((ts : List Values) × ElementsReadAs elements ts) ⊎ ((i : ℕ) × (error : JsonErrorValue) × IsFirstError elements i error × (error ≢ Parse None))
+  elements-outcome : (elements : Items) → ((ts : List Values) × ElementsParseAs elements ts) ⊎ ((i : ℕ) × (error : JsonErrorValue) × IsFirstError elements i error × (error ≢ Parse None))
   elements-outcome no_items = inl ([], tt)
   elements-outcome (item value values) =
       let rest = elements-outcome values in
       elim (value-outcome value) as
-      (λ _. ((ts : List Values) × ElementsReadAs (item value values) ts) ⊎ ((i : ℕ) × (error : JsonErrorValue) × IsFirstError (item value values) i error × (error ≢ Parse None))) [
+      (λ _. ((ts : List Values) × ElementsParseAs (item value values) ts) ⊎ ((i : ℕ) × (error : JsonErrorValue) × IsFirstError (item value values) i error × (error ≢ Parse None))) [
         | inl read ↦ elim rest as
-            (λ _. ((ts : List Values) × ElementsReadAs (item value values) ts) ⊎ ((i : ℕ) × (error : JsonErrorValue) × IsFirstError (item value values) i error × (error ≢ Parse None))) [
+            (λ _. ((ts : List Values) × ElementsParseAs (item value values) ts) ⊎ ((i : ℕ) × (error : JsonErrorValue) × IsFirstError (item value values) i error × (error ≢ Parse None))) [
               | inl all ↦ inl (read.0 ∷ all.0, (read.1, all.1))
               | inr first ↦ inr (suc first.0, first.1, record { here = first.2.here; before = before-next value values first.0 read first.2.before }, first.3)
             ]
         | inr bad ↦ inr (zero, bad.0, record { here = bad.1; before = λ k less. absurd (omega (arith, less)) }, bad.2)
       ]
 
-  array-outcome : (found : Option Items) → (found ≡ None) ⊎ (((ts : List Values) × MatchOption found ⊥ (λ elements. ElementsReadAs elements ts))
+  array-outcome : (found : Option Items) → (found ≡ None) ⊎ (((ts : List Values) × MatchOption found ⊥ (λ elements. ElementsParseAs elements ts))
       ⊎ ((i : ℕ) × (error : JsonErrorValue) × MatchOption found ⊥ (λ elements. IsFirstError elements i error) × (error ≢ Parse None)))
   array-outcome None = inl refl
   array-outcome (Some elements) =
       elim (elements-outcome elements) as
-      (λ _. (Some elements ≡ None) ⊎ (((ts : List Values) × ElementsReadAs elements ts) ⊎ ((i : ℕ) × (error : JsonErrorValue) × IsFirstError elements i error × (error ≢ Parse None)))) [
+      (λ _. (Some elements ≡ None) ⊎ (((ts : List Values) × ElementsParseAs elements ts) ⊎ ((i : ℕ) × (error : JsonErrorValue) × IsFirstError elements i error × (error ≢ Parse None)))) [
         | inl all ↦ inr (inl all)
         | inr first ↦ inr (inr first)
       ]
@@ -89,10 +89,10 @@ module _ (one : EveryTextHasOneOutcome) where
       ]
 
   text-has-outcome : (mode : Mode) (text : List ℕ) → IsUtf8 text → HasOutcome mode text
-  text-has-outcome Print text utf8 = let found = some-answers text_of (lines_of text) in (Ok tt, written_lines found.0, (utf8, (found.0, found.1, refl)))
+  text-has-outcome Print text utf8 = let found = some-answers string_of (lines_of text) in (Ok tt, written_lines found.0, (utf8, (found.0, found.1, refl)))
   text-has-outcome Show text utf8 = let found = some-answers text_with_facts (lines_of text) in (Ok tt, written_lines found.0, (utf8, (found.0, found.1, refl)))
-  text-has-outcome Settle text utf8 = let found = some-answers canonical_text (lines_of text) in (Ok tt, written_lines found.0, (utf8, (found.0, found.1, refl)))
-  text-has-outcome Matrix text utf8 = let found = some-answers canonical_text (lines_of text) in (Ok tt, written_lines (matrix_of found.0), (utf8, (found.0, found.1, refl)))
+  text-has-outcome Settle text utf8 = let found = some-answers canonical_string (lines_of text) in (Ok tt, written_lines found.0, (utf8, (found.0, found.1, refl)))
+  text-has-outcome Matrix text utf8 = let found = some-answers canonical_string (lines_of text) in (Ok tt, written_lines (matrix_of found.0), (utf8, (found.0, found.1, refl)))
   text-has-outcome Json text utf8 =
       elim (json-outcome (read text)) as (λ _. HasOutcome Json text) [
         | inl none ↦ (Err run_error.NotJson, [], (refl, utf8, none, refl))
@@ -174,6 +174,6 @@ run-of mode text (Err e) bytes is =
     gives-run mode text (Err e) bytes untouched is (ends mode text bytes (Err e) is) (record { moved = none; known = none }) refl (inl refl)
     (inr ([], refl, ap (λ (t : List ℕ). Some t) none))
 
-pub every_input_has_an_outcome : EveryTextHasOneOutcome → EveryInputHasAnOutcome
+pub every_input_has_an_outcome : EveryStringHasOneOutcome → EveryInputHasAnOutcome
 every_input_has_an_outcome one mode text =
     let found = has-outcome one mode text (is_utf8 text) refl in (found.0, found.1, run-of mode text found.0 found.1 found.2)

@@ -2,7 +2,7 @@
 use Rattle.std.proofs.Common.{◌≡◌, ◌≢◌, ◌↔◌, ℕ, List, [], take, Option, None, MatchOption, IsErrAnd, IsErrOf, IsTrue, Result, Ok, Err, refl, sym, subst, ◌∙◌, ap, inl, inr, ◌<◌, length}
 use Rattle.std.specs.Str.{IsUtf8}
 use Rattle.serde_json.specs.{Data.Data, Find.as_array, Read.read}
-use Rattle.target_lexicon.specs.Laws.{EveryTextHasOneOutcome}
+use Rattle.target_lexicon.specs.Laws.{EveryStringHasOneOutcome}
 use Rattle.triples.specs.{JsonOutput.IsJsonInputErrorOf, Output.IsOutput, Run.Use, Run.Gives, Run.Takes, Run.TakesBeginning, Run.IsReadWhole, Run.IsUnfailed, Run.HasFailed, Run.RunEnds, Run.EndsAs, Run.IsUntouched, Run.StopsLast, Calls.ends_last, Calls.failures_in, Calls.stops_in}
 use Rattle.triples.specs.RunLaws.{RunGives, RunsEndOneWay, IsJudged, ErrorsOfRunsAreExact}
 use Rattle.triples.specs.declared.mode.Mode.{Mode}
@@ -68,7 +68,7 @@ outcome mode text bytes result run =
 not-json-or-not-list : (text : List ℕ) → IsJsonInputErrorOf text run_error.NotJson → IsJsonInputErrorOf text run_error.NotList → ⊥
 not-json-or-not-list text json list = subst (λ (o : Option Data). MatchOption o ⊥ (λ value. as_array value ≡ None)) json list
 
-module _ (one : EveryTextHasOneOutcome) (mode : Mode) (text x y : List ℕ) where
+module _ (one : EveryStringHasOneOutcome) (mode : Mode) (text x y : List ℕ) where
   same-outcome : (a b : Result (Unit {0}) RunError) → Outcome mode text a x → Outcome mode text b y → (a ≡ b) × (x ≡ y)
   same-outcome (Ok _) (Ok _) a b = (refl, outputs-unique one mode text x y a.1 b.1)
   same-outcome (Ok _) (Err run_error.NotUtf8) a b = absurd (b.0 a.0)
@@ -93,7 +93,7 @@ module _ (one : EveryTextHasOneOutcome) (mode : Mode) (text x y : List ℕ) wher
   same-outcome (Err run_error.Write) _ a b = absurd a
   same-outcome (Err run_error.OutOfMemory) _ a b = absurd a
 
-pub runs_end_one_way : EveryTextHasOneOutcome → RunsEndOneWay
+pub runs_end_one_way : EveryStringHasOneOutcome → RunsEndOneWay
 runs_end_one_way one mode text x y a b first second =
     same-outcome one mode text x y a b (outcome mode text x a first) (outcome mode text y b second)
 

@@ -2,8 +2,8 @@
 use Rattle.std.proofs.Common.{◌≡◌, ◌≢◌, ℕ, zero, suc, List, [], ◌∷◌, ◌++◌, codes, Option, Some, None, MatchOption, inl, inr, refl, sym, ap, subst, ◌∙◌, arith}
 use Rattle.std.proofs.lemmas.Bool.{cases_lt}
 use Rattle.serde_json.specs.{Data.Data, Data.string, Data.Items, Data.no_items, Data.item, Find.as_array, Find.as_str, Find.get_item, Read.read, Written.compact_text}
-use Rattle.target_lexicon.specs.{Json.JsonReadsAs, Json.JsonErrorValue, Json.NotText, Json.Parse, Json.Element, Json.IsJsonErrorOf, Json.ElementsReadAs, Json.IsFirstError, Json.list_json_of, Json.list_error_line}
-use Rattle.target_lexicon.specs.{FixedPoints.canonical_text, Laws.EveryTextHasOneOutcome, Printing.text_of, Reading.ReadsAs, Refusal.Refusal, Refusal.refusal_line, Values.Values}
+use Rattle.target_lexicon.specs.{Json.JsonParsesAs, Json.JsonErrorValue, Json.NotText, Json.Parse, Json.Element, Json.IsJsonErrorOf, Json.ElementsParseAs, Json.IsFirstError, Json.list_json_of, Json.list_error_line}
+use Rattle.target_lexicon.specs.{FixedPoints.canonical_string, Laws.EveryStringHasOneOutcome, Printing.string_of, Reading.ParsesAs, Refusal.Refusal, Refusal.refusal_line, Values.Values}
 use Rattle.triples.specs.{Facts.text_with_facts, JsonOutput.IsJsonAnswer, Lines.line_feed, Lines.lines_of}
 use Rattle.triples.specs.Output.{Answer, Shown, Refused, IsAnswer, AreAnswers, IsLineOutput, IsOutput, matrix_of, written_lines}
 use Rattle.triples.specs.declared.mode.Mode.{Mode}
@@ -17,14 +17,14 @@ pub text-is-json : (found : Option Data) (output : List ℕ) → IsJsonText foun
 text-is-json found output is none = subst (λ (f : Option Data). IsJsonText f output) none is
 
 answer-is-list : (value : Data) (answer : List ℕ) → IsJsonAnswer value answer → as_array value ≡ None → ⊥
-answer-is-list value answer (inl list) none = subst (λ (o : Option Items). MatchOption o ⊥ (λ elements. ElementsReadAs elements list.0)) none list.1
+answer-is-list value answer (inl list) none = subst (λ (o : Option Items). MatchOption o ⊥ (λ elements. ElementsParseAs elements list.0)) none list.1
 answer-is-list value answer (inr line) none = subst (λ (o : Option Items). MatchOption o ⊥ (λ elements. IsFirstError elements line.0 line.1.0)) none line.1.1.0
 
 pub text-is-list : (found : Option Data) (output : List ℕ) → IsJsonText found output → MatchOption found ⊥ (λ value. as_array value ≡ None) → ⊥
 text-is-list None output is none = is
 text-is-list (Some value) output is none = answer-is-list value is.0 is.1 none
 
-module _ (one : EveryTextHasOneOutcome) where
+module _ (one : EveryStringHasOneOutcome) where
   pub answer-unique : (shown : Values → List ℕ) (line : List ℕ) (a b : Answer) → IsAnswer shown line a → IsAnswer shown line b → a ≡ b
   answer-unique shown line (Shown x) (Shown y) a b = ap Shown (a.2 ∙ ap shown ((one line).values a.0 b.0 a.1 b.1) ∙ sym b.2)
   answer-unique shown line (Refused x) (Refused y) a b = ap Refused (a.2 ∙ ap (λ (r : Refusal). codes "error: " ++ refusal_line r) ((one line).refusal a.0 b.0 a.1 b.1) ∙ sym b.2)
@@ -44,7 +44,7 @@ module _ (one : EveryTextHasOneOutcome) where
   lines-unique shown input x y a b = a.2 ∙ ap written_lines (answers-unique shown (lines_of input) a.0 b.0 a.1 b.1) ∙ sym b.2
 
   -- an element that parses has no error, and each other one has one error
-  read-no-error : (value : Data) (t : Values) (error : JsonErrorValue) → error ≢ Parse None → JsonReadsAs value t → IsJsonErrorOf value error → ⊥
+  read-no-error : (value : Data) (t : Values) (error : JsonErrorValue) → error ≢ Parse None → JsonParsesAs value t → IsJsonErrorOf value error → ⊥
   read-no-error (string s) t NotText some reads is = absurd (let bad : ◌≡◌ {A = Option (List ℕ)} (Some s) None = is in cc)
   read-no-error (string s) t (Parse None) some reads is = some refl
   read-no-error (string s) t (Parse (Some refusal)) some reads is = (one s).apart t reads (refusal, is)
@@ -60,11 +60,11 @@ module _ (one : EveryTextHasOneOutcome) where
   error-unique _ NotText (Parse y) some_x some_y a b = absurd b
   error-unique _ (Parse x) y some_x some_y a b = absurd a
 
-  text-unique : (text : Option (List ℕ)) (t u : Values) → MatchOption text ⊥ (λ s. ReadsAs s t) → MatchOption text ⊥ (λ s. ReadsAs s u) → t ≡ u
+  text-unique : (text : Option (List ℕ)) (t u : Values) → MatchOption text ⊥ (λ s. ParsesAs s t) → MatchOption text ⊥ (λ s. ParsesAs s u) → t ≡ u
   text-unique None t u a b = absurd a
   text-unique (Some s) t u a b = (one s).values t u a b
 
-  elements-unique : (elements : Items) (ts us : List Values) → ElementsReadAs elements ts → ElementsReadAs elements us → ts ≡ us
+  elements-unique : (elements : Items) (ts us : List Values) → ElementsParseAs elements ts → ElementsParseAs elements us → ts ≡ us
   elements-unique no_items [] [] a b = refl
   elements-unique no_items [] (u ∷ us) a b = absurd b
   elements-unique no_items (t ∷ ts) us a b = absurd a
@@ -73,14 +73,14 @@ module _ (one : EveryTextHasOneOutcome) where
   elements-unique (item value values) (t ∷ ts) (u ∷ us) a b =
       ap (λ (v : Values). v ∷ ts) (text-unique (as_str value) t u a.0 b.0) ∙ ap (λ (vs : List Values). u ∷ vs) (elements-unique values ts us a.1 b.1)
 
-  elements-no-error : (elements : Items) (ts : List Values) (i : ℕ) (error : JsonErrorValue) → error ≢ Parse None → ElementsReadAs elements ts
+  elements-no-error : (elements : Items) (ts : List Values) (i : ℕ) (error : JsonErrorValue) → error ≢ Parse None → ElementsParseAs elements ts
       → MatchOption (get_item i elements) ⊥ (λ value. IsJsonErrorOf value error) → ⊥
   elements-no-error no_items ts i error some reads here = here
   elements-no-error (item value values) [] i error some reads here = reads
   elements-no-error (item value values) (t ∷ ts) zero error some reads here = read-no-error value t error some reads.0 here
   elements-no-error (item value values) (t ∷ ts) (suc i) error some reads here = elements-no-error values ts i error some reads.1 here
 
-  found-no-error : (found : Option Data) (error : JsonErrorValue) → error ≢ Parse None → MatchOption found ⊥ (λ value. (t : Values) × JsonReadsAs value t)
+  found-no-error : (found : Option Data) (error : JsonErrorValue) → error ≢ Parse None → MatchOption found ⊥ (λ value. (t : Values) × JsonParsesAs value t)
       → MatchOption found ⊥ (λ value. IsJsonErrorOf value error) → ⊥
   found-no-error None error some reads is = reads
   found-no-error (Some value) error some reads is = read-no-error value reads.0 error some reads.1 is
@@ -104,11 +104,11 @@ module _ (one : EveryTextHasOneOutcome) where
     ]
   ]
 
-  list-unique : (found : Option Items) (ts us : List Values) → MatchOption found ⊥ (λ elements. ElementsReadAs elements ts) → MatchOption found ⊥ (λ elements. ElementsReadAs elements us) → ts ≡ us
+  list-unique : (found : Option Items) (ts us : List Values) → MatchOption found ⊥ (λ elements. ElementsParseAs elements ts) → MatchOption found ⊥ (λ elements. ElementsParseAs elements us) → ts ≡ us
   list-unique None ts us a b = absurd a
   list-unique (Some elements) ts us a b = elements-unique elements ts us a b
 
-  list-no-error : (found : Option Items) (ts : List Values) (i : ℕ) (error : JsonErrorValue) → error ≢ Parse None → MatchOption found ⊥ (λ elements. ElementsReadAs elements ts)
+  list-no-error : (found : Option Items) (ts : List Values) (i : ℕ) (error : JsonErrorValue) → error ≢ Parse None → MatchOption found ⊥ (λ elements. ElementsParseAs elements ts)
       → MatchOption found ⊥ (λ elements. IsFirstError elements i error) → ⊥
   list-no-error None ts i error some a b = a
   list-no-error (Some elements) ts i error some a b = elements-no-error elements ts i error some a b.here
@@ -129,8 +129,8 @@ module _ (one : EveryTextHasOneOutcome) where
   json-unique (Some value) x y a b = a.2 ∙ ap (λ (t : List ℕ). t ++ line_feed ∷ []) (json-answer-unique value a.0 b.0 a.1 b.1) ∙ sym b.2
 
   pub outputs-unique : (mode : Mode) (input x y : List ℕ) → IsOutput mode input x → IsOutput mode input y → x ≡ y
-  outputs-unique Print input x y a b = lines-unique text_of input x y a b
+  outputs-unique Print input x y a b = lines-unique string_of input x y a b
   outputs-unique Show input x y a b = lines-unique text_with_facts input x y a b
-  outputs-unique Settle input x y a b = lines-unique canonical_text input x y a b
-  outputs-unique Matrix input x y a b = a.2 ∙ ap (λ (answers : List Answer). written_lines (matrix_of answers)) (answers-unique canonical_text (lines_of input) a.0 b.0 a.1 b.1) ∙ sym b.2
+  outputs-unique Settle input x y a b = lines-unique canonical_string input x y a b
+  outputs-unique Matrix input x y a b = a.2 ∙ ap (λ (answers : List Answer). written_lines (matrix_of answers)) (answers-unique canonical_string (lines_of input) a.0 b.0 a.1 b.1) ∙ sym b.2
   outputs-unique Json input x y a b = json-unique (read input) x y a b

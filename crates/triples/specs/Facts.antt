@@ -1,6 +1,6 @@
 -- What mode `show` writes of a triple: the triple, printed, and four words.
 use Rattle.std.specs.Prelude.{ℕ, List, ◌++◌, codes, Option, option_map, unwrap_or}
-use Rattle.target_lexicon.specs.{CallingConvention.convention_name, DataModel.model_name, Printing.text_of, Values.Values}
+use Rattle.target_lexicon.specs.{CallingConvention.convention_name, DataModel.model_name, Printing.string_of, Values.Values}
 use Rattle.target_lexicon.specs.Queries.{endianness_name, width_name, endianness, pointer_width, calling_convention, data_model}
 
 -- a space and the word, `-` for none
@@ -15,4 +15,4 @@ facts_of t =
 
 -- a printed triple, and these words
 abbrev pub text_with_facts : Values → List ℕ
-text_with_facts t = text_of t ++ facts_of t
+text_with_facts t = string_of t ++ facts_of t

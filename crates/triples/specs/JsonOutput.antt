@@ -4,7 +4,7 @@ use Rattle.serde_json.specs.Data.{Data}
 use Rattle.serde_json.specs.Find.{as_array}
 use Rattle.serde_json.specs.Read.{read}
 use Rattle.serde_json.specs.Written.{compact_text}
-use Rattle.target_lexicon.specs.Json.{JsonErrorValue, Parse, Element, ListReadsAs, IsListErrorOf, list_json_of, list_error_line}
+use Rattle.target_lexicon.specs.Json.{JsonErrorValue, Parse, Element, ListParsesAs, IsListErrorOf, list_json_of, list_error_line}
 use Rattle.target_lexicon.specs.Values.{Values}
 use Rattle.triples.specs.Lines.{line_feed}
 use Rattle.triples.specs.declared.run_error.RunError.{RunError}
@@ -12,7 +12,7 @@ use Rattle.triples.specs.declared.run_error.RunError.TheVariants as run_error
 
 -- the compact form of the list that the value parses as
 abbrev pub IsListWritten : Data → List ℕ → Type 0
-IsListWritten value answer = (ts : List Values) × ListReadsAs value ts × (answer ≡ compact_text (list_json_of ts))
+IsListWritten value answer = (ts : List Values) × ListParsesAs value ts × (answer ≡ compact_text (list_json_of ts))
 
 -- `error: ` and the line of the first element that doesn't parse, unless an allocation failed there
 abbrev pub IsElementLine : Data → List ℕ → Type 0

@@ -1,16 +1,16 @@
 -- Laws of mode `matrix`.
 use Rattle.std.specs.Prelude.{ℕ, ◌≡◌, ◌↔◌, Bool, true, false, not, List, [], ◌∷◌, ◌++◌, take, map}
 use Rattle.std.specs.List.{filter}
-use Rattle.target_lexicon.specs.{FixedPoints.settled_values, FixedPoints.canonical_text, Reading.ReadsAs, Values.Values}
+use Rattle.target_lexicon.specs.{FixedPoints.canonical_values, FixedPoints.canonical_string, Reading.ParsesAs, Values.Values}
 use Rattle.triples.specs.Output.{Answer, Shown, Refused, IsAnswer, AreAnswers, shows, matrix_of, answer_bytes}
 
 -- mode `settle` writes the same string for two lines
 abbrev pub ShareAnEntry : List ℕ → List ℕ → Type 0
-ShareAnEntry a b = (text : List ℕ) × IsAnswer canonical_text a (Shown text) × IsAnswer canonical_text b (Shown text)
+ShareAnEntry a b = (text : List ℕ) × IsAnswer canonical_string a (Shown text) × IsAnswer canonical_string b (Shown text)
 
--- two lines that parse have the same entry exactly if their canonical triples are equal
-abbrev pub EntriesAreSettledTriples : Type 0
-EntriesAreSettledTriples = (a b : List ℕ) (t u : Values) → ReadsAs a t → ReadsAs b u → ShareAnEntry a b ↔ (settled_values t ≡ settled_values u)
+-- two lines that parse have the same entry if and only if their canonical triples are equal
+abbrev pub EntriesAreCanonicalTriples : Type 0
+EntriesAreCanonicalTriples = (a b : List ℕ) (t u : Values) → ParsesAs a t → ParsesAs b u → ShareAnEntry a b ↔ (canonical_values t ≡ canonical_values u)
 
 -- the entries for a string among the answers of mode `settle`
 abbrev pub entries_of : List ℕ → List Answer → List Answer
@@ -39,9 +39,9 @@ pub record FirstEntriesStayInOrder : Type 0 where
   pub others : (before : List Answer) → StaysAtItsFirst before
 
 -- the canonical triple of each line of an input that parses has one entry in the matrix
-abbrev pub EachSettledTripleHasAnEntry : Type 0
-EachSettledTripleHasAnEntry = (before after : List (List ℕ)) (line : List ℕ) (answers : List Answer) → AreAnswers canonical_text (before ++ line ∷ after) answers
-    → (t : Values) → ReadsAs line t → entries_of (canonical_text t) (matrix_of answers) ≡ Shown (canonical_text t) ∷ []
+abbrev pub EachCanonicalTripleHasAnEntry : Type 0
+EachCanonicalTripleHasAnEntry = (before after : List (List ℕ)) (line : List ℕ) (answers : List Answer) → AreAnswers canonical_string (before ++ line ∷ after) answers
+    → (t : Values) → ParsesAs line t → entries_of (canonical_string t) (matrix_of answers) ≡ Shown (canonical_string t) ∷ []
 
 -- the entries among answers
 abbrev pub only_entries : List Answer → List Answer
@@ -49,9 +49,9 @@ only_entries lines = filter (λ line. not (is_refusal line)) lines
 
 -- the entries of a matrix, as lines, give the same entries: mode `settle` writes them unchanged, and all of them stay
 pub record IsItsOwnMatrix (entries : List Answer) : Type 0 where
-  pub settled : AreAnswers canonical_text (map answer_bytes entries) entries
+  pub settled : AreAnswers canonical_string (map answer_bytes entries) entries
   pub stays : matrix_of entries ≡ entries
 
 -- this holds for every matrix
 abbrev pub MatricesAreTheirOwn : Type 0
-MatricesAreTheirOwn = (lines : List (List ℕ)) (answers : List Answer) → AreAnswers canonical_text lines answers → IsItsOwnMatrix (only_entries (matrix_of answers))
+MatricesAreTheirOwn = (lines : List (List ℕ)) (answers : List Answer) → AreAnswers canonical_string lines answers → IsItsOwnMatrix (only_entries (matrix_of answers))

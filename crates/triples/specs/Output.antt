@@ -2,7 +2,7 @@
 use Rattle.std.specs.Prelude.{ℕ, ◌≡◌, Bool, true, false, not, if◌then◌else◌, List, [], ◌∷◌, ◌++◌, codes}
 use Rattle.std.specs.List.{AllZip, list_any}
 use Rattle.std.specs.Str.{bytes_eq}
-use Rattle.target_lexicon.specs.{FixedPoints.canonical_text, Printing.text_of, Reading.ReadsAs, Reading.IsRefusedAs, Refusal.Refusal, Refusal.refusal_line, Values.Values}
+use Rattle.target_lexicon.specs.{FixedPoints.canonical_string, Printing.string_of, Reading.ParsesAs, Reading.IsRefusedAs, Refusal.Refusal, Refusal.refusal_line, Values.Values}
 use Rattle.triples.specs.{declared.line_mode.LineMode.LineMode, declared.mode.Mode.Mode, Facts.text_with_facts}
 use Rattle.triples.specs.declared.line_mode.LineMode.TheVariants as line_mode
 use Rattle.triples.specs.declared.mode.Mode.TheVariants.{Print, Show, Settle, Json, Matrix}
@@ -16,13 +16,13 @@ pub data Answer : Type 0 where
 
 -- what a mode of lines shows of a triple
 abbrev pub shown_by : LineMode → Values → List ℕ
-shown_by line_mode.Print = text_of
+shown_by line_mode.Print = string_of
 shown_by line_mode.Show = text_with_facts
-shown_by line_mode.Settle = canonical_text
+shown_by line_mode.Settle = canonical_string
 
 -- an answer shows the triple that the line parses as, or is `error: ` and the line of its refusal
 abbrev pub IsAnswer : (Values → List ℕ) → List ℕ → Answer → Type 0
-IsAnswer shown line (Shown text) = (values : Values) × ReadsAs line values × (text ≡ shown values)
+IsAnswer shown line (Shown text) = (values : Values) × ParsesAs line values × (text ≡ shown values)
 IsAnswer shown line (Refused message) = (refusal : Refusal) × IsRefusedAs line refusal × (message ≡ codes "error: " ++ refusal_line refusal)
 
 -- the answer to each line, in order
@@ -66,7 +66,7 @@ IsLineOutput shown lines output =
 -- the output is the matrix of these lines
 abbrev pub IsMatrix : List (List ℕ) → List ℕ → Type 0
 IsMatrix lines output =
-    (answers : List Answer) × AreAnswers canonical_text lines answers × (output ≡ written_lines (matrix_of answers))
+    (answers : List Answer) × AreAnswers canonical_string lines answers × (output ≡ written_lines (matrix_of answers))
 
 -- the output of a mode for an input
 abbrev pub IsOutput : Mode → List ℕ → List ℕ → Type 0

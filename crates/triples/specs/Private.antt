@@ -4,7 +4,7 @@ use Rattle.std.specs.declared.alloc.Global.{Global}
 use Rattle.std.specs.HashSet.{HashSet, contains_text}
 use Rattle.std.specs.declared.hash.{BuildHasherDefault.BuildHasherDefault, FoldHasher.FoldHasher}
 use Rattle.std.specs.Str.{bytes_eq}
-use Rattle.target_lexicon.specs.{FixedPoints.canonical_text, Refusal.Refusal, Refusal.refusal_line, Refusal.refusal_of, declared.parse_error.ParseError.ParseError, Values.Values}
+use Rattle.target_lexicon.specs.{FixedPoints.canonical_string, Refusal.Refusal, Refusal.refusal_line, Refusal.refusal_of, declared.parse_error.ParseError.ParseError, Values.Values}
 use Rattle.triples.specs.Output.{Answer, Shown, Refused, IsAnswer, shows, written_lines}
 
 -- the printed triples that were seen
@@ -38,6 +38,6 @@ pub record AddsAnswer (shown : Values → List ℕ) (line old new : List ℕ) : 
 -- seen
 pub record AddsEntry (line old new : List ℕ) (seen_old seen_new : Seen) : Type 0 where
   pub answer : Answer
-  pub is : IsAnswer canonical_text line answer
+  pub is : IsAnswer canonical_string line answer
   pub grown : new ≡ old ++ written_lines (if is_repeated seen_old answer then [] else answer ∷ [])
   pub seen : (text : List ℕ) → contains_text seen_new text ≡ (contains_text seen_old text || shows text answer)

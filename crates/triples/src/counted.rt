@@ -42,7 +42,7 @@ impl<D> Counted<D> {
 }
 
 impl<R: Read> Counted<R> {
-    /// One read. The count rises by one exactly if it fails.
+    /// One read. The count rises by one if and only if it fails.
     pub fn read(&mut self, buf: &mut [u8]) -> io::Result<usize>
         ensures bound { ReadsAtMost result buf.new }
         ensures bytes { ReadConsumes (R.remaining (inner self.old)) (R.remaining (inner self.new))
@@ -82,7 +82,7 @@ impl<R: Read> Counted<R> {
 }
 
 impl<W: Write> Counted<W> {
-    /// One write. The count rises by one exactly if it fails, or takes no byte of a piece that is not empty.
+    /// One write. The count rises by one if and only if it fails, or takes no byte of a piece that is not empty.
     pub fn write(&mut self, buf: &[u8]) -> io::Result<usize>
         ensures bound { WritesAtMost result buf.now }
         ensures bytes { WriteAppends (W.contents (inner self.old)) (W.contents (inner self.new))
@@ -103,7 +103,7 @@ impl<W: Write> Counted<W> {
         answer
     }
 
-    /// One flush. The count rises by one exactly if it fails.
+    /// One flush. The count rises by one if and only if it fails.
     pub fn flush(&mut self) -> io::Result<()>
         ensures bytes { Keeps (W.contents (inner self.old)) (W.contents (inner self.new)) }
         ensures call { calls self.new ≡ flush_call result ∷ calls self.old }

@@ -2,7 +2,7 @@
 ghost use Rattle.std.specs.Prelude.{◌≡◌, ◌+◌, ◌-◌, ◌<◌, ◌≤◌, length, option_map, take, drop, true};
 ghost use Rattle.lexicon_fields.specs.Vendor.{is_plain};
 ghost use Rattle.lexicon_fields.specs.VendorRef.{ref_value};
-ghost use Rattle.target_lexicon.specs.Printing.{text_of};
+ghost use Rattle.target_lexicon.specs.Printing.{string_of};
 ghost use Rattle.target_lexicon.specs.Refusal.{refusal_line};
 ghost use Rattle.target_lexicon.specs.ValuesRef.{refusal_value, values_of_ref};
 ghost use Rattle.triples.specs.Facts.{facts_of, spaced_word};
@@ -17,7 +17,7 @@ use crate::line_mode::LineMode;
 use crate::streams::write_all;
 use std::io::{Read, Write};
 use target_lexicon::laws::{
-    every_text_has_one_outcome, printed_texts_grow_at_most, read_vendors_are_plain,
+    every_string_has_one_outcome, printed_strings_grow_at_most, read_vendors_are_plain,
 };
 use target_lexicon::{CDataModel, CallingConvention, Endianness, PointerWidth, Refusal, TripleRef};
 
@@ -33,8 +33,8 @@ pub const ANSWER_ROOM: usize = 55;
 ///
 /// # Errors
 ///
-/// - [`FilterError::Read`] exactly if a read failed. The answers to all lines before it were written.
-/// - [`FilterError::Write`] exactly if a write or the flush failed, or a write took no byte of a piece. A beginning of
+/// - [`FilterError::Read`] if and only if a read failed. The answers to all lines before it were written.
+/// - [`FilterError::Write`] if and only if a write or the flush failed, or a write took no byte of a piece. A beginning of
 ///   the answers was written.
 /// - [`FilterError::Endless`] after `u64::MAX` reads, if none of them found the end. The answers to all lines were written.
 pub fn filter<R: Read, W: Write>(
@@ -49,7 +49,7 @@ pub fn filter<R: Read, W: Write>(
     ensures ends { FilterEndsAs mode (length input.old) (use_of R.remaining r.old r.new)
         (use_of W.contents w.old w.new) result }
 {
-    every_text_has_one_outcome();
+    every_string_has_one_outcome();
     let mut held = 0;
     let mut is_late = false;
     for _ in 0..u64::MAX {
@@ -219,7 +219,7 @@ fn push_answer(mode: LineMode, line: &[u8], out: &mut [u8], at: usize) -> usize
         return put(out, at, b"error: Line is not UTF-8\n");
     };
     read_vendors_are_plain();
-    printed_texts_grow_at_most();
+    printed_strings_grow_at_most();
     match TripleRef::from_str(line) {
         Ok(triple) => {
             let end = put_shown(mode, out, at, triple);
@@ -251,8 +251,8 @@ fn put_shown(mode: LineMode, out: &mut [u8], at: usize, triple: TripleRef<'_>) -
 
 /// Puts the printed triple into the buffer at this position. Returns where it ends.
 fn put_triple(out: &mut [u8], at: usize, triple: &TripleRef<'_>) -> usize
-    requires { at + length (text_of (values_of_ref triple.now)) ≤ length out.old }
-    ensures { Pushes (text_of (values_of_ref triple.now)) out.old at out.new result }
+    requires { at + length (string_of (values_of_ref triple.now)) ≤ length out.old }
+    ensures { Pushes (string_of (values_of_ref triple.now)) out.old at out.new result }
 {
     at + triple.write_to(&mut out[at..])
 }

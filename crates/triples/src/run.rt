@@ -24,12 +24,12 @@ use std::io::{Read, Write};
 ///
 /// After each error but `Write` nothing was written.
 ///
-/// - [`RunError::Read`] exactly if a read failed.
+/// - [`RunError::Read`] if and only if a read failed.
 /// - [`RunError::NotUtf8`] if the whole input was read and is not UTF-8.
 /// - [`RunError::NotJson`] if the whole input was read in mode `json` and is UTF-8 but not JSON.
 /// - [`RunError::NotList`] if the whole input was read in mode `json` and is JSON but not a list.
 /// - [`RunError::OutOfMemory`] if an allocation failed, which happens only after a byte was read.
-/// - [`RunError::Write`] exactly if a write or the flush failed, or a write took no byte of a piece. A beginning of
+/// - [`RunError::Write`] if and only if a write or the flush failed, or a write took no byte of a piece. A beginning of
 ///   the output was written.
 pub fn run<R: Read, W: Write>(
     alloc: Global,

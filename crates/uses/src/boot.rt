@@ -1,6 +1,6 @@
 //! A boot loader: facts of an image's target, without an allocator.
 ghost use Rattle.std.specs.Prelude.{◌≡◌, IfSome, IfNone};
-ghost use Rattle.target_lexicon.specs.Reading.{IsRefused, ReadsAs};
+ghost use Rattle.target_lexicon.specs.Reading.{IsRefused, ParsesAs};
 ghost use Rattle.target_lexicon.specs.Values.{Values};
 ghost use Rattle.uses.specs.Boot as spec;
 
@@ -20,7 +20,7 @@ pub struct ImageFacts {
 /// The facts of the target that a string names. `None` if the string is refused.
 pub fn image_facts(text: &str) -> Option<ImageFacts>
     ensures found { IfSome result
-        (λ facts. (t : Values) × ReadsAs text.now t × (facts ≡ spec.image_facts t)) }
+        (λ facts. (t : Values) × ParsesAs text.now t × (facts ≡ spec.image_facts t)) }
     ensures refused { IfNone result (IsRefused text.now) }
 {
     match TripleRef::from_str(text) {

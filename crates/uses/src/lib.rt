@@ -12,4 +12,4 @@ pub use boot::{ImageFacts, image_facts};
 pub use by_macro::triple_by_macro;
 pub use key::CacheKey;
 pub use literals::host_by_text;
-pub use spelling::canonical_text;
+pub use spelling::canonical_string;

@@ -2,7 +2,7 @@
 //! method of the type would take precedence over one of the program's own traits.
 use crate::{
     Architecture, BinaryFormat, CDataModel, CallingConvention, DeploymentTarget, Endianness,
-    Environment, OperatingSystem, PointerWidth, RoundTripFamily, Triple, TripleRef,
+    Environment, OperatingSystem, PointerWidth, RoundTripException, Triple, TripleRef,
 };
 #[cfg(feature = "alloc")]
 use crate::{Field, NotPlain, ParseError, ParseTripleError};
@@ -51,8 +51,8 @@ pub trait TripleExt: Sealed + Sized {
     #[must_use]
     fn as_triple_ref(&self) -> TripleRef<'_>;
 
-    /// Whether the triple comes back: printed and parsed again, it is itself. It does unless it is in one of the five families of
-    /// [`RoundTripFamily`]. With the feature `upstream_printing`, it doesn't either if environment and format are both unknown and another
+    /// Whether the triple comes back: printed and parsed again, it is itself. It does unless one of the five exceptions of
+    /// [`RoundTripException`]. With the feature `upstream_printing`, it doesn't either if environment and format are both unknown and another
     /// format is implied. Nothing is allocated.
     ///
     /// # Examples
@@ -69,21 +69,21 @@ pub trait TripleExt: Sealed + Sized {
         self.as_triple_ref().comes_back()
     }
 
-    /// The first family of triples that don't come back that the triple is in, by this library's printing. `None` if it comes back; with
+    /// The first exception that applies to the triple, by this library's printing. `None` if it comes back; with
     /// the feature `upstream_printing`, also for the triples that only [`comes_back`](TripleExt::comes_back) says. Nothing is allocated.
     ///
     /// # Examples
     ///
     /// ```
-    /// use target_lexicon::{triple, RoundTripFamily, TripleExt};
+    /// use target_lexicon::{triple, RoundTripException, TripleExt};
     ///
-    /// assert_eq!(triple!("x86_64-unknown-linux-gnu").round_trip_family(), None);
-    /// assert_eq!(triple!("armv7-nintendo-horizon-newlib").round_trip_family(), Some(RoundTripFamily::HidesNewlib));
+    /// assert_eq!(triple!("x86_64-unknown-linux-gnu").round_trip_exception(), None);
+    /// assert_eq!(triple!("armv7-nintendo-horizon-newlib").round_trip_exception(), Some(RoundTripException::HidesNewlib));
     /// ```
     #[must_use]
     #[inline]
-    fn round_trip_family(&self) -> Option<RoundTripFamily> {
-        self.as_triple_ref().round_trip_family()
+    fn round_trip_exception(&self) -> Option<RoundTripException> {
+        self.as_triple_ref().round_trip_exception()
     }
 
     /// The canonical form of the triple, which is what its printed string parses as. It comes back, and two canonical triples

@@ -101,7 +101,7 @@ pub use proved::{
     CDataModel, CallingConvention, CleverArchitecture, CustomVendor, DefaultToHost,
     DefaultToUnknown, DeploymentTarget, Endianness, Environment, Explanation, Field, KnownVendor,
     Mips32Architecture, Mips64Architecture, OperatingSystem, PointerWidth, Refusal,
-    Riscv32Architecture, Riscv64Architecture, RoundTripFamily, Size, Source, Sources, TextPart,
+    Riscv32Architecture, Riscv64Architecture, RoundTripException, Size, Source, Sources, TextPart,
     Triple, TripleRef, Vendor, VendorRef, X86_32Architecture, Z80Architecture,
 };
 pub use queries::NoAnswer;

@@ -5,7 +5,7 @@ use crate::{
     Aarch64Architecture, Architecture, ArmArchitecture, BinaryFormat, CDataModel,
     CallingConvention, CleverArchitecture, CustomVendor, Endianness, Environment, Field,
     KnownVendor, Mips32Architecture, Mips64Architecture, OperatingSystem, PointerWidth,
-    Riscv32Architecture, Riscv64Architecture, RoundTripFamily, Size, Triple, TripleRef, Vendor,
+    Riscv32Architecture, Riscv64Architecture, RoundTripException, Size, Triple, TripleRef, Vendor,
     VendorRef, X86_32Architecture, Z80Architecture,
 };
 use core::cmp::Ordering;
@@ -44,7 +44,7 @@ order! {
     PointerWidth, it => it.bits();
     Size, it => it.bits();
     Field, it => *it as u8;
-    RoundTripFamily, it => *it as u8;
+    RoundTripException, it => *it as u8;
     Aarch64Architecture, it => it.name();
     ArmArchitecture, it => it.name();
     CleverArchitecture, it => it.name();

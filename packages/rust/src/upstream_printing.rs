@@ -19,7 +19,7 @@ impl<'a> TripleRef<'a> {
     #[must_use]
     #[inline]
     pub fn comes_back(&self) -> bool {
-        self.with_printed_format() == *self && self.round_trip_family().is_none()
+        self.with_printed_format() == *self && self.round_trip_exception().is_none()
     }
 
     /// Whether both triples have the same canonical form, as [`TripleExt::settles_as`](crate::TripleExt::settles_as) says.

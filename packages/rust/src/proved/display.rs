@@ -50,7 +50,7 @@ impl<'a> TripleRef<'a> {
     /// The pieces by upstream's rules, or with the last three fields shown whatever these say.
     #[inline(always)]
     fn pieces(&self, shows_last_three: bool) -> Pieces<'a> {
-        if let Some(text) = self.special_text() {
+        if let Some(text) = self.special_string() {
             return Pieces {
                 first: text,
                 vendor: None,

@@ -24,7 +24,7 @@ pub fn first_part(text: &str) -> (&str, Option<&str>) {
 /// fields; its parts have none of their own.
 #[inline(always)]
 pub fn explain(text: &str) -> Explanation<'_> {
-    if let Some(triple) = TripleRef::from_special_text(text) {
+    if let Some(triple) = TripleRef::from_special_string(text) {
         let whole = Source::Part(TextPart { text, start: 0 });
         return Explanation {
             triple: Ok(triple),

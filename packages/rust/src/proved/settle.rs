@@ -1,7 +1,7 @@
 // @generated: erased from crates/target_lexicon/src/settle.rt by tools/erase. Don't edit it here.
-//! Round trips of a triple: the five families that don't come back, the normal step, and the canonical form.
+//! Round trips of a triple: the five exceptions that don't come back, the normal step, and the canonical form.
 
-use crate::proved::family::RoundTripFamily;
+use crate::proved::exception::RoundTripException;
 use crate::proved::triple::Triple;
 use crate::proved::triple_ref::TripleRef;
 use crate::proved::{BinaryFormat, Environment, KnownVendor, OperatingSystem, Vendor, VendorRef};
@@ -38,7 +38,7 @@ impl<'a> TripleRef<'a> {
     #[inline]
     #[cfg(not(feature = "upstream_printing"))]
     pub fn comes_back(&self) -> bool {
-        self.round_trip_family().is_none()
+        self.round_trip_exception().is_none()
     }
 
     /// The normal step of any triple. If the vendor is plain, it is the canonical form.
@@ -46,25 +46,25 @@ impl<'a> TripleRef<'a> {
     #[doc(hidden)]
     #[inline(always)]
     pub fn step(mut self) -> TripleRef<'a> {
-        match self.round_trip_family() {
-            Some(RoundTripFamily::PrintsAsSpecial) => {
+        match self.round_trip_exception() {
+            Some(RoundTripException::PrintsAsSpecial) => {
                 self.environment = Environment::Newlib;
                 self.binary_format = BinaryFormat::Elf;
             }
-            Some(RoundTripFamily::HidesNewlib) => {
+            Some(RoundTripException::HidesNewlib) => {
                 self.environment = Environment::Unknown;
                 self.binary_format = elf_if_unknown(self.binary_format);
             }
-            Some(RoundTripFamily::PrintsTheEspIdfText) => {
+            Some(RoundTripException::PrintsTheEspIdfString) => {
                 self.vendor = VendorRef::Known(KnownVendor::Espressif);
                 self.environment = Environment::Newlib;
                 self.binary_format = BinaryFormat::Elf;
             }
-            Some(RoundTripFamily::ShowsOnlyNone) => {
+            Some(RoundTripException::ShowsOnlyNone) => {
                 self.operating_system = OperatingSystem::None_;
                 self.environment = Environment::Unknown;
             }
-            Some(RoundTripFamily::VendorIsNotPlain) | None => {}
+            Some(RoundTripException::VendorIsNotPlain) | None => {}
         }
         self
     }

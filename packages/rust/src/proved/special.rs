@@ -9,7 +9,7 @@ use crate::proved::{ArmArchitecture, Riscv32Architecture};
 
 impl<'a> TripleRef<'a> {
     /// The triple of a special string.
-    pub(crate) fn from_special_text(text: &str) -> Option<TripleRef<'a>> {
+    pub(crate) fn from_special_string(text: &str) -> Option<TripleRef<'a>> {
         match text {
             "armv6k-nintendo-3ds" => Some(TripleRef {
                 architecture: Architecture::Arm(ArmArchitecture::Armv6k),
@@ -30,7 +30,7 @@ impl<'a> TripleRef<'a> {
     }
 
     /// The special string that the triple prints, if any. Environment and format don't matter.
-    pub(crate) fn special_text(&self) -> Option<&'static str> {
+    pub(crate) fn special_string(&self) -> Option<&'static str> {
         match (self.architecture, self.vendor, self.operating_system) {
             (
                 Architecture::Arm(ArmArchitecture::Armv6k),

@@ -2,7 +2,7 @@
 use Rattle.std.proofs.Common.{◌≡◌, ◌++◌, ◌∙◌, Option, Some, None, IfSome, length, arith, refl, sym, ap}
 use Rattle.std.specs.Hash.{HashWrites, le_bytes, option, usize, str}
 use Rattle.lexicon_fields.specs.declared.architecture.Architecture.TheVariants.{Arm, Aarch64, X86_32, Mips32, Mips64, Riscv32, Riscv64, Clever, Z80}
-use Rattle.lexicon_fields.specs.{declared.deployment_target.DeploymentTarget.DeploymentTarget, declared.vendor.CustomVendor.CustomVendor, declared.vendor.Vendor.Vendor, Laws.HashInjectiveOn, Laws.IsVersionInRange, Vendor.VendorValue, Vendor.Known, Vendor.Custom, Vendor.known_vendors, Vendor.custom_text, Vendor.vendor_value}
+use Rattle.lexicon_fields.specs.{declared.deployment_target.DeploymentTarget.DeploymentTarget, declared.vendor.CustomVendor.CustomVendor, declared.vendor.Vendor.Vendor, Laws.HashInjectiveOn, Laws.IsVersionInRange, Vendor.VendorValue, Vendor.Known, Vendor.Custom, Vendor.known_vendors, Vendor.custom_string, Vendor.vendor_value}
 use Rattle.lexicon_fields.specs.declared.operating_system.OperatingSystem.TheVariants.{Darwin, IOS, MacOSX, TvOS, VisionOS, WatchOS, XROS}
 use Rattle.lexicon_fields.proofs.HashInputs.{Distinguishes, writes_after_first, first_write, first_byte, same_u16, hash_injective_on, bare_hash_injective, enum_hash_injective, variants_distinguish, one_field}
 use denote.Enum.Declared.{tag_of}
@@ -115,7 +115,7 @@ returns-clause-operating_system c =
       one_field XROS system_version-hash,
     ))) (λ x y. ap operating_system_hash.ghosts.hash_input)
 
-custom_vendor-hash : HashInjectiveOn (λ (x : CustomVendor). Unit {0}) custom_text (λ x. str (custom_text x))
+custom_vendor-hash : HashInjectiveOn (λ (x : CustomVendor). Unit {0}) custom_string (λ x. str (custom_string x))
 custom_vendor-hash = hash_injective_on (λ x y a b _ _ same. (ap first_write same, ap writes_after_first (ap writes_after_first same))) (λ x y. ap str)
 
 -- what a vendor value feeds

@@ -1,13 +1,13 @@
 -- The elements so far parse as the triples so far.
 use Rattle.std.proofs.Common.{◌≡◌, true, map, take, All}
 use Rattle.serde_json.specs.View.{items_view}
-use Rattle.lexicon_fields.specs.Vendor.{OwnsCustomText, is_plain, vendor_value}
-use Rattle.target_lexicon.specs.{Json.ElementsReadAs, Values.values_of}
+use Rattle.lexicon_fields.specs.Vendor.{OwnsCustomString, is_plain, vendor_value}
+use Rattle.target_lexicon.specs.{Json.ElementsParseAs, Values.values_of}
 use Rattle.target_lexicon.proofs.json.list_from_json.Given as goal
 
 abbrev pub invariant-loop-i : goal.invariant-loop-i
 invariant-loop-i l = record {
-  read : ElementsReadAs (items_view (take l.i l.element-items)) (map values_of l.triples.items);
-  owned : All (λ triple. OwnsCustomText triple.vendor) l.triples.items;
+  read : ElementsParseAs (items_view (take l.i l.element-items)) (map values_of l.triples.items);
+  owned : All (λ triple. OwnsCustomString triple.vendor) l.triples.items;
   plain : All (λ triple. is_plain (vendor_value triple.vendor) ≡ true) l.triples.items;
 }

@@ -1,8 +1,8 @@
 use Rattle.std.proofs.Common.{ap, sym, subst, ℕ, List}
-use Rattle.target_lexicon.specs.{Reading.ReadsAs, Printing.text_of}
+use Rattle.target_lexicon.specs.{Reading.ParsesAs, Printing.string_of}
 use Rattle.target_lexicon.proofs.UniqueReading.{values_unique}
 use Rattle.target_lexicon.proofs.laws.equal_texts_equal_triples.Goals as goal
 
 pub returns : goal.returns
 returns c = λ t u t_back u_back.
-    (ap text_of, λ same. values_unique (text_of t) t u t_back (subst (λ (text : List ℕ). ReadsAs text u) (sym same) u_back))
+    (ap string_of, λ same. values_unique (string_of t) t u t_back (subst (λ (text : List ℕ). ParsesAs text u) (sym same) u_back))

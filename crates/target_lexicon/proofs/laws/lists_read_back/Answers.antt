@@ -1,22 +1,22 @@
 use Rattle.std.proofs.Common.{◌≡◌, ◌∙◌, zero, suc, List, [], ◌∷◌, map, All, refl, ap, subst, sym, arith}
 use Rattle.serde_json.specs.View.{items_of}
-use Rattle.target_lexicon.specs.{Json.ElementsReadAs, Json.json_of, Laws.ComesBack, Laws.EveryTextHasOneOutcome, Printing.text_of, Values.Values}
+use Rattle.target_lexicon.specs.{Json.ElementsParseAs, Json.json_of, Laws.ComesBack, Laws.EveryStringHasOneOutcome, Printing.string_of, Values.Values}
 use Rattle.target_lexicon.proofs.laws.lists_read_back.Goals as goal
 
-list-reads : (ts : List Values) → All ComesBack ts → ElementsReadAs (items_of (map json_of ts)) ts
+list-reads : (ts : List Values) → All ComesBack ts → ElementsParseAs (items_of (map json_of ts)) ts
 list-reads [] back = tt
 list-reads (t ∷ ts) back = (back zero t (omega arith), list-reads ts (λ k d within. back (suc k) d (omega arith)))
 
-list-only : EveryTextHasOneOutcome → (ts us : List Values) → All ComesBack ts → ElementsReadAs (items_of (map json_of ts)) us → us ≡ ts
+list-only : EveryStringHasOneOutcome → (ts us : List Values) → All ComesBack ts → ElementsParseAs (items_of (map json_of ts)) us → us ≡ ts
 list-only one [] [] back read = refl
 list-only one (t ∷ ts) (u ∷ us) back read =
-    let first : u ≡ t = (one (text_of t)).values u t read.0 (back zero t (omega arith)) in
+    let first : u ≡ t = (one (string_of t)).values u t read.0 (back zero t (omega arith)) in
     let others : us ≡ ts = list-only one ts us (λ k d within. back (suc k) d (omega arith)) read.1 in
     ap (λ (v : Values). v ∷ us) first ∙ ap (λ (vs : List Values). t ∷ vs) others
 list-only one _ _ back read = absurd read
 
 pub returns : goal.returns
 returns c = λ ts us back. (
-  list-only c.every_text_has_one_outcome.ensures ts us back,
-  λ same. subst (λ (vs : List Values). ElementsReadAs (items_of (map json_of ts)) vs) (sym same) (list-reads ts back),
+  list-only c.every_string_has_one_outcome.ensures ts us back,
+  λ same. subst (λ (vs : List Values). ElementsParseAs (items_of (map json_of ts)) vs) (sym same) (list-reads ts back),
 )

@@ -3,8 +3,8 @@ use Rattle.std.specs.Borrow.{Bor}
 use Rattle.std.proofs.Common.{arith, ◌≤◌, ◌+◌, ◌-◌, length, rules, refl, [], ◌∷◌, Option, ◌≡◌, ◌∙◌, ℕ, List, Result, Ok, Err, Some, None, ap, sym, subst}
 use Rattle.std.specs.Option.{option_map_or}
 use Rattle.std.specs.Prelude.{IfOk, IfErr, IfSome}
-use Rattle.target_lexicon.specs.{declared.reading.Reading.Reading, declared.explanation.Sources.Sources, declared.explanation.Explanation.Explanation, declared.refusal.Refusal.Refusal as BorrowedRefusal, declared.triple_ref.TripleRef.TripleRef, GreedyReading.IsNotTaken, GreedyReading.finished, GreedyReading.finished_sources, GreedyReading.reading_of_parts, Reading.parts_after, Reading.parts_of, Reading.ReadsAs, Reading.IsRefusedAs, SpecialTexts.special_values, ValuesRef.values_of_ref, ValuesRef.refusal_value, Refusal.Refusal, Refusal.refusal_with}
-use Rattle.target_lexicon.specs.Explanation.{AreInText, AreSourcesOf, IsInText, IsRefusedAfter, Implied, NotGiven, PlacedPart, part_from, part_value, placed_from, sources_at, sources_of}
+use Rattle.target_lexicon.specs.{declared.reading.Reading.Reading, declared.explanation.Sources.Sources, declared.explanation.Explanation.Explanation, declared.refusal.Refusal.Refusal as BorrowedRefusal, declared.triple_ref.TripleRef.TripleRef, GreedyReading.IsNotTaken, GreedyReading.finished, GreedyReading.finished_sources, GreedyReading.reading_of_parts, Reading.parts_after, Reading.parts_of, Reading.ParsesAs, Reading.IsRefusedAs, SpecialStrings.special_values, ValuesRef.values_of_ref, ValuesRef.refusal_value, Refusal.Refusal, Refusal.refusal_with}
+use Rattle.target_lexicon.specs.Explanation.{AreInString, AreSourcesOf, IsInString, IsRefusedAfter, Implied, NotGiven, PlacedPart, part_from, part_value, placed_from, sources_at, sources_of}
 use Rattle.target_lexicon.proofs.{ComputedReading.Holds, ComputedReading.ordinary-holds, PartLemmas.parts_of-some}
 use Rattle.target_lexicon.proofs.SourceLemmas.{LeftAt, all_sources, sources-in, refused-in, sources-explained, refused-explained}
 use Rattle.target_lexicon.proofs.ReadParts.{AllGoesOn, fields_from, left_from, goes_on-first, goes_on-next, placed-some, read-sources, refused-sources, texts-placed}
@@ -24,18 +24,18 @@ record IsGivenBy (parts : List (List ℕ)) (it : Explanation) : Type 0 where
   part : IfErr it.triple (λ refusal. LeftAt parts (part_value refusal.part))
 
 record IsExplained (text : List ℕ) (it : Explanation) : Type 0 where
-  triple : IfOk it.triple (λ triple. ReadsAs text (values_of_ref triple))
+  triple : IfOk it.triple (λ triple. ParsesAs text (values_of_ref triple))
   sources : IfOk it.triple (λ _. AreSourcesOf text (sources_of it.sources))
   error : IfErr it.triple (λ refusal. IsRefusedAs text (refusal_value refusal))
   refused : IfErr it.triple (λ refusal. IsRefusedAfter text (refusal_value refusal) (sources_of it.sources) (part_value refusal.part))
-  ranges : AreInText text (sources_of it.sources)
-  range : IfErr it.triple (λ refusal. IsInText text (part_value refusal.part))
+  ranges : AreInString text (sources_of it.sources)
+  range : IfErr it.triple (λ refusal. IsInString text (part_value refusal.part))
 
 module _ (text : List ℕ) (s : Sources) (ordinary : special_values text ≡ None) where
   triple-explained : (triple : TripleRef) → IsGivenBy (parts_of text) (record { triple = Ok triple; sources = s })
       → IsExplained text (record { triple = Ok triple; sources = s })
   triple-explained triple given =
-      let reads : ReadsAs text (values_of_ref triple) = subst (Holds text) (sym given.outcome) (ordinary-holds text ordinary) in
+      let reads : ParsesAs text (values_of_ref triple) = subst (Holds text) (sym given.outcome) (ordinary-holds text ordinary) in
       let sources = subst (AreSourcesOf text) (sym given.sources) (sources-explained text ordinary _ reads) in
       record { triple = reads; sources = sources; ranges = sources-in text _ sources; error = tt; refused = tt; range = tt }
 

@@ -1,15 +1,15 @@
 -- The printed string is that of the triple, so each clause follows from `from_str` and a clause of `round_trips_are_known`.
 use Rattle.std.proofs.Common.{◌≡◌, ◌∙◌, ℕ, List, subst, refl}
 use Rattle.std.proofs.lemmas.Result.{IfOk-weaker, IfErr-weaker}
-use Rattle.target_lexicon.specs.{Printing.text_of, Reading.ReadsAs, Refusal.refusal_of, Values.values_of}
+use Rattle.target_lexicon.specs.{Printing.string_of, Reading.ParsesAs, Refusal.refusal_of, Values.values_of}
 use Rattle.target_lexicon.proofs.RoundCall.{read-step, step-queries, step-back, read-fixed, refused-vendor, error-refusal}
 use Rattle.target_lexicon.proofs.round_trip.round.Goals as goal
 
-printed : (c : goal.After-drop-text) → c.deref.result.now ≡ text_of (values_of c.args.triple.now)
+printed : (c : goal.After-drop-text) → c.deref.result.now ≡ string_of (values_of c.args.triple.now)
 printed c = c.deref.ensures ∙ c.in_ok-text.ensures
 
 pub returns-clause-read : goal.returns-clause-read
-returns-clause-read c = IfOk-weaker c.from_str.result _ _ (λ it reads. subst (λ (text : List ℕ). ReadsAs text (values_of it)) (printed c) reads) c.from_str.ensures.ok
+returns-clause-read c = IfOk-weaker c.from_str.result _ _ (λ it reads. subst (λ (text : List ℕ). ParsesAs text (values_of it)) (printed c) reads) c.from_str.ensures.ok
 
 pub returns-clause-step : goal.returns-clause-step
 returns-clause-step c plain = IfOk-weaker c.from_str.result _ _

@@ -107,7 +107,7 @@ returns-in_default-answer_lines g c =
           more (record { moved = read.moved; known = read.bytes.0 }) (omega (arith, read.count))
           (omega (arith, read.stops, some-is-no-stop c.in-Ok.taken c.read_after.new.buf (λ bad. omega (arith, bad, c.if-taken-eq0.false))))
           (read.ended ∙ some-is-no-end c.in-Ok.taken c.read_after.new.buf (λ bad. omega (arith, bad, c.if-taken-eq0.false)))
-          (read.call ∙ ap (λ (call : Call). call ∷ (After (moved c.loop.w) ∷ calls c.loop.r)) (some-is-move c.in-Ok.taken c.read_after.new.buf (λ bad. omega (arith, bad, c.if-taken-eq0.false)))) piece is fits c.every_text_has_one_outcome.ensures
+          (read.call ∙ ap (λ (call : Call). call ∷ (After (moved c.loop.w) ∷ calls c.loop.r)) (some-is-move c.in-Ok.taken c.read_after.new.buf (λ bad. omega (arith, bad, c.if-taken-eq0.false)))) piece is fits c.every_string_has_one_outcome.ensures
           c.in_default-answer_lines.field-0 c.in_default-answer_lines.ensures.lines;
     }
 

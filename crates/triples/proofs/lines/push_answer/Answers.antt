@@ -1,6 +1,6 @@
 -- The answer to a line is what is shown of its triple, which has a plain vendor, or its refusal.
 use Rattle.std.proofs.Common.{◌≡◌, ◌++◌, ◌∙◌, ℕ, List, ap, append_assoc, string_bytes, rules}
-use Rattle.target_lexicon.specs.{Printing.text_of, Values.values_of}
+use Rattle.target_lexicon.specs.{Printing.string_of, Values.values_of}
 use Rattle.triples.specs.{Facts.facts_of, Output.shown_by}
 use Rattle.triples.proofs.AnswerLemmas.{refusal-adds, shown-adds}
 use Rattle.triples.proofs.lines.push_answer.Goals.{in-Show+in_ok-push_facts-in-Show, in-Print-mode}
@@ -13,12 +13,12 @@ pub returns-after-mode-2 : goal.returns-after-mode-2
 returns-after-mode-2 c =
     let t = values_of c.in-Ok.triple in
     let old = string_bytes c.args.output.now in
-    let printed : string_bytes c.push_str.new.self ≡ old ++ text_of (values_of c.match-mode.shown) = search rules in
+    let printed : string_bytes c.push_str.new.self ≡ old ++ string_of (values_of c.match-mode.shown) = search rules in
     let grown : string_bytes c.match-mode-2.output ≡ old ++ shown_by c.args.mode t =
     elim c.match-mode-2.branch [
       | in-Show+in_ok-push_facts-in-Show v ↦
           let facts = facts_of (values_of c.match-mode.shown) in
-          let grown : string_bytes c.match-mode-2.output ≡ old ++ (text_of (values_of c.match-mode.shown) ++ facts) =
+          let grown : string_bytes c.match-mode-2.output ≡ old ++ (string_of (values_of c.match-mode.shown) ++ facts) =
           ap string_bytes v.output-is ∙ v.in_ok-push_facts-in-Show.ensures ∙ ap (λ (x : List ℕ). x ++ facts) printed ∙ append_assoc old _ facts in
           search rules
       | in-Print-mode v ↦ search rules

@@ -1,11 +1,11 @@
 use Rattle.std.proofs.Common.{rules}
-use Rattle.target_lexicon.specs.Printing.{text_of}
+use Rattle.target_lexicon.specs.Printing.{string_of}
 use Rattle.target_lexicon.proofs.display.TripleRefDisplay.fmt.Goals as goal
 
 pub returns-clause-writes : goal.returns-clause-writes
-unfolding text_of
+unfolding string_of
 returns-clause-writes c = search rules
 
 pub returns-clause-styled : goal.returns-clause-styled
-unfolding text_of
+unfolding string_of
 returns-clause-styled c = search rules

@@ -11,9 +11,9 @@ pub returns-in-Some-HidesNewlib-clause-step : goal.returns-in-Some-HidesNewlib-c
 unfolding normal_step
 returns-in-Some-HidesNewlib-clause-step c = search rules
 
-pub returns-in-Some-PrintsTheEspIdfText-clause-step : goal.returns-in-Some-PrintsTheEspIdfText-clause-step
+pub returns-in-Some-PrintsTheEspIdfString-clause-step : goal.returns-in-Some-PrintsTheEspIdfString-clause-step
 unfolding normal_step
-returns-in-Some-PrintsTheEspIdfText-clause-step c = search rules
+returns-in-Some-PrintsTheEspIdfString-clause-step c = search rules
 
 pub returns-in-Some-ShowsOnlyNone-clause-step : goal.returns-in-Some-ShowsOnlyNone-clause-step
 unfolding normal_step

@@ -1,7 +1,7 @@
 use Rattle.std.proofs.Common.{rules}
-use Rattle.target_lexicon.specs.Printing.{upstream_text_of}
+use Rattle.target_lexicon.specs.Printing.{upstream_string_of}
 use Rattle.target_lexicon.proofs.triple_ref.TripleRef.to_upstream_text.Goals as goal
 
 pub returns : goal.returns
-unfolding upstream_text_of
+unfolding upstream_string_of
 returns c = search rules

@@ -1,7 +1,7 @@
 use Rattle.std.proofs.Common.{rules, length, subst, ℕ, List, ◌<◌, ◌^◌, sym}
 use Rattle.target_lexicon.specs.ValuesRef.{values_of_ref}
 use Rattle.target_lexicon.proofs.Lengths.{text_with-short}
-use Rattle.target_lexicon.specs.Printing.{upstream_text_of}
+use Rattle.target_lexicon.specs.Printing.{upstream_string_of}
 use Rattle.target_lexicon.proofs.triple_ref.TripleRef.write_upstream_to.Goals as goal
 
 pub write_to-requires : goal.write_to-requires
@@ -12,5 +12,5 @@ write_to-requires c =
     (text_with-short _ t short.architecture short.environment short.binary_format (short.operating_system _ c.versions_are_in_range.ensures) c.pieces.ensures.vendor)
 
 pub returns : goal.returns
-unfolding upstream_text_of
+unfolding upstream_string_of
 returns c = search rules

@@ -1,8 +1,8 @@
-//! The families of triples that don't come back.
+//! The exceptions to the round trip.
 ghost use Rattle.std.specs.Prelude.{◌≡◌, ◌&&◌};
 ghost use Rattle.lexicon_fields.specs.VendorRef.{ref_value};
-ghost use Rattle.target_lexicon.specs.Families as spec;
-ghost use Rattle.target_lexicon.specs.SpecialTexts.{implies_newlib};
+ghost use Rattle.target_lexicon.specs.Exceptions as spec;
+ghost use Rattle.target_lexicon.specs.SpecialStrings.{implies_newlib};
 ghost use Rattle.target_lexicon.specs.Values.{is_clever_without_system, is_newlib, is_none_environment, values_of};
 ghost use Rattle.target_lexicon.specs.ValuesRef.{values_of_ref};
 
@@ -12,19 +12,19 @@ use lexicon_fields::{
     Architecture, BinaryFormat, Environment, OperatingSystem, Riscv32Architecture, VendorRef,
 };
 
-/// A family of triples that don't come back: printed and parsed again, they are another triple or none.
+/// Why a triple doesn't come back: printed and parsed again, it is another triple or none.
 ///
 /// # Examples
 ///
 /// ```
-/// use target_lexicon::{RoundTripFamily, TripleRef};
+/// use target_lexicon::{RoundTripException, TripleRef};
 ///
 /// let triple = TripleRef::from_str("riscv32imc-esp-espidf-elf").unwrap();
-/// assert_eq!(rt; (triple.comes_back(), triple.round_trip_family()), (false, Some(RoundTripFamily::PrintsTheEspIdfText)));
+/// assert_eq!(rt; (triple.comes_back(), triple.round_trip_exception()), (false, Some(RoundTripException::PrintsTheEspIdfString)));
 /// ```
 // In Rust: #[non_exhaustive].
 #[derive(Clone, Copy, Debug, PartialEq, Eq)]
-pub enum RoundTripFamily {
+pub enum RoundTripException {
     /// The first three fields are those of a special string, such as `armv6k-nintendo-3ds`, which is printed, and environment and
     /// format aren't `Newlib` and `Elf`.
     PrintsAsSpecial,
@@ -32,56 +32,56 @@ pub enum RoundTripFamily {
     /// another.
     HidesNewlib,
     /// The string is `riscv32imc-esp-espidf`, but the vendor is the custom `esp`.
-    PrintsTheEspIdfText,
+    PrintsTheEspIdfString,
     /// On Clever with an unknown system, the environment is `None`, which parses as the system.
     ShowsOnlyNone,
-    /// The vendor isn't plain: no string parses as it. A triple that is in `ShowsOnlyNone` too has that family.
+    /// The vendor isn't plain: no string parses as it. If `ShowsOnlyNone` applies too, it is the answer.
     VendorIsNotPlain,
 }
 
 impl Triple {
-    /// The first family that the triple is in. `None` if it comes back. Nothing is allocated.
+    /// The first exception that applies to the triple. `None` if it comes back. Nothing is allocated.
     ///
     /// Only on Clever can a triple be in two: `ShowsOnlyNone` comes before `VendorIsNotPlain`.
     // Not in Rust.
-    pub fn round_trip_family(&self) -> Option<RoundTripFamily>
-        ensures { result ≡ spec.family (values_of self.now) }
+    pub fn round_trip_exception(&self) -> Option<RoundTripException>
+        ensures { result ≡ spec.exception (values_of self.now) }
     {
-        self.as_triple_ref().round_trip_family()
+        self.as_triple_ref().round_trip_exception()
     }
 }
 
 impl TripleRef<'_> {
-    /// The first family that the triple is in, as [`Triple::round_trip_family`] says.
+    /// The first exception that applies to the triple, as [`Triple::round_trip_exception`] says.
     ///
     /// # Examples
     ///
     /// ```
-    /// use target_lexicon::{RoundTripFamily, TripleRef};
+    /// use target_lexicon::{RoundTripException, TripleRef};
     ///
     /// let triple = TripleRef::from_str("armv7-nintendo-horizon-newlib").unwrap();
-    /// assert_eq!(rt; triple.round_trip_family(), Some(RoundTripFamily::HidesNewlib));
+    /// assert_eq!(rt; triple.round_trip_exception(), Some(RoundTripException::HidesNewlib));
     /// ```
-    #[tactic(auto, unfolding(crate::specs::Families::family))]
-    pub fn round_trip_family(&self) -> Option<RoundTripFamily>
-        ensures { result ≡ spec.family (values_of_ref self.now) }
+    #[tactic(auto, unfolding(crate::specs::Exceptions::exception))]
+    pub fn round_trip_exception(&self) -> Option<RoundTripException>
+        ensures { result ≡ spec.exception (values_of_ref self.now) }
     {
-        if self.special_text().is_some() {
+        if self.special_string().is_some() {
             if self.has_newlib_and_elf() {
                 None
             } else {
-                Some(RoundTripFamily::PrintsAsSpecial)
+                Some(RoundTripException::PrintsAsSpecial)
             }
         } else if self.hides_newlib() {
-            Some(RoundTripFamily::HidesNewlib)
-        } else if self.prints_the_esp_idf_text() {
-            Some(RoundTripFamily::PrintsTheEspIdfText)
+            Some(RoundTripException::HidesNewlib)
+        } else if self.prints_the_esp_idf_string() {
+            Some(RoundTripException::PrintsTheEspIdfString)
         } else if self.shows_only_none() {
-            Some(RoundTripFamily::ShowsOnlyNone)
+            Some(RoundTripException::ShowsOnlyNone)
         } else if self.vendor.is_plain() {
             None
         } else {
-            Some(RoundTripFamily::VendorIsNotPlain)
+            Some(RoundTripException::VendorIsNotPlain)
         }
     }
 
@@ -104,7 +104,7 @@ impl TripleRef<'_> {
     }
 
     /// Whether the vendor is the custom `esp`, and the string is the special one.
-    fn prints_the_esp_idf_text(&self) -> bool
+    fn prints_the_esp_idf_string(&self) -> bool
         ensures { result ≡ spec.is_custom_esp self.now.architecture (ref_value self.now.vendor)
             self.now.operating_system self.now.environment self.now.binary_format }
     {

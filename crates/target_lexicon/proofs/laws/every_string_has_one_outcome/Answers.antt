@@ -1,5 +1,5 @@
 use Rattle.target_lexicon.proofs.ComputedReading.{one_outcome}
-use Rattle.target_lexicon.proofs.laws.every_text_has_one_outcome.Goals as goal
+use Rattle.target_lexicon.proofs.laws.every_string_has_one_outcome.Goals as goal
 
 pub returns : goal.returns
 returns c = one_outcome

@@ -1,24 +1,24 @@
-// @generated: erased from crates/target_lexicon/src/family.rt by tools/erase. Don't edit it here.
-//! The families of triples that don't come back.
+// @generated: erased from crates/target_lexicon/src/exception.rt by tools/erase. Don't edit it here.
+//! The exceptions to the round trip.
 
 use crate::proved::triple_ref::TripleRef;
 use crate::proved::{
     Architecture, BinaryFormat, Environment, OperatingSystem, Riscv32Architecture, VendorRef,
 };
 
-/// A family of triples that don't come back: printed and parsed again, they are another triple or none.
+/// Why a triple doesn't come back: printed and parsed again, it is another triple or none.
 ///
 /// # Examples
 ///
 /// ```
-/// use target_lexicon::{RoundTripFamily, TripleRef};
+/// use target_lexicon::{RoundTripException, TripleRef};
 ///
 /// let triple = TripleRef::from_str("riscv32imc-esp-espidf-elf").unwrap();
-/// assert_eq!((triple.comes_back(), triple.round_trip_family()), (false, Some(RoundTripFamily::PrintsTheEspIdfText)));
+/// assert_eq!((triple.comes_back(), triple.round_trip_exception()), (false, Some(RoundTripException::PrintsTheEspIdfString)));
 /// ```
 #[non_exhaustive]
 #[derive(Clone, Copy, Debug, PartialEq, Eq, Hash)]
-pub enum RoundTripFamily {
+pub enum RoundTripException {
     /// The first three fields are those of a special string, such as `armv6k-nintendo-3ds`, which is printed, and environment and
     /// format aren't `Newlib` and `Elf`.
     PrintsAsSpecial,
@@ -26,42 +26,42 @@ pub enum RoundTripFamily {
     /// another.
     HidesNewlib,
     /// The string is `riscv32imc-esp-espidf`, but the vendor is the custom `esp`.
-    PrintsTheEspIdfText,
+    PrintsTheEspIdfString,
     /// On Clever with an unknown system, the environment is `None`, which parses as the system.
     ShowsOnlyNone,
-    /// The vendor isn't plain: no string parses as it. A triple that is in `ShowsOnlyNone` too has that family.
+    /// The vendor isn't plain: no string parses as it. If `ShowsOnlyNone` applies too, it is the answer.
     VendorIsNotPlain,
 }
 
 impl TripleRef<'_> {
-    /// The first family that the triple is in, as [`TripleExt::round_trip_family`](crate::TripleExt::round_trip_family) says.
+    /// The first exception that applies to the triple, as [`TripleExt::round_trip_exception`](crate::TripleExt::round_trip_exception) says.
     ///
     /// # Examples
     ///
     /// ```
-    /// use target_lexicon::{RoundTripFamily, TripleRef};
+    /// use target_lexicon::{RoundTripException, TripleRef};
     ///
     /// let triple = TripleRef::from_str("armv7-nintendo-horizon-newlib").unwrap();
-    /// assert_eq!(triple.round_trip_family(), Some(RoundTripFamily::HidesNewlib));
+    /// assert_eq!(triple.round_trip_exception(), Some(RoundTripException::HidesNewlib));
     /// ```
     #[must_use]
-    pub fn round_trip_family(&self) -> Option<RoundTripFamily> {
-        if self.special_text().is_some() {
+    pub fn round_trip_exception(&self) -> Option<RoundTripException> {
+        if self.special_string().is_some() {
             if self.has_newlib_and_elf() {
                 None
             } else {
-                Some(RoundTripFamily::PrintsAsSpecial)
+                Some(RoundTripException::PrintsAsSpecial)
             }
         } else if self.hides_newlib() {
-            Some(RoundTripFamily::HidesNewlib)
-        } else if self.prints_the_esp_idf_text() {
-            Some(RoundTripFamily::PrintsTheEspIdfText)
+            Some(RoundTripException::HidesNewlib)
+        } else if self.prints_the_esp_idf_string() {
+            Some(RoundTripException::PrintsTheEspIdfString)
         } else if self.shows_only_none() {
-            Some(RoundTripFamily::ShowsOnlyNone)
+            Some(RoundTripException::ShowsOnlyNone)
         } else if self.vendor.is_plain() {
             None
         } else {
-            Some(RoundTripFamily::VendorIsNotPlain)
+            Some(RoundTripException::VendorIsNotPlain)
         }
     }
 
@@ -79,7 +79,7 @@ impl TripleRef<'_> {
     }
 
     /// Whether the vendor is the custom `esp`, and the string is the special one.
-    fn prints_the_esp_idf_text(&self) -> bool {
+    fn prints_the_esp_idf_string(&self) -> bool {
         match (
             self.architecture,
             self.vendor,

@@ -1,9 +1,9 @@
--- What each family says of the five fields: facts that follow from the list of families, one law for each family.
+-- What each exception says of the five fields: facts that follow from the list of exceptions, one law for each exception.
 use Rattle.std.specs.Prelude.{◌≡◌, ◌↔◌, ◌⊎◌, List, [], ◌∷◌, true, false, codes, Some}
 use Rattle.lexicon_fields.specs.{ArchitectureQueries.is_clever, Vendor.is_plain}
-use Rattle.target_lexicon.specs.Families.{family}
-use Rattle.target_lexicon.specs.SpecialTexts.{SpecialRow, special_rows}
-use Rattle.target_lexicon.specs.declared.family.RoundTripFamily.TheVariants as families
+use Rattle.target_lexicon.specs.Exceptions.{exception}
+use Rattle.target_lexicon.specs.SpecialStrings.{SpecialRow, special_rows}
+use Rattle.target_lexicon.specs.declared.exception.RoundTripException.TheVariants as exceptions
 use Rattle.target_lexicon.specs.Values.{Known, Custom, Values, values}
 use Rattle.target_lexicon.specs.Values.architecture
 use Rattle.target_lexicon.specs.Values.riscv32
@@ -46,8 +46,8 @@ pub record HidesNewlib (t : Values) : Type 0 where
   pub others : ¬ HasSpecialFields t
 
 -- the vendor is the custom `esp`, and the string is the special one
-abbrev pub PrintsTheEspIdfText : Values → Type 0
-PrintsTheEspIdfText t =
+abbrev pub PrintsTheEspIdfString : Values → Type 0
+PrintsTheEspIdfString t =
     t ≡ values (architecture.Riscv32 riscv32.Riscv32imc) (Custom (codes "esp")) operating_system.Espidf environment.Unknown binary_format.Elf
 
 -- on Clever without a system the environment `none` is shown, and parses as the system
@@ -56,19 +56,19 @@ pub record ShowsOnlyNone (t : Values) : Type 0 where
   pub operating_system : t.operating_system ≡ operating_system.Unknown
   pub environment : t.environment ≡ environment.None
 
--- no string parses as the vendor, and the triple is in no earlier family
+-- no string parses as the vendor, and no earlier exception applies
 pub record VendorIsNotPlain (t : Values) : Type 0 where
   pub vendor : is_plain t.vendor ≡ false
   pub others : ¬ ShowsOnlyNone t
 
--- for each family, the facts of the five fields that put a triple into it
-pub record IsFamilyByFields (t : Values) : Type 0 where
-  pub special : (family t ≡ Some families.PrintsAsSpecial) ↔ PrintsAsSpecial t
-  pub newlib : (family t ≡ Some families.HidesNewlib) ↔ HidesNewlib t
-  pub esp : (family t ≡ Some families.PrintsTheEspIdfText) ↔ PrintsTheEspIdfText t
-  pub only_none : (family t ≡ Some families.ShowsOnlyNone) ↔ ShowsOnlyNone t
-  pub vendor : (family t ≡ Some families.VendorIsNotPlain) ↔ VendorIsNotPlain t
+-- for each exception, the facts of the five fields that put a triple into it
+pub record IsExceptionByFields (t : Values) : Type 0 where
+  pub special : (exception t ≡ Some exceptions.PrintsAsSpecial) ↔ PrintsAsSpecial t
+  pub newlib : (exception t ≡ Some exceptions.HidesNewlib) ↔ HidesNewlib t
+  pub esp : (exception t ≡ Some exceptions.PrintsTheEspIdfString) ↔ PrintsTheEspIdfString t
+  pub only_none : (exception t ≡ Some exceptions.ShowsOnlyNone) ↔ ShowsOnlyNone t
+  pub vendor : (exception t ≡ Some exceptions.VendorIsNotPlain) ↔ VendorIsNotPlain t
 
 -- this holds for every triple
-abbrev pub FamiliesAreFactsOfFields : Type 0
-FamiliesAreFactsOfFields = (t : Values) → IsFamilyByFields t
+abbrev pub ExceptionsAreFactsOfFields : Type 0
+ExceptionsAreFactsOfFields = (t : Values) → IsExceptionByFields t

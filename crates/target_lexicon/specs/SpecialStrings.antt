@@ -45,11 +45,11 @@ unfoldable pub special_values : List ℕ → Option Values
 special_values text = value_named (map special_pair special_rows) text
 
 -- the special string that a triple prints, by its first three fields: those of the string's row
-unfoldable pub special_text : Values → Option (List ℕ)
-special_text t = by_fields t.architecture t.vendor t.operating_system
+unfoldable pub special_string : Values → Option (List ℕ)
+special_string t = by_fields t.architecture t.vendor t.operating_system
   where
     by_fields : Architecture → VendorValue → OperatingSystem → Option (List ℕ)
-    -- written by tools/names/write: special_text
+    -- written by tools/names/write: special_string
     by_fields (architecture.Arm arm.Armv6k) (Known known_vendor.Nintendo) operating_system.Horizon = Some (codes "armv6k-nintendo-3ds")
     by_fields (architecture.Riscv32 riscv32.Riscv32imc) (Known known_vendor.Espressif) operating_system.Espidf = Some (codes "riscv32imc-esp-espidf")
     -- end of what is written
