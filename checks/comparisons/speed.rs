@@ -79,7 +79,7 @@ mod c {
 
     /// struct lexicon_triple and lexicon_error, of which this program reads nothing, and how many bytes the first group of facts has, and all.
     type Triple = [usize; 4];
-    type Error = [usize; 3];
+    type Error = [usize; 4];
     const QUERIES: usize = 13;
     const ALL: usize = 28;
 

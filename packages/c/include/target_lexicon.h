@@ -20,7 +20,7 @@
    *length becomes the length of the whole string without that byte, even if the buffer is too small. Such a buffer is
    unchanged, except where a call says otherwise.
 
-   A string or a buffer of size 0 may be null, as with snprintf, and so may `length` and `error`; no other pointer may. What a
+   A string or a buffer of size 0 may be null, as with snprintf, and so may `length`, `error` and `reason`; no other pointer may. What a
    call writes may not overlap any other argument, and no other byte is changed. No memory has more than PTRDIFF_MAX bytes, so a
    larger size is a mistake: the status is LEXICON_TOO_LARGE whatever else is wrong, or the returned string is null. No call
    allocates, waits, or stops the program, and nothing is kept or shared between calls. So threads and signal handlers may make
@@ -84,8 +84,8 @@ enum lexicon_status {
   LEXICON_NO_SUCH_VALUE = 10, /* a number names no value; also a version of a system that has none */
   LEXICON_NO_SUCH_VENDOR = 11, /* a custom vendor that no string parses as */
   LEXICON_UNKNOWN_NAME = 12, /* the dialect has no such name */
-  LEXICON_NAME_WITHOUT_TRIPLE = 13, /* the dialect has the name, but no triple means the same; lexicon_reason says why */
-  LEXICON_TRIPLE_WITHOUT_NAME = 14, /* the dialect has no name for the triple; lexicon_write_reason says why */
+  LEXICON_NAME_WITHOUT_TRIPLE = 13, /* the dialect has the name, but no triple means the same; the error's reason says why */
+  LEXICON_TRIPLE_WITHOUT_NAME = 14, /* the dialect has no name for the triple; a reason says why */
   LEXICON_NO_SUCH_DIALECT = 15, /* the number of a dialect names none; where a name is written, also 0 */
   LEXICON_TOO_LARGE = 16, /* a size is above PTRDIFF_MAX; that of a custom vendor gives LEXICON_NO_SUCH_VENDOR */
   LEXICON_NEEDS_C_LIBRARY = 17, /* the dialect has a name for it with glibc or musl, on Windows msvc or mingw, and none is said */
@@ -471,10 +471,12 @@ struct lexicon_triple {
 /* Why a string is refused: the status, from 1 to 7 or one that lexicon_read names, and where the refused part is. Here and
    below, start and end are byte indices: of the part's first byte, and of the byte after its last. They are equal for an empty
    part, which may be at the end of the string. In a string that isn't UTF-8, the part is the first bytes that are no character.
-   At LEXICON_TOO_LARGE both are 0. */
+   At LEXICON_TOO_LARGE both are 0. The reason is why a name has no triple, or isn't written, and what would help: null, except at
+   LEXICON_NAME_WITHOUT_TRIPLE, LEXICON_TRIPLE_WITHOUT_NAME and LEXICON_NEEDS_C_LIBRARY. It is no input of any call. */
 struct lexicon_error {
   uint32_t status; /* enum lexicon_status */
   size_t start, end;
+  const char *reason;
 };
 
 /* Where the value of a field comes from. start and end are 0 unless a part of the string gives it. */
@@ -613,7 +615,7 @@ LEXICON_CHECKED LEXICON_NONNULL(1)
 enum lexicon_status lexicon_program_suffix(const struct lexicon_triple *triple, char *out, size_t out_size, size_t *length);
 
 /* Debian's multiarch tuple, as dpkg-architecture -qDEB_HOST_MULTIARCH prints it: i386-linux-gnu for i686-unknown-linux-gnu.
-   If there is none, the status is LEXICON_TRIPLE_WITHOUT_NAME; lexicon_write_reason of LEXICON_DIALECT_DEBIAN says why. */
+   If there is none, the status is LEXICON_TRIPLE_WITHOUT_NAME; lexicon_write with LEXICON_DIALECT_DEBIAN says why. */
 LEXICON_CHECKED LEXICON_NONNULL(1)
 enum lexicon_status lexicon_multiarch_tuple(const struct lexicon_triple *triple, char *out, size_t out_size, size_t *length);
 
@@ -642,9 +644,12 @@ enum lexicon_status lexicon_stated_versions(const char *text, size_t text_size, 
 
 /* The name of a triple in a dialect, which has at most 36 bytes. The vendor doesn't matter, nor what the dialect doesn't name;
    byte order, pointer width and object format do. Without a name, the status is LEXICON_NEEDS_C_LIBRARY if lexicon_complete gives
-   the triple one, and otherwise LEXICON_TRIPLE_WITHOUT_NAME; lexicon_write_reason says why. */
+   the triple one, and otherwise LEXICON_TRIPLE_WITHOUT_NAME, and unless `reason` is null, *reason becomes why, and what would help:
+
+       it depends on the C library: say glibc or musl */
 LEXICON_CHECKED LEXICON_NONNULL(2)
-enum lexicon_status lexicon_write(uint32_t dialect, const struct lexicon_triple *triple, char *out, size_t out_size, size_t *length);
+enum lexicon_status lexicon_write(uint32_t dialect, const struct lexicon_triple *triple, char *out, size_t out_size, size_t *length,
+                                  const char **reason);
 
 /* The name of a triple in a dialect that states a version which triples don't have: manylinux_2_17_x86_64 of Python with glibc
    2.17, musllinux_1_2_aarch64 with musl 1.2, macosx_11_0_arm64 with macOS 11.0, or android_21_x86_64 with Android's API level 21,
@@ -652,7 +657,7 @@ enum lexicon_status lexicon_write(uint32_t dialect, const struct lexicon_triple 
    over 65535, or 255 for the second. */
 LEXICON_CHECKED LEXICON_NONNULL(2)
 enum lexicon_status lexicon_write_versioned(uint32_t dialect, const struct lexicon_triple *triple, uint32_t major, uint32_t minor,
-                                            char *out, size_t out_size, size_t *length);
+                                            char *out, size_t out_size, size_t *length, const char **reason);
 
 /* Gives a triple of Linux or Windows, whose environment is unknown, the usual one of a C library: gnueabihf, gnu and so on. Only the
    environment changes. Any other triple stays as it is, and so does arm-unknown-linux, which may be gnueabi or gnueabihf. */
@@ -697,25 +702,10 @@ enum lexicon_status lexicon_changes(const char *text, size_t text_size, size_t n
    LEXICON_DIALECT_NONE as the dialect; then the dialects, in the order of their numbers, where a name of several machines has a meaning for each;
    otherwise, last and without a dialect, the string as one that is spelled like a triple. A single word that some dialect has has no meaning
    without a dialect. The triple is canonical. Where the dialect has the name and no triple means the same, the status is
-   LEXICON_NAME_WITHOUT_TRIPLE, only the dialect is written, and lexicon_reason says why. After the last meaning the status is
+   LEXICON_NAME_WITHOUT_TRIPLE, only the dialect is written, and lexicon_read says why. After the last meaning the status is
    LEXICON_NO_SUCH_MEANING, and nothing is written. */
 LEXICON_CHECKED LEXICON_NONNULL(4, 5)
 enum lexicon_status lexicon_meaning(const char *text, size_t text_size, size_t number, uint32_t *dialect, struct lexicon_triple *triple);
-
-/* Why a name of a dialect has no triple, where lexicon_read gives LEXICON_NAME_WITHOUT_TRIPLE. Otherwise null. */
-const char *lexicon_reason(uint32_t dialect, const char *name, size_t name_size);
-
-/* Why lexicon_write, lexicon_write_versioned or lexicon_translate has no name for these arguments, and what would help:
-
-       it depends on the C library: say glibc or musl
-
-   It is null unless the status is LEXICON_TRIPLE_WITHOUT_NAME or LEXICON_NEEDS_C_LIBRARY or, of lexicon_translate,
-   LEXICON_NAME_WITHOUT_TRIPLE, where it is what lexicon_reason says. */
-LEXICON_NONNULL(2)
-const char *lexicon_write_reason(uint32_t dialect, const struct lexicon_triple *triple);
-LEXICON_NONNULL(2)
-const char *lexicon_write_versioned_reason(uint32_t dialect, const struct lexicon_triple *triple, uint32_t major, uint32_t minor);
-const char *lexicon_translate_reason(uint32_t from, const char *name, size_t name_size, uint32_t linux_libc, uint32_t to);
 
 /* The name of the dialect that may have been meant, where lexicon_read gives LEXICON_UNKNOWN_NAME: linux/amd64 for linux/amd46 in
    LEXICON_DIALECT_GO. Null if there is none, and otherwise. Only names that are read are suggested. */

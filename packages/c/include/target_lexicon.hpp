@@ -436,12 +436,12 @@ class Triple {
 
   // The name in a dialect, if there is one. If there is none, `reason` says why, and what would help.
   std::optional<std::string> name_in(Dialect dialect, std::string* reason = nullptr) const {
-    return named(lexicon_write, lexicon_write_reason, dialect, reason);
+    return named(lexicon_write, dialect, reason);
   }
 
   // Likewise the name that states a version which triples don't have, as `lexicon_write_versioned` writes it.
   std::optional<std::string> versioned_name_in(Dialect dialect, std::uint32_t major, std::uint32_t minor = 0, std::string* reason = nullptr) const {
-    return named(lexicon_write_versioned, lexicon_write_versioned_reason, dialect, reason, major, minor);
+    return named(lexicon_write_versioned, dialect, reason, major, minor);
   }
 
   // The triple with the usual environment of a C library, if it is of Linux and states none; else this one.
@@ -466,7 +466,7 @@ class Triple {
       return lexicon_translate(dialect, name.data(), name.size(), number, into, out..., &found);
     });
     if (!translated.empty()) return translated;
-    if (error) *error = name_error(dialect, name, found, lexicon_translate_reason(dialect, name.data(), name.size(), number, into));
+    if (error) *error = error_of(name, found, dialect);
     return std::nullopt;
   }
 
@@ -605,13 +605,13 @@ class Triple {
   }
 
   // The name that a call writes, or why there is none.
-  template <class Call, class Reason, class... Version>
-  std::optional<std::string> named(Call call, Reason why, Dialect dialect, std::string* reason, Version... version) const {
+  template <class Call, class... Version>
+  std::optional<std::string> named(Call call, Dialect dialect, std::string* reason, Version... version) const {
     lexicon_triple triple = c_triple();
-    auto number = static_cast<std::uint32_t>(dialect);
-    std::string name = detail::written([&](auto... out) { return call(number, &triple, version..., out...); });
+    const char* why = nullptr;
+    std::string name = detail::written([&](auto... out) { return call(static_cast<std::uint32_t>(dialect), &triple, version..., out..., &why); });
     if (!name.empty()) return name;
-    if (reason) *reason = detail::text_of(why(number, &triple, version...));
+    if (reason) *reason = detail::text_of(why);
     return std::nullopt;
   }
 
@@ -639,11 +639,12 @@ class Triple {
     return call(&triple, &it) == LEXICON_OK ? std::make_optional(Version{it.major, it.minor, it.patch}) : std::nullopt;
   }
 
-  template <class Call> static std::optional<Triple> parsed(Call call, std::string_view text, ParseError* error) {
+  template <class Call>
+  static std::optional<Triple> parsed(Call call, std::string_view text, ParseError* error, std::uint32_t dialect = LEXICON_DIALECT_NONE) {
     lexicon_triple triple;
     lexicon_error found;
     if (call(text.data(), text.size(), &triple, &found) == LEXICON_OK) return Triple(triple);
-    if (error) *error = error_of(text, found);
+    if (error) *error = error_of(text, found, dialect);
     return std::nullopt;
   }
 
@@ -706,28 +707,11 @@ class Triple {
   }
 
   static std::optional<Triple> read_in(std::uint32_t dialect, std::string_view text, ParseError* error) {
-    lexicon_triple triple;
-    lexicon_error found;
-    if (lexicon_read(dialect, text.data(), text.size(), &triple, &found) == LEXICON_OK) return Triple(triple);
-    if (error) *error = name_error(dialect, text, found, lexicon_reason(dialect, text.data(), text.size()));
-    return std::nullopt;
+    auto call = [&](auto... given) { return lexicon_read(dialect, given...); };
+    return parsed(call, text, error, dialect);
   }
 
-  // The error of a name in a dialect, with a reason if there is one.
-  static ParseError name_error(std::uint32_t dialect, std::string_view name, const lexicon_error& found, const char* reason) {
-    ParseError error = error_of(name, found);
-    if (reason) {
-      error.reason = reason;
-      error.text += " " + error.reason;
-    }
-    if (const char* meant = lexicon_name_suggestion(dialect, name.data(), name.size())) {
-      error.suggestion = meant;
-      error.text += " did you mean `" + error.suggestion + "`?";
-    }
-    return error;
-  }
-
-  static ParseError error_of(std::string_view text, const lexicon_error& found) {
+  static ParseError error_of(std::string_view text, const lexicon_error& found, std::uint32_t dialect) {
     ParseError error;
     error.status = static_cast<lexicon_status>(found.status);
     error.start = found.start;
@@ -739,6 +723,12 @@ class Triple {
     error.line = written_by(lexicon_error_line);
     error.text = written_by(lexicon_error_text);
     error.suggestion = written_by(lexicon_suggestion);
+    error.reason = detail::text_of(found.reason);
+    if (found.reason) error.text += " " + error.reason;
+    if (const char* meant = lexicon_name_suggestion(dialect, text.data(), text.size())) {
+      error.suggestion = meant;
+      error.text += " did you mean `" + error.suggestion + "`?";
+    }
     return error;
   }
 
@@ -773,12 +763,13 @@ inline std::vector<Meaning> Triple::meanings(std::string_view text) {
   std::vector<Meaning> found;
   for (lexicon_triple triple = {};;) {
     std::uint32_t number = LEXICON_DIALECT_NONE;
+    lexicon_error error = {};
     lexicon_status status = lexicon_meaning(text.data(), text.size(), found.size(), &number, &triple);
     if (status != LEXICON_OK && status != LEXICON_NAME_WITHOUT_TRIPLE) return found;
     Meaning it;
     if (number != LEXICON_DIALECT_NONE) it.dialect = static_cast<Dialect>(number);
     if (status == LEXICON_OK) it.triple = Triple(triple);
-    else it.reason = detail::text_of(lexicon_reason(number, text.data(), text.size()));
+    else if (lexicon_read(number, text.data(), text.size(), &triple, &error) != LEXICON_OK) it.reason = detail::text_of(error.reason);
     found.push_back(std::move(it));
   }
 }

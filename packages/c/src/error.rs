@@ -1,10 +1,12 @@
 //! Why a string is refused, as numbers.
+use crate::names::c_reason;
 use crate::values::field_at;
 use crate::{Status, NAME_WITHOUT_TRIPLE, NEEDS_C_LIBRARY, NO_SUCH_VALUE, NO_SUCH_VENDOR, TRIPLE_WITHOUT_NAME, UNKNOWN_NAME};
+use core::ptr::null;
 use target_lexicon::{Field, Refusal};
 use target_names::{NameError, TranslateError, WriteError};
 
-/// `struct lexicon_error`: why a string is refused, and the range of the refused part in bytes.
+/// `struct lexicon_error`: why a string is refused, the range of the refused part in bytes, and of a name why it isn't translated.
 #[repr(C)]
 #[derive(Clone, Copy)]
 pub struct TextError {
@@ -12,6 +14,8 @@ pub struct TextError {
     pub status: u32,
     pub start: usize,
     pub end: usize,
+    /// A string with a zero byte after it, or null.
+    pub reason: *const u8,
 }
 
 /// The status of a part that is refused where nothing was expected.
@@ -20,17 +24,18 @@ const UNRECOGNIZED_FIELD: Status = 6;
 impl TextError {
     /// An error of the call, and of no part.
     pub(crate) fn without_part(status: Status) -> TextError {
-        TextError { status, start: 0, end: 0 }
+        TextError { status, start: 0, end: 0, reason: null() }
     }
 
     /// The error of a whole name.
     pub(crate) fn of_name(error: TranslateError, name: &str) -> TextError {
-        let status = match error {
-            TranslateError::Read(NameError::Unknown) => UNKNOWN_NAME,
-            TranslateError::Read(NameError::WithoutTriple(_)) => NAME_WITHOUT_TRIPLE,
-            TranslateError::Write(error) => unwritten_status(error),
+        let (status, reason) = match error {
+            TranslateError::Read(NameError::Unknown) => (UNKNOWN_NAME, null()),
+            TranslateError::Read(NameError::WithoutTriple(why)) => (NAME_WITHOUT_TRIPLE, c_reason(why)),
+            TranslateError::Write(why @ (WriteError::NeedsCLibrary | WriteError::NeedsWindowsAbi)) => (NEEDS_C_LIBRARY, c_reason(why.reason())),
+            TranslateError::Write(why) => (TRIPLE_WITHOUT_NAME, c_reason(why.reason())),
         };
-        TextError { status, start: 0, end: name.len() }
+        TextError { status, start: 0, end: name.len(), reason }
     }
 }
 
@@ -38,7 +43,7 @@ impl From<Refusal<'_>> for TextError {
     fn from(refusal: Refusal<'_>) -> TextError {
         let range = refusal.range();
         let status = refusal.expected.map_or(UNRECOGNIZED_FIELD, |field| 1 + field as Status);
-        TextError { status, start: range.start, end: range.end }
+        TextError { status, start: range.start, end: range.end, reason: null() }
     }
 }
 
@@ -53,14 +58,6 @@ pub(crate) fn expected_at(status: Status) -> Option<Option<Field>> {
     match status {
         UNRECOGNIZED_FIELD => Some(None),
         _ => field_at(status.checked_sub(1)?).map(Some),
-    }
-}
-
-/// Why a triple isn't written, as a status.
-pub(crate) fn unwritten_status(error: WriteError) -> Status {
-    match error {
-        WriteError::NeedsCLibrary | WriteError::NeedsWindowsAbi => NEEDS_C_LIBRARY,
-        _ => TRIPLE_WITHOUT_NAME,
     }
 }
 

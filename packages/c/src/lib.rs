@@ -31,12 +31,12 @@ mod zero_ended;
 use core::mem::size_of;
 use core::ptr::{addr_of, null};
 use core::{slice, str};
-use error::{unwritten_status, Fault, TextError};
+use error::{Fault, TextError};
 use error_text::{line, line_and_caret, suggestion};
 use fact_groups::QueryFacts;
 use facts::{Facts, FirstFacts};
 use lines::settle_lines;
-use names::{c_name, c_reason};
+use names::c_name;
 use numbers::*;
 use sources::FieldSources;
 use target_lexicon::{DeploymentTarget, Endianness, PointerWidth, TripleRef};
@@ -102,7 +102,7 @@ const _: () = {
     assert!(size_of::<TripleNumbers>() == 12);
     assert!(size_of::<Triple>() == if word == 8 { 32 } else { 20 });
     assert!(size_of::<Version>() == 4);
-    assert!(size_of::<TextError>() == 3 * word);
+    assert!(size_of::<TextError>() == 4 * word);
     assert!(size_of::<FieldSources>() == 15 * word);
     assert!(ALL == FACT_COUNT);
 };
@@ -241,7 +241,7 @@ unsafe fn refused(it: TextError, error: *mut TextError) -> Status {
 fn not_utf8(bytes: &[u8], error: str::Utf8Error) -> TextError {
     let start = error.valid_up_to();
     let end = error.error_len().map_or(bytes.len(), |size| start + size);
-    TextError { status: NOT_UTF8, start, end }
+    TextError { start, end, ..TextError::without_part(NOT_UTF8) }
 }
 
 // SAFETY, of each `unsafe` below: the arguments are the caller's, as target_lexicon.h asks for them.
@@ -461,8 +461,10 @@ pub unsafe extern "C" fn lexicon_write(
     out: *mut u8,
     out_size: usize,
     length: *mut usize,
+    reason: *mut *const u8,
 ) -> Status {
-    unsafe { write_name(dialect, triple, unversioned, out, out_size, length) }
+    let find = |dialect: Dialect, triple: &TripleRef<'_>| dialect.write_with(triple, None);
+    unsafe { write_name(dialect, triple, find, out, out_size, length, reason) }
 }
 
 #[no_mangle]
@@ -474,25 +476,18 @@ pub unsafe extern "C" fn lexicon_write_versioned(
     out: *mut u8,
     out_size: usize,
     length: *mut usize,
+    reason: *mut *const u8,
 ) -> Status {
-    unsafe { write_name(dialect, triple, versioned(major, minor), out, out_size, length) }
-}
-
-/// The name of a triple.
-fn unversioned(dialect: Dialect, triple: &TripleRef<'_>) -> Result<Name, WriteError> {
-    dialect.write_with(triple, None)
-}
-
-/// The name that states a version. No version has numbers that are larger than those of Rust's call.
-fn versioned(major: u32, minor: u32) -> impl FnOnce(Dialect, &TripleRef<'_>) -> Result<Name, WriteError> {
+    // No version has numbers that are larger than those of Rust's call.
     let version = u16::try_from(major).ok().zip(u8::try_from(minor).ok());
-    move |dialect, triple| {
+    let find = |dialect: Dialect, triple: &TripleRef<'_>| {
         let (major, minor) = version.ok_or(WriteError::OtherVersion)?;
         dialect.write_with_version(triple, major, minor)
-    }
+    };
+    unsafe { write_name(dialect, triple, find, out, out_size, length, reason) }
 }
 
-/// Writes the name of a triple that is found in a dialect.
+/// Writes the name of a triple that is found in a dialect, or why there is none if the caller wants it.
 unsafe fn write_name(
     dialect: u32,
     triple: *const Triple,
@@ -500,13 +495,19 @@ unsafe fn write_name(
     out: *mut u8,
     out_size: usize,
     length: *mut usize,
+    reason: *mut *const u8,
 ) -> Status {
     let named = || {
-        let dialect = dialect_at(dialect).flatten().ok_or(NO_SUCH_DIALECT)?;
-        find(dialect, &unsafe { Triple::read(triple) }?).map_err(unwritten_status)
+        let dialect = dialect_at(dialect).flatten().ok_or(TextError::without_part(NO_SUCH_DIALECT))?;
+        let triple = unsafe { Triple::read(triple) }.map_err(|fault| TextError::without_part(fault.into()))?;
+        find(dialect, &triple).map_err(|why| TextError::of_name(TranslateError::Write(why), ""))
     };
     let name = named();
-    unsafe { write_text(out, out_size, length, |out| Ok(written(name?.as_str(), out))) }
+    let status = unsafe { write_text(out, out_size, length, |out| Ok(written(name.as_ref().map_err(|it| it.status)?.as_str(), out))) };
+    if let (TRIPLE_WITHOUT_NAME | NEEDS_C_LIBRARY, Err(why), false) = (status, name, reason.is_null()) {
+        unsafe { reason.write(why.reason) }
+    }
+    status
 }
 
 #[no_mangle]
@@ -581,55 +582,6 @@ pub unsafe extern "C" fn lexicon_meaning(
         found.triple.map_err(|_| NAME_WITHOUT_TRIPLE)
     };
     unsafe { answer(triple, find()) }
-}
-
-#[no_mangle]
-pub unsafe extern "C" fn lexicon_reason(dialect: u32, name: *const u8, name_size: usize) -> *const u8 {
-    let dialect = dialect_at(dialect).flatten();
-    let name = unsafe { text_at(name, name_size) }.ok();
-    match dialect.zip(name).map(|(dialect, name)| dialect.read_loosely(name)) {
-        Some(Err(NameError::WithoutTriple(why))) => c_reason(why),
-        _ => null(),
-    }
-}
-
-#[no_mangle]
-pub unsafe extern "C" fn lexicon_write_reason(dialect: u32, triple: *const Triple) -> *const u8 {
-    unsafe { reason_of(dialect, triple, unversioned) }
-}
-
-#[no_mangle]
-pub unsafe extern "C" fn lexicon_write_versioned_reason(dialect: u32, triple: *const Triple, major: u32, minor: u32) -> *const u8 {
-    unsafe { reason_of(dialect, triple, versioned(major, minor)) }
-}
-
-/// Why a triple is not written in a dialect, by a call that says so.
-unsafe fn reason_of(
-    dialect: u32,
-    triple: *const Triple,
-    find: impl FnOnce(Dialect, &TripleRef<'_>) -> Result<Name, WriteError>,
-) -> *const u8 {
-    let asked = dialect_at(dialect).flatten().zip(unsafe { Triple::read(triple) }.ok());
-    asked.and_then(|(dialect, triple)| find(dialect, &triple).err()).map_or(null(), |why| c_reason(why.reason()))
-}
-
-#[no_mangle]
-pub unsafe extern "C" fn lexicon_translate_reason(from: u32, name: *const u8, name_size: usize, linux_libc: u32, to: u32) -> *const u8 {
-    let find = || {
-        let (from, to) = (dialect_at(from)?, dialect_at(to).flatten()?);
-        let c_library = c_library_at(linux_libc)?;
-        let name = unsafe { text_at(name, name_size) }.ok()?;
-        let found = match from {
-            Some(from) => from.translate(name, c_library, to),
-            None => to.write_with(target_names::read(name).ok()?, c_library).map_err(TranslateError::Write),
-        };
-        match found.err()? {
-            TranslateError::Read(NameError::WithoutTriple(why)) => Some(why),
-            TranslateError::Read(_) => None,
-            TranslateError::Write(error) => Some(error.reason()),
-        }
-    };
-    find().map_or(null(), c_reason)
 }
 
 #[no_mangle]

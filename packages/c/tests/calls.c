@@ -85,18 +85,14 @@ TEXT(multiarch_tuple, lexicon_multiarch_tuple(&it->triple, out, size, length))
 TEXT(dynamic_linker, lexicon_dynamic_linker(&it->triple, out, size, length))
 TEXT(linker_emulation, lexicon_linker_emulation(&it->triple, out, size, length))
 TEXT(program_suffix, lexicon_program_suffix(&it->triple, out, size, length))
-TEXT(written, lexicon_write(n[0], &it->triple, out, size, length))
-TEXT(versioned, lexicon_write_versioned(n[0], &it->triple, n[1], n[2], out, size, length))
+TEXT(written, lexicon_write(n[0], &it->triple, out, size, length, NULL))
+TEXT(versioned, lexicon_write_versioned(n[0], &it->triple, n[1], n[2], out, size, length, NULL))
 TEXT(vendor_suggestion, lexicon_vendor_suggestion(&it->triple, out, size, length))
 TEXT(settled_lines, lexicon_settle_lines(it->text, it->size, out, size, length))
 TEXT(error_line, lexicon_error_line(it->text, it->size, &it->error, out, size, length))
 TEXT(error_text, lexicon_error_text(it->text, it->size, &it->error, out, size, length))
 TEXT(suggestion, lexicon_suggestion(it->text, it->size, &it->error, out, size, length))
 
-STRING(reason, lexicon_reason(n[0], it->text, it->size))
-STRING(write_reason, lexicon_write_reason(n[0], &it->triple))
-STRING(versioned_reason, lexicon_write_versioned_reason(n[0], &it->triple, n[1], n[2]))
-STRING(translate_reason, lexicon_translate_reason(n[0], it->text, it->size, n[1], n[2]))
 STRING(name_suggestion, lexicon_name_suggestion(n[0], it->text, it->size))
 STRING(name, lexicon_name(n[0], n[1]))
 
@@ -138,6 +134,23 @@ static enum lexicon_status translated_with(const struct asked *it, char *out, si
 }
 
 TEXT(translated, translated_with(it, out, size, length, NULL))
+
+/* Why a name isn't read, a triple isn't written, and a name isn't translated. */
+static const char *unread(struct asked it) {
+  return lexicon_read(it.numbers[0], it.text, it.size, &it.triple, &it.error) == LEXICON_OK ? NULL : it.error.reason;
+}
+static const char *unwritten(const struct asked *it, bool is_versioned) {
+  const char *why = NULL;
+  enum lexicon_status status = is_versioned ? lexicon_write_versioned(it->numbers[0], &it->triple, it->numbers[1], it->numbers[2], NULL, 0, NULL, &why)
+                                            : lexicon_write(it->numbers[0], &it->triple, NULL, 0, NULL, &why);
+  EXPECT((why != NULL) == (status == LEXICON_TRIPLE_WITHOUT_NAME || status == LEXICON_NEEDS_C_LIBRARY));
+  return why;
+}
+static const char *untranslated(struct asked it) { return translated_with(&it, NULL, 0, NULL, &it.error) == LEXICON_TOO_SMALL ? NULL : it.error.reason; }
+STRING(reason, unread(*it))
+STRING(write_reason, unwritten(it, false))
+STRING(versioned_reason, unwritten(it, true))
+STRING(translate_reason, untranslated(*it))
 
 WRITES(translate_error) {
   struct asked other = *it;
@@ -401,7 +414,7 @@ static void try_row(const struct row *row) {
 
 /* Errors that are none of the string, and control characters. */
 static void try_bad_errors(void) {
-  static const struct lexicon_error bad[] = {{0, 0, 1}, {8, 0, 1}, {1, 2, 1}, {1, 0, 9}, {3, 2, 3}, {7, 9, 9}};
+  static const struct lexicon_error bad[] = {{0, 0, 1, NULL}, {8, 0, 1, NULL}, {1, 2, 1, NULL}, {1, 0, 9, NULL}, {3, 2, 3, NULL}, {7, 9, 9, NULL}};
   struct asked it = asked_of("a\xc3\xbc");
   char out[128];
   size_t length = 77;

@@ -107,27 +107,37 @@ static void try_names(const struct lexicon_triple *triple) {
     struct lexicon_triple shape;
     char name[37], again[37];
     size_t length = 77;
-    uint32_t status = lexicon_write(dialect, triple, name, sizeof name, &length);
+    const char *why = NULL;
+    struct lexicon_error error;
+    uint32_t status = lexicon_write(dialect, triple, name, sizeof name, &length, &why);
     bool has_none = status == LEXICON_TRIPLE_WITHOUT_NAME || status == LEXICON_NEEDS_C_LIBRARY;
     CHECK(status == LEXICON_OK ? length == strlen(name) : has_none && length == 77);
-    CHECK((lexicon_write_reason(dialect, triple) != NULL) == has_none);
+    CHECK((why != NULL) == has_none);
     if (status != LEXICON_OK) continue;
-    status = lexicon_read(dialect, name, length, &shape, NULL);
+    status = lexicon_read(dialect, name, length, &shape, &error);
     CHECK(status == LEXICON_OK || status == LEXICON_NAME_WITHOUT_TRIPLE);
-    CHECK((lexicon_reason(dialect, name, length) == NULL) == (status == LEXICON_OK));
+    CHECK(status == LEXICON_OK || error.reason != NULL);
     if (status != LEXICON_OK) continue;
-    CHECK(lexicon_write(dialect, &shape, again, sizeof again, NULL) == LEXICON_OK && strcmp(again, name) == 0);
+    CHECK(lexicon_write(dialect, &shape, again, sizeof again, NULL, NULL) == LEXICON_OK && strcmp(again, name) == 0);
     CHECK(lexicon_translate(dialect, name, length, LEXICON_LINUX_LIBC_NONE, dialect, again, sizeof again, NULL, NULL) == LEXICON_OK);
     CHECK(strcmp(again, name) == 0);
   }
 }
 
-static enum lexicon_status go_name(const struct lexicon_triple *triple, char *out, size_t out_size, size_t *length) {
-  return lexicon_write(LEXICON_DIALECT_GO, triple, out, out_size, length);
+/* Names with the smallest and the right buffers. There is a reason exactly if there is no name. */
+static enum lexicon_status with_reason(enum lexicon_status status, const char *why) {
+  CHECK((why != NULL) == (status == LEXICON_TRIPLE_WITHOUT_NAME || status == LEXICON_NEEDS_C_LIBRARY));
+  return status;
 }
-
+static enum lexicon_status go_name(const struct lexicon_triple *triple, char *out, size_t out_size, size_t *length) {
+  const char *why = NULL;
+  enum lexicon_status status = lexicon_write(LEXICON_DIALECT_GO, triple, out, out_size, length, &why);
+  return with_reason(status, why);
+}
 static enum lexicon_status versioned_name(const struct lexicon_triple *triple, char *out, size_t out_size, size_t *length) {
-  return lexicon_write_versioned(LEXICON_DIALECT_PYTHON, triple, 2, 17, out, out_size, length);
+  const char *why = NULL;
+  enum lexicon_status status = lexicon_write_versioned(LEXICON_DIALECT_PYTHON, triple, 2, 17, out, out_size, length, &why);
+  return with_reason(status, why);
 }
 
 /* The calls that write a text, and the status where there is none. */
@@ -161,12 +171,13 @@ static void try_versions(const struct lexicon_triple *triple) {
     for (size_t i = 0; i < sizeof numbers / sizeof *numbers; i++) {
       char name[64];
       size_t length = 77;
+      const char *why = NULL;
       uint32_t major = numbers[i][0], minor = numbers[i][1];
       memset(name, 0xa5, sizeof name);
-      status = lexicon_write_versioned(dialect, triple, major, minor, name, sizeof name, &length);
+      status = lexicon_write_versioned(dialect, triple, major, minor, name, sizeof name, &length, &why);
       bool has_none = status == LEXICON_TRIPLE_WITHOUT_NAME || status == LEXICON_NEEDS_C_LIBRARY;
       CHECK((status == LEXICON_NO_SUCH_DIALECT) == (dialect == LEXICON_DIALECT_NONE || dialect > LAST_DIALECT));
-      CHECK((lexicon_write_versioned_reason(dialect, triple, major, minor) != NULL) == has_none);
+      CHECK((why != NULL) == has_none);
       if (status == LEXICON_OK) CHECK(length == strlen(name));
       else CHECK((has_none || status == LEXICON_NO_SUCH_DIALECT) && length == 77 && is_unchanged(name, sizeof name));
     }
@@ -186,15 +197,14 @@ static void try_translations(const char *text, size_t size) {
       memset(name, 0xa5, sizeof name);
       memset(&error, 0xa5, sizeof error);
       uint32_t status = lexicon_translate(from, text, size, libc, to, name, sizeof name, &length, &error);
-      const char *reason = lexicon_translate_reason(from, text, size, libc, to);
       bool has_reason = status == LEXICON_TRIPLE_WITHOUT_NAME || status == LEXICON_NEEDS_C_LIBRARY || status == LEXICON_NAME_WITHOUT_TRIPLE;
       bool has_dialects = from <= LAST_DIALECT && to != LEXICON_DIALECT_NONE && to <= LAST_DIALECT;
-      CHECK((reason != NULL) == has_reason);
       CHECK(has_dialects ? (status == LEXICON_NO_SUCH_C_LIBRARY) == (libc == 6) : status == LEXICON_NO_SUCH_DIALECT);
       if (status == LEXICON_OK) {
         CHECK(read == LEXICON_OK && length == strlen(name) && is_unchanged(&error, sizeof error));
       } else {
         CHECK(length == 77 && is_unchanged(name, sizeof name) && error.status == status && error.start <= error.end && error.end <= size);
+        CHECK((error.reason != NULL) == has_reason);
         CHECK(status == read || (read == LEXICON_OK && has_reason) || !has_dialects || libc == 6);
       }
     }
@@ -308,7 +318,6 @@ static void try_bad(const struct lexicon_triple *bad, const struct lexicon_tripl
   CHECK(lexicon_complete(&copy, LEXICON_LINUX_LIBC_MUSL) == status && memcmp(&copy, bad, sizeof copy) == 0);
   CHECK(lexicon_set_pointer_width(&copy, 32) == status && memcmp(&copy, bad, sizeof copy) == 0);
   CHECK(lexicon_set_endianness(&copy, LEXICON_ENDIANNESS_BIG) == status && memcmp(&copy, bad, sizeof copy) == 0);
-  CHECK(lexicon_write_reason(LEXICON_DIALECT_GO, bad) == NULL && lexicon_write_versioned_reason(LEXICON_DIALECT_PYTHON, bad, 2, 17) == NULL);
   struct lexicon_os_version version;
   memset(&version, 0xa5, sizeof version);
   CHECK(lexicon_macos_version(bad, &version) == status && lexicon_minimum_os_version(bad, &version) == status && is_unchanged(&version, sizeof version));
@@ -457,7 +466,7 @@ static void try_read(const char *text, size_t size, uint32_t parsed, const struc
     memset(&error, 0xa5, sizeof error);
     uint32_t status = lexicon_read(dialect, text, size, &triple, &error);
     CHECK((status == LEXICON_NO_SUCH_DIALECT) == (dialect > LAST_DIALECT));
-    CHECK((lexicon_reason(dialect, text, size) != NULL) == (status == LEXICON_NAME_WITHOUT_TRIPLE));
+    CHECK(status == LEXICON_OK || (error.reason != NULL) == (status == LEXICON_NAME_WITHOUT_TRIPLE));
     const char *meant = lexicon_name_suggestion(dialect, text, size);
     if (meant != NULL) {
       struct lexicon_triple suggested;
@@ -593,7 +602,7 @@ int LLVMFuzzerTestOneInput(const uint8_t *data, size_t data_size) {
   if (status == LEXICON_OK) CHECK(has_name(word % 7, number) || number == LEXICON_VENDOR_CUSTOM);
   has_name(word % 7, how);
   CHECK((lexicon_status_name(word) == NULL) == (word > LEXICON_NO_SUCH_MEANING) && (lexicon_family_name(word) == NULL) == (word > LEXICON_FAMILY_Z80));
-  struct lexicon_error error = {word & 15u, how & 15u, word >> 3};
+  struct lexicon_error error = {word & 15u, how & 15u, word >> 3, NULL};
   try_error(text, size, &error);
   return 0;
 }

@@ -12,9 +12,10 @@ const ORIGINS = ["not given", "given", "implied", "alias"]; // where a value com
 // Where the structs of target_lexicon.h are, after the module's own data, with pointers and sizes of 32 bits. Strings and buffers
 // follow them. In a triple the numbers are at 0 (16 bits), 2, 3, 4, 5, 6, 7, 8 (8 bits each) and 10 (16 bits); the string of a
 // custom vendor and its size are at 12 and 16.
-const FIRST = 0, SECOND = 20, LENGTH = 40, ANSWER = 44, ERROR = 48, FACTS = 60, VENDOR = 12, SOURCE_SIZE = 12;
+const FIRST = 0, SECOND = 20, LENGTH = 40, ANSWER = 44, ERROR = 48, FACTS = 64, VENDOR = 12, SOURCE_SIZE = 12;
 const SOURCE_TABLE = FACTS + ((FACTS_SIZE + 3) & ~3), TEXTS = SOURCE_TABLE + FIELDS.length * SOURCE_SIZE;
 const RANGE = ERROR + 4; // that of an error, or of a change
+const REASON = ERROR + 12; // why a name isn't read or translated
 const PAGE = 65536;
 const SHORT = 64; // up to here a loop over ASCII is faster than the encoder and the decoder
 const ROOM = 128; // the first try for a string that the module writes, beside a custom vendor
@@ -363,7 +364,7 @@ export class ParseError extends Error {
 /** Why a name of a dialect means no single triple, or null. */
 function reasonOf(text, dialect) {
   const it = instance();
-  return it.string(it.call("reason", dialectOf(dialect), ...it.text(text)));
+  return it.call("read", dialectOf(dialect), ...it.text(text), it.base + FIRST, it.base + ERROR) === OK ? null : it.string(it.number(REASON));
 }
 
 /** The range of a string at a place in the memory: in bytes, and in units of UTF-16. */
@@ -375,10 +376,10 @@ function rangesAt(it, place, text, size) {
 }
 
 /** The error of the string that was written last; `dialect` is the number of that in which it is a name, and else 0. */
-function errorAt(it, status, text, given, dialect = 0, reason = dialect ? it.string(it.call("reason", dialect, ...given)) : null) {
+function errorAt(it, status, text, given, dialect = 0) {
   if (status > REFUSED && ![UNKNOWN_NAME, NAME_WITHOUT_TRIPLE, TRIPLE_WITHOUT_NAME, NEEDS_C_LIBRARY].includes(status)) return failure(status);
   const [range, [start, end]] = rangesAt(it, RANGE, text, given[1]);
-  return new ParseError(status, range, text, start, end, dialect, reason);
+  return new ParseError(status, range, text, start, end, dialect, it.string(it.number(REASON)));
 }
 
 /** Where the value of a field comes from. */
@@ -488,7 +489,10 @@ export class Triple {
 
   reasonWithoutName(dialect, version) {
     const it = instance(), number = dialectOf(dialect), { start } = it.triple(this);
-    return it.string(version === undefined ? it.call("write_reason", number, start) : it.call("write_versioned_reason", number, start, ...statedVersion(version)));
+    it.view.setUint32(it.base + ANSWER, 0, true);
+    if (version === undefined) it.call("write", number, start, 0, 0, 0, it.base + ANSWER);
+    else it.call("write_versioned", number, start, ...statedVersion(version), 0, 0, 0, it.base + ANSWER);
+    return it.string(it.number(ANSWER));
   }
 
   complete(libc) {
@@ -541,7 +545,7 @@ export function translate(name, from, to, libc = null) {
   const given = it.text(stringOf(name)), out = it.base + TEXTS + given[1];
   const status = it.call("translate", source, ...given, number, target, out, ROOM, it.base + LENGTH, it.base + ERROR);
   if (status === OK) return it.read(out, it.number(LENGTH));
-  throw errorAt(it, status, name, given, source, it.string(it.call("translate_reason", source, ...given, number, target)));
+  throw errorAt(it, status, name, given, source);
 }
 
 export function meanings(text) {
@@ -549,7 +553,7 @@ export function meanings(text) {
   for (let number = 0, status; (status = it.call("meaning", ...it.text(stringOf(text)), number, it.base + LENGTH, it.base + FIRST)) !== NO_SUCH_MEANING; number++) {
     const dialect = it.number(LENGTH);
     if (status === NAME_WITHOUT_TRIPLE) {
-      withoutTriple[DIALECTS[dialect - 1]] = it.string(it.call("reason", dialect, ...it.text(text)));
+      withoutTriple[DIALECTS[dialect - 1]] = reasonOf(text, DIALECTS[dialect - 1]);
       continue;
     }
     if (status !== OK) throw failure(status);

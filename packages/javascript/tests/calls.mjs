@@ -124,7 +124,7 @@ const tests = {
     assert.equal(askedBy(() => Triple.tryParse("x86_64-pc-linx")), "parse");
     assert.equal(askedBy(() => refusal("x86_64-pc-linx")), "parse");
     assert.equal(askedBy(() => { const error = refusal("x86_64-pc-linx"); for (let i = 0; i < 3; i++) error.message; }), "parse error_text");
-    assert.equal(askedBy(() => refusal("linux/amd46", (it) => Triple.read(it, "go"))), "read reason");
+    assert.equal(askedBy(() => refusal("linux/amd46", (it) => Triple.read(it, "go"))), "read");
     assert.equal(askedBy(() => { const error = refusal("amd63"); for (let i = 0; i < 3; i++) error.suggestion; }), "parse suggestion");
     assert.equal(askedBy(() => settleAll(["avr", "x", "arm64"])), "settle_lines");
     isCutOff = true;

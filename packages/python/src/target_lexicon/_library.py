@@ -60,7 +60,13 @@ class TripleStruct(Struct):
 class ErrorStruct(Struct):
     """`struct lexicon_error`."""
 
-    _fields_ = [("status", c_uint32), ("start", c_size_t), ("end", c_size_t)]
+    _fields_ = [("status", c_uint32), ("start", c_size_t), ("end", c_size_t), ("_reason", c_char_p)]
+    _reason: Optional[bytes]
+
+    @property
+    def reason(self) -> Optional[str]:
+        """Why a name has no triple, or isn't translated, and what would help."""
+        return None if self._reason is None else self._reason.decode()
 
 
 class SourceStruct(Struct):
@@ -190,8 +196,9 @@ llvm_target: Callable[[TripleStruct], str] = _writing("lexicon_llvm_target", _TR
 multiarch_tuple: Callable[[TripleStruct], Optional[str]] = _writing("lexicon_multiarch_tuple", _TRIPLE)
 rustc_cfg: Callable[[TripleStruct], str] = _writing("lexicon_rustc_cfg", _TRIPLE)
 read = _declare("lexicon_read", c_uint32, c_char_p, c_size_t, _TRIPLE, _ERROR)
-_write = _writing("lexicon_write", c_uint32, _TRIPLE)
-_write_versioned = _writing("lexicon_write_versioned", c_uint32, _TRIPLE, c_uint32, c_uint32)
+_NAMED = c_void_p, c_size_t, _SIZE, POINTER(c_char_p)
+_write = _declare("lexicon_write", c_uint32, _TRIPLE, *_NAMED)
+_write_versioned = _declare("lexicon_write_versioned", c_uint32, _TRIPLE, c_uint32, c_uint32, *_NAMED)
 complete = _declare("lexicon_complete", _TRIPLE, c_uint32)
 _translate = _declare("lexicon_translate", c_uint32, c_char_p, c_size_t, c_uint32, c_uint32, c_void_p, c_size_t, _SIZE, _ERROR)
 _change = _writing("lexicon_changes", c_char_p, c_size_t, c_size_t, POINTER(ChangeStruct))
@@ -201,12 +208,6 @@ _error_line = _writing("lexicon_error_line", c_char_p, c_size_t, _ERROR)
 _suggestion = _writing("lexicon_suggestion", c_char_p, c_size_t, _ERROR)
 vendor_suggestion: Callable[[TripleStruct], Optional[str]] = _writing("lexicon_vendor_suggestion", _TRIPLE)
 
-# Why a name of a dialect has no triple, or None if it has one, or if it is no name.
-reason = _returning("lexicon_reason", c_uint32, c_char_p, c_size_t)
-_write_reason = _returning("lexicon_write_reason", c_uint32, _TRIPLE)
-_write_versioned_reason = _returning("lexicon_write_versioned_reason", c_uint32, _TRIPLE, c_uint32, c_uint32)
-# Why `translate` has no name, and what would help; None if it has one, or if the text isn't read.
-translate_reason = _returning("lexicon_translate_reason", c_uint32, c_char_p, c_size_t, c_uint32, c_uint32)
 # The nearest of the names that a dialect reads, if it doesn't know this one; None if it does, or if none is near.
 name_suggestion = _returning("lexicon_name_suggestion", c_uint32, c_char_p, c_size_t)
 # The name of the value of a field with this number, or None if there is none.
@@ -241,21 +242,29 @@ def suggestion(status: int, text: bytes, start: int, end: int) -> Optional[str]:
     return found
 
 
-def write(dialect: int, triple: TripleStruct, version: Optional[Tuple[int, int]] = None) -> Optional[str]:
-    """The name of a triple in a dialect. If it is None, `write_reason` says why."""
-    found: Optional[str] = _write(dialect, triple) if version is None else _write_versioned(dialect, triple, *version)
-    return found
+def reason(dialect: int, text: bytes) -> Optional[str]:
+    """Why a name of a dialect has no triple, or None if it has one, or if it is no name."""
+    error = ErrorStruct()
+    read(dialect, text, len(text), TripleStruct(), error)
+    return error.reason
 
 
-def write_reason(dialect: int, triple: TripleStruct, version: Optional[Tuple[int, int]] = None) -> Optional[str]:
-    """Why `write` has no name, and what would help; None if it has one."""
-    return _write_reason(dialect, triple) if version is None else _write_versioned_reason(dialect, triple, *version)
+def write(dialect: int, triple: TripleStruct, version: Optional[Tuple[int, int]] = None) -> Tuple[Optional[str], Optional[str]]:
+    """The name of a triple in a dialect, which has at most 36 bytes; or else why there is none, and what would help."""
+    out, why = TextBuffer(), c_char_p()
+    call = _write if version is None else _write_versioned
+    status = call(dialect, triple, *(version or ()), out, FIRST_SIZE, None, why)
+    if status == OK:
+        return out.value.decode(), None
+    if why.value is None:
+        check(status)
+    return None, (why.value or b"").decode()
 
 
-def translate(text: bytes, from_dialect: int, libc: int, to_dialect: int) -> Tuple[int, str]:
-    """The status, and the name in another dialect, which has at most 36 bytes, if the status is 0."""
-    out = TextBuffer()
-    return _translate(from_dialect, text, len(text), libc, to_dialect, out, FIRST_SIZE, None, None), out.value.decode()
+def translate(text: bytes, from_dialect: int, libc: int, to_dialect: int) -> Tuple[int, str, Optional[str]]:
+    """The status, and the name in another dialect, which has at most 36 bytes, if the status is 0; or else why there is none."""
+    out, error = TextBuffer(), ErrorStruct()
+    return _translate(from_dialect, text, len(text), libc, to_dialect, out, FIRST_SIZE, None, error), out.value.decode(), error.reason
 
 
 def meanings(text: ctypes.Array[c_char]) -> Iterator[Tuple[int, Optional[TripleStruct]]]:

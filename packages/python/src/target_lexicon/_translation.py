@@ -64,14 +64,13 @@ def translate(
     from_number = NO_DIALECT if source is None else dialect_number(source)
     numbers = from_number, 0 if libc is None else libc_number(libc), dialect_number(target)
     utf8 = encoded(name, "the name of a target")
-    status, translated = _library.translate(utf8, *numbers)
+    status, translated, reason = _library.translate(utf8, *numbers)
     if status == _names.OK:
         return translated
     if status not in (_names.TRIPLE_WITHOUT_NAME, _names.NEEDS_C_LIBRARY):
         Triple.read(name, source)  # which says why it isn't read
         _library.check(status)
-    reason = _library.translate_reason(from_number, utf8, *numbers[1:]) or ""
-    raise TranslationError(name, source and str(source), str(target), status == _names.NEEDS_C_LIBRARY, reason)
+    raise TranslationError(name, source and str(source), str(target), status == _names.NEEDS_C_LIBRARY, reason or "")
 
 
 class Meaning(NamedTuple):

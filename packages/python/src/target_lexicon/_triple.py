@@ -297,7 +297,7 @@ class Triple(FactsOfTriple, Immutable):
         The vendor doesn't matter, nor what the dialect doesn't name. A version, of one or two numbers, is that of glibc, musl,
         macOS or Android's API level, which names of Python state; with it, names without one are not written.
         """
-        return _library.write(dialect_number(dialect), self._struct, _stated_version(version))
+        return _library.write(dialect_number(dialect), self._struct, _stated_version(version))[0]
 
     def reason_without_name(self, dialect: Union[Dialect, DialectName], version: Optional[Sequence[int]] = None) -> Optional[str]:
         """Why `name_in` has no name for these arguments, and what would help. None if it has one.
@@ -308,7 +308,7 @@ class Triple(FactsOfTriple, Immutable):
         >>> Triple("avr-unknown-none").reason_without_name("go"), triple.reason_without_name("go")
         ('the tool has no name for this machine on any system', None)
         """
-        return _library.write_reason(dialect_number(dialect), self._struct, _stated_version(version))
+        return _library.write(dialect_number(dialect), self._struct, _stated_version(version))[1]
 
     def complete(self, libc: Union[LinuxLibc, LinuxLibcName]) -> Triple:
         """The triple with the usual environment of a C library, if it is of Linux and states none; any other one as it is.
