@@ -76,6 +76,7 @@ mod table;
 #[cfg(all(test, feature = "alloc"))]
 mod table_tests;
 mod target_info;
+mod text;
 mod translation;
 mod variants;
 
@@ -100,6 +101,7 @@ pub use suggestions::{
 };
 pub use table::{ArmProfile, CLibrary, Dialect, FloatAbi, LinuxLibc, Signedness, WriteError};
 pub use target_info::TargetInfo;
+pub use text::{targets_in, Meant, TargetsIn, Word, WordIs};
 pub use translation::TranslateError;
 
 /// The samples of the page are tested.
