@@ -1,11 +1,18 @@
 -- The names of the architectures.
 use Rattle.std.specs.Prelude.{ℕ, List, [], ◌∷◌, ◌++◌, codes, Option, Some, None, option_and_then}
-use Rattle.lexicon_fields.specs.{declared.architecture.Architecture.Architecture, declared.architecture.arm.ArmArchitecture.ArmArchitecture, declared.architecture.z80.Z80Architecture.Z80Architecture}
-use Rattle.lexicon_fields.specs.{declared.architecture.aarch64.Aarch64Architecture.Aarch64Architecture, declared.architecture.x86_32.X86_32Architecture.X86_32Architecture, Names.Pair, Names.value_named, Names.named_values}
-use Rattle.lexicon_fields.specs.{declared.architecture.mips.Mips32Architecture.Mips32Architecture, declared.architecture.mips.Mips64Architecture.Mips64Architecture}
-use Rattle.lexicon_fields.specs.{declared.architecture.riscv.Riscv32Architecture.Riscv32Architecture, declared.architecture.riscv.Riscv64Architecture.Riscv64Architecture}
+use Rattle.lexicon_fields.specs.{declared.architecture.Architecture.Architecture}
+use Rattle.lexicon_fields.specs.{declared.architecture.arm.ArmArchitecture.ArmArchitecture}
+use Rattle.lexicon_fields.specs.{declared.architecture.z80.Z80Architecture.Z80Architecture}
+use Rattle.lexicon_fields.specs.{declared.architecture.aarch64.Aarch64Architecture.Aarch64Architecture}
+use Rattle.lexicon_fields.specs.{declared.architecture.x86_32.X86_32Architecture.X86_32Architecture, Names.Pair}
+use Rattle.lexicon_fields.specs.{Names.value_named, Names.named_values}
+use Rattle.lexicon_fields.specs.{declared.architecture.mips.Mips32Architecture.Mips32Architecture}
+use Rattle.lexicon_fields.specs.{declared.architecture.mips.Mips64Architecture.Mips64Architecture}
+use Rattle.lexicon_fields.specs.{declared.architecture.riscv.Riscv32Architecture.Riscv32Architecture}
+use Rattle.lexicon_fields.specs.{declared.architecture.riscv.Riscv64Architecture.Riscv64Architecture}
 use Rattle.lexicon_fields.specs.declared.architecture.clever.CleverArchitecture.{CleverArchitecture}
-use Rattle.lexicon_fields.specs.SubArchitecture.{arm_name, aarch64_name, x86_32_name, mips32_name, mips64_name, riscv32_name, riscv64_name, clever_name, z80_name}
+use Rattle.lexicon_fields.specs.SubArchitecture.{arm_name, aarch64_name, x86_32_name, mips32_name, mips64_name}
+use Rattle.lexicon_fields.specs.SubArchitecture.{riscv32_name, riscv64_name, clever_name, z80_name}
 use Rattle.lexicon_fields.specs.declared.architecture.Architecture.TheVariants as architecture
 use Rattle.lexicon_fields.specs.declared.architecture.arm.ArmArchitecture.TheVariants as arm
 use Rattle.lexicon_fields.specs.declared.architecture.aarch64.Aarch64Architecture.TheVariants as aarch64

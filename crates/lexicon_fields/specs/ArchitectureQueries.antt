@@ -1,8 +1,12 @@
 -- The instruction set, byte order and pointer width of an architecture.
 use Rattle.std.specs.Prelude.{Bool, true, false, Option, Some, None, codes, nat_eq}
 use Rattle.std.specs.List.{starts_with}
-use Rattle.lexicon_fields.specs.{declared.architecture.Architecture.Architecture, declared.architecture.arm.ArmArchitecture.ArmArchitecture, declared.endianness.Endianness.Endianness}
-use Rattle.lexicon_fields.specs.{declared.architecture.aarch64.Aarch64Architecture.Aarch64Architecture, declared.endianness.Endianness.TheVariants.Little, declared.endianness.Endianness.TheVariants.Big}
+use Rattle.lexicon_fields.specs.{declared.architecture.Architecture.Architecture}
+use Rattle.lexicon_fields.specs.{declared.architecture.arm.ArmArchitecture.ArmArchitecture}
+use Rattle.lexicon_fields.specs.{declared.endianness.Endianness.Endianness}
+use Rattle.lexicon_fields.specs.{declared.architecture.aarch64.Aarch64Architecture.Aarch64Architecture}
+use Rattle.lexicon_fields.specs.{declared.endianness.Endianness.TheVariants.Little}
+use Rattle.lexicon_fields.specs.{declared.endianness.Endianness.TheVariants.Big}
 use Rattle.lexicon_fields.specs.{declared.pointer_width.PointerWidth.PointerWidth, SubArchitecture.arm_name}
 use Rattle.lexicon_fields.specs.declared.pointer_width.PointerWidth.TheVariants.{U16, U32, U64}
 use Rattle.lexicon_fields.specs.declared.architecture.Architecture.TheVariants as architecture

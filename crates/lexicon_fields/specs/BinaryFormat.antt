@@ -1,6 +1,7 @@
 -- The names of the binary formats.
 use Rattle.std.specs.Prelude.{ℕ, List, [], ◌∷◌, codes, Option}
-use Rattle.lexicon_fields.specs.{declared.binary_format.BinaryFormat.BinaryFormat, Names.value_named, Names.named_values}
+use Rattle.lexicon_fields.specs.{declared.binary_format.BinaryFormat.BinaryFormat, Names.value_named}
+use Rattle.lexicon_fields.specs.{Names.named_values}
 use Rattle.lexicon_fields.specs.declared.binary_format.BinaryFormat.TheVariants as binary_format
 
 -- the name of a binary format

@@ -1,7 +1,9 @@
 -- The rows of the table of names: the fixed names and the alias `arm64`, with their values in each of the five fields.
 use Rattle.std.specs.Prelude.{◌≡◌, ℕ, Bool, true, ◌||◌, List, [], ◌∷◌, codes, is_some, option_map, map, slice_index_or}
-use Rattle.lexicon_fields.specs.{declared.table.FixedRow.FixedRow, Architecture.architecture_of, Vendor.Known, Vendor.known_vendor_of, Vendor.vendor_of, Environment.environment_of}
-use Rattle.lexicon_fields.specs.{OperatingSystem.fixed_operating_system_of, OperatingSystem.operating_system_of, BinaryFormat.binary_format_of}
+use Rattle.lexicon_fields.specs.{declared.table.FixedRow.FixedRow, Architecture.architecture_of, Vendor.Known}
+use Rattle.lexicon_fields.specs.{Vendor.known_vendor_of, Vendor.vendor_of, Environment.environment_of}
+use Rattle.lexicon_fields.specs.{OperatingSystem.fixed_operating_system_of, OperatingSystem.operating_system_of}
+use Rattle.lexicon_fields.specs.{BinaryFormat.binary_format_of}
 
 -- a string has a row if it parses as a value of some field other than a custom vendor or a Darwin-like system
 abbrev pub has_row : List ℕ → Bool

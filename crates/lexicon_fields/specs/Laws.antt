@@ -1,14 +1,17 @@
 -- Laws of names, queries, versions, equality and hashing.
-use Rattle.std.specs.Prelude.{◌≡◌, ◌↔◌, ◌++◌, ℕ, ◌+◌, ◌<◌, ◌≤◌, ◌^◌, Bool, true, List, length, Option, Some, IfSome, IsTrue}
+use Rattle.std.specs.Prelude.{◌≡◌, ◌↔◌, ◌++◌, ℕ, ◌+◌, ◌<◌, ◌≤◌, ◌^◌, Bool, true, List, length, Option, Some, IfSome}
+use Rattle.std.specs.Prelude.{IsTrue}
 use Rattle.std.specs.Hash.{HashWrites}
 use Rattle.std.specs.Ordering.{nat_cmp, on, then_cmp}
 use Rattle.std.specs.declared.cmp.Ordering.{Ordering}
-use Rattle.lexicon_fields.specs.{declared.deployment_target.DeploymentTarget.DeploymentTarget, declared.operating_system.OperatingSystem.OperatingSystem, Names.is_dash_free}
+use Rattle.lexicon_fields.specs.{declared.deployment_target.DeploymentTarget.DeploymentTarget}
+use Rattle.lexicon_fields.specs.{declared.operating_system.OperatingSystem.OperatingSystem, Names.is_dash_free}
 use Rattle.lexicon_fields.specs.OperatingSystem.{system_version}
 
 -- each value of this kind parses back from its name, and neither such a name nor any string that parses as a value has
 -- a dash
-pub record NamesReadBackOn {V : Type 0} (IsOfKind : V → Type 0) (name : V → List ℕ) (find : List ℕ → Option V) : Type 0 where
+pub record NamesReadBackOn {V : Type 0} (IsOfKind : V → Type 0) (name : V → List ℕ)
+    (find : List ℕ → Option V) : Type 0 where
   pub reads_back : (v : V) → IsOfKind v → find (name v) ≡ Some v
   pub name_dash_free : (v : V) → IsOfKind v → is_dash_free (name v) ≡ true
   pub text_dash_free : (text : List ℕ) (v : V) → find text ≡ Some v → is_dash_free text ≡ true
@@ -23,7 +26,8 @@ TextsAreNames {V} name find = (text : List ℕ) (v : V) → find text ≡ Some v
 
 -- the name of a value is at most this many bytes longer than a string that parses as it
 abbrev pub NamesGrowAtMost : ℕ → {V : Type 0} → (V → List ℕ) → (List ℕ → Option V) → Type 0
-NamesGrowAtMost bytes {V} name find = (text : List ℕ) (v : V) → find text ≡ Some v → length (name v) ≤ length text + bytes
+NamesGrowAtMost bytes {V} name find =
+    (text : List ℕ) (v : V) → find text ≡ Some v → length (name v) ≤ length text + bytes
 
 -- the length of the longest name that is no custom vendor's, for instance `visionos65535.255.255`
 abbrev pub max_name_length : ℕ
@@ -51,13 +55,15 @@ ComparesByValue {V} eq = (x y : V) → IsTrue (eq x y) ↔ (x ≡ y)
 
 -- a copy is its source, and copying allocates nothing
 abbrev pub CopiesEqualTheirSources : {V : Type 0} → (V → V → Type 0) → (V → Type 0) → Type 0
-CopiesEqualTheirSources {V} IsCopy NeedsNoMemory = (source : V) → NeedsNoMemory source × ((copy : V) → IsCopy source copy → copy ≡ source)
+CopiesEqualTheirSources {V} IsCopy NeedsNoMemory =
+    (source : V) → NeedsNoMemory source × ((copy : V) → IsCopy source copy → copy ≡ source)
 
 -- two values of this kind feed a hasher the same if and only if what they represent is the same, and what is fed after
 -- them, such as the next field of a struct, can be distinguished from what they feed
 pub record HashInjectiveOn {V W : Type 0} (IsOfKind : V → Type 0) (value : V → W) (feed : V → HashWrites) : Type 0 where
   pub exactly : (x y : V) → IsOfKind x → IsOfKind y → (feed x ≡ feed y) ↔ (value x ≡ value y)
-  pub with_more : (x y : V) (a b : HashWrites) → IsOfKind x → IsOfKind y → feed x ++ a ≡ feed y ++ b → (value x ≡ value y) × (a ≡ b)
+  pub with_more : (x y : V) (a b : HashWrites) → IsOfKind x → IsOfKind y → feed x ++ a ≡ feed y ++ b
+      → (value x ≡ value y) × (a ≡ b)
 
 -- this holds for each value of the type, which represents itself
 abbrev pub HashInjective : {V : Type 0} → (V → HashWrites) → Type 0

@@ -1,8 +1,11 @@
 -- The names of the operating systems.
-use Rattle.std.specs.Prelude.{ℕ, Bool, true, false, List, [], ◌∷◌, ◌++◌, codes, nat_eq, length, drop, Option, Some, None, option_map, option_and_then, if◌then◌else◌}
+use Rattle.std.specs.Prelude.{ℕ, Bool, true, false, List, [], ◌∷◌, ◌++◌, codes, nat_eq, length, drop, Option, Some}
+use Rattle.std.specs.Prelude.{None, option_map, option_and_then, if◌then◌else◌}
 use Rattle.std.specs.List.{starts_with}
 use Rattle.std.specs.Option.{option_or}
-use Rattle.lexicon_fields.specs.{declared.deployment_target.DeploymentTarget.DeploymentTarget, declared.operating_system.OperatingSystem.OperatingSystem, Names.Pair, Names.value_named, Names.named_values}
+use Rattle.lexicon_fields.specs.{declared.deployment_target.DeploymentTarget.DeploymentTarget}
+use Rattle.lexicon_fields.specs.{declared.operating_system.OperatingSystem.OperatingSystem, Names.Pair}
+use Rattle.lexicon_fields.specs.{Names.value_named, Names.named_values}
 use Rattle.lexicon_fields.specs.Version.{version_of, version_name}
 use Rattle.lexicon_fields.specs.declared.operating_system.OperatingSystem.TheVariants as operating_system
 
@@ -124,9 +127,11 @@ abbrev pub text_after_prefix : List ℕ → List ℕ → Option (List ℕ)
 text_after_prefix prefix text = if starts_with nat_eq text prefix then Some (drop (length prefix) text) else None
 
 -- the system like Darwin that a string parses as, by the first of these prefixes that gives one
-abbrev pub darwin_like_system : List (Pair (Option DeploymentTarget → OperatingSystem)) → List ℕ → Option OperatingSystem
+abbrev pub darwin_like_system : List (Pair (Option DeploymentTarget → OperatingSystem)) → List ℕ
+    → Option OperatingSystem
 darwin_like_system [] text = None
-darwin_like_system (row ∷ rows) text = option_or (option_and_then (system_with_version row.1) (text_after_prefix row.0 text)) (darwin_like_system rows text)
+darwin_like_system (row ∷ rows) text = option_or
+    (option_and_then (system_with_version row.1) (text_after_prefix row.0 text)) (darwin_like_system rows text)
 
 -- the system with this fixed name, if there is one
 unfoldable pub fixed_operating_system_of : List ℕ → Option OperatingSystem

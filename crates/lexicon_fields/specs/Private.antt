@@ -1,9 +1,14 @@
 -- Definitions for the contracts of private functions; no public contract cites them.
-use Rattle.std.specs.Prelude.{◌≡◌, true, ℕ, zero, suc, ◌+◌, ◌*◌, ◌^◌, List, [], ◌∷◌, Option, Some, None, option_map, option_and_then}
+use Rattle.std.specs.Prelude.{◌≡◌, true, ℕ, zero, suc, ◌+◌, ◌*◌, ◌^◌, List, [], ◌∷◌, Option, Some, None, option_map}
+use Rattle.std.specs.Prelude.{option_and_then}
 use Rattle.std.specs.Borrow.{Bor}
 use Rattle.std.specs.Option.{option_or}
-use Rattle.lexicon_fields.specs.{declared.deployment_target.DeploymentTarget.DeploymentTarget, declared.operating_system.OperatingSystem.OperatingSystem, Names.Pair}
-use Rattle.lexicon_fields.specs.{declared.architecture.Architecture.Architecture, declared.known_vendor.KnownVendor.KnownVendor, declared.environment.Environment.Environment, declared.binary_format.BinaryFormat.BinaryFormat}
+use Rattle.lexicon_fields.specs.{declared.deployment_target.DeploymentTarget.DeploymentTarget}
+use Rattle.lexicon_fields.specs.{declared.operating_system.OperatingSystem.OperatingSystem, Names.Pair}
+use Rattle.lexicon_fields.specs.{declared.architecture.Architecture.Architecture}
+use Rattle.lexicon_fields.specs.{declared.known_vendor.KnownVendor.KnownVendor}
+use Rattle.lexicon_fields.specs.{declared.environment.Environment.Environment}
+use Rattle.lexicon_fields.specs.{declared.binary_format.BinaryFormat.BinaryFormat}
 use Rattle.lexicon_fields.specs.{declared.table.FixedRow.FixedRow, declared.table.Meaning.Meaning}
 use Rattle.lexicon_fields.specs.declared.architecture.Architecture.TheVariants as architecture
 use Rattle.lexicon_fields.specs.declared.known_vendor.KnownVendor.TheVariants as known_vendor
@@ -11,7 +16,9 @@ use Rattle.lexicon_fields.specs.declared.operating_system.OperatingSystem.TheVar
 use Rattle.lexicon_fields.specs.declared.environment.Environment.TheVariants as environment
 use Rattle.lexicon_fields.specs.declared.binary_format.BinaryFormat.TheVariants as binary_format
 use Rattle.lexicon_fields.specs.declared.table.Meaning.TheVariants as meaning
-use Rattle.lexicon_fields.specs.{Architecture.architecture_of, Vendor.known_vendor_of, OperatingSystem.fixed_operating_system_of, Environment.environment_of, BinaryFormat.binary_format_of}
+use Rattle.lexicon_fields.specs.{Architecture.architecture_of, Vendor.known_vendor_of}
+use Rattle.lexicon_fields.specs.{OperatingSystem.fixed_operating_system_of, Environment.environment_of}
+use Rattle.lexicon_fields.specs.{BinaryFormat.binary_format_of}
 use Rattle.lexicon_fields.specs.FixedRow.{has_row}
 use Rattle.lexicon_fields.specs.OperatingSystem.{optional_version_of, text_after_prefix}
 use Rattle.lexicon_fields.specs.Version.{pieces_of}
@@ -25,7 +32,8 @@ remaining_pieces (Some rest) = pieces_of rest.now
 unfoldable pub version_after : List ℕ → List ℕ → Option (Option DeploymentTarget)
 version_after prefix text = option_and_then optional_version_of (text_after_prefix prefix text)
 
--- the system like Darwin that the string names: one of these prefixes, and nothing or a version after it; the first that fits
+-- the system like Darwin that the string names: one of these prefixes, and nothing or a version after it; the first
+-- that fits
 abbrev pub first_system : List (Pair (Option DeploymentTarget → OperatingSystem)) → List ℕ → Option OperatingSystem
 first_system [] text = None
 first_system (row ∷ rows) text = option_or (option_map row.1 (version_after row.0 text)) (first_system rows text)
@@ -38,7 +46,8 @@ prefix_key_of (suc k) (c ∷ cs) = c * 256 ^ k + prefix_key_of k cs
 
 -- a value of each field, if any
 abbrev pub FieldValues : Type 0
-FieldValues = Option Architecture × Option KnownVendor × Option OperatingSystem × Option Environment × Option BinaryFormat
+FieldValues =
+    Option Architecture × Option KnownVendor × Option OperatingSystem × Option Environment × Option BinaryFormat
 
 -- what a string parses as in each field by its fixed names
 abbrev pub name_values : List ℕ → FieldValues

@@ -1,9 +1,13 @@
 -- The names of the sub-architectures.
 use Rattle.std.specs.Prelude.{ℕ, List, codes}
-use Rattle.lexicon_fields.specs.{declared.architecture.arm.ArmArchitecture.ArmArchitecture, declared.architecture.aarch64.Aarch64Architecture.Aarch64Architecture}
-use Rattle.lexicon_fields.specs.{declared.architecture.x86_32.X86_32Architecture.X86_32Architecture, declared.architecture.mips.Mips32Architecture.Mips32Architecture}
-use Rattle.lexicon_fields.specs.{declared.architecture.mips.Mips64Architecture.Mips64Architecture, declared.architecture.riscv.Riscv32Architecture.Riscv32Architecture}
-use Rattle.lexicon_fields.specs.{declared.architecture.riscv.Riscv64Architecture.Riscv64Architecture, declared.architecture.clever.CleverArchitecture.CleverArchitecture}
+use Rattle.lexicon_fields.specs.{declared.architecture.arm.ArmArchitecture.ArmArchitecture}
+use Rattle.lexicon_fields.specs.{declared.architecture.aarch64.Aarch64Architecture.Aarch64Architecture}
+use Rattle.lexicon_fields.specs.{declared.architecture.x86_32.X86_32Architecture.X86_32Architecture}
+use Rattle.lexicon_fields.specs.{declared.architecture.mips.Mips32Architecture.Mips32Architecture}
+use Rattle.lexicon_fields.specs.{declared.architecture.mips.Mips64Architecture.Mips64Architecture}
+use Rattle.lexicon_fields.specs.{declared.architecture.riscv.Riscv32Architecture.Riscv32Architecture}
+use Rattle.lexicon_fields.specs.{declared.architecture.riscv.Riscv64Architecture.Riscv64Architecture}
+use Rattle.lexicon_fields.specs.{declared.architecture.clever.CleverArchitecture.CleverArchitecture}
 use Rattle.lexicon_fields.specs.declared.architecture.z80.Z80Architecture.{Z80Architecture}
 use Rattle.lexicon_fields.specs.declared.architecture.arm.ArmArchitecture.TheVariants as arm
 use Rattle.lexicon_fields.specs.declared.architecture.aarch64.Aarch64Architecture.TheVariants as aarch64

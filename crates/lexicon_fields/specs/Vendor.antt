@@ -1,12 +1,18 @@
 -- Vendors: the known ones, and custom ones, which are any other string of a certain form.
-use Rattle.std.specs.Prelude.{◌≡◌, ℕ, ◌==◌, Bool, true, false, ◌&&◌, ◌||◌, List, [], ◌∷◌, codes, Option, Some, None, is_none, option_map, if◌then◌else◌, string_bytes, IsTrue}
+use Rattle.std.specs.Prelude.{◌≡◌, ℕ, ◌==◌, Bool, true, false, ◌&&◌, ◌||◌, List, [], ◌∷◌, codes, Option, Some, None}
+use Rattle.std.specs.Prelude.{is_none, option_map, if◌then◌else◌, string_bytes, IsTrue}
 use Rattle.std.specs.Char.{is_ascii_digit, is_ascii_lowercase}
 use Rattle.std.specs.List.{list_all}
 use Rattle.std.specs.Option.{option_or}
 use Rattle.lexicon_fields.specs.declared.known_vendor.KnownVendor.{KnownVendor}
-use Rattle.lexicon_fields.specs.{declared.vendor.CustomVendor.CustomVendor, declared.vendor.CustomVendor.TheVariants.Owned, declared.vendor.CustomVendor.TheVariants.Static, Environment.environment_of}
-use Rattle.lexicon_fields.specs.{Version.dot, declared.vendor.Vendor.Vendor, declared.vendor.VendorError.VendorError, Names.value_named, Names.named_values, Architecture.architecture_of, OperatingSystem.operating_system_of}
-use Rattle.lexicon_fields.specs.{declared.vendor.VendorError.TheVariants.Unrecognized, declared.vendor.VendorError.TheVariants.OutOfMemory, BinaryFormat.binary_format_of}
+use Rattle.lexicon_fields.specs.{declared.vendor.CustomVendor.CustomVendor}
+use Rattle.lexicon_fields.specs.{declared.vendor.CustomVendor.TheVariants.Owned}
+use Rattle.lexicon_fields.specs.{declared.vendor.CustomVendor.TheVariants.Static, Environment.environment_of}
+use Rattle.lexicon_fields.specs.{Version.dot, declared.vendor.Vendor.Vendor, declared.vendor.VendorError.VendorError}
+use Rattle.lexicon_fields.specs.{Names.value_named, Names.named_values, Architecture.architecture_of}
+use Rattle.lexicon_fields.specs.{OperatingSystem.operating_system_of}
+use Rattle.lexicon_fields.specs.{declared.vendor.VendorError.TheVariants.Unrecognized}
+use Rattle.lexicon_fields.specs.{declared.vendor.VendorError.TheVariants.OutOfMemory, BinaryFormat.binary_format_of}
 use Rattle.lexicon_fields.specs.declared.known_vendor.KnownVendor.TheVariants as known_vendor
 use Rattle.lexicon_fields.specs.declared.vendor.Vendor.TheVariants as vendor
 

@@ -1,5 +1,6 @@
 -- Vendors that borrow a custom string.
-use Rattle.lexicon_fields.specs.{declared.vendor_ref.VendorRef.VendorRef, Vendor.VendorValue, Vendor.Known, Vendor.Custom}
+use Rattle.lexicon_fields.specs.{declared.vendor_ref.VendorRef.VendorRef, Vendor.VendorValue, Vendor.Known}
+use Rattle.lexicon_fields.specs.{Vendor.Custom}
 use Rattle.lexicon_fields.specs.declared.vendor_ref.VendorRef.TheVariants as vendor_ref
 
 -- the value of a vendor

@@ -1,7 +1,9 @@
 -- The names of calling conventions.
 use Rattle.std.specs.Prelude.{ℕ, List, codes}
 use Rattle.target_lexicon.specs.declared.calling_convention.CallingConvention.{CallingConvention}
-use Rattle.target_lexicon.specs.declared.calling_convention.CallingConvention.TheVariants.{SystemV, WasmBasicCAbi, WindowsFastcall, AppleAarch64}
+use Rattle.target_lexicon.specs.declared.calling_convention.CallingConvention.TheVariants.{SystemV, WasmBasicCAbi}
+use Rattle.target_lexicon.specs.declared.calling_convention.CallingConvention.TheVariants.{WindowsFastcall}
+use Rattle.target_lexicon.specs.declared.calling_convention.CallingConvention.TheVariants.{AppleAarch64}
 
 -- the name of a calling convention
 abbrev pub convention_name : CallingConvention → List ℕ

@@ -1,6 +1,7 @@
 -- The sizes of C's types in each data model.
 use Rattle.std.specs.Prelude.{ℕ, ◌*◌, List, codes}
-use Rattle.target_lexicon.specs.{declared.data_model.Size.Size, declared.data_model.Size.TheVariants.U16, declared.data_model.Size.TheVariants.U32, declared.data_model.Size.TheVariants.U64}
+use Rattle.target_lexicon.specs.{declared.data_model.Size.Size, declared.data_model.Size.TheVariants.U16}
+use Rattle.target_lexicon.specs.{declared.data_model.Size.TheVariants.U32, declared.data_model.Size.TheVariants.U64}
 use Rattle.target_lexicon.specs.declared.data_model.CDataModel.{CDataModel}
 use Rattle.target_lexicon.specs.declared.data_model.Size.TheVariants as size
 use Rattle.target_lexicon.specs.declared.data_model.CDataModel.TheVariants as model

@@ -1,4 +1,5 @@
--- What each exception says of the five fields: facts that follow from the list of exceptions, one law for each exception.
+-- What each exception says of the five fields: facts that follow from the list of exceptions, one law for each
+-- exception.
 use Rattle.std.specs.Prelude.{◌≡◌, ◌↔◌, ◌⊎◌, List, [], ◌∷◌, true, false, codes, Some}
 use Rattle.lexicon_fields.specs.{ArchitectureQueries.is_clever, Vendor.is_plain}
 use Rattle.target_lexicon.specs.Exceptions.{exception}
@@ -39,7 +40,8 @@ pub record PrintsAsSpecial (t : Values) : Type 0 where
   pub fields : HasSpecialFields t
   pub others : ¬ HasNewlibAndElf t
 
--- the environment is a `Newlib` that isn't shown: vendor and system are those of a special string, and the architecture isn't
+-- the environment is a `Newlib` that isn't shown: vendor and system are those of a special string, and the architecture
+-- isn't
 pub record HidesNewlib (t : Values) : Type 0 where
   pub environment : t.environment ≡ environment.Newlib
   pub system : SomeRow (λ row. HasSystemOf row t) special_rows
@@ -48,7 +50,8 @@ pub record HidesNewlib (t : Values) : Type 0 where
 -- the vendor is the custom `esp`, and the string is the special one
 abbrev pub PrintsTheEspIdfString : Values → Type 0
 PrintsTheEspIdfString t =
-    t ≡ values (architecture.Riscv32 riscv32.Riscv32imc) (Custom (codes "esp")) operating_system.Espidf environment.Unknown binary_format.Elf
+    t ≡ values (architecture.Riscv32 riscv32.Riscv32imc) (Custom (codes "esp")) operating_system.Espidf
+    environment.Unknown binary_format.Elf
 
 -- on Clever without a system the environment `none` is shown, and parses as the system
 pub record ShowsOnlyNone (t : Values) : Type 0 where

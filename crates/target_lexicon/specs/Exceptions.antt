@@ -3,9 +3,12 @@ use Rattle.std.specs.Prelude.{Bool, true, false, ◌&&◌, codes, if◌then◌el
 use Rattle.std.specs.Str.{bytes_eq}
 use Rattle.lexicon_fields.specs.Vendor.{is_plain}
 pub use Rattle.target_lexicon.specs.declared.exception.RoundTripException.{RoundTripException}
-use Rattle.target_lexicon.specs.declared.exception.RoundTripException.TheVariants.{PrintsAsSpecial, HidesNewlib, PrintsTheEspIdfString, ShowsOnlyNone, VendorIsNotPlain}
+use Rattle.target_lexicon.specs.declared.exception.RoundTripException.TheVariants.{PrintsAsSpecial, HidesNewlib}
+use Rattle.target_lexicon.specs.declared.exception.RoundTripException.TheVariants.{PrintsTheEspIdfString, ShowsOnlyNone}
+use Rattle.target_lexicon.specs.declared.exception.RoundTripException.TheVariants.{VendorIsNotPlain}
 use Rattle.target_lexicon.specs.SpecialStrings.{special_string, implies_newlib}
-use Rattle.target_lexicon.specs.Values.{Architecture, OperatingSystem, Environment, BinaryFormat, VendorValue, Custom, Values}
+use Rattle.target_lexicon.specs.Values.{Architecture, OperatingSystem, Environment, BinaryFormat, VendorValue, Custom}
+use Rattle.target_lexicon.specs.Values.{Values}
 use Rattle.target_lexicon.specs.Values.{is_newlib, is_none_environment, is_same_format, is_clever_without_system}
 use Rattle.target_lexicon.specs.Values.architecture
 use Rattle.target_lexicon.specs.Values.riscv32
@@ -19,7 +22,8 @@ has_newlib_and_elf t = is_newlib t.environment && is_same_format t.binary_format
 
 -- the custom vendor `esp` with the other fields that the parts of `riscv32imc-esp-espidf` parse as
 abbrev pub is_custom_esp : Architecture → VendorValue → OperatingSystem → Environment → BinaryFormat → Bool
-is_custom_esp (architecture.Riscv32 riscv32.Riscv32imc) (Custom text) operating_system.Espidf environment.Unknown binary_format.Elf = bytes_eq text (codes "esp")
+is_custom_esp (architecture.Riscv32 riscv32.Riscv32imc) (Custom text) operating_system.Espidf environment.Unknown
+    binary_format.Elf = bytes_eq text (codes "esp")
 is_custom_esp _ _ _ _ _ = false
 
 -- the exception of a triple that prints a special string: environment and format aren't shown
@@ -30,15 +34,18 @@ exception_of_special t = if has_newlib_and_elf t then None else Some PrintsAsSpe
 abbrev pub exception_of_vendor : VendorValue → Option RoundTripException
 exception_of_vendor v = if is_plain v then None else Some VendorIsNotPlain
 
--- the first exception that applies to the triple, if any: the first line that fits decides. Only to a triple on Clever can two apply: without
--- a system, with the environment `None` and a vendor that isn't plain it is in `ShowsOnlyNone`, which comes before `VendorIsNotPlain`
+-- the first exception that applies to the triple, if any: the first line that fits decides. Only to a triple on Clever
+-- can two apply: without a system, with the environment `None` and a vendor that isn't plain it is in `ShowsOnlyNone`,
+-- which comes before `VendorIsNotPlain`
 unfoldable pub exception : Values → Option RoundTripException
 exception t =
     if is_some (special_string t) then exception_of_special t
     -- on another machine, the environment is a `Newlib` that isn't shown
     else if implies_newlib t.vendor t.operating_system && is_newlib t.environment then Some HidesNewlib
     -- the string is special, and the vendor isn't that of its triple
-    else if is_custom_esp t.architecture t.vendor t.operating_system t.environment t.binary_format then Some PrintsTheEspIdfString
+    else if is_custom_esp t.architecture t.vendor t.operating_system t.environment t.binary_format
+    then Some PrintsTheEspIdfString
     -- on Clever without a system the environment `none` is shown, and parses as the system
-    else if is_clever_without_system t.architecture t.operating_system && is_none_environment t.environment then Some ShowsOnlyNone
+    else if is_clever_without_system t.architecture t.operating_system && is_none_environment t.environment
+    then Some ShowsOnlyNone
     else exception_of_vendor t.vendor

@@ -2,7 +2,8 @@
 use Rattle.std.specs.Prelude.{◌≡◌, ℕ, ◌+◌, ◌≤◌, List, [], ◌∷◌, length, take, Some, MatchOption, slice_get}
 use Rattle.std.specs.{List.slice_range, Option.option_map_or}
 use Rattle.target_lexicon.specs.declared.explanation.{Source.Source, Sources.Sources, TextPart.TextPart}
-use Rattle.target_lexicon.specs.{Field.Field, Reading.ArePartsOf, Reading.IsLeastPlacement, Reading.part_at, Reading.IsRefusal, Refusal.Refusal, SpecialStrings.special_values}
+use Rattle.target_lexicon.specs.{Field.Field, Reading.ArePartsOf, Reading.IsLeastPlacement, Reading.part_at}
+use Rattle.target_lexicon.specs.{Reading.IsRefusal, Refusal.Refusal, SpecialStrings.special_values}
 use Rattle.target_lexicon.specs.declared.explanation.Source.TheVariants as source
 use Rattle.target_lexicon.specs.Field as field
 
@@ -47,11 +48,13 @@ pub record SourceValues : Type 0 where
   pub binary_format : SourceValue
 
 abbrev pub source_values : SourceValue → SourceValue → SourceValue → SourceValue → SourceValue → SourceValues
-source_values a v s e f = record { architecture = a; vendor = v; operating_system = s; environment = e; binary_format = f }
+source_values a v s e f =
+    record { architecture = a; vendor = v; operating_system = s; environment = e; binary_format = f }
 
 abbrev pub sources_of : Sources → SourceValues
 sources_of s =
-    source_values (source_value s.architecture) (source_value s.vendor) (source_value s.operating_system) (source_value s.environment)
+    source_values (source_value s.architecture) (source_value s.vendor) (source_value s.operating_system)
+    (source_value s.environment)
     (source_value s.binary_format)
 
 -- the sources with this one for a field
@@ -95,7 +98,8 @@ AreFieldsOf [] fields = fields ≡ []
 AreFieldsOf (p ∷ ps) fields = IsLeastPlacement (p ∷ ps) fields
 
 -- the refusal of parts; the earlier ones fill fields from these sources, and this is the refused one
-pub record IsRefusalAfter (parts : List (List ℕ)) (refusal : Refusal) (s : SourceValues) (part : PlacedPart) : Type 0 where
+pub record IsRefusalAfter (parts : List (List ℕ)) (refusal : Refusal) (s : SourceValues)
+    (part : PlacedPart) : Type 0 where
   pub refusal_holds : IsRefusal parts refusal
   pub fields : List Field
   pub earlier : AreFieldsOf (take refusal_holds.count parts) fields
@@ -104,7 +108,8 @@ pub record IsRefusalAfter (parts : List (List ℕ)) (refusal : Refusal) (s : Sou
 
 -- how a string is refused, with the sources of the fields that earlier parts fill, and the refused part
 abbrev pub IsRefusedAfter : List ℕ → Refusal → SourceValues → PlacedPart → Type 0
-IsRefusedAfter text refusal s part = (parts : List (List ℕ)) × ArePartsOf text parts × IsRefusalAfter parts refusal s part
+IsRefusedAfter text refusal s part =
+    (parts : List (List ℕ)) × ArePartsOf text parts × IsRefusalAfter parts refusal s part
 
 -- the string is refused at this part, whatever the fields that earlier parts fill
 abbrev pub IsRefusedAt : List ℕ → Refusal → PlacedPart → Type 0

@@ -1,8 +1,10 @@
 -- The five fields of a triple.
 use Rattle.std.specs.Prelude.{ℕ, List, Bool, is_some}
-use Rattle.lexicon_fields.specs.{Architecture.architecture_of, Vendor.vendor_of, OperatingSystem.operating_system_of, Environment.environment_of, BinaryFormat.binary_format_of}
+use Rattle.lexicon_fields.specs.{Architecture.architecture_of, Vendor.vendor_of, OperatingSystem.operating_system_of}
+use Rattle.lexicon_fields.specs.{Environment.environment_of, BinaryFormat.binary_format_of}
 pub use Rattle.lexicon_fields.specs.declared.field.Field.{Field}
-pub use Rattle.lexicon_fields.specs.declared.field.Field.TheVariants.{Architecture, Vendor, OperatingSystem, Environment, BinaryFormat}
+pub use Rattle.lexicon_fields.specs.declared.field.Field.TheVariants.{Architecture, Vendor, OperatingSystem}
+pub use Rattle.lexicon_fields.specs.declared.field.Field.TheVariants.{Environment, BinaryFormat}
 
 -- the index of a field in the order
 abbrev pub field_number : Field → ℕ

@@ -1,7 +1,9 @@
 -- Laws of round trips, in which a triple is printed and its string parsed again: which triples come back, what the
 -- others become, and how long strings are.
 use Rattle.std.specs.Prelude.{ℕ, ◌+◌, ◌≤◌, List, length, ◌≡◌, ◌↔◌, None, true}
-use Rattle.target_lexicon.specs.{Reading.IsRefusedAs, Reading.ParsesAs, Refusal.Refusal, Exceptions.exception, Laws.EveryStringHasOneOutcome, Laws.ComesBack, NormalStep.normal_step, Printing.string_of}
+use Rattle.target_lexicon.specs.{Reading.IsRefusedAs, Reading.ParsesAs, Refusal.Refusal, Exceptions.exception}
+use Rattle.target_lexicon.specs.{Laws.EveryStringHasOneOutcome, Laws.ComesBack, NormalStep.normal_step}
+use Rattle.target_lexicon.specs.{Printing.string_of}
 use Rattle.target_lexicon.specs.{QueryLaws.QueriesKept, Values.Values}
 use Rattle.lexicon_fields.specs.{Laws.HasVersionInRange, Vendor.is_plain}
 
@@ -18,8 +20,8 @@ ParsedTriplesArePlain = (text : List ℕ) (t : Values) → ParsesAs text t → I
 abbrev pub RoundIsNormalStep : Type 0
 RoundIsNormalStep = (t : Values) → IsPlainTriple t → ParsesAs (string_of t) (normal_step t)
 
--- a triple comes back if and only if it has no exception. This holds for every triple whose version is in range, also if its
--- vendor is not plain
+-- a triple comes back if and only if it has no exception. This holds for every triple whose version is in range, also
+-- if its vendor is not plain
 abbrev pub FixedExactlyOutsideFamilies : Type 0
 FixedExactlyOutsideFamilies = (t : Values) → HasVersionInRange t.operating_system → ComesBack t ↔ (exception t ≡ None)
 
@@ -39,14 +41,15 @@ OneStepSettles = (t : Values) → canonical_values t ≡ normal_step t
 -- the canonical form of a plain triple comes back, and no other canonical form has its string
 pub record CanonicalStringsAreKeys : Type 0 where
   pub comes_back : (t : Values) → IsPlainTriple t → ComesBack (canonical_values t)
-  pub own : (t u : Values) → IsPlainTriple t → IsPlainTriple u → canonical_string t ≡ canonical_string u → canonical_values t ≡ canonical_values u
+  pub own : (t u : Values) → IsPlainTriple t → IsPlainTriple u → canonical_string t ≡ canonical_string u
+      → canonical_values t ≡ canonical_values u
 
 -- the laws of round trips as one: every string reads or is refused in exactly one way, the triple that a string reads
 -- as is plain, a triple comes back exactly outside the exceptions, the round trip of a plain triple succeeds and is the
 -- normal step, which keeps the four queries, a second step changes nothing, and canonical strings are keys. What a
 -- reader must judge are `texts`, `plain`, `round`, `queries`, `steps`, and the exceptions that `fixed` names. That
--- `fixed` and `keys` hold follows from these, by which a plain triple comes back if and only if the normal step leaves it
--- as it is
+-- `fixed` and `keys` hold follows from these, by which a plain triple comes back if and only if the normal step leaves
+-- it as it is
 pub record RoundTripsAreKnown : Type 0 where
   pub texts : EveryStringHasOneOutcome
   pub plain : ParsedTriplesArePlain
@@ -63,12 +66,15 @@ max_growth = 22
 
 -- the printed string of a triple is at most that much longer than each string that reads as it
 abbrev pub PrintedStringsGrowAtMost : Type 0
-PrintedStringsGrowAtMost = (text : List ℕ) (t : Values) → ParsesAs text t → length (string_of t) ≤ length text + max_growth
+PrintedStringsGrowAtMost =
+    (text : List ℕ) (t : Values) → ParsesAs text t → length (string_of t) ≤ length text + max_growth
 
 -- so is the canonical string
 abbrev pub CanonicalStringsGrowAtMost : Type 0
-CanonicalStringsGrowAtMost = (text : List ℕ) (t : Values) → ParsesAs text t → length (canonical_string t) ≤ length text + max_growth
+CanonicalStringsGrowAtMost =
+    (text : List ℕ) (t : Values) → ParsesAs text t → length (canonical_string t) ≤ length text + max_growth
 
 -- a refused part is not longer than the string
 abbrev pub RefusedPartsDoNotGrow : Type 0
-RefusedPartsDoNotGrow = (text : List ℕ) (refusal : Refusal) → IsRefusedAs text refusal → length refusal.part ≤ length text
+RefusedPartsDoNotGrow =
+    (text : List ℕ) (refusal : Refusal) → IsRefusedAs text refusal → length refusal.part ≤ length text

@@ -1,18 +1,25 @@
--- Parsing as a function, by which the least placement can be computed: one part after the other fills the first open field that
--- it parses as. And what a call does that takes the parts so, or answers with the whole.
-use Rattle.std.specs.Prelude.{◌≡◌, ℕ, List, [], ◌∷◌, Option, Some, None, Result, Ok, Err, IfOk, IfErr, IfSome, MatchOption, unwrap_or, if◌then◌else◌}
+-- Parsing as a function, by which the least placement can be computed: one part after the other fills the first open
+-- field that it parses as. And what a call does that takes the parts so, or answers with the whole.
+use Rattle.std.specs.Prelude.{◌≡◌, ℕ, List, [], ◌∷◌, Option, Some, None, Result, Ok, Err, IfOk, IfErr, IfSome}
+use Rattle.std.specs.Prelude.{MatchOption, unwrap_or, if◌then◌else◌}
 use Rattle.std.specs.Option.{option_map_or}
-use Rattle.lexicon_fields.specs.{Vendor.IsCustom, Vendor.vendor_of, Architecture.architecture_of, Environment.environment_of}
+use Rattle.lexicon_fields.specs.{Vendor.IsCustom, Vendor.vendor_of, Architecture.architecture_of}
+use Rattle.lexicon_fields.specs.{Environment.environment_of}
 use Rattle.lexicon_fields.specs.{OperatingSystem.operating_system_of, BinaryFormat.binary_format_of}
-use Rattle.target_lexicon.specs.{declared.parse_error.ParseError.ParseError, declared.reading.Reading.Reading, declared.refusal.Refusal.Refusal as BorrowedRefusal, declared.triple.Triple.Triple, Reading.ParsesAs, Reading.IsErrorOf, Reading.expected_after, Field.Field, Field.parses_as, Reading.parts_of}
-use Rattle.target_lexicon.specs.{Refusal.refusal_of, Refusal.Refusal, Refusal.refusal_with, ImpliedFormat.default_binary_format, SpecialStrings.special_values}
-use Rattle.target_lexicon.specs.Explanation.{FromPart, Implied, PlacedPart, SourceValues, part_value, sources_of, with_source}
+use Rattle.target_lexicon.specs.{declared.parse_error.ParseError.ParseError, declared.reading.Reading.Reading}
+use Rattle.target_lexicon.specs.{declared.refusal.Refusal.Refusal as BorrowedRefusal, declared.triple.Triple.Triple}
+use Rattle.target_lexicon.specs.{Reading.ParsesAs, Reading.IsErrorOf, Reading.expected_after, Field.Field}
+use Rattle.target_lexicon.specs.{Field.parses_as, Reading.parts_of}
+use Rattle.target_lexicon.specs.{Refusal.refusal_of, Refusal.Refusal, Refusal.refusal_with}
+use Rattle.target_lexicon.specs.{ImpliedFormat.default_binary_format, SpecialStrings.special_values}
+use Rattle.target_lexicon.specs.Explanation.{FromPart, Implied, PlacedPart, SourceValues, part_value, sources_of}
+use Rattle.target_lexicon.specs.Explanation.{with_source}
 use Rattle.target_lexicon.specs.Values.{Values, unknown_values, values, values_of}
 use Rattle.target_lexicon.specs.ValuesRef.{values_of_ref}
 use Rattle.target_lexicon.specs.Field as field
 
--- the fields that a part can fill where this one is expected: the first part only the architecture, a later one this field or
--- one after it
+-- the fields that a part can fill where this one is expected: the first part only the architecture, a later one this
+-- field or one after it
 abbrev pub open_fields : Option Field → List Field
 open_fields (Some field.Architecture) = field.Architecture ∷ []
 open_fields (Some field.Vendor) = field.Vendor ∷ field.OperatingSystem ∷ field.Environment ∷ field.BinaryFormat ∷ []
@@ -32,11 +39,16 @@ field_for expected part = first_field (open_fields expected) part
 
 -- the values with the part's in this field
 abbrev pub with_value : Field → List ℕ → Values → Values
-with_value field.Architecture part t = values (unwrap_or (architecture_of part) t.architecture) t.vendor t.operating_system t.environment t.binary_format
-with_value field.Vendor part t = values t.architecture (unwrap_or (vendor_of part) t.vendor) t.operating_system t.environment t.binary_format
-with_value field.OperatingSystem part t = values t.architecture t.vendor (unwrap_or (operating_system_of part) t.operating_system) t.environment t.binary_format
-with_value field.Environment part t = values t.architecture t.vendor t.operating_system (unwrap_or (environment_of part) t.environment) t.binary_format
-with_value field.BinaryFormat part t = values t.architecture t.vendor t.operating_system t.environment (unwrap_or (binary_format_of part) t.binary_format)
+with_value field.Architecture part t =
+    values (unwrap_or (architecture_of part) t.architecture) t.vendor t.operating_system t.environment t.binary_format
+with_value field.Vendor part t =
+    values t.architecture (unwrap_or (vendor_of part) t.vendor) t.operating_system t.environment t.binary_format
+with_value field.OperatingSystem part t = values t.architecture t.vendor
+    (unwrap_or (operating_system_of part) t.operating_system) t.environment t.binary_format
+with_value field.Environment part t =
+    values t.architecture t.vendor t.operating_system (unwrap_or (environment_of part) t.environment) t.binary_format
+with_value field.BinaryFormat part t =
+    values t.architecture t.vendor t.operating_system t.environment (unwrap_or (binary_format_of part) t.binary_format)
 
 -- the values where no part is left: a format without a part is the implied one
 abbrev pub finished : Option Field → Values → Values
@@ -47,7 +59,8 @@ finished (Some _) t = values t.architecture t.vendor t.operating_system t.enviro
 abbrev pub reading_from : Option Field → Values → List (List ℕ) → Result Values Refusal
 reading_from expected t [] = Ok (finished expected t)
 reading_from expected t (part ∷ parts) =
-    option_map_or (λ f. reading_from (expected_after f) (with_value f part t) parts) (field_for expected part) (Err (refusal_with expected part))
+    option_map_or (λ f. reading_from (expected_after f) (with_value f part t) parts) (field_for expected part)
+    (Err (refusal_with expected part))
 
 -- a string has one part at least; without any, the empty one would be refused
 abbrev pub reading_of_parts : List (List ℕ) → Result Values Refusal
@@ -73,7 +86,8 @@ IsResultOf (Err refusal) (Err error) = IfSome (refusal_of error) (λ other. othe
 -- a result that is what the string reads as, or its error, is the answer that `reading` gives
 abbrev pub ResultsAreComputed : Type 0
 ResultsAreComputed = (text : List ℕ) (result : Result Triple ParseError)
-    → IfOk result (λ triple. ParsesAs text (values_of triple)) → IfErr result (λ error. IsErrorOf text error) → IsResultOf (reading text) result
+    → IfOk result (λ triple. ParsesAs text (values_of triple)) → IfErr result (λ error. IsErrorOf text error)
+    → IsResultOf (reading text) result
 
 -- a reading after this part has filled this field
 pub record HasFilled (f : Field) (part : PlacedPart) (old new : Reading) : Type 0 where

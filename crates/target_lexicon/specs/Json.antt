@@ -4,7 +4,8 @@ use Rattle.std.specs.Option.{option_map_or}
 use Rattle.serde_json.specs.Data.{Data, string, array, Items, no_items, item}
 use Rattle.serde_json.specs.Find.{as_str, as_array, get_item}
 use Rattle.serde_json.specs.View.{items_of}
-use Rattle.target_lexicon.specs.{declared.json_error.JsonError.JsonError, declared.list_error.ListError.ListError, Printing.string_of, Reading.ParsesAs, Reading.IsRefusedAs, Reading.MayAllocate}
+use Rattle.target_lexicon.specs.{declared.json_error.JsonError.JsonError, declared.list_error.ListError.ListError}
+use Rattle.target_lexicon.specs.{Printing.string_of, Reading.ParsesAs, Reading.IsRefusedAs, Reading.MayAllocate}
 use Rattle.target_lexicon.specs.{Refusal.Refusal, Refusal.refusal_of, Refusal.refusal_line, Values.Values}
 use Rattle.target_lexicon.specs.declared.json_error.JsonError.TheVariants as json_error
 use Rattle.target_lexicon.specs.declared.list_error.ListError.TheVariants as list_error
@@ -35,7 +36,8 @@ json_error_value (json_error.Parse error) = Parse (refusal_of error)
 -- may allocate
 abbrev pub IsJsonErrorOf : Data → JsonErrorValue → Type 0
 IsJsonErrorOf value NotText = as_str value ≡ None
-IsJsonErrorOf value (Parse refusal) = MatchOption (as_str value) ⊥ (λ text. MatchOption refusal (MayAllocate text) (IsRefusedAs text))
+IsJsonErrorOf value (Parse refusal) =
+    MatchOption (as_str value) ⊥ (λ text. MatchOption refusal (MayAllocate text) (IsRefusedAs text))
 
 -- the elements parse as these triples, in order
 abbrev pub ElementsParseAs : Items → List Values → Type 0

@@ -15,10 +15,14 @@ elf_if_unknown f = f
 
 -- what a triple of the exception becomes; one without an exception, or of the last one, is unchanged
 abbrev pub step_of : Option RoundTripException → Values → Values
-step_of (Some exceptions.PrintsAsSpecial) t = record t { environment = environment.Newlib; binary_format = binary_format.Elf }
-step_of (Some exceptions.HidesNewlib) t = record t { environment = environment.Unknown; binary_format = elf_if_unknown t.binary_format }
-step_of (Some exceptions.PrintsTheEspIdfString) t = record t { vendor = Known Espressif; environment = environment.Newlib; binary_format = binary_format.Elf }
-step_of (Some exceptions.ShowsOnlyNone) t = record t { operating_system = operating_system.None_; environment = environment.Unknown }
+step_of (Some exceptions.PrintsAsSpecial) t =
+    record t { environment = environment.Newlib; binary_format = binary_format.Elf }
+step_of (Some exceptions.HidesNewlib) t =
+    record t { environment = environment.Unknown; binary_format = elf_if_unknown t.binary_format }
+step_of (Some exceptions.PrintsTheEspIdfString) t =
+    record t { vendor = Known Espressif; environment = environment.Newlib; binary_format = binary_format.Elf }
+step_of (Some exceptions.ShowsOnlyNone) t =
+    record t { operating_system = operating_system.None_; environment = environment.Unknown }
 step_of (Some exceptions.VendorIsNotPlain) t = t
 step_of None t = t
 

@@ -5,9 +5,13 @@
 use Rattle.std.specs.Prelude.{◌≡◌, ◌≢◌, ◌↔◌, ℕ, Bool, true, false, not, ◌&&◌, ◌||◌, List, [], ◌∷◌, None, unwrap_or}
 use Rattle.std.specs.List.{join_with_byte}
 use Rattle.lexicon_fields.specs.Names.{dash}
-use Rattle.target_lexicon.specs.Values.{Architecture, OperatingSystem, Environment, Values, is_unknown_vendor, is_unknown_environment, is_newlib, is_clever_without_system, is_same_format}
-use Rattle.target_lexicon.specs.{ImpliedFormat.default_binary_format, SpecialStrings.implies_newlib, SpecialStrings.special_string}
-use Rattle.lexicon_fields.specs.{declared.architecture.arm.ArmArchitecture.ArmArchitecture, Architecture.architecture_name, OperatingSystem.operating_system_name, Vendor.vendor_name, Environment.environment_name, BinaryFormat.binary_format_name}
+use Rattle.target_lexicon.specs.Values.{Architecture, OperatingSystem, Environment, Values, is_unknown_vendor}
+use Rattle.target_lexicon.specs.Values.{is_unknown_environment, is_newlib, is_clever_without_system, is_same_format}
+use Rattle.target_lexicon.specs.{ImpliedFormat.default_binary_format, SpecialStrings.implies_newlib}
+use Rattle.target_lexicon.specs.{SpecialStrings.special_string}
+use Rattle.lexicon_fields.specs.{declared.architecture.arm.ArmArchitecture.ArmArchitecture}
+use Rattle.lexicon_fields.specs.{Architecture.architecture_name, OperatingSystem.operating_system_name}
+use Rattle.lexicon_fields.specs.{Vendor.vendor_name, Environment.environment_name, BinaryFormat.binary_format_name}
 use Rattle.target_lexicon.specs.Values.architecture
 use Rattle.target_lexicon.specs.Values.arm
 use Rattle.target_lexicon.specs.Values.operating_system
@@ -31,8 +35,8 @@ is_bare_arm arm.Thumbv8mBase = true
 is_bare_arm arm.Thumbv8mMain = true
 is_bare_arm _ = false
 
--- whether an unknown vendor is omitted: on Linux with an environment of Android or `kernel`, on WASI, and with the system `none`
--- on MSP430 and these Arm architectures
+-- whether an unknown vendor is omitted: on Linux with an environment of Android or `kernel`, on WASI, and with the
+-- system `none` on MSP430 and these Arm architectures
 abbrev pub omits_unknown_vendor : Architecture → OperatingSystem → Environment → Bool
 omits_unknown_vendor a operating_system.Linux environment.Android = true
 omits_unknown_vendor a operating_system.Linux environment.Androideabi = true
@@ -62,7 +66,8 @@ shows_operating_system t = not (is_clever_without_system t.architecture t.operat
 
 -- an unknown environment is omitted, and so is a `Newlib` that vendor and system imply
 unfoldable pub shows_environment : Values → Bool
-shows_environment t = not (is_unknown_environment t.environment) && not (implies_newlib t.vendor t.operating_system && is_newlib t.environment)
+shows_environment t = not (is_unknown_environment t.environment)
+    && not (implies_newlib t.vendor t.operating_system && is_newlib t.environment)
 
 -- the systems `none` and `unknown`
 abbrev pub is_none_or_unknown : OperatingSystem → Bool
@@ -110,7 +115,8 @@ shown_names shows_last_three t =
 -- the one addition to upstream's rules: an unknown environment and an unknown format are both shown if another format
 -- is implied, and the operating system with them, so that each of the last three names parses as its own field
 abbrev pub shows_unknowns : Values → Bool
-shows_unknowns t = is_unknown_environment t.environment && is_same_format t.binary_format binary_format.Unknown && not (is_same_format t.binary_format (default_binary_format t))
+shows_unknowns t = is_unknown_environment t.environment && is_same_format t.binary_format binary_format.Unknown
+    && not (is_same_format t.binary_format (default_binary_format t))
 
 -- the special string of a triple, or else these names joined by dashes
 abbrev pub text_with : Bool → Values → List ℕ

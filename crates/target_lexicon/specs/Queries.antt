@@ -1,11 +1,17 @@
 -- Queries for code generators: byte order, pointer width, calling convention and data model. They don't depend on
 -- vendor and binary format.
 use Rattle.std.specs.Prelude.{Bool, true, false, Option, Some, None, if◌then◌else◌}
-use Rattle.target_lexicon.specs.{Values.Architecture, Values.OperatingSystem, Values.Environment, Values.Values, declared.calling_convention.CallingConvention.CallingConvention}
+use Rattle.target_lexicon.specs.{Values.Architecture, Values.OperatingSystem, Values.Environment, Values.Values}
+use Rattle.target_lexicon.specs.{declared.calling_convention.CallingConvention.CallingConvention}
 use Rattle.target_lexicon.specs.declared.data_model.CDataModel.{CDataModel}
-use Rattle.target_lexicon.specs.declared.calling_convention.CallingConvention.TheVariants.{SystemV, WasmBasicCAbi, WindowsFastcall, AppleAarch64}
+use Rattle.target_lexicon.specs.declared.calling_convention.CallingConvention.TheVariants.{SystemV, WasmBasicCAbi}
+use Rattle.target_lexicon.specs.declared.calling_convention.CallingConvention.TheVariants.{WindowsFastcall}
+use Rattle.target_lexicon.specs.declared.calling_convention.CallingConvention.TheVariants.{AppleAarch64}
 use Rattle.target_lexicon.specs.declared.data_model.CDataModel.TheVariants.{ILP32, LLP64, LP64}
-use Rattle.lexicon_fields.specs.{declared.endianness.Endianness.Endianness, declared.pointer_width.PointerWidth.PointerWidth, ArchitectureQueries.architecture_endianness, ArchitectureQueries.architecture_width, OperatingSystem.is_like_darwin}
+use Rattle.lexicon_fields.specs.{declared.endianness.Endianness.Endianness}
+use Rattle.lexicon_fields.specs.{declared.pointer_width.PointerWidth.PointerWidth}
+use Rattle.lexicon_fields.specs.{ArchitectureQueries.architecture_endianness, ArchitectureQueries.architecture_width}
+use Rattle.lexicon_fields.specs.{OperatingSystem.is_like_darwin}
 use Rattle.lexicon_fields.specs.declared.pointer_width.PointerWidth.TheVariants.{U32, U64}
 use Rattle.target_lexicon.specs.Values.architecture
 use Rattle.target_lexicon.specs.Values.operating_system

@@ -1,7 +1,8 @@
 -- Laws of the four queries and of sizes.
 use Rattle.std.specs.Prelude.{◌≡◌, ◌≤◌, Some, option_map}
 use Rattle.lexicon_fields.specs.PointerWidth.{width_bits}
-use Rattle.target_lexicon.specs.{declared.data_model.CDataModel.CDataModel, DataModel.size_bits, DataModel.sizes_of, NormalStep.normal_step, Values.Values}
+use Rattle.target_lexicon.specs.{declared.data_model.CDataModel.CDataModel, DataModel.size_bits, DataModel.sizes_of}
+use Rattle.target_lexicon.specs.{NormalStep.normal_step, Values.Values}
 use Rattle.target_lexicon.specs.Queries.{endianness, pointer_width, calling_convention, data_model}
 
 -- if a triple has a data model, its pointers have the width of the model's pointers

@@ -1,11 +1,16 @@
--- Parsing: the parts of a string and the fields that they can be of, the triple that a string reads as, and how a string is
--- refused.
-use Rattle.std.specs.Prelude.{◌≡◌, ◌≢◌, ℕ, ◌<◌, ◌≤◌, ◌==◌, suc, List, [], ◌∷◌, Option, Some, None, true, map, take, slice_get, if◌then◌else◌, IfSome, MatchOption, ◌⊎◌}
+-- Parsing: the parts of a string and the fields that they can be of, the triple that a string reads as, and how a
+-- string is refused.
+use Rattle.std.specs.Prelude.{◌≡◌, ◌≢◌, ℕ, ◌<◌, ◌≤◌, ◌==◌, suc, List, [], ◌∷◌, Option, Some, None, true, map, take}
+use Rattle.std.specs.Prelude.{slice_get, if◌then◌else◌, IfSome, MatchOption, ◌⊎◌}
 use Rattle.std.specs.Borrow.{Bor}
-use Rattle.std.specs.{List.AllZip, List.join_with_byte, List.list_all, List.slice_split, List.Sorted.IsStrictlyIncreasing}
+use Rattle.std.specs.{List.AllZip, List.join_with_byte, List.list_all, List.slice_split}
+use Rattle.std.specs.{List.Sorted.IsStrictlyIncreasing}
 use Rattle.lexicon_fields.specs.Names.{dash, is_dash_free}
-use Rattle.lexicon_fields.specs.{Architecture.architecture_of, Vendor.IsCustom, Vendor.vendor_of, OperatingSystem.operating_system_of, Environment.environment_of, BinaryFormat.binary_format_of}
-use Rattle.target_lexicon.specs.{declared.parse_error.ParseError.ParseError, Field.Field, Field.field_number, Field.parses_as, ImpliedFormat.default_binary_format}
+use Rattle.lexicon_fields.specs.{Architecture.architecture_of, Vendor.IsCustom, Vendor.vendor_of}
+use Rattle.lexicon_fields.specs.{OperatingSystem.operating_system_of, Environment.environment_of}
+use Rattle.lexicon_fields.specs.{BinaryFormat.binary_format_of}
+use Rattle.target_lexicon.specs.{declared.parse_error.ParseError.ParseError, Field.Field, Field.field_number}
+use Rattle.target_lexicon.specs.{Field.parses_as, ImpliedFormat.default_binary_format}
 use Rattle.target_lexicon.specs.{Refusal.Refusal, Refusal.refusal_of, SpecialStrings.special_values, Values.Values}
 use Rattle.target_lexicon.specs.Values.architecture
 use Rattle.target_lexicon.specs.Values.operating_system
@@ -61,11 +66,14 @@ IsValueOf find unfilled (Some part) value = find part ≡ Some value
 
 -- each field has the value of its part; an unfilled field is `Unknown`, an unfilled format is the implied one
 pub record HoldsParts (parts : List (List ℕ)) (fields : List Field) (t : Values) : Type 0 where
-  pub architecture : IsValueOf architecture_of architecture.Unknown (part_at field.Architecture parts fields) t.architecture
+  pub architecture : IsValueOf architecture_of architecture.Unknown (part_at field.Architecture parts fields)
+      t.architecture
   pub vendor : IsValueOf vendor_of (vendor.Known known_vendor.Unknown) (part_at field.Vendor parts fields) t.vendor
-  pub operating_system : IsValueOf operating_system_of operating_system.Unknown (part_at field.OperatingSystem parts fields) t.operating_system
+  pub operating_system : IsValueOf operating_system_of operating_system.Unknown
+      (part_at field.OperatingSystem parts fields) t.operating_system
   pub environment : IsValueOf environment_of environment.Unknown (part_at field.Environment parts fields) t.environment
-  pub binary_format : IsValueOf binary_format_of (default_binary_format t) (part_at field.BinaryFormat parts fields) t.binary_format
+  pub binary_format : IsValueOf binary_format_of (default_binary_format t) (part_at field.BinaryFormat parts fields)
+      t.binary_format
 
 -- the triple that the least placement of the parts gives
 abbrev pub PartsParseAs : List (List ℕ) → Values → Type 0
@@ -94,7 +102,8 @@ last_field f (g ∷ gs) = last_field g gs
 abbrev pub IsExpectedAfter : List (List ℕ) → Option Field → Type 0
 IsExpectedAfter [] expected = expected ≡ Some field.Architecture
 IsExpectedAfter (p ∷ ps) expected =
-    (first : Field) × ((others : List Field) × IsLeastPlacement (p ∷ ps) (first ∷ others) × (expected ≡ expected_after (last_field first others)))
+    (first : Field) × ((others : List Field) × IsLeastPlacement (p ∷ ps) (first ∷ others)
+    × (expected ≡ expected_after (last_field first others)))
 
 -- the first part up to which the parts have no placement, and what was expected there
 pub record IsRefusal (parts : List (List ℕ)) (refusal : Refusal) : Type 0 where

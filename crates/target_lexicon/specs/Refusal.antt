@@ -18,7 +18,8 @@ refusal_with expected part = record { expected = expected; part = part }
 abbrev pub refusal_of : ParseError → Option Refusal
 refusal_of (error.UnrecognizedArchitecture part) = Some (refusal_with (Some field.Architecture) (string_bytes part))
 refusal_of (error.UnrecognizedVendor part) = Some (refusal_with (Some field.Vendor) (string_bytes part))
-refusal_of (error.UnrecognizedOperatingSystem part) = Some (refusal_with (Some field.OperatingSystem) (string_bytes part))
+refusal_of (error.UnrecognizedOperatingSystem part) =
+    Some (refusal_with (Some field.OperatingSystem) (string_bytes part))
 refusal_of (error.UnrecognizedEnvironment part) = Some (refusal_with (Some field.Environment) (string_bytes part))
 refusal_of (error.UnrecognizedBinaryFormat part) = Some (refusal_with (Some field.BinaryFormat) (string_bytes part))
 refusal_of (error.UnrecognizedField part) = Some (refusal_with None (string_bytes part))

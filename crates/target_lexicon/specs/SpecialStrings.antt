@@ -35,7 +35,8 @@ special_rows =
 
 -- the triple of a row: with the environment `Newlib` and the format `Elf`
 abbrev pub special_triple : SpecialRow → Values
-special_triple row = values row.architecture (Known row.vendor) row.operating_system environment.Newlib binary_format.Elf
+special_triple row =
+    values row.architecture (Known row.vendor) row.operating_system environment.Newlib binary_format.Elf
 
 abbrev pub special_pair : SpecialRow → Pair Values
 special_pair row = (row.text, special_triple row)

@@ -1,8 +1,10 @@
 -- The values of a triple's five fields, over which all rules are stated.
 use Rattle.std.specs.Prelude.{Bool, true, false}
 use Rattle.lexicon_fields.specs.{declared.known_vendor.KnownVendor.TheVariants.Unknown, Vendor.vendor_value}
-pub use Rattle.lexicon_fields.specs.{declared.architecture.Architecture.Architecture, declared.operating_system.OperatingSystem.OperatingSystem}
-pub use Rattle.lexicon_fields.specs.{declared.environment.Environment.Environment, declared.binary_format.BinaryFormat.BinaryFormat}
+pub use Rattle.lexicon_fields.specs.{declared.architecture.Architecture.Architecture}
+pub use Rattle.lexicon_fields.specs.{declared.operating_system.OperatingSystem.OperatingSystem}
+pub use Rattle.lexicon_fields.specs.{declared.environment.Environment.Environment}
+pub use Rattle.lexicon_fields.specs.{declared.binary_format.BinaryFormat.BinaryFormat}
 pub use Rattle.lexicon_fields.specs.Vendor.{VendorValue, Known, Custom}
 pub use Rattle.lexicon_fields.specs.declared.architecture.Architecture.TheVariants as architecture
 pub use Rattle.lexicon_fields.specs.declared.architecture.aarch64.Aarch64Architecture.TheVariants as aarch64
@@ -37,7 +39,8 @@ values_of t = values t.architecture (vendor_value t.vendor) t.operating_system t
 
 -- every value `Unknown`
 abbrev pub unknown_values : Values
-unknown_values = values architecture.Unknown (Known Unknown) operating_system.Unknown environment.Unknown binary_format.Unknown
+unknown_values =
+    values architecture.Unknown (Known Unknown) operating_system.Unknown environment.Unknown binary_format.Unknown
 
 -- the host, on every machine: 64-bit x86 with Linux and GNU's libraries
 abbrev pub host_values : Values

@@ -1,7 +1,10 @@
 -- The values of a triple that borrows its vendor, and the refusal of a part that is borrowed.
 use Rattle.std.specs.Prelude.{Option, Result, Ok, Err}
 use Rattle.lexicon_fields.specs.VendorRef.{ref_value}
-use Rattle.target_lexicon.specs.{declared.triple_ref.TripleRef.TripleRef, declared.refusal.Refusal.Refusal as BorrowedRefusal, Explanation.PlacedPart, Explanation.part_value, Field.Field, Refusal.Refusal, Refusal.refusal_with, Values.Values, Values.values}
+use Rattle.target_lexicon.specs.{declared.triple_ref.TripleRef.TripleRef}
+use Rattle.target_lexicon.specs.{declared.refusal.Refusal.Refusal as BorrowedRefusal, Explanation.PlacedPart}
+use Rattle.target_lexicon.specs.{Explanation.part_value, Field.Field, Refusal.Refusal, Refusal.refusal_with}
+use Rattle.target_lexicon.specs.{Values.Values, Values.values}
 
 -- the values of a triple
 abbrev pub values_of_ref : TripleRef → Values

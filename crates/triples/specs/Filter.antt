@@ -1,5 +1,6 @@
 -- What a filter answers to the lines that it reads, and how it ends.
-use Rattle.std.specs.Prelude.{ℕ, ◌≡◌, ◌↔◌, ◌-◌, ◌^◌, ◌<◌, ◌≤◌, ◌⊎◌, Bool, if◌then◌else◌, List, [], ◌∷◌, ◌++◌, length, take, codes, IsErrOf, OnErr, OnOk, Result}
+use Rattle.std.specs.Prelude.{ℕ, ◌≡◌, ◌↔◌, ◌-◌, ◌^◌, ◌<◌, ◌≤◌, ◌⊎◌, Bool, if◌then◌else◌, List, [], ◌∷◌, ◌++◌, length}
+use Rattle.std.specs.Prelude.{take, codes, IsErrOf, OnErr, OnOk, Result}
 use Rattle.std.specs.List.{AllZip}
 use Rattle.std.specs.Str.{IsUtf8}
 use Rattle.triples.specs.{declared.filter_error.FilterError.FilterError, declared.line_mode.LineMode.LineMode}
@@ -34,13 +35,15 @@ complete_lines is_ended input = if is_ended then lines_of input else ended_lines
 -- these bytes are the answers to the lines that ended among what the reads gave, after what the writer had taken before
 abbrev pub AnswersEnded : LineMode → ℕ → List ℕ → List Call → List ℕ → Type 0
 AnswersEnded mode size start reads written =
-    (answers : List ℕ) × AreFilterAnswers mode size (ended_lines_of (bytes_of reads)) answers × (written ≡ start ++ answers)
+    (answers : List ℕ) × AreFilterAnswers mode size (ended_lines_of (bytes_of reads)) answers
+    × (written ≡ start ++ answers)
 
 -- Before each of these reads, of which the latest is the first, the answers to all lines that had ended were written.
 abbrev pub IsPrompt : LineMode → ℕ → List ℕ → List Call → Type 0
 IsPrompt mode size start [] = Unit {0}
 IsPrompt mode size start (read ∷ []) = ⊥
-IsPrompt mode size start (read ∷ (After written ∷ reads)) = AnswersEnded mode size start reads written × IsPrompt mode size start reads
+IsPrompt mode size start (read ∷ (After written ∷ reads)) =
+    AnswersEnded mode size start reads written × IsPrompt mode size start reads
 IsPrompt mode size start (read ∷ (Moved bytes ∷ reads)) = ⊥
 IsPrompt mode size start (read ∷ (Ended ∷ reads)) = ⊥
 IsPrompt mode size start (read ∷ (Flushed ∷ reads)) = ⊥
@@ -49,11 +52,13 @@ IsPrompt mode size start (read ∷ (Failed ∷ reads)) = ⊥
 -- so were those of the reader
 abbrev pub ReadsPromptly : LineMode → ℕ → Use → Use → Type 0
 ReadsPromptly mode size reader writer =
-    (reads : List Call) × (reader.calls_after ≡ reads ++ reader.calls_before) × IsPrompt mode size (bytes_of writer.calls_before) reads
+    (reads : List Call) × (reader.calls_after ≡ reads ++ reader.calls_before)
+    × IsPrompt mode size (bytes_of writer.calls_before) reads
 
--- How a filter ends, whether or not the bytes of its reader and writer are known: what its reads gave, the answers to the
--- complete lines of that, and what its writes took.
-pub record FilterEndsAs (mode : LineMode) (size : ℕ) (reader writer : Use) (result : Result (Unit {0}) FilterError) : Type 0 where
+-- How a filter ends, whether or not the bytes of its reader and writer are known: what its reads gave, the answers to
+-- the complete lines of that, and what its writes took.
+pub record FilterEndsAs (mode : LineMode) (size : ℕ) (reader writer : Use)
+    (result : Result (Unit {0}) FilterError) : Type 0 where
   pub input : List ℕ
   pub answers : List ℕ
   pub output : List ℕ

@@ -1,5 +1,6 @@
 -- Definitions for the contracts of private functions of the filter; no public contract cites them.
-use Rattle.std.specs.Prelude.{ℕ, ◌≡◌, ◌+◌, ◌<◌, ◌≤◌, ◌==◌, ◌⊎◌, Bool, true, false, List, [], ◌∷◌, ◌++◌, length, take, drop, Option, Some, None, Result, Ok, Err}
+use Rattle.std.specs.Prelude.{ℕ, ◌≡◌, ◌+◌, ◌<◌, ◌≤◌, ◌==◌, ◌⊎◌, Bool, true, false, List, [], ◌∷◌, ◌++◌, length, take}
+use Rattle.std.specs.Prelude.{drop, Option, Some, None, Result, Ok, Err}
 use Rattle.triples.specs.{declared.filter_error.FilterError.FilterError, declared.line_mode.LineMode.LineMode}
 use Rattle.std.specs.List.{All, AllByRecursion}
 use Rattle.std.specs.Str.{IsUtf8}
@@ -50,14 +51,17 @@ IsLineAnswer mode false line answer = IsShortAnswer mode line answer
 -- what `make_room` does: what was used of the buffer is written, or still used
 abbrev pub MakesRoom : List ℕ → ℕ → ℕ → Use → Result ℕ FilterError → Type 0
 MakesRoom buffer used room written (Ok now) =
-    IsUnfailed written × (now + room ≤ length buffer) × (gone : List ℕ) × Takes written gone × (gone ++ take now buffer ≡ take used buffer) × OnlyMoves written
+    IsUnfailed written × (now + room ≤ length buffer) × (gone : List ℕ) × Takes written gone
+    × (gone ++ take now buffer ≡ take used buffer) × OnlyMoves written
 MakesRoom buffer used room written (Err e) =
-    (e ≡ filter_error.Write) × HasFailed written × (n : ℕ) × Takes written (take n (take used buffer)) × StopsLast written
+    (e ≡ filter_error.Write) × HasFailed written × (n : ℕ) × Takes written (take n (take used buffer))
+    × StopsLast written
 
 -- where the first line ends, if it does
 abbrev pub IsLineEnd : List ℕ → Option ℕ → Type 0
 IsLineEnd bytes None = HasNoFeed bytes
-IsLineEnd bytes (Some at) = (at < length bytes) × HasNoFeed (take at bytes) × (bytes ≡ take at bytes ++ line_feed ∷ drop (at + 1) bytes)
+IsLineEnd bytes (Some at) =
+    (at < length bytes) × HasNoFeed (take at bytes) × (bytes ≡ take at bytes ++ line_feed ∷ drop (at + 1) bytes)
 
 -- what came of a line before the bytes in the buffer: none of it, or, if it is late, so many bytes that the line is too
 -- long
@@ -76,7 +80,8 @@ AnswersLines mode late bytes late_after rest output =
 abbrev pub LinesAnswered : LineMode → Bool → List ℕ → Use → Result (ℕ × Bool) FilterError → Type 0
 LinesAnswered mode late bytes written (Ok found) =
     IsUnfailed written × (found.0 ≤ length bytes) × HasNoFeed (drop found.0 bytes)
-    × (output : List ℕ) × Takes written output × AnswersLines mode late bytes found.1 (drop found.0 bytes) output × OnlyMoves written
+    × (output : List ℕ) × Takes written output × AnswersLines mode late bytes found.1 (drop found.0 bytes) output
+    × OnlyMoves written
 LinesAnswered mode late bytes written (Err e) =
     (e ≡ filter_error.Write) × HasFailed written
     × (output : List ℕ) × (late_after : Bool) × (rest : List ℕ) × AnswersLines mode late bytes late_after rest output
@@ -86,12 +91,15 @@ LinesAnswered mode late bytes written (Err e) =
 pub record AnswersRest (mode : LineMode) (late : Bool) (bytes output : List ℕ) : Type 0 where
   pub rest : (size : ℕ) (before : List ℕ) → length bytes < size → IsLate late size before
       → ((before ++ bytes ≡ []) × (output ≡ []))
-      ⊎ ((0 < length (before ++ bytes)) × (answer : Answer) × IsFilterAnswer mode size (before ++ bytes) answer × (output ≡ written_lines (answer ∷ [])))
+      ⊎ ((0 < length (before ++ bytes)) × (answer : Answer) × IsFilterAnswer mode size (before ++ bytes) answer
+      × (output ≡ written_lines (answer ∷ [])))
 
 -- what `finish` does
 abbrev pub RestAnswered : LineMode → Bool → List ℕ → Use → Result (Unit {0}) FilterError → Type 0
-RestAnswered mode late bytes written (Ok _) = IsWrittenWhole written × (output : List ℕ) × Takes written output × AnswersRest mode late bytes output
-RestAnswered mode late bytes written (Err e) = (e ≡ filter_error.Write) × HasFailed written × (output : List ℕ) × AnswersRest mode late bytes output × (n : ℕ) × Takes written (take n output) × StopsLast written
+RestAnswered mode late bytes written (Ok _) =
+    IsWrittenWhole written × (output : List ℕ) × Takes written output × AnswersRest mode late bytes output
+RestAnswered mode late bytes written (Err e) = (e ≡ filter_error.Write) × HasFailed written × (output : List ℕ)
+    × AnswersRest mode late bytes output × (n : ℕ) × Takes written (take n output) × StopsLast written
 
 -- what `keep_rest` does with a rest of bytes in a buffer of this size: the line is too long and the rest is dropped, or
 -- the rest is kept at the front

@@ -4,7 +4,8 @@ use Rattle.serde_json.specs.Data.{Data}
 use Rattle.serde_json.specs.Find.{as_array}
 use Rattle.serde_json.specs.Read.{read}
 use Rattle.serde_json.specs.Written.{compact_text}
-use Rattle.target_lexicon.specs.Json.{JsonErrorValue, Parse, Element, ListParsesAs, IsListErrorOf, list_json_of, list_error_line}
+use Rattle.target_lexicon.specs.Json.{JsonErrorValue, Parse, Element, ListParsesAs, IsListErrorOf, list_json_of}
+use Rattle.target_lexicon.specs.Json.{list_error_line}
 use Rattle.target_lexicon.specs.Values.{Values}
 use Rattle.triples.specs.Lines.{line_feed}
 use Rattle.triples.specs.declared.run_error.RunError.{RunError}
@@ -16,7 +17,8 @@ IsListWritten value answer = (ts : List Values) × ListParsesAs value ts × (ans
 
 -- `error: ` and the line of the first element that doesn't parse, unless an allocation failed there
 abbrev pub IsElementLine : Data → List ℕ → Type 0
-IsElementLine value answer = (i : ℕ) × ((error : JsonErrorValue) × (IsListErrorOf value (Element i error) × (error ≢ Parse None)
+IsElementLine value answer =
+    (i : ℕ) × ((error : JsonErrorValue) × (IsListErrorOf value (Element i error) × (error ≢ Parse None)
     × (answer ≡ codes "error: " ++ list_error_line (Element i error))))
 
 -- what is written for the value
@@ -25,7 +27,8 @@ IsJsonAnswer value answer = IsListWritten value answer ⊎ IsElementLine value a
 
 -- the answer for the value of the input, and a line feed
 abbrev pub IsJsonOutput : List ℕ → List ℕ → Type 0
-IsJsonOutput input output = MatchOption (read input) ⊥ (λ value. (answer : List ℕ) × IsJsonAnswer value answer × (output ≡ answer ++ line_feed ∷ []))
+IsJsonOutput input output = MatchOption (read input) ⊥ (λ value. (answer : List ℕ) × IsJsonAnswer value answer
+    × (output ≡ answer ++ line_feed ∷ []))
 
 -- why the value has no answer: it is not a list, or an allocation failed
 abbrev pub IsJsonAnswerErrorOf : Data → RunError → Type 0

@@ -1,7 +1,8 @@
 -- Laws of mode `matrix`.
 use Rattle.std.specs.Prelude.{ℕ, ◌≡◌, ◌↔◌, Bool, true, false, not, List, [], ◌∷◌, ◌++◌, take, map}
 use Rattle.std.specs.List.{filter}
-use Rattle.target_lexicon.specs.{FixedPoints.canonical_values, FixedPoints.canonical_string, Reading.ParsesAs, Values.Values}
+use Rattle.target_lexicon.specs.{FixedPoints.canonical_values, FixedPoints.canonical_string, Reading.ParsesAs}
+use Rattle.target_lexicon.specs.{Values.Values}
 use Rattle.triples.specs.Output.{Answer, Shown, Refused, IsAnswer, AreAnswers, shows, matrix_of, answer_bytes}
 
 -- mode `settle` writes the same string for two lines
@@ -10,7 +11,8 @@ ShareAnEntry a b = (text : List ℕ) × IsAnswer canonical_string a (Shown text)
 
 -- two lines that parse have the same entry if and only if their canonical triples are equal
 abbrev pub EntriesAreCanonicalTriples : Type 0
-EntriesAreCanonicalTriples = (a b : List ℕ) (t u : Values) → ParsesAs a t → ParsesAs b u → ShareAnEntry a b ↔ (canonical_values t ≡ canonical_values u)
+EntriesAreCanonicalTriples = (a b : List ℕ) (t u : Values) → ParsesAs a t → ParsesAs b u
+    → ShareAnEntry a b ↔ (canonical_values t ≡ canonical_values u)
 
 -- the entries for a string among the answers of mode `settle`
 abbrev pub entries_of : List ℕ → List Answer → List Answer
@@ -29,9 +31,12 @@ pub record KeepsEntriesOnce (lines : List Answer) : Type 0 where
 -- An answer that follows others is added at the end of their matrix if it is a refusal or the first entry for its
 -- string; another entry for the same string adds nothing.
 pub record StaysAtItsFirst (before : List Answer) : Type 0 where
-  pub refusal : (message : List ℕ) → matrix_of (before ++ Refused message ∷ []) ≡ matrix_of before ++ Refused message ∷ []
-  pub first : (text : List ℕ) → entries_of text before ≡ [] → matrix_of (before ++ Shown text ∷ []) ≡ matrix_of before ++ Shown text ∷ []
-  pub again : (text : List ℕ) → ¬ (entries_of text before ≡ []) → matrix_of (before ++ Shown text ∷ []) ≡ matrix_of before
+  pub refusal : (message : List ℕ) → matrix_of (before ++ Refused message ∷ [])
+      ≡ matrix_of before ++ Refused message ∷ []
+  pub first : (text : List ℕ) → entries_of text before ≡ []
+      → matrix_of (before ++ Shown text ∷ []) ≡ matrix_of before ++ Shown text ∷ []
+  pub again : (text : List ℕ) → ¬ (entries_of text before ≡ [])
+      → matrix_of (before ++ Shown text ∷ []) ≡ matrix_of before
 
 -- this holds after all lines, and no lines have an empty matrix
 pub record FirstEntriesStayInOrder : Type 0 where
@@ -40,8 +45,10 @@ pub record FirstEntriesStayInOrder : Type 0 where
 
 -- the canonical triple of each line of an input that parses has one entry in the matrix
 abbrev pub EachCanonicalTripleHasAnEntry : Type 0
-EachCanonicalTripleHasAnEntry = (before after : List (List ℕ)) (line : List ℕ) (answers : List Answer) → AreAnswers canonical_string (before ++ line ∷ after) answers
-    → (t : Values) → ParsesAs line t → entries_of (canonical_string t) (matrix_of answers) ≡ Shown (canonical_string t) ∷ []
+EachCanonicalTripleHasAnEntry = (before after : List (List ℕ)) (line : List ℕ) (answers : List Answer)
+    → AreAnswers canonical_string (before ++ line ∷ after) answers
+    → (t : Values) → ParsesAs line t → entries_of (canonical_string t) (matrix_of answers)
+    ≡ Shown (canonical_string t) ∷ []
 
 -- the entries among answers
 abbrev pub only_entries : List Answer → List Answer
@@ -54,4 +61,5 @@ pub record IsItsOwnMatrix (entries : List Answer) : Type 0 where
 
 -- this holds for every matrix
 abbrev pub MatricesAreTheirOwn : Type 0
-MatricesAreTheirOwn = (lines : List (List ℕ)) (answers : List Answer) → AreAnswers canonical_string lines answers → IsItsOwnMatrix (only_entries (matrix_of answers))
+MatricesAreTheirOwn = (lines : List (List ℕ)) (answers : List Answer) → AreAnswers canonical_string lines answers
+    → IsItsOwnMatrix (only_entries (matrix_of answers))

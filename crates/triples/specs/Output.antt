@@ -2,7 +2,8 @@
 use Rattle.std.specs.Prelude.{ℕ, ◌≡◌, Bool, true, false, not, if◌then◌else◌, List, [], ◌∷◌, ◌++◌, codes}
 use Rattle.std.specs.List.{AllZip, list_any}
 use Rattle.std.specs.Str.{bytes_eq}
-use Rattle.target_lexicon.specs.{FixedPoints.canonical_string, Printing.string_of, Reading.ParsesAs, Reading.IsRefusedAs, Refusal.Refusal, Refusal.refusal_line, Values.Values}
+use Rattle.target_lexicon.specs.{FixedPoints.canonical_string, Printing.string_of, Reading.ParsesAs}
+use Rattle.target_lexicon.specs.{Reading.IsRefusedAs, Refusal.Refusal, Refusal.refusal_line, Values.Values}
 use Rattle.triples.specs.{declared.line_mode.LineMode.LineMode, declared.mode.Mode.Mode, Facts.text_with_facts}
 use Rattle.triples.specs.declared.line_mode.LineMode.TheVariants as line_mode
 use Rattle.triples.specs.declared.mode.Mode.TheVariants.{Print, Show, Settle, Json, Matrix}
@@ -23,7 +24,8 @@ shown_by line_mode.Settle = canonical_string
 -- an answer shows the triple that the line parses as, or is `error: ` and the line of its refusal
 abbrev pub IsAnswer : (Values → List ℕ) → List ℕ → Answer → Type 0
 IsAnswer shown line (Shown text) = (values : Values) × ParsesAs line values × (text ≡ shown values)
-IsAnswer shown line (Refused message) = (refusal : Refusal) × IsRefusedAs line refusal × (message ≡ codes "error: " ++ refusal_line refusal)
+IsAnswer shown line (Refused message) =
+    (refusal : Refusal) × IsRefusedAs line refusal × (message ≡ codes "error: " ++ refusal_line refusal)
 
 -- the answer to each line, in order
 abbrev pub AreAnswers : (Values → List ℕ) → List (List ℕ) → List Answer → Type 0

@@ -4,7 +4,8 @@ use Rattle.std.specs.declared.alloc.Global.{Global}
 use Rattle.std.specs.HashSet.{HashSet, contains_text}
 use Rattle.std.specs.declared.hash.{BuildHasherDefault.BuildHasherDefault, FoldHasher.FoldHasher}
 use Rattle.std.specs.Str.{bytes_eq}
-use Rattle.target_lexicon.specs.{FixedPoints.canonical_string, Refusal.Refusal, Refusal.refusal_line, Refusal.refusal_of, declared.parse_error.ParseError.ParseError, Values.Values}
+use Rattle.target_lexicon.specs.{FixedPoints.canonical_string, Refusal.Refusal, Refusal.refusal_line}
+use Rattle.target_lexicon.specs.{Refusal.refusal_of, declared.parse_error.ParseError.ParseError, Values.Values}
 use Rattle.triples.specs.Output.{Answer, Shown, Refused, IsAnswer, shows, written_lines}
 
 -- the printed triples that were seen
@@ -26,7 +27,8 @@ refused_answer refusal = Refused (codes "error: " ++ refusal_line refusal)
 
 -- the error is a refusal, and the output grew by its answer
 abbrev pub AddsRefusal : ParseError → List ℕ → List ℕ → Type 0
-AddsRefusal error old new = MatchOption (refusal_of error) ⊥ (λ refusal. new ≡ old ++ written_lines (refused_answer refusal ∷ []))
+AddsRefusal error old new =
+    MatchOption (refusal_of error) ⊥ (λ refusal. new ≡ old ++ written_lines (refused_answer refusal ∷ []))
 
 -- the output grew by the answer to a line
 pub record AddsAnswer (shown : Values → List ℕ) (line old new : List ℕ) : Type 0 where

@@ -1,8 +1,10 @@
 -- What the program does for its arguments, and with its streams.
 use Rattle.std.specs.Prelude.{ℕ, ◌≡◌, List, Option, Some, None, Result, Ok, Err}
-use Rattle.triples.specs.{declared.counted.Counted.Counted, declared.filter_error.FilterError.FilterError, declared.line_mode.LineMode.LineMode}
+use Rattle.triples.specs.{declared.counted.Counted.Counted, declared.filter_error.FilterError.FilterError}
+use Rattle.triples.specs.{declared.line_mode.LineMode.LineMode}
 use Rattle.triples.specs.{declared.request.Request.Request, declared.run_error.RunError.RunError}
-use Rattle.triples.specs.{Filter.FilterEndsAs, Run.EndsAs, Run.IsUnfailed, Run.Takes, Run.TakesBeginning, Run.Use, Run.use_of}
+use Rattle.triples.specs.{Filter.FilterEndsAs, Run.EndsAs, Run.IsUnfailed, Run.Takes, Run.TakesBeginning, Run.Use}
+use Rattle.triples.specs.{Run.use_of}
 use Rattle.triples.specs.Words.{End, closing_words, status_of}
 use Rattle.triples.specs.declared.filter_error.FilterError.TheVariants as filter_error
 use Rattle.triples.specs.declared.request.Request.TheVariants.{Run, Filter}
@@ -30,15 +32,18 @@ pub record Concludes (end : End) (writer : Use) (status : ℕ) : Type 0 where
   pub said : IsUnfailed writer → Takes writer (closing_words end)
   pub begun : TakesBeginning writer (closing_words end)
 
--- What the program does to its reader, its writer and its writer of errors, and its exit status. Before it concludes, the
--- writer is as the run left it.
-abbrev pub Performs : {R W E : Type 0} → (R → Option (List ℕ)) → (W → Option (List ℕ)) → (E → Option (List ℕ)) → Option Request
+-- What the program does to its reader, its writer and its writer of errors, and its exit status. Before it concludes,
+-- the writer is as the run left it.
+abbrev pub Performs : {R W E : Type 0} → (R → Option (List ℕ)) → (W → Option (List ℕ)) → (E → Option (List ℕ))
+    → Option Request
     → Counted R → Counted R → Counted W → Counted W → Counted E → Counted E → ℕ → Type 0
 -- without a request it only concludes
-Performs remaining contents said None r0 r1 w0 w1 e0 e1 status = (r1 ≡ r0) × (e1 ≡ e0) × Concludes None (use_of contents w0 w1) status
+Performs remaining contents said None r0 r1 w0 w1 e0 e1 status =
+    (r1 ≡ r0) × (e1 ≡ e0) × Concludes None (use_of contents w0 w1) status
 -- a run, after which the writer has the closing line
 Performs remaining contents said (Some (Run mode)) r0 r1 w0 w1 e0 e1 status =
-    (end : Result (Unit {0}) RunError) × ((w : Counted _) × EndsAs mode (use_of remaining r0 r1) (use_of contents w0 w) end
+    (end : Result (Unit {0}) RunError) × ((w : Counted _)
+    × EndsAs mode (use_of remaining r0 r1) (use_of contents w0 w) end
     × Concludes (Some end) (use_of contents w w1) status × (e1 ≡ e0))
 -- a filter, after which the writer of errors has the closing line
 Performs remaining contents said (Some (Filter mode)) r0 r1 w0 w1 e0 e1 status =

@@ -2,8 +2,10 @@
 use Rattle.std.specs.Prelude.{ℕ, ◌≡◌, ◌+◌, ◌<◌, ◌⊎◌, List, [], ◌++◌, length, take, Option, IsTrue, Result, Ok, Err}
 use Rattle.std.specs.Io.KnownBytes.{Appends, Consumes, IsAtEnd}
 use Rattle.std.specs.Str.{IsUtf8}
-use Rattle.triples.specs.{declared.mode.Mode.Mode, declared.mode.Mode.TheVariants.Json, declared.run_error.RunError.RunError, declared.counted.Counted.Counted}
-use Rattle.triples.specs.{Calls.Call, Calls.bytes_of, Calls.ends_last, Calls.failures_in, Calls.stops_in, Calls.stops_last}
+use Rattle.triples.specs.{declared.mode.Mode.Mode, declared.mode.Mode.TheVariants.Json}
+use Rattle.triples.specs.{declared.run_error.RunError.RunError, declared.counted.Counted.Counted}
+use Rattle.triples.specs.{Calls.Call, Calls.bytes_of, Calls.ends_last, Calls.failures_in, Calls.stops_in}
+use Rattle.triples.specs.{Calls.stops_last}
 use Rattle.triples.specs.{JsonOutput.IsJsonInputErrorOf, Output.IsOutput, Streams.calls, Streams.inner}
 use Rattle.triples.specs.declared.run_error.RunError.TheVariants as run_error
 
@@ -60,7 +62,8 @@ StopsOnce it = OnlyMoves it ⊎ StopsLast it
 
 -- the input was read to its end: the last read found it
 abbrev pub IsReadWhole : Use → Type 0
-IsReadWhole reader = IsTrue (ends_last reader.calls_after) × IsAtEnd reader.bytes_after × IsUnfailed reader × StopsLast reader
+IsReadWhole reader =
+    IsTrue (ends_last reader.calls_after) × IsAtEnd reader.bytes_after × IsUnfailed reader × StopsLast reader
 
 -- what was written was flushed, by the last call
 abbrev pub IsWrittenWhole : Use → Type 0
@@ -79,21 +82,27 @@ IsUntouched writer output = IsUnfailed writer × (output ≡ []) × (writer.call
 -- what a run has written by its result, if its reads gave this input
 abbrev pub RunEnds : Mode → Use → Use → List ℕ → List ℕ → Result (Unit {0}) RunError → Type 0
 -- the input was read to its end, and its output was written and flushed
-RunEnds mode reader writer input output (Ok _) = IsReadWhole reader × IsWrittenWhole writer × IsUtf8 input × IsOutput mode input output
+RunEnds mode reader writer input output (Ok _) =
+    IsReadWhole reader × IsWrittenWhole writer × IsUtf8 input × IsOutput mode input output
 -- a read failed
 RunEnds mode reader writer input output (Err run_error.Read) = HasFailed reader × IsUntouched writer output
 -- the input was read to its end, and a write or the flush failed after a beginning of the output
 RunEnds mode reader writer input output (Err run_error.Write) =
-    IsReadWhole reader × HasFailed writer × IsUtf8 input × (whole : List ℕ) × IsOutput mode input whole × (n : ℕ) × (output ≡ take n whole)
+    IsReadWhole reader × HasFailed writer × IsUtf8 input × (whole : List ℕ) × IsOutput mode input whole × (n : ℕ)
+    × (output ≡ take n whole)
 -- the input was read to its end, and is not UTF-8
-RunEnds mode reader writer input output (Err run_error.NotUtf8) = IsReadWhole reader × IsUntouched writer output × ¬ (IsUtf8 input)
+RunEnds mode reader writer input output (Err run_error.NotUtf8) =
+    IsReadWhole reader × IsUntouched writer output × ¬ (IsUtf8 input)
 -- the input was read to its end, in mode `json`, and is not JSON, or JSON but not a list
 RunEnds mode reader writer input output (Err run_error.NotJson) =
-    (mode ≡ Json) × IsReadWhole reader × IsUntouched writer output × IsUtf8 input × IsJsonInputErrorOf input run_error.NotJson
+    (mode ≡ Json) × IsReadWhole reader × IsUntouched writer output × IsUtf8 input
+    × IsJsonInputErrorOf input run_error.NotJson
 RunEnds mode reader writer input output (Err run_error.NotList) =
-    (mode ≡ Json) × IsReadWhole reader × IsUntouched writer output × IsUtf8 input × IsJsonInputErrorOf input run_error.NotList
+    (mode ≡ Json) × IsReadWhole reader × IsUntouched writer output × IsUtf8 input
+    × IsJsonInputErrorOf input run_error.NotList
 -- memory ran out after at least one byte was read
-RunEnds mode reader writer input output (Err run_error.OutOfMemory) = IsUnfailed reader × IsUntouched writer output × (0 < length input)
+RunEnds mode reader writer input output (Err run_error.OutOfMemory) =
+    IsUnfailed reader × IsUntouched writer output × (0 < length input)
 
 -- how a run ends, whether or not the bytes of its reader and writer are known: what its reads gave, and what its writes
 -- took; and after a read that failed or found the end, a write that failed, or the flush, there is no other

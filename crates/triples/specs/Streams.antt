@@ -1,5 +1,6 @@
 -- What a call of a reader or writer moves, what counts as its failure, and as the end.
-use Rattle.std.specs.Prelude.{Bool, true, false, if◌then◌else◌, ℕ, List, [], length, take, ◌==◌, ◌&&◌, not, Result, Ok, Err}
+use Rattle.std.specs.Prelude.{Bool, true, false, if◌then◌else◌, ℕ, List, [], length, take, ◌==◌, ◌&&◌, not, Result, Ok}
+use Rattle.std.specs.Prelude.{Err}
 use Rattle.triples.specs.Calls.{Call, Moved, Ended, Flushed, Failed, bytes_of, ends_last, failures_in, stops_in}
 use Rattle.triples.specs.declared.counted.Counted.{Counted}
 
@@ -42,7 +43,8 @@ abbrev pub finds_end : {E : Type 0} → Result ℕ E → List ℕ → Bool
 finds_end (Ok count) buffer = (count == 0) && not (length buffer == 0)
 finds_end (Err _) buffer = false
 
--- whether a read or a write of this buffer was to be the last: it failed, or moved no byte though there was room or a byte
+-- whether a read or a write of this buffer was to be the last: it failed, or moved no byte though there was room or a
+-- byte
 abbrev pub is_last_by : {E : Type 0} → Result ℕ E → List ℕ → Bool
 is_last_by (Ok count) buffer = (count == 0) && not (length buffer == 0)
 is_last_by (Err _) buffer = true

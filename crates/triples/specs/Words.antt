@@ -12,11 +12,13 @@ use Rattle.triples.specs.declared.request.Request.TheVariants as request
 -- the mode that a word names
 abbrev pub mode_from_word : List ℕ → Option Mode
 mode_from_word word =
-    value_named ((codes "print", Print) ∷ (codes "show", Show) ∷ (codes "settle", Settle) ∷ (codes "json", Json) ∷ (codes "matrix", Matrix) ∷ []) word
+    value_named ((codes "print", Print) ∷ (codes "show", Show) ∷ (codes "settle", Settle) ∷ (codes "json", Json) ∷
+    (codes "matrix", Matrix) ∷ []) word
 
 -- the mode of a filter that a word names
 abbrev pub line_mode_from_word : List ℕ → Option LineMode
-line_mode_from_word word = value_named ((codes "stream", line_mode.Print) ∷ (codes "stream-show", line_mode.Show) ∷ (codes "stream-settle", line_mode.Settle) ∷ []) word
+line_mode_from_word word = value_named ((codes "stream", line_mode.Print) ∷ (codes "stream-show", line_mode.Show) ∷
+    (codes "stream-settle", line_mode.Settle) ∷ []) word
 
 -- what a word asks for that is the word of a filter, or of a run
 abbrev pub request_among : Option LineMode → Option Mode → Option Request
@@ -28,8 +30,8 @@ request_among None None = None
 abbrev pub request_of_word : List ℕ → Option Request
 request_of_word word = request_among (line_mode_from_word word) (mode_from_word word)
 
--- what the arguments ask for, of which these are the first two after the program's name: a run in mode `print` if there is
--- none, what a single word asks for, and nothing if there are more words
+-- what the arguments ask for, of which these are the first two after the program's name: a run in mode `print` if there
+-- is none, what a single word asks for, and nothing if there are more words
 abbrev pub request_of : Option (List ℕ) → Option (List ℕ) → Option Request
 request_of None next = Some (request.Run Print)
 request_of (Some word) None = request_of_word word
