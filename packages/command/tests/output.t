@@ -203,7 +203,7 @@ Time grows with the length of a list, and a name that is longer than any has no 
   $ yes "amd64$commas" 2> /dev/null | head -n 5000 | tr -d '\n' > list
   $ timeout 60 "$(type -P target-lexicon)" read --from debian < list | uniq -c
      5000 x86_64-unknown-linux-gnu
-  $ { head -c 300000 /dev/zero | sed 's/\x00/-a_/g'; echo /linux-x46; } > name
+  $ { head -c 100000 /dev/zero | sed 's/\x00/-a_/g'; echo /linux-x46; } > name
   $ timeout 30 "$(type -P target-lexicon)" what < name 2>&1 | grep -c 'no tool has the name\|did you mean'
   1
   $ yes z80 2> /dev/null | head -n 100000 | target-lexicon settle | uniq -c
