@@ -102,8 +102,8 @@ pub fn of_targets(name: &'static str, about: &'static str, example: &'static str
         Arg::new("target")
             .value_name("TARGET")
             .action(ArgAction::Append)
-            .value_hint(ValueHint::Other)
-            .help("Targets, also with commas between, or as lists in YAML and JSON have them; `-` is the lines of standard input, which are read without a TARGET or FILE too"),
+            .value_hint(ValueHint::AnyPath)
+            .help("Targets, also with commas between; or files of any kind, such as workflows, in whose texts they are found; `-` is the lines of standard input, which are read without a TARGET or FILE too"),
         Arg::new("file")
             .short('f')
             .long("file")
@@ -111,16 +111,15 @@ pub fn of_targets(name: &'static str, about: &'static str, example: &'static str
             .action(ArgAction::Append)
             .value_parser(value_parser!(PathBuf))
             .value_hint(ValueHint::FilePath)
-            .help("Answer for the lines of FILE too; `-` is standard input. May be given more than once"),
+            .help("Answer for the lines of FILE too, which are all targets, blank lines and comments apart; `-` is standard input. May be given more than once"),
         Arg::new("first-line")
             .long("first-line")
             .value_name("N")
             .value_parser(value_parser!(NonZeroUsize))
             .help("The number of the first line of FILE or of standard input, such as where it is one part of a longer list"),
-        flag("comments", "Skip blank lines, and what follows `#` in a line"),
+        flag("comments", "").hide(true), // which are always skipped now
         flag("null", "End targets in files, and answers, with a zero byte instead of a line feed")
-            .short('0')
-            .conflicts_with("comments"),
+            .short('0'),
         flag("quiet", "Write nothing, and end at the first target that is refused: the status says it")
             .short('q')
             .conflicts_with_all(["json", "json-lines"]),
@@ -137,7 +136,13 @@ pub fn of_targets(name: &'static str, about: &'static str, example: &'static str
             .value_delimiter(',')
             .help("Custom vendors that are meant, such as `sony,acme`: neither a warning nor `--strict` is about them"),
         flag("json", "Write one JSON array on one line").conflicts_with("json-lines"),
-        flag("json-lines", "Write one JSON object per line"),
+        flag("json-lines", "Write one JSON object per line").conflicts_with("format"),
+        Arg::new("format")
+            .long("format")
+            .value_name("FORMAT")
+            .value_parser(PossibleValuesParser::new(["human", "json", "json-lines", "github"]))
+            .conflicts_with("json")
+            .help("How to write; `github` writes what is refused as annotations of a workflow"),
         Arg::new("color")
             .long("color")
             .value_name("WHEN")
@@ -154,7 +159,7 @@ pub fn command() -> Command {
         .after_help(
             "Examples:\n  \
              $ target-lexicon explain x86_64-pc-linux-gnuu\n  \
-             $ target-lexicon check --comments -f targets.txt\n  \
+             $ target-lexicon check .github/workflows/*.yml rust-toolchain.toml\n  \
              $ target-lexicon settle --from oci linux/arm64\n\n\
              Status: 0 if all targets were parsed, 1 if one was refused, 2 for wrong arguments,\n\
              3 if something couldn't be read or written. `target-lexicon --manual` writes the manual page.",

@@ -6,7 +6,7 @@ pub enum Fault {
     /// A stream can't be read or written.
     Stream { name: String, why: io::Error },
     /// A file that is no text.
-    NotUtf8 {
+    NotText {
         place: String,
         /// Whether the file begins as one in UTF-16 does.
         is_utf16: bool,
@@ -37,11 +37,11 @@ impl Fault {
             Fault::Closed => return CLOSED,
             Fault::Refused => return 1,
             Fault::Stream { name, why } => format!("{}: {why}", visible(&name)),
-            Fault::NotUtf8 { place, is_utf16 } => {
+            Fault::NotText { place, is_utf16 } => {
                 let found = if is_utf16 {
                     "UTF-16, not UTF-8"
                 } else {
-                    "not UTF-8"
+                    "not a text in UTF-8"
                 };
                 format!("{}: {found}", visible(&place))
             }

@@ -2,10 +2,9 @@
 use crate::calls::Call;
 use crate::input::{end_of_line, Place, Target};
 use crate::reader::{note_of_others, Reader, Takes};
-use crate::refusal::{visible, Names, Refusal};
+use crate::refusal::{Names, Refusal};
 use clap::ArgMatches;
 use std::collections::HashMap;
-use std::path::Path;
 use target_lexicon::TripleRef;
 use target_names::{
     suggestions, vendor_suggestion, Dialect, Evidence, Mistake, NameError, Said, Suggest as _,
@@ -22,7 +21,6 @@ pub struct Helper {
     /// The command that takes triples, if this one reads names of a tool.
     for_triples: Option<String>,
     has_zero_bytes: bool,
-    skips_comments: bool,
     /// What is said of lines that were refused before: lists repeat their mistakes.
     remembered: HashMap<String, Help>,
 }
@@ -37,7 +35,6 @@ impl Helper {
             takes: reader.from.map_or(call.takes(), |_| Takes::Names),
             for_triples: reader.from.map(|_| call.for_triples()),
             has_zero_bytes: end_of_line(arguments) == 0,
-            skips_comments: arguments.get_flag("comments"),
             remembered: HashMap::new(),
         }
     }
@@ -94,26 +91,12 @@ impl Helper {
         if of_other_tools.is_some() {
             return of_other_tools;
         }
-        let is_file = || !text.is_empty() && Path::new(text).is_file();
         let note = match target.place {
             _ if text.contains('\0') && !self.has_zero_bytes => {
                 "it has zero bytes: a file in UTF-16 has them, which must be UTF-8 here"
             }
-            Place::Argument(_) if is_file() => {
-                let file = visible(text).shortened();
-                return Some(format!(
-                    "there is a file of that name: `-f {file}` answers for its lines"
-                ));
-            }
             _ if self.takes == Takes::Spellings && text.contains('/') => {
                 "a name of another tool needs `--from`"
-            }
-            Place::Line { .. }
-                if !self.has_zero_bytes
-                    && !self.skips_comments
-                    && (text.is_empty() || text.contains('#')) =>
-            {
-                "with `--comments` blank lines and comments are skipped"
             }
             _ => return None,
         };

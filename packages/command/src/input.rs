@@ -1,15 +1,16 @@
-//! The targets: arguments, or the lines of files and of standard input as they come.
+//! The targets: arguments, those in the texts of files, or the lines of files and of standard input as they come.
 use crate::fault::Fault;
 use crate::json::Object;
 use crate::output::say_what_is_read;
 use crate::refusal::visible;
-use crate::streams;
+use crate::streams::{self, Input};
 use clap::ArgMatches;
 use std::fmt;
-use std::io::{self, BufRead, BufReader, ErrorKind};
+use std::io::{self, BufRead, BufReader, ErrorKind, Read as _};
 use std::num::NonZeroUsize;
 use std::path::{Path, PathBuf};
 use std::str;
+use target_names::{meanings, targets_in, Word};
 
 pub const STANDARD_INPUT: &str = "<stdin>";
 
@@ -39,6 +40,8 @@ impl fmt::Display for Place<'_> {
 pub struct Target<'a> {
     pub text: &'a str,
     pub place: Place<'a>,
+    /// The word of a text that it is.
+    pub word: Option<Word<'a>>,
 }
 
 impl<'a> Target<'a> {
@@ -56,41 +59,56 @@ impl<'a> Target<'a> {
     }
 }
 
-/// What surrounds the targets of a list in YAML or JSON, or of a line with commas. No triple has one of these.
-const AROUND: &[char] = &[' ', '\t', ',', '"', '\'', '[', ']'];
-
-/// Answers each target of a list: between commas, and without what surrounds it. A text without a target is one.
+/// Answers each item, if a text is a list of targets; else the text is one target.
 fn each_of_list(list: Target<'_>, answers: &mut impl Answers) -> Result<(), Fault> {
-    let (mut has_target, mut at, mut before) = (false, 0, 0);
-    for part in list.text.split(',') {
-        let part = part.trim_matches(AROUND);
-        let text = part.strip_prefix("- ").unwrap_or(part).trim_matches(AROUND);
-        if text.is_empty() {
-            continue;
-        }
-        has_target = true;
-        let start = text.as_ptr() as usize - list.text.as_ptr() as usize;
-        before += list.text[at..start].chars().count();
-        at = start;
-        let place = match list.place {
-            Place::Line {
-                file,
-                number,
-                indent,
-            } => Place::Line {
-                file,
-                number,
-                indent: indent + before,
-            },
-            place => place,
-        };
-        answers.answer(Target { text, place })?;
+    let mut at = 0;
+    let (file, number, mut indent) = match list.place {
+        Place::Argument(number) => (None, number, 0),
+        Place::Line { file, number, indent } => (Some(file), number, indent),
+    };
+    let words = targets_in(list.text);
+    if !words.clone().next().map_or(false, |it| it.is_item()) {
+        return answers.answer(list);
     }
-    if has_target {
-        Ok(())
-    } else {
-        answers.answer(list)
+    for word in words {
+        indent += list.text[at..word.start()].chars().count();
+        at = word.start();
+        let place = file.map_or(list.place, |file| Place::Line { file, number, indent });
+        answers.answer(Target { text: word.text(), place, word: None })?;
     }
+    Ok(())
+}
+
+/// Answers each target in the text of a file.
+fn each_in_text(path: &Path, answers: &mut impl Answers) -> Result<(), Fault> {
+    let file = &path.display().to_string();
+    let fault = |why| Fault::Stream { name: file.clone(), why };
+    let mut bytes = Vec::new();
+    answers.pause()?;
+    opened(path, file)?.reader.read_to_end(&mut bytes).map_err(fault)?;
+    if let Some(at) = bytes.iter().position(|it| *it == 0) {
+        let line = bytes[..at].iter().filter(|it| **it == b'\n').count() + 1;
+        return Err(Fault::NotText { place: format!("{file}:{line}"), is_utf16: is_utf16(&bytes) });
+    }
+    let text = String::from_utf8_lossy(&bytes);
+    let text = text.strip_prefix(BYTE_ORDER_MARK).unwrap_or(&text);
+    let (mut at, mut number, mut indent) = (0, 1, 0);
+    for word in targets_in(text) {
+        let before = &text[at..word.start()];
+        number += before.matches('\n').count();
+        let (start, characters) = before.rsplit_once('\n').map_or((indent, before), |it| (0, it.1));
+        indent = start + characters.chars().count();
+        at = word.start();
+        let place = Place::Line { file, number, indent };
+        answers.answer(Target { text: word.text(), place, word: Some(word) })?;
+    }
+    Ok(())
+}
+
+const BYTE_ORDER_MARK: char = '\u{feff}';
+
+fn is_utf16(bytes: &[u8]) -> bool {
+    matches!(bytes, [0xff, 0xfe, ..] | [0xfe, 0xff, ..])
 }
 
 /// What is done with the targets.
@@ -107,7 +125,6 @@ pub trait Answers {
 /// Answers each target that the arguments name: first those that are arguments, then those of the files.
 pub fn each_target(arguments: &ArgMatches, answers: &mut impl Answers) -> Result<(), Fault> {
     let lines = Lines {
-        skips_comments: arguments.get_flag("comments"),
         end: end_of_line(arguments),
         first: arguments
             .get_one("first-line")
@@ -124,9 +141,10 @@ pub fn each_target(arguments: &ArgMatches, answers: &mut impl Answers) -> Result
     for (text, number) in targets.zip(1..) {
         match text.as_str() {
             "-" => each_line(Path::new("-"), lines, answers)?,
+            text if is_path(text) => each_in_text(Path::new(text), answers)?,
             text => {
                 let place = Place::Argument(number);
-                each_of_list(Target { text, place }, answers)?;
+                each_of_list(Target { text, place, word: None }, answers)?;
             }
         }
     }
@@ -134,6 +152,11 @@ pub fn each_target(arguments: &ArgMatches, answers: &mut impl Answers) -> Result
         each_line(file, lines, answers)?;
     }
     Ok(())
+}
+
+/// Whether an argument is no name of any tool, and is the path of a file or a folder.
+fn is_path(text: &str) -> bool {
+    meanings(text).next().is_none() && Path::new(text).exists()
 }
 
 /// What ends a line, and the answer to it.
@@ -148,28 +171,28 @@ pub fn end_of_line(arguments: &ArgMatches) -> u8 {
 /// How lines are read.
 #[derive(Clone, Copy)]
 struct Lines {
-    skips_comments: bool,
     end: u8,
     /// The number of the first.
     first: usize,
 }
 
+/// A file, or standard input.
+fn opened(path: &Path, name: &str) -> Result<Input, Fault> {
+    let opened = match name {
+        STANDARD_INPUT => streams::standard_input(),
+        _ => streams::file(path),
+    };
+    // What is written would be read, for ever.
+    let is_output = || io::Error::new(ErrorKind::Other, "input file is also the output");
+    let input = opened.and_then(|it| if it.is_output { Err(is_output()) } else { Ok(it) });
+    input.map_err(|why| Fault::Stream { name: name.into(), why })
+}
+
 fn each_line(path: &Path, lines: Lines, answers: &mut impl Answers) -> Result<(), Fault> {
-    let (name, opened) = if path == Path::new("-") {
-        (STANDARD_INPUT.to_string(), streams::standard_input())
-    } else {
-        (path.display().to_string(), streams::file(path))
-    };
-    let fault = |why| Fault::Stream {
-        name: name.clone(),
-        why,
-    };
-    let input = opened.map_err(fault)?;
-    if input.is_output {
-        // What is written would be read, for ever.
-        let why = io::Error::new(ErrorKind::Other, "input file is also the output");
-        return Err(fault(why));
-    }
+    let is_standard = path == Path::new("-");
+    let name = if is_standard { STANDARD_INPUT.to_string() } else { path.display().to_string() };
+    let fault = |why| Fault::Stream { name: name.clone(), why };
+    let input = opened(path, &name)?;
     let mut reader = BufReader::with_capacity(1 << 16, input.reader);
     let mut bytes = Vec::new();
     for number in lines.first.. {
@@ -197,14 +220,14 @@ fn each_line(path: &Path, lines: Lines, answers: &mut impl Answers) -> Result<()
             break;
         }
         let is_first = number == lines.first;
-        let is_utf16 = is_first && matches!(bytes[..], [0xff, 0xfe, ..] | [0xfe, 0xff, ..]);
+        let is_utf16 = is_first && is_utf16(&bytes);
         let line = match str::from_utf8(&bytes) {
             Ok(line) => line,
             Err(error) if is_utf16 || lines.end != 0 && bytes.contains(&0) => {
                 let valid = String::from_utf8_lossy(&bytes[..error.valid_up_to()]);
                 let column = valid.chars().count() + 1;
                 let place = format!("{name}:{number}:{column}");
-                return Err(Fault::NotUtf8 { place, is_utf16 });
+                return Err(Fault::NotText { place, is_utf16 });
             }
             Err(error) => {
                 let line = String::from_utf8_lossy(&bytes);
@@ -214,38 +237,24 @@ fn each_line(path: &Path, lines: Lines, answers: &mut impl Answers) -> Result<()
                     indent: 0,
                 };
                 let text = line.trim_end_matches(['\r', char::from(lines.end)]);
-                answers.refuse_bytes(Target { text, place }, error.valid_up_to())?;
+                let target = Target { text, place, word: None };
+                answers.refuse_bytes(target, error.valid_up_to())?;
                 continue;
             }
         };
-        let (text, indent) = lines.target(line, is_first);
-        if text.is_empty() && lines.skips_comments {
+        let mut text = line.strip_suffix(char::from(lines.end)).unwrap_or(line);
+        if is_first {
+            text = text.strip_prefix(BYTE_ORDER_MARK).unwrap_or(text);
+        }
+        let place = Place::Line { file: &name, number, indent: 0 };
+        if lines.end == 0 {
+            answers.answer(Target { text, place, word: None })?;
             continue;
         }
-        let place = Place::Line {
-            file: &name,
-            number,
-            indent,
-        };
-        each_of_list(Target { text, place }, answers)?;
+        text = text.strip_suffix('\r').unwrap_or(text);
+        if !matches!(text.trim_start().bytes().next(), None | Some(b'#')) {
+            each_of_list(Target { text, place, word: None }, answers)?;
+        }
     }
     Ok(())
-}
-
-impl Lines {
-    /// What a line has for a target, and how many of its characters come before that.
-    fn target<'a>(&self, line: &'a str, is_first: bool) -> (&'a str, usize) {
-        let mut text = line.strip_suffix(char::from(self.end)).unwrap_or(line);
-        if self.end == b'\n' {
-            text = text.strip_suffix('\r').unwrap_or(text);
-        }
-        if is_first {
-            text = text.strip_prefix('\u{feff}').unwrap_or(text);
-        }
-        if !self.skips_comments {
-            return (text, 0);
-        }
-        let indent = text.chars().take_while(|c| c.is_whitespace()).count();
-        (text.split('#').next().unwrap_or("").trim(), indent)
-    }
 }

@@ -11,6 +11,8 @@ use std::io::{self, BufWriter, Write};
 enum Layout {
     Array,
     Lines,
+    /// Lines, and what is refused as annotations of a workflow of GitHub.
+    Annotations,
 }
 
 pub struct Outputs {
@@ -68,9 +70,11 @@ impl Outputs {
     }
 
     pub fn new(arguments: &ArgMatches) -> Self {
-        let layout = match (arguments.get_flag("json"), arguments.get_flag("json-lines")) {
-            (true, _) => Some(Layout::Array),
-            (_, true) => Some(Layout::Lines),
+        let format = arguments.get_one("format").map(String::as_str);
+        let layout = match format {
+            Some("github") => Some(Layout::Annotations),
+            _ if arguments.get_flag("json") || format == Some("json") => Some(Layout::Array),
+            _ if arguments.get_flag("json-lines") || format == Some("json-lines") => Some(Layout::Lines),
             _ => None,
         };
         let has_color = match arguments.get_one::<String>("color").map(String::as_str) {
@@ -99,7 +103,11 @@ impl Outputs {
 
     /// Whether answers are objects in JSON.
     pub fn has_objects(&self) -> bool {
-        self.layout.is_some()
+        matches!(self.layout, Some(Layout::Array | Layout::Lines))
+    }
+
+    pub fn has_annotations(&self) -> bool {
+        self.layout == Some(Layout::Annotations)
     }
 
     pub fn flush(&mut self) -> Result<(), Fault> {

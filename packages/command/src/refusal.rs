@@ -3,6 +3,7 @@ use crate::fields::key_of;
 use crate::help::Help;
 use crate::input::{Place, Target};
 use crate::json::{Json, Object};
+use std::fmt;
 use std::io::{self, Write};
 use target_lexicon::{Field, TextPart, TripleRef};
 pub use target_names::visible;
@@ -183,6 +184,33 @@ impl Refusal<'_> {
             Some(note) => writeln!(out, "  {} {}", color("1", "note:"), visible(note)),
             None => Ok(()),
         }
+    }
+
+    /// An annotation of a workflow of GitHub, which has the place in its properties.
+    pub fn annotate(&self, out: &mut dyn Write, target: Target<'_>, help: &Help) -> io::Result<()> {
+        let escaped = |text: &dyn fmt::Display| {
+            let text = visible(text).shortened().to_string();
+            text.replace('%', "%25").replace(':', "%3A").replace(',', "%2C")
+        };
+        write!(out, "::{}", if self.is_warning { "warning" } else { "error" })?;
+        if let Place::Line { file, number, indent } = target.place {
+            let columns = |text: &str| text.chars().count();
+            let column = indent + columns(&target.text[..self.part.start]) + 1;
+            let end = column + columns(self.part.text);
+            write!(out, " file={},line={number},col={column},endColumn={end}", escaped(&file))?;
+        }
+        let (part, text) = (visible(self.part.text).shortened(), visible(target.text).shortened());
+        let mut said = format!("{} `{part}` of `{text}`", self.error);
+        if self.part.text == target.text {
+            said = format!("{} `{part}`", self.error);
+        }
+        if let Some(name) = &help.suggestion {
+            said += &format!(": did you mean `{}`?", visible(name));
+        } else if let Some(reason) = self.reason {
+            said += &format!(": {reason}");
+        }
+        said += &help.note.as_ref().map_or(String::new(), |note| format!(" ({})", visible(note)));
+        writeln!(out, "::{}", said.replace('%', "%25"))
     }
 
     /// What is wrong, as the members of an object.

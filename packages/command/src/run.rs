@@ -98,6 +98,9 @@ impl<'a> Run<'a> {
     /// Shows a refusal or a warning on standard error.
     fn show(&mut self, target: Target<'_>, refusal: &Refusal<'_>) -> Result<(), Fault> {
         let help = self.helper.help(target, refusal);
+        if self.outputs.has_annotations() {
+            return self.outputs.write(|out| refusal.annotate(out, target, &help));
+        }
         self.outputs
             .refuse(|out, has_color| refusal.write(out, target, has_color, &help))
     }

@@ -73,7 +73,7 @@ A line that isn't UTF-8 is refused, and the others are answered. A file that is 
   [1]
   $ printf 'z80\n\0\xff\n' | target-lexicon settle
   z80-unknown-unknown-elf
-  ! target-lexicon: <stdin>:2:2: not UTF-8
+  ! target-lexicon: <stdin>:2:2: not a text in UTF-8
   [3]
 
 A part of a list has the numbers that its lines have in the whole list:

@@ -31,15 +31,10 @@ A refused target is shown, with its place if it is a line. A byte order mark and
   !   ^^^
   [1]
 
-A file may be taken for an argument. What was answered stays if another file isn't there:
+What was answered stays if another file isn't there:
 
   $ echo z80 > list
   $ target-lexicon check list
-  ! error: unrecognized architecture `list`
-  !   list
-  !   ^^^^
-  !   note: there is a file of that name: `-f list` answers for its lines
-  [1]
   $ target-lexicon check -f list
   $ target-lexicon settle -f list -f nowhere
   z80-unknown-unknown-elf
@@ -86,22 +81,78 @@ Each call takes targets as arguments, as lines, with commas between, and as list
   !   ^^^
   [1]
 
+## Texts
+
+An argument that is the path of a file is a text, in which targets are found. A name of a tool is no mistake:
+
+  $ mkdir -p .github/workflows; cat > .github/workflows/release.yml << 'END'
+  > jobs:
+  >   build-linux:
+  >     strategy:
+  >       matrix:
+  >         include: # all of them
+  >           - { target: x86_64-unknown-linux-gnu, os: ubuntu-latest }
+  >           - { target: aarch64-aple-darwin, os: macos-14 }
+  >           - { target: x86_64-pc-windows-mscv, os: windows-2022 }
+  >     steps:
+  >       - uses: actions/checkout@v4
+  >       - with: { platforms: "linux/amd64,linux/amd46" }
+  > END
+  $ printf '\xef\xbb\xbf# \xe9\r\n[toolchain]\r\ntargets = ["wasm32-wasip1", "x86_64-linux-gnuu"]\r\n' > rust-toolchain.toml
+  $ target-lexicon check .github/workflows/*.yml rust-toolchain.toml
+  ! .github/workflows/release.yml:7:31: warning: custom vendor `aple`
+  !   aarch64-aple-darwin
+  !           ^^^^ did you mean `apple`?
+  ! .github/workflows/release.yml:8:41: error: unrecognized environment `mscv`
+  !   x86_64-pc-windows-mscv
+  !                     ^^^^ did you mean `msvc`?
+  ! .github/workflows/release.yml:11:41: error: no tool has the name `linux/amd46`
+  !   linux/amd46
+  !   ^^^^^^^^^^^ did you mean `linux/amd64`?
+  ! rust-toolchain.toml:3:43: error: unrecognized environment `gnuu`
+  !   x86_64-linux-gnuu
+  !                ^^^^ did you mean `gnu`?
+  ! 3 of 7 targets refused
+  [1]
+  $ target-lexicon check --format github .github/workflows/*.yml rust-toolchain.toml foo
+  ::warning file=.github/workflows/release.yml,line=7,col=31,endColumn=35::custom vendor `aple` of `aarch64-aple-darwin`: did you mean `apple`?
+  ::error file=.github/workflows/release.yml,line=8,col=41,endColumn=45::unrecognized environment `mscv` of `x86_64-pc-windows-mscv`: did you mean `msvc`?
+  ::error file=.github/workflows/release.yml,line=11,col=41,endColumn=52::no tool has the name `linux/amd46`: did you mean `linux/amd64`?
+  ::error file=rust-toolchain.toml,line=3,col=43,endColumn=47::unrecognized environment `gnuu` of `x86_64-linux-gnuu`: did you mean `gnu`?
+  ::error::unrecognized architecture `foo`
+  ! 4 of 8 targets refused
+  [1]
+  $ printf 'x86_64-linux\nfoo\n' > '100%:,'; target-lexicon check --format github '100%:,'; rm '100%:,'
+  ::error file=100%25%3A%2C,line=2,col=1,endColumn=4::unrecognized architecture `foo`
+  ! 1 of 2 targets refused
+  $ for format in json json-lines human; do target-lexicon settle --format $format rust-toolchain.toml | head -n 1 | cut -c 1-70; done
+  [{"target":"wasm32-wasip1","file":"rust-toolchain.toml","line":3,"cano
+  {"target":"wasm32-wasip1","file":"rust-toolchain.toml","line":3,"canon
+  wasm32-wasip1
+  $ target-lexicon check --from rust rust-toolchain.toml | head -n 1
+  ! rust-toolchain.toml:3:30: error: unknown name of rust `x86_64-linux-gnuu`
+  $ target-lexicon matrix .github | head -n 1
+  ! target-lexicon: .github: Is a directory (os error 21)
+  $ printf 'x86_64-linux\n\0\n' > bytes; target-lexicon check bytes
+  ! target-lexicon: bytes:2: not a text in UTF-8
+  [3]
+  $ printf 'caf\xe9: x86_64-linux-gnuu\n' > bytes; target-lexicon check bytes | head -n 1
+  ! bytes:1:20: error: unrecognized environment `gnuu`
+
 ## Comments
 
   $ printf '# all of them\n\n \t\n  x86_64-linux # the first\n\tfoo#x\n - avr, foo # z80\n' > lines
-  $ target-lexicon settle --comments < lines
+  $ target-lexicon settle < lines
   x86_64-unknown-linux
   avr-unknown-unknown
-  ! <stdin>:5:2: error: unrecognized architecture `foo`
-  !   foo
-  !   ^^^
+  ! <stdin>:5:2: error: unrecognized architecture `foo#x`
+  !   foo#x
+  !   ^^^^^
   ! <stdin>:6:9: error: unrecognized architecture `foo`
   !   foo
   !   ^^^
   ! 2 of 4 targets refused
   [1]
-  $ target-lexicon settle < lines | grep -c -- '--comments'
-  6
 
 ## Zero bytes
 
@@ -127,8 +178,6 @@ A zero byte ends a target and an answer; of an answer of more than one line it c
   z80-unknown-unknown-elf\tz80\t1\tzero:1|avr-unknown-unknown\tavr\t1\tzero:2| (no-eol) (esc)
   $ target-lexicon settle -0 --json -f zero
   [{"target":"z80","file":"zero","line":1,"canonical":"z80-unknown-unknown-elf"},{"target":"avr","file":"zero","line":2,"canonical":"avr-unknown-unknown"}]
-  $ target-lexicon settle -0 --comments > /dev/null
-  [2]
   $ printf 'z80\0x\xc3\0z80' | target-lexicon settle -0 | tr '\0' '|'
   z80-unknown-unknown-elf|z80-unknown-unknown-elf|! <stdin>:2:2: error: not UTF-8 `\u{fffd}`
   !   x\u{fffd}
