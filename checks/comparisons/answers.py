@@ -50,9 +50,9 @@ def file_lines(crate, asked):
 
 
 def known_triples(crate):
-    """The triples of upstream's own test, of which each is what it prints."""
-    targets = re.search(r"fn roundtrip_known_triples\(\) \{.*?let targets = \[(.*?)\];", upstream.sources(crate), re.S)[1]
-    return re.findall(r'"(\w[\w.]*-[\w.-]+)"', re.sub(r"//.*", "", targets))
+    """The triples of upstream's own test, of which each is what it prints, if the sources have it."""
+    found = re.search(r"fn roundtrip_known_triples\(\) \{.*?let targets = \[(.*?)\];", upstream.sources(crate), re.S)
+    return re.findall(r'"(\w[\w.]*-[\w.-]+)"', re.sub(r"//.*", "", found[1])) if found else []
 
 
 def names_asked(more_words=()):
@@ -93,7 +93,10 @@ def difference(who, ours, theirs):
 
 def main(options, _folder):
     if options.write:
-        upstream.write(KNOWN, "".join(f"{text}\n" for text in known_triples(options.upstream)))
+        if known := known_triples(options.upstream):
+            upstream.write(KNOWN, "".join(f"{text}\n" for text in known))
+        else:
+            print(f"{options.upstream} is without the test roundtrip_known_triples, so {KNOWN} stays as it is")
         words = [*MORE_WORDS, *upstream.quoted_texts(options.upstream, lines.WORD)]
         upstream.write(PATH, HEAD + "".join(f"{line}\n" for line in file_lines(options.upstream, names_asked(words))))
         return 0

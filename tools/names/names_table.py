@@ -12,13 +12,30 @@ NAME = re.compile(r"[a-z][a-z0-9_.]*")
 VARIANT = re.compile(r"[A-Z][A-Za-z0-9_]*")
 SPECIAL = re.compile(r"[a-z0-9_.]+(-[a-z0-9_.]+)+")
 LONGEST_SPECIAL = 255
-# How many values of a field target-lexicon 0.13.5 has, and a checksum of their names, in the order of their numbers.
+# How many values of a field the table first had, and a checksum of their names, in the order of their numbers.
 UPSTREAM = {"architecture": (107, "a141708f0cf0b4e1"), "vendor": (15, "35e14047bd8121b2"), "operating_system": (40, "03073d1aaf018aed"),
             "environment": (35, "c4961a463ba6aac0"), "binary_format": (6, "4a7f083dc9f45cae")}
 
+# The rules of a field, which are what follows from a value alone, each with its answers. The default is the first one.
+# `by_architecture` and `by_environment` say that the value of that field has the answer.
+FORMATS = ("unknown", "coff", "xcoff", "wasm")
+CONVENTIONS = ("SystemV", "WasmBasicCAbi", "WindowsFastcall")
+RULES = {
+    "architecture": {
+        "order": ("little", "big", "none"), "width": ("64", "32", "16", "none"), "format": ("elf", *FORMATS),
+        "convention": ("none", *CONVENTIONS), "vendor": ("shown", "omitted"), "implied": ("shown", "omitted")},
+    "operating_system": {
+        "format": ("elf", *FORMATS, "by_architecture", "by_environment"),
+        "convention": ("none", *CONVENTIONS, "by_architecture"),
+        "vendor": ("shown", "omitted", "by_architecture", "by_environment")},
+    "environment": {
+        "width": ("by_architecture", "32"), "format": ("unknown", "elf", *FORMATS[1:]),
+        "vendor": ("by_system", "omitted", "shown"), "implied": ("shown", "omitted")},
+}
+
 # A line of the table, in which an alias has no number; a variant of a Rust type, with the type of its field, if it has
 # one; and a Rust type, with its name in definitions, its variants, and those of them without and with a field.
-Value = namedtuple("Value", "field variant name number family about")
+Value = namedtuple("Value", "field variant name number family about rules")
 Variant = namedtuple("Variant", "variant name holds about")
 Type = namedtuple("Type", "name word variants plain held")
 # A special string, with the values of its first three fields.
@@ -80,8 +97,9 @@ def special_of(values, earlier, line):
 
 def add_value(earlier, line):
     """Adds the value of a line to the earlier ones."""
-    cells = columns(line, ["a field", "a variant", "a name", "a number", "a family", "what it is"], 4)
-    value = Value(*cells, *[""] * (6 - len(cells)))
+    cells = columns(line, ["a field", "a variant", "a name", "a number", "a family", "what it is", "rules"], 4)
+    value = Value(*cells, *[""] * (7 - len(cells)))
+    value = value._replace(rules=rules_of(value))
     is_architecture = value.field in ("architecture", "alias")
     names = ("architecture", "alias") if is_architecture else (value.field,)
     is_there = (value.variant, value.family) in [(it.variant, it.family) for it in earlier if it.field == names[0]]
@@ -100,6 +118,18 @@ def add_value(earlier, line):
     earlier.append(value)
 
 
+def rules_of(value):
+    """The answer of a value to each rule of its field."""
+    known, found = {} if value.family == "Darwin" else RULES.get(value.field, {}), {}
+    for word in value.rules.split():
+        rule, _, answer = word.partition("=")
+        if rule in found or answer not in known.get(rule, ())[1:]:
+            raise Mistake(f"`{word}` is there twice, or is no rule of the field with an answer other than the default: RULES in "
+                          "names_table.py has them; a system like Darwin has none")
+        found[rule] = answer
+    return {rule: found.get(rule, answers[0]) for rule, answers in known.items()}
+
+
 def number_faults(values):
     """What is wrong with the numbers of a field."""
     for field in FIELDS:
@@ -111,7 +141,7 @@ def number_faults(values):
             continue
         count, checksum = UPSTREAM[field]
         if hashlib.sha256(" ".join(map(of_field.get, wanted[:count])).encode()).hexdigest()[:16] != checksum:
-            yield f"a name of the field `{field}` that target-lexicon 0.13.5 has, or its number, has changed"
+            yield f"one of the first {count} names of the field `{field}`, or its number, has changed"
 
 
 class Table:

@@ -189,6 +189,17 @@ def add_words(known, words, said=""):
         known[word] = said
 
 
+def is_known_by_now(name, reason, known):
+    """Whether the reason is that a name isn't known, and the table of names has it."""
+    words = re.split("[-/ ]", name) if re.search("[-/ ]", name) else name.split("_")
+    if "architecture is no known name" in reason:
+        return any(it in known[""] and it != "unknown" for it in words)
+    if re.search("(system|environment) is no known name", reason):
+        return all(it in known["-"] for it in words[1:2] * (len(words) == 2) + words[2:])
+    system = re.fullmatch(r"triples have no system (\w+)\b.*", reason)
+    return bool(system) and system[1] in known["-"]
+
+
 def add_row(found, cells, known, cited):
     dialect, name, triple, ways, *note = cells
     of = found.dialects.get(dialect)
@@ -200,6 +211,9 @@ def add_row(found, cells, known, cited):
         raise Mistake("a row has a triple and ways, or `-` for both, and the name of a reason as its note")
     if ways == "-" and "".join(note) not in found.whys:
         raise Mistake(f"the note is the name of a line `# why`, not `{''.join(note)}`: {', '.join(found.whys)}")
+    if ways == "-" and is_known_by_now(name, found.whys[note[0]], known):
+        raise Mistake(f"`{name}` has no triple for this reason: {found.whys[note[0]]}. But tools/names/names.tsv has it: "
+                      "write the triple, or another reason")
     for it in triple.split("+") if ways != "-" else []:
         check_triple(it, known, of, name)
     if of:

@@ -9,19 +9,24 @@ use Rattle.target_lexicon.specs.Values.binary_format
 
 -- without an operating system only the embedded ABIs imply a format
 abbrev pub format_without_system : Environment → BinaryFormat
+-- written by tools/names/write: format_without_system
 format_without_system environment.Eabi = binary_format.Elf
 format_without_system environment.Eabihf = binary_format.Elf
+-- end of what is written
 format_without_system _ = binary_format.Unknown
 
 -- Wasm on the WebAssembly architectures, unknown on an unknown architecture, and Elf on every other
 abbrev pub wasm_or_elf : Architecture → BinaryFormat
+-- written by tools/names/write: wasm_or_elf
 wasm_or_elf architecture.Wasm32 = binary_format.Wasm
 wasm_or_elf architecture.Wasm64 = binary_format.Wasm
 wasm_or_elf architecture.Unknown = binary_format.Unknown
+-- end of what is written
 wasm_or_elf _ = binary_format.Elf
 
 -- the format on a system that isn't like Darwin
 abbrev pub non_darwin_format : Architecture → OperatingSystem → Environment → BinaryFormat
+-- written by tools/names/write: non_darwin_format
 non_darwin_format a operating_system.None_ e = format_without_system e
 non_darwin_format a operating_system.Aix e = binary_format.Xcoff
 non_darwin_format a operating_system.Windows e = binary_format.Coff
@@ -30,6 +35,7 @@ non_darwin_format a operating_system.Emscripten e = wasm_or_elf a
 non_darwin_format a operating_system.VxWorks e = wasm_or_elf a
 non_darwin_format a operating_system.Wasi e = wasm_or_elf a
 non_darwin_format a operating_system.Unknown e = wasm_or_elf a
+-- end of what is written
 non_darwin_format a _ e = binary_format.Elf
 
 -- the format that architecture, operating system and environment imply

@@ -13,13 +13,17 @@ use Rattle.lexicon_fields.specs.{declared.architecture.arm.ArmArchitecture.ArmAr
 use Rattle.lexicon_fields.specs.{Architecture.architecture_name, OperatingSystem.operating_system_name}
 use Rattle.lexicon_fields.specs.{Vendor.vendor_name, Environment.environment_name, BinaryFormat.binary_format_name}
 use Rattle.target_lexicon.specs.Values.architecture
-use Rattle.target_lexicon.specs.Values.arm
 use Rattle.target_lexicon.specs.Values.operating_system
 use Rattle.target_lexicon.specs.Values.environment
 use Rattle.target_lexicon.specs.Values.binary_format
+-- written by tools/names/write: families that omit an unknown vendor
+use Rattle.target_lexicon.specs.Values.arm
+
+-- end of what is written
 
 -- the Arm architectures whose triples omit an unknown vendor if the system is `none`
 abbrev pub is_bare_arm : ArmArchitecture → Bool
+-- written by tools/names/write: is_bare_arm
 is_bare_arm arm.Armv4t = true
 is_bare_arm arm.Armv5te = true
 is_bare_arm arm.Armebv7r = true
@@ -33,11 +37,13 @@ is_bare_arm arm.Thumbv7em = true
 is_bare_arm arm.Thumbv7m = true
 is_bare_arm arm.Thumbv8mBase = true
 is_bare_arm arm.Thumbv8mMain = true
+-- end of what is written
 is_bare_arm _ = false
 
 -- whether an unknown vendor is omitted: on Linux with an environment of Android or `kernel`, on WASI, and with the
 -- system `none` on MSP430 and these Arm architectures
 abbrev pub omits_unknown_vendor : Architecture → OperatingSystem → Environment → Bool
+-- written by tools/names/write: omits_unknown_vendor
 omits_unknown_vendor a operating_system.Linux environment.Android = true
 omits_unknown_vendor a operating_system.Linux environment.Androideabi = true
 omits_unknown_vendor a operating_system.Linux environment.Kernel = true
@@ -46,12 +52,15 @@ omits_unknown_vendor a operating_system.WasiP1 e = true
 omits_unknown_vendor a operating_system.WasiP2 e = true
 omits_unknown_vendor architecture.Msp430 operating_system.None_ e = true
 omits_unknown_vendor (architecture.Arm sub) operating_system.None_ e = is_bare_arm sub
+-- end of what is written
 omits_unknown_vendor a _ e = false
 
 -- the environments `hermitkernel` and `linuxkernel`
 abbrev pub is_hermit_or_linux_kernel : Environment → Bool
+-- written by tools/names/write: is_hermit_or_linux_kernel
 is_hermit_or_linux_kernel environment.HermitKernel = true
 is_hermit_or_linux_kernel environment.LinuxKernel = true
+-- end of what is written
 is_hermit_or_linux_kernel _ = false
 
 -- the vendor is shown unless it is unknown and the triple omits it; with one of these kernels it is always shown
@@ -77,16 +86,20 @@ is_none_or_unknown _ = false
 
 -- the environments and the architectures whose triples omit an implied format even without a system
 abbrev pub environment_implies_format : Environment → Bool
+-- written by tools/names/write: environment_implies_format
 environment_implies_format environment.Eabi = true
 environment_implies_format environment.Eabihf = true
 environment_implies_format environment.Sgx = true
+-- end of what is written
 environment_implies_format _ = false
 
 abbrev pub architecture_implies_format : Architecture → Bool
+-- written by tools/names/write: architecture_implies_format
 architecture_implies_format architecture.ZkAsm = true
 architecture_implies_format architecture.Avr = true
 architecture_implies_format architecture.Wasm32 = true
 architecture_implies_format architecture.Wasm64 = true
+-- end of what is written
 architecture_implies_format _ = false
 
 -- without a system a known format is shown even if it is the implied one, with these exceptions

@@ -20,8 +20,10 @@ pub use Rattle.lexicon_fields.specs.{Endianness.endianness_name, PointerWidth.wi
 
 -- the environments whose pointers have 32 bits on every architecture
 abbrev pub is_ilp32 : Environment → Bool
+-- written by tools/names/write: is_ilp32
 is_ilp32 environment.Gnux32 = true
 is_ilp32 environment.GnuIlp32 = true
+-- end of what is written
 is_ilp32 _ = false
 
 -- systems like Darwin have a convention of their own on 64-bit Arm
@@ -31,11 +33,14 @@ darwin_convention _ = Some SystemV
 
 -- systems that run WebAssembly have a convention only on its 32-bit architecture
 abbrev pub wasm_convention : Architecture → Option CallingConvention
+-- written by tools/names/write: wasm_convention
 wasm_convention architecture.Wasm32 = Some WasmBasicCAbi
+-- end of what is written
 wasm_convention _ = None
 
 -- the convention on a system that isn't like Darwin
 abbrev pub other_convention : Architecture → OperatingSystem → Option CallingConvention
+-- written by tools/names/write: other_convention
 other_convention a operating_system.Aix = Some SystemV
 other_convention a operating_system.Bitrig = Some SystemV
 other_convention a operating_system.Cloudabi = Some SystemV
@@ -56,6 +61,7 @@ other_convention a operating_system.Nebulet = wasm_convention a
 other_convention a operating_system.Emscripten = wasm_convention a
 other_convention a operating_system.Wasi = wasm_convention a
 other_convention a operating_system.Unknown = wasm_convention a
+-- end of what is written
 other_convention a _ = None
 
 -- the calling convention of an architecture on a system

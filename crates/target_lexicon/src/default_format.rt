@@ -41,6 +41,7 @@ impl TripleRef<'_> {
         ensures { result ≡ spec.default_binary_format (values_of_ref self.now) }
     {
         match self.operating_system {
+            // written by tools/names/write: the formats of systems
             OperatingSystem::None_ => match self.environment {
                 Environment::Eabi | Environment::Eabihf => BinaryFormat::Elf,
                 _ => BinaryFormat::Unknown,
@@ -88,6 +89,7 @@ impl TripleRef<'_> {
             | OperatingSystem::Uefi
             | OperatingSystem::WasiP1
             | OperatingSystem::WasiP2 => BinaryFormat::Elf,
+            // end of what is written
         }
     }
 }

@@ -19,9 +19,12 @@ use crate::triple::Triple;
 use crate::triple_ref::TripleRef;
 use lexicon_fields::laws::{names_are_short, texts_are_put_in_order};
 use lexicon_fields::{
-    Architecture, ArmArchitecture, BinaryFormat, DeploymentTarget, Environment, KnownVendor,
-    MAX_VERSION_LENGTH, OperatingSystem, VendorRef, version_text,
+    Architecture, BinaryFormat, DeploymentTarget, Environment, KnownVendor, MAX_VERSION_LENGTH,
+    OperatingSystem, VendorRef, version_text,
 };
+// written by tools/names/write: the families that omit an unknown vendor
+use lexicon_fields::ArmArchitecture;
+// end of what is written
 use std::alloc::{AllocError, Global};
 use std::fmt;
 
@@ -174,6 +177,7 @@ impl<'a> TripleRef<'a> {
             return true;
         }
         let omits_unknown = match self.operating_system {
+            // written by tools/names/write: what omits an unknown vendor
             OperatingSystem::Linux => matches!(
                 self.environment,
                 Environment::Android | Environment::Androideabi | Environment::Kernel
@@ -198,12 +202,15 @@ impl<'a> TripleRef<'a> {
                             | ArmArchitecture::Thumbv8mMain
                     )
             ),
+            // end of what is written
             _ => false,
         };
         !omits_unknown
             || matches!(
                 self.environment,
+                // written by tools/names/write: the environments that show the vendor
                 Environment::HermitKernel | Environment::LinuxKernel
+                // end of what is written
             )
     }
 
@@ -231,13 +238,17 @@ impl<'a> TripleRef<'a> {
             OperatingSystem::None_ | OperatingSystem::Unknown => {
                 !matches!(
                     self.architecture,
+                    // written by tools/names/write: the architectures that omit an implied format
                     Architecture::ZkAsm
                         | Architecture::Avr
                         | Architecture::Wasm32
                         | Architecture::Wasm64
+                    // end of what is written
                 ) && !matches!(
                     self.environment,
+                    // written by tools/names/write: the environments that omit an implied format
                     Environment::Eabi | Environment::Eabihf | Environment::Sgx
+                    // end of what is written
                 ) && self.binary_format != BinaryFormat::Unknown
             }
             _ => false,

@@ -41,7 +41,9 @@ impl TripleRef<'_> {
             × (spec.is_ilp32 self.now.environment ≡ false)) }
     {
         match self.environment {
+            // written by tools/names/write: the pointer widths of Environment
             Environment::Gnux32 | Environment::GnuIlp32 => Ok(PointerWidth::U32),
+            // end of what is written
             _ => self.architecture.pointer_width(),
         }
     }
@@ -66,6 +68,7 @@ impl TripleRef<'_> {
                 Architecture::Aarch64(_) => Ok(CallingConvention::AppleAarch64),
                 _ => Ok(CallingConvention::SystemV),
             },
+            // written by tools/names/write: the conventions of systems
             OperatingSystem::Aix
             | OperatingSystem::Bitrig
             | OperatingSystem::Cloudabi
@@ -102,6 +105,7 @@ impl TripleRef<'_> {
             | OperatingSystem::VxWorks
             | OperatingSystem::WasiP1
             | OperatingSystem::WasiP2 => Err(()),
+            // end of what is written
         }
     }
 

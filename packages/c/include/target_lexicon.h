@@ -12,8 +12,8 @@
        }
 
    Names are case-sensitive. Names, rules and tables are those of the Rust crate target-lexicon 0.13.5 (upstream), even where
-   toolchains differ: UEFI and Cygwin imply ELF. Parsing, printing and queries are compiled from source that is proved to follow
-   written definitions (docs/PROOF.md), which were compared with upstream; one rule of printing differs (docs/DIFFERENCES.md).
+   toolchains differ (docs/DIFFERENCES.md). Parsing, printing and queries are compiled from source that is proved to follow
+   written definitions (docs/PROOF.md), which were compared with upstream; one rule of printing differs.
 
    A string goes in as a pointer and a size. It needs no zero byte at its end, and need not be UTF-8. Of a string that ends
    in a zero byte, LEXICON_Z is both arguments. A string comes out into the caller's buffer, with a zero byte after it, and
@@ -511,8 +511,8 @@ struct lexicon_triple_facts {
   bool is_thumb; /* whether the architecture is one of 32-bit Arm whose name begins with thumb */
   bool is_like_darwin; /* whether the system is one of Apple's. Only these may have a version */
   bool has_custom_vendor; /* whether the vendor is a custom one */
-  uint8_t implied_format; /* enum lexicon_binary_format: the binary format that the other fields imply, as upstream has it: ELF for UEFI */
-  uint8_t object_format; /* enum lexicon_binary_format: the format that toolchains write, where the triple leaves it open: COFF for UEFI. It gives the linker */
+  uint8_t implied_format; /* enum lexicon_binary_format: the binary format that the other fields imply, as upstream has it */
+  uint8_t object_format; /* enum lexicon_binary_format: the format that toolchains write, where the triple leaves it open. It gives the linker */
   uint8_t family; /* enum lexicon_family: the family of the architecture: all of 32-bit Arm, Thumb too, is arm; AArch64 is its own */
   uint8_t c_library; /* enum lexicon_c_library: the C library that the triple states, by its environment or by a system that has only one */
   uint8_t float_abi; /* enum lexicon_float_abi: how floating-point arguments are passed: known for 32-bit Arm, and where the triple says softfloat */

@@ -89,9 +89,9 @@ export interface Facts {
   floatSize: number | null;
   /** The bytes of C's `double`. */
   doubleSize: number | null;
-  /** The binary format that the other fields imply, as upstream has it: ELF for UEFI. */
+  /** The binary format that the other fields imply, as upstream has it. */
   impliedFormat: BinaryFormat;
-  /** The format that toolchains write, where the triple leaves it open: COFF for UEFI. It gives the linker. */
+  /** The format that toolchains write, where the triple leaves it open. It gives the linker. */
   objectFormat: BinaryFormat;
   /** The family of the architecture: all of 32-bit Arm, Thumb too, is `arm`; AArch64 is its own. */
   family: Family;

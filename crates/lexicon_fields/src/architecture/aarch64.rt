@@ -76,8 +76,10 @@ impl Aarch64Architecture {
         ensures { result ≡ aarch64_endianness self }
     {
         match self {
+            // written by tools/names/write: the byte orders of Aarch64Architecture
             Aarch64Architecture::Aarch64 => Endianness::Little,
             Aarch64Architecture::Aarch64be => Endianness::Big,
+            // end of what is written
         }
     }
 

@@ -171,6 +171,7 @@ impl ArmArchitecture {
         ensures { result ≡ queries.arm_endianness self }
     {
         match self {
+            // written by tools/names/write: the byte orders of ArmArchitecture
             ArmArchitecture::Armeb | ArmArchitecture::Armebv7r | ArmArchitecture::Thumbeb =>
                 Endianness::Big,
             ArmArchitecture::Arm
@@ -212,6 +213,7 @@ impl ArmArchitecture {
             | ArmArchitecture::Thumbv7neon
             | ArmArchitecture::Thumbv8mBase
             | ArmArchitecture::Thumbv8mMain => Endianness::Little,
+            // end of what is written
         }
     }
 

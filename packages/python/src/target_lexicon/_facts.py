@@ -265,12 +265,12 @@ class FactsOfTriple:
 
     @property
     def implied_format(self) -> BinaryFormat:
-        """The binary format that the other fields imply, as upstream has it: ELF for UEFI."""
+        """The binary format that the other fields imply, as upstream has it."""
         return _FORMAT[(self._facts or self._ask()).implied_format]
 
     @property
     def object_format(self) -> BinaryFormat:
-        """The format that toolchains write, where the triple leaves it open: COFF for UEFI. It gives the linker."""
+        """The format that toolchains write, where the triple leaves it open. It gives the linker."""
         return _FORMAT[(self._facts or self._ask()).object_format]
 
     @property

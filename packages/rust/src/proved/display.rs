@@ -4,9 +4,10 @@
 
 use crate::proved::triple::Triple;
 use crate::proved::triple_ref::TripleRef;
+use crate::proved::ArmArchitecture;
 use crate::proved::{
-    version_text, Architecture, ArmArchitecture, BinaryFormat, DeploymentTarget, Environment,
-    KnownVendor, OperatingSystem, VendorRef, MAX_VERSION_LENGTH,
+    version_text, Architecture, BinaryFormat, DeploymentTarget, Environment, KnownVendor,
+    OperatingSystem, VendorRef, MAX_VERSION_LENGTH,
 };
 use core::fmt;
 
