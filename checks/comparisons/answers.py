@@ -20,7 +20,6 @@ import re
 import built
 import target_lines
 import upstream
-from comparisons import lines
 
 PATH, PACKAGE, OURS = (f"{built.ROOT}/{path}" for path in ("checks/upstream.tsv", "checks/answers", "packages/rust/patch"))
 KNOWN = f"{built.ROOT}/checks/known_triples.txt"
@@ -97,7 +96,7 @@ def main(options, _folder):
             upstream.write(KNOWN, "".join(f"{text}\n" for text in known))
         else:
             print(f"{options.upstream} is without the test roundtrip_known_triples, so {KNOWN} stays as it is")
-        words = [*MORE_WORDS, *upstream.quoted_texts(options.upstream, lines.WORD)]
+        words = [*MORE_WORDS, *upstream.quoted_texts(options.upstream, "[a-z0-9_.]+")]
         upstream.write(PATH, HEAD + "".join(f"{line}\n" for line in file_lines(options.upstream, names_asked(words))))
         return 0
     kept = [line for line in upstream.read(PATH).splitlines() if not line.startswith("#")]

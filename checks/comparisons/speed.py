@@ -61,7 +61,7 @@ def main(options, folder):
             path = f"{folder}/lines{'x' if 'x' in row['lines'] else ''}"
             program = built.program("compare", "triples", 2) if part == "program" else upstream.rust_program(options.upstream, "lines_ours")
             numbers = of_line([program, call], path)
-            theirs = row["upstream"] != "-" and of_line([lines_of, call, "own"], path)
+            theirs = row["upstream"] != "-" and of_line([lines_of, call], path)
         else:
             numbers = of_call(with_calls, "c" if part == "C" else "ours", call, f"{folder}/targets")
             theirs = row["upstream"] != "-" and of_call(with_calls, "upstream", call, f"{folder}/targets")

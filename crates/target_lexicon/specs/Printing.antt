@@ -1,7 +1,7 @@
 -- The printed string of a triple: upstream's rules, and one rule on top of them, `shows_unknowns`. These definitions
--- are held to their subject by a comparison with upstream (`checks/compare lines`), from which the strings differ
--- only by that rule (`OnlyUnknownsDifferFromUpstream`), and by the round trip: a printed string reads as the triple or
--- its normal step (`RoundIsNormalStep`).
+-- are held to their subject by a comparison with upstream (`checks/specification against`), from which the strings
+-- differ only by that rule (`OnlyUnknownsDifferFromUpstream`), and by the round trip: a printed string reads as the
+-- triple or its normal step (`RoundIsNormalStep`).
 use Rattle.std.specs.Prelude.{◌≡◌, ◌≢◌, ◌↔◌, ℕ, Bool, true, false, not, ◌&&◌, ◌||◌, List, [], ◌∷◌, None, unwrap_or}
 use Rattle.std.specs.List.{join_with_byte}
 use Rattle.lexicon_fields.specs.Names.{dash}
