@@ -1,7 +1,7 @@
 -- The normal step leaves a triple unchanged exactly outside the exceptions.
 use Rattle.std.proofs.Common.{◌≡◌, true, sym, ap, subst}
 use Rattle.lexicon_fields.specs.{Vendor.is_plain, Laws.HasVersionInRange}
-use Rattle.target_lexicon.specs.{FixedPoints.FixedExactlyOutsideFamilies, FixedPoints.RoundIsNormalStep, Laws.ComesBack, NormalStep.normal_step, Printing.string_of, Reading.ParsesAs, Values.Values}
+use Rattle.target_lexicon.specs.{FixedPoints.FixedExactlyOutsideExceptions, FixedPoints.RoundIsNormalStep, Laws.ComesBack, NormalStep.normal_step, Printing.string_of, Reading.ParsesAs, Values.Values}
 use Rattle.target_lexicon.proofs.StepCases.{IsOutside, step_cases, outside-fixed, plain-exception, none-plain_outside}
 use Rattle.target_lexicon.proofs.{ReadValues.read_plain, UniqueReading.values_unique}
 
@@ -25,7 +25,7 @@ module _ (round : RoundIsNormalStep) where
   outside-back t range plain outside = subst (λ (u : Values). ParsesAs (string_of t) u) (outside-fixed t outside) (round t (record { vendor = plain; version = range }))
 
   -- a triple comes back exactly outside the exceptions
-  pub fixed_exactly_outside : FixedExactlyOutsideFamilies
+  pub fixed_exactly_outside : FixedExactlyOutsideExceptions
   fixed_exactly_outside t range = (
     λ back. let is = back-outside t range back in plain-exception t is.0 is.1,
     λ found. let is = none-plain_outside t found in outside-back t range is.0 is.1,

@@ -2,7 +2,7 @@
 use Rattle.std.proofs.Common.{◌≡◌, ◌∙◌, ℕ, List, Bool, true, false, Option, Some, None, sym, subst}
 use Rattle.std.specs.Prelude.{◌↔◌, IfSome, MatchOption}
 use Rattle.lexicon_fields.specs.{Laws.HasVersionInRange, Vendor.is_plain}
-use Rattle.target_lexicon.specs.{Exceptions.exception, FixedPoints.FixedExactlyOutsideFamilies, FixedPoints.RoundIsNormalStep, FixedPoints.OneStepSettles, FixedPoints.CanonicalStringsAreKeys, Laws.ComesBack, Laws.EveryStringHasOneOutcome, NormalStep.normal_step, Printing.string_of}
+use Rattle.target_lexicon.specs.{Exceptions.exception, FixedPoints.FixedExactlyOutsideExceptions, FixedPoints.RoundIsNormalStep, FixedPoints.OneStepSettles, FixedPoints.CanonicalStringsAreKeys, Laws.ComesBack, Laws.EveryStringHasOneOutcome, NormalStep.normal_step, Printing.string_of}
 use Rattle.target_lexicon.specs.{QueryLaws.HaveSameAnswers, QueryLaws.QueriesKept, Reading.ParsesAs, Reading.IsErrorOf, Reading.IsRefusalOrOutOfMemory, Reading.MayAllocate, Reading.IsRefusedAs, Refusal.Refusal, Refusal.refusal_of, Values.Values, declared.parse_error.ParseError.ParseError}
 
 pub read-step : EveryStringHasOneOutcome → RoundIsNormalStep → (t u : Values) → is_plain t.vendor ≡ true → HasVersionInRange t.operating_system
@@ -15,7 +15,7 @@ step-queries kept t u step = subst (λ (x : Values). HaveSameAnswers x t) (sym s
 pub step-back : OneStepSettles → CanonicalStringsAreKeys → (t u : Values) → is_plain t.vendor ≡ true → HasVersionInRange t.operating_system → u ≡ normal_step t → ComesBack u
 step-back steps keys t u plain range step = subst ComesBack (steps t ∙ sym step) (keys.comes_back t (record { vendor = plain; version = range }))
 
-pub read-fixed : EveryStringHasOneOutcome → FixedExactlyOutsideFamilies → (t u : Values) → HasVersionInRange t.operating_system
+pub read-fixed : EveryStringHasOneOutcome → FixedExactlyOutsideExceptions → (t u : Values) → HasVersionInRange t.operating_system
     → ParsesAs (string_of t) u → (u ≡ t) ↔ (exception t ≡ None)
 read-fixed texts fixed t u range reads = (
   λ same. (fixed t range).0 (subst (λ (x : Values). ParsesAs (string_of t) x) same reads),

@@ -22,8 +22,8 @@ RoundIsNormalStep = (t : Values) → IsPlainTriple t → ParsesAs (string_of t) 
 
 -- a triple comes back if and only if it has no exception. This holds for every triple whose version is in range, also
 -- if its vendor is not plain
-abbrev pub FixedExactlyOutsideFamilies : Type 0
-FixedExactlyOutsideFamilies = (t : Values) → HasVersionInRange t.operating_system → ComesBack t ↔ (exception t ≡ None)
+abbrev pub FixedExactlyOutsideExceptions : Type 0
+FixedExactlyOutsideExceptions = (t : Values) → HasVersionInRange t.operating_system → ComesBack t ↔ (exception t ≡ None)
 
 -- the canonical form: the triple after two normal steps. The second changes nothing, by `OneStepSettles`, so a plain
 -- triple comes back after it. One whose vendor isn't plain never comes back
@@ -53,7 +53,7 @@ pub record CanonicalStringsAreKeys : Type 0 where
 pub record RoundTripsAreKnown : Type 0 where
   pub texts : EveryStringHasOneOutcome
   pub plain : ParsedTriplesArePlain
-  pub fixed : FixedExactlyOutsideFamilies
+  pub fixed : FixedExactlyOutsideExceptions
   pub round : RoundIsNormalStep
   pub queries : QueriesKept
   pub steps : OneStepSettles

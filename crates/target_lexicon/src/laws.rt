@@ -3,7 +3,7 @@ ghost use Rattle.std.specs.Prelude.{◌≡◌, ◌≢◌, ◌↔◌, ℕ, suc, L
 ghost use Rattle.target_lexicon.specs.GreedyReading.{ResultsAreComputed};
 ghost use Rattle.target_lexicon.specs.Laws.{ComesBack, HasOneLeastPlacement, EveryStringHasOneOutcome, ReadingIsComputed, ReadVendorsArePlain, EqualTextsEqualTriples};
 ghost use Rattle.lexicon_fields.specs.Laws.{HashInjectiveOn, HashInjective, ComparesByValue, CopiesEqualTheirSources, HasVersionInRange};
-ghost use Rattle.target_lexicon.specs.FixedPoints.{ParsedTriplesArePlain, FixedExactlyOutsideFamilies, RoundIsNormalStep, OneStepSettles, CanonicalStringsAreKeys, RoundTripsAreKnown, PrintedStringsGrowAtMost, CanonicalStringsGrowAtMost, RefusedPartsDoNotGrow};
+ghost use Rattle.target_lexicon.specs.FixedPoints.{ParsedTriplesArePlain, FixedExactlyOutsideExceptions, RoundIsNormalStep, OneStepSettles, CanonicalStringsAreKeys, RoundTripsAreKnown, PrintedStringsGrowAtMost, CanonicalStringsGrowAtMost, RefusedPartsDoNotGrow};
 ghost use Rattle.target_lexicon.specs.ExceptionFacts.{ExceptionsAreFactsOfFields};
 ghost use Rattle.target_lexicon.specs.Json.{ListParsesAs, list_json_of, json_error_value, list_error_value};
 ghost use Rattle.target_lexicon.specs.Reading.{HasPlacement};
@@ -192,7 +192,7 @@ pub fn exceptions_are_facts_of_fields()
 /// A triple comes back (it is printed and parsed again as itself) if and only if none of the five exceptions applies, also if
 /// its vendor is not plain.
 pub fn fixed_exactly_outside_families()
-    ensures { FixedExactlyOutsideFamilies }
+    ensures { FixedExactlyOutsideExceptions }
 {
     round_is_normal_step();
 }

@@ -164,7 +164,7 @@ impl Dialect {
     /// allocated.
     ///
     /// It is read [loosely](Dialect::read_loosely), [completed](TargetInfo::with_c_library) and written. The [level](Dialect::level) of the
-    /// machine is kept: `linux/amd64/v3` is `x86_64_v3` of RPM, and has no name in Debian. Names of Debian, of GNU
+    /// machine is kept: `linux/amd64/v3` is `x86_64_v3` of RPM, and `amd64v3` of Debian. Names of Debian, of GNU
     /// and of rustc state the C library of Linux, and those of Go, OCI and Python don't: from one of the latter to one of the
     /// former the C library has to be said. So has the ABI of Windows. It changes no name that states one.
     ///
