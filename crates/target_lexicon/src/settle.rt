@@ -35,7 +35,7 @@ impl Triple {
     }
 
     /// The normal step of the triple: the triple that its printed string parses as. The vendor must be plain, as that
-    /// of every parsed triple is. Nothing is copied or allocated.
+    /// of every parsed triple is. Nothing is copied or allocated. [`Triple::settle`] gives the same triple.
     ///
     /// A triple that comes back is unchanged. Otherwise the first of these cases that holds decides, by the
     /// [`RoundTripException`]:
@@ -55,10 +55,11 @@ impl Triple {
         self.step()
     }
 
-    /// The canonical form of the triple, which is what one normal step gives: it comes back, and a second step changes
-    /// nothing (law `second_step_changes_one`). The vendor must be plain, as for `normal`. A triple that comes back is
-    /// unchanged. No other canonical triple has the same string (law `canonical_strings_are_keys`), so the string serves as
-    /// a key. Nothing is allocated.
+    /// The canonical form of the triple: it comes back. It is specified as two normal steps, of which the second changes
+    /// nothing (law `second_step_changes_one`). There are two calls since one triple would take both steps if printing
+    /// followed upstream's rules. The vendor must be plain, as for `normal`. A triple that comes back is unchanged. No other
+    /// canonical triple has the same string (law `canonical_strings_are_keys`), so the string serves as a key. Nothing is
+    /// allocated.
     // Not in Rust.
     pub fn settle(self) -> Triple
         requires { is_plain (vendor_value self.vendor) ≡ true }
