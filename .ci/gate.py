@@ -73,7 +73,7 @@ WITHOUT_PROOF = [[
      "checks/specification quick && checks/running/test && checks/mutants rust 12", "cargo"),
     ("Coq proves the laws of the definitions, and of the Rust source, which is the proved source; each edit of them is refused at its lemma; bad input",
      'checks/theorem --keep "$WORK/theorem" && checks/coq/edits "$WORK/theorem" && checks/coq/definitions/edits && checks/coq/test', "coqc"),
-    ("they say what upstream's own crate answers", 'if [ "$UPSTREAM" ]; then checks/specification against "$UPSTREAM"; else echo "left out: upstream\'s crate (UPSTREAM isn\'t set)"; fi', "cargo"),
+    ("they, and the table of names, say what upstream's own crate answers", 'if [ "$UPSTREAM" ]; then tools/port "$UPSTREAM"; else echo "left out: upstream\'s crate (UPSTREAM isn\'t set)"; fi', "cargo"),
     ("the command `target-lexicon`: arguments, output and statuses", "packages/command/test", "cargo cram3 jq"),
     ("the library for C, header, packages and samples, as C and C++ users have them", "packages/c/test", "cargo cc"),
     ("Debian's packages are built, and lintian finds no error", 'checks/planted packages/debian/build debian -d', "cargo cc dpkg-buildpackage"),
