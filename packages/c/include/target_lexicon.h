@@ -20,7 +20,7 @@
    *length becomes the length of the whole string without that byte, even if the buffer is too small. Such a buffer is
    unchanged, except where a call says otherwise.
 
-   A string or a buffer of size 0 may be null, as with snprintf, and so may `length`, `error` and `reason`; no other pointer may. What a
+   A string or a buffer of size 0 may be null, as with snprintf, and so may `length`, `error`, `reason` and `note`; no other pointer may. What a
    call writes may not overlap any other argument, and no other byte is changed. No memory has more than PTRDIFF_MAX bytes, so a
    larger size is a mistake: the status is LEXICON_TOO_LARGE whatever else is wrong, or the returned string is null. No call
    allocates, waits, or stops the program, and nothing is kept or shared between calls. So threads and signal handlers may make
@@ -702,10 +702,12 @@ enum lexicon_status lexicon_changes(const char *text, size_t text_size, size_t n
    LEXICON_DIALECT_NONE as the dialect; then the dialects, in the order of their numbers, where a name of several machines has a meaning for each;
    otherwise, last and without a dialect, the string as one that is spelled like a triple. A single word that some dialect has has no meaning
    without a dialect. The triple is canonical. Where the dialect has the name and no triple means the same, the status is
-   LEXICON_NAME_WITHOUT_TRIPLE, only the dialect is written, and lexicon_read says why. After the last meaning the status is
+   LEXICON_NAME_WITHOUT_TRIPLE, and no triple is written. Unless `note` is null, *note becomes why, and at LEXICON_OK the level of the machine that the
+   name says and the triple can't state, such as v3 of linux/amd64/v3: then lexicon_translate has the names at this level. Else it becomes null. After the last meaning the status is
    LEXICON_NO_SUCH_MEANING, and nothing is written. */
 LEXICON_CHECKED LEXICON_NONNULL(4, 5)
-enum lexicon_status lexicon_meaning(const char *text, size_t text_size, size_t number, uint32_t *dialect, struct lexicon_triple *triple);
+enum lexicon_status lexicon_meaning(const char *text, size_t text_size, size_t number, uint32_t *dialect, struct lexicon_triple *triple,
+                                    const char **note);
 
 /* The name of the dialect that may have been meant, where lexicon_read gives LEXICON_UNKNOWN_NAME: linux/amd64 for linux/amd46 in
    LEXICON_DIALECT_GO. Null if there is none, and otherwise. Only names that are read are suggested. */

@@ -756,6 +756,7 @@ inline std::optional<Explanation> Triple::explain(std::string_view text, ParseEr
 struct Meaning {
   std::optional<Dialect> dialect;  // none of a string that is spelled like a triple
   std::optional<Triple> triple;
+  std::string level;   // of the machine, that the name says and the triple can't, such as v3 of linux/amd64/v3; empty if it says none
   std::string reason;  // why no triple means the same; empty if one does
 };
 
@@ -763,13 +764,13 @@ inline std::vector<Meaning> Triple::meanings(std::string_view text) {
   std::vector<Meaning> found;
   for (lexicon_triple triple = {};;) {
     std::uint32_t number = LEXICON_DIALECT_NONE;
-    lexicon_error error = {};
-    lexicon_status status = lexicon_meaning(text.data(), text.size(), found.size(), &number, &triple);
+    const char* note = nullptr;
+    lexicon_status status = lexicon_meaning(text.data(), text.size(), found.size(), &number, &triple, &note);
     if (status != LEXICON_OK && status != LEXICON_NAME_WITHOUT_TRIPLE) return found;
     Meaning it;
     if (number != LEXICON_DIALECT_NONE) it.dialect = static_cast<Dialect>(number);
     if (status == LEXICON_OK) it.triple = Triple(triple);
-    else if (lexicon_read(number, text.data(), text.size(), &triple, &error) != LEXICON_OK) it.reason = detail::text_of(error.reason);
+    (status == LEXICON_OK ? it.level : it.reason) = detail::text_of(note);
     found.push_back(std::move(it));
   }
 }

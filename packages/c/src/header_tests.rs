@@ -90,7 +90,7 @@ fn the_pointers_that_may_not_be_null_are_marked() {
     for (before, given) in declared.filter(|(before, _)| before.contains("lexicon_")) {
         let marked = before.split_once("LEXICON_NONNULL(").map_or("", |(_, after)| after.split_once(')').expect("an end").0);
         let pointers = (1..).zip(given.split(',')).filter_map(|(number, it)| Some((number, it.rsplit_once('*')?.1)));
-        let needed = pointers.filter(|(_, name)| !["text", "name", "out", "length", "error", "reason"].contains(name));
+        let needed = pointers.filter(|(_, name)| !["text", "name", "out", "length", "error", "reason", "note"].contains(name));
         assert_eq!(marked, needed.map(|(number, _)| i32::to_string(&number)).collect::<Vec<_>>().join(", "), "{before}");
         count += 1;
     }

@@ -36,7 +36,7 @@ use error_text::{line, line_and_caret, suggestion};
 use fact_groups::QueryFacts;
 use facts::{Facts, FirstFacts};
 use lines::settle_lines;
-use names::c_name;
+use names::{c_name, c_reason};
 use numbers::*;
 use sources::FieldSources;
 use target_lexicon::{DeploymentTarget, Endianness, PointerWidth, TripleRef};
@@ -574,11 +574,16 @@ pub unsafe extern "C" fn lexicon_meaning(
     number: usize,
     dialect: *mut u32,
     triple: *mut Triple,
+    note: *mut *const u8,
 ) -> Status {
     let find = || {
         let text = unsafe { text_at(text, text_size) }?;
         let found = target_names::meanings(text).nth(number).ok_or(NO_SUCH_MEANING)?;
         unsafe { dialect.write(name_of_number(found.of)) }
+        if !note.is_null() {
+            let level = || found.level.map_or(null(), c_name);
+            unsafe { note.write(found.triple.map_or_else(c_reason, |_| level())) }
+        }
         found.triple.map_err(|_| NAME_WITHOUT_TRIPLE)
     };
     unsafe { answer(triple, find()) }

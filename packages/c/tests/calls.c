@@ -111,12 +111,14 @@ WRITES(read_error) {
   return error_text(&other, out, size, length);
 }
 
-/* The meaning with a number, whose dialect is the second one. */
+/* The meaning with a number, whose dialect is the second one, and whose note has the length of the third. */
 WRITES(meaning) {
   struct lexicon_triple made;
+  const char *note = NULL;
   uint32_t dialect = it->numbers[1];
-  enum lexicon_status status = lexicon_meaning(it->text, it->size, it->numbers[0], &dialect, &made);
-  EXPECT(dialect == it->numbers[1]);
+  enum lexicon_status status = lexicon_meaning(it->text, it->size, it->numbers[0], &dialect, &made, &note);
+  EXPECT(dialect == it->numbers[1] && (status == LEXICON_TOO_LARGE || (note ? strlen(note) : 0) == it->numbers[2]));
+  EXPECT(lexicon_meaning(it->text, it->size, it->numbers[0], &dialect, &made, NULL) == status);
   return status == LEXICON_OK ? lexicon_print(&made, out, size, length) : status;
 }
 
@@ -362,7 +364,8 @@ static const struct row { writes *call; const char *text; uint32_t numbers[3]; e
   {meaning, "armhf", {0, DEBIAN}, LEXICON_OK, "armv7-unknown-linux-gnueabihf"},
   {meaning, "armhf", {1, APK}, LEXICON_OK, "armv6-unknown-linux-musleabihf"},
   {meaning, "armhf", {2}, LEXICON_NO_SUCH_MEANING, NULL},
-  {meaning, "amd64", {1, GO}, LEXICON_NAME_WITHOUT_TRIPLE, NULL},
+  {meaning, "amd64", {1, GO, 26}, LEXICON_NAME_WITHOUT_TRIPLE, NULL},
+  {meaning, "linux/arm64/v8.1", {0, OCI, 4}, LEXICON_OK, "aarch64-unknown-linux"},
 };
 
 static struct asked asked_of(const char *text) {

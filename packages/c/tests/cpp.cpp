@@ -253,6 +253,7 @@ static void try_translation() {
   EXPECT(changes("x86_64-linux").empty());
   auto armhf = Triple::meanings("armhf"), plan9 = Triple::meanings("plan9/amd64"), avr = Triple::meanings("avr-none");
   EXPECT(armhf.size() == 2 && armhf[0].dialect == Dialect::Debian && armhf[1].triple->printed() == "armv6-unknown-linux-musleabihf");
+  EXPECT(Triple::meanings("linux/amd64/v3")[0].level == "v3" && armhf[0].level.empty() && plan9[0].level.empty());
   EXPECT(plan9.size() == 1 && !plan9[0].triple && plan9[0].dialect == Dialect::Go && plan9[0].reason == "Plan 9 is no known name");
   EXPECT(!avr.front().dialect && avr.front().triple == parsed("avr-none") && avr.front().reason.empty() && Triple::meanings("foo/bar").empty());
 }

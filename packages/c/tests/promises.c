@@ -441,7 +441,9 @@ static void try_meanings(const char *text, size_t size, uint32_t parsed) {
   for (bool is_last = false;; number++) {
     memset(&triple, 0xa5, sizeof triple);
     memset(&dialect, 0xa5, sizeof dialect);
-    status = lexicon_meaning(text, size, number, &dialect, &triple);
+    const char *note = NULL;
+    status = lexicon_meaning(text, size, number, &dialect, &triple, &note);
+    CHECK(status != LEXICON_NAME_WITHOUT_TRIPLE || note != NULL);
     if (status != LEXICON_OK && status != LEXICON_NAME_WITHOUT_TRIPLE) break;
     const bool is_own = dialect == LEXICON_DIALECT_NONE;
     const uint32_t said = lexicon_read(dialect, text, size, &read, NULL);

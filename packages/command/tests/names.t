@@ -232,6 +232,11 @@ A C library that changes nothing is noted, unless nothing is answered or asked:
   $ target-lexicon what linux/amd64/v3 x86_64-appel-darwin | grep ' note '
       note    oci: for a level of x86-64, which a triple can't state
       note    `appel` is a custom vendor; did you mean `apple`?
+  $ target-lexicon what linux/amd64/v3 --libc glibc | grep -E ' is |debian|oci |rust'
+    is x86_64-unknown-linux-gnu of the level v3, as oci
+      debian  amd64v3
+      oci     linux/amd64/v3
+      -       go, python, rust, dotnet, conda, zig, nix: packages and targets of the tool are for another version of the machine: armhf of Debian is for Armv7 and armel for Armv5, x86 of Alpine is for the i586
   $ target-lexicon what linux/amd46
   ! error: no tool has the name `linux/amd46`
   !   linux/amd46

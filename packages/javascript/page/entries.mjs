@@ -37,13 +37,29 @@ export function namesAndReasons(triple, written, hasChosenLibc) {
   return { names, reasons };
 }
 
-/** Of what a name means; `completed` gives a triple with what is chosen. */
-export function namesEntry({ DIALECTS, meanings }, text, written, completed, hasChosenLibc) {
-  const { meanings: found, withoutTriple } = meanings(text), merged = new Map(), order = ["triple", ...DIALECTS, "spelling"];
-  for (const { triple, tools } of found) {
-    const it = completed(triple), { canonical } = it;
-    const all = [...merged.get(canonical)?.tools ?? [], ...tools].sort((one, other) => order.indexOf(one) - order.indexOf(other));
-    merged.set(canonical, { canonical, tools: all, ...namesAndReasons(it, written, hasChosenLibc) });
+/** Likewise of a tool's name that says a level of the machine, which its triple can't; `libcs` are the chosen C libraries. */
+export function namesAtLevel({ ParseError, translate }, text, { triple, tools: [tool] }, written, libcs) {
+  const names = {}, reasons = {}, libc = libcs.find((it) => !triple.complete(it).equals(triple)) ?? null;
+  for (const dialect of written) {
+    try {
+      names[dialect] = translate(text, tool, dialect, libc);
+    } catch (error) {
+      if (!(error instanceof ParseError)) throw error;
+      names[dialect] = null;
+      reasons[dialect] = error.reason;
+    }
+  }
+  return { names, reasons };
+}
+
+/** Of what a name means; `libcs` are the chosen C libraries, of Linux and of Windows. */
+export function namesEntry(lexicon, text, written, libcs) {
+  const { DIALECTS, meanings } = lexicon, hasChosenLibc = libcs.some((it) => ["glibc", "musl"].includes(it)), { meanings: found, withoutTriple } = meanings(text), merged = new Map(), order = ["triple", ...DIALECTS, "spelling"];
+  for (const meaning of found) {
+    const { triple, level, tools } = meaning, it = libcs.reduce((it, libc) => it.complete(libc), triple), { canonical } = it, key = `${canonical} ${level}`;
+    const all = [...merged.get(key)?.tools ?? [], ...tools].sort((one, other) => order.indexOf(one) - order.indexOf(other));
+    const names = level === null ? namesAndReasons(it, written, hasChosenLibc) : namesAtLevel(lexicon, text, meaning, written, libcs);
+    merged.set(key, { canonical, level, tools: all, ...names });
   }
   if (!found.length && !Object.keys(withoutTriple).length) return { ...place(text), error: "no tool has the name" };
   return { ...place(text), meanings: [...merged.values()], without_triple: withoutTriple };

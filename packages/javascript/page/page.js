@@ -1,7 +1,7 @@
 // The page: shows the targets and names of the text field in the table. `build` puts target-lexicon.js, the module, entries.mjs and this file into one script.
 import { DIALECTS, FIELDS, WRITTEN } from "../src/names.js";
-import { ParseError, Triple, load, meanings } from "../src/target-lexicon.js";
-import { factsEntry, namesAndReasons, namesEntry, versionOf } from "./entries.mjs";
+import { ParseError, Triple, load, meanings, translate } from "../src/target-lexicon.js";
+import { factsEntry, namesAndReasons, namesAtLevel, namesEntry, versionOf } from "./entries.mjs";
 
 const LABELS = {
   architecture: "Architecture", vendor: "Vendor", operatingSystem: "System", environment: "Environment", binaryFormat: "Format",
@@ -147,13 +147,14 @@ const toolsOf = (tools) => listOf(tools.map(toolName));
 /** A triple with the environment that is chosen for those that state none. */
 const CHOICES = ["linux", "windows"];
 const hasChosenLibc = () => byId("linux").value !== "";
-const completed = (triple) => CHOICES.map((id) => byId(id).value).filter(Boolean).reduce((it, library) => it.complete(library), triple);
+const chosen = () => CHOICES.map((id) => byId(id).value).filter(Boolean), completed = (triple) => chosen().reduce((it, library) => it.complete(library), triple);
 
 const pair = (term, ...answer) => element("div", {}, element("dt", {}, term), element("dd", {}, ...answer));
 
-/** What each tool calls a triple, and for those that have no name why. */
-function toolNames(triple) {
-  const { names, reasons } = namesAndReasons(triple, WRITTEN, hasChosenLibc()), without = grouped(Object.entries(reasons).map(([dialect, reason]) => [reason, dialect]));
+/** What each tool calls a triple, or a name that says a level of its machine, and for those that have no name why. */
+function toolNames(triple, text, meaning) {
+  const isOfLevel = meaning && meaning.level !== null, lexicon = { ParseError, translate };
+  const { names, reasons } = isOfLevel ? namesAtLevel(lexicon, text, meaning, WRITTEN, chosen()) : namesAndReasons(triple, WRITTEN, hasChosenLibc()), without = grouped(Object.entries(reasons).map(([dialect, reason]) => [reason, dialect]));
   const list = element("dl", {}, ...WRITTEN.filter((dialect) => names[dialect] !== null).map((dialect) => pair(toolName(dialect), code(names[dialect]))));
   return [list, ...[...without].map(([reason, tools]) => element("p", {}, dim(`None in ${toolsOf(tools)}: `), `${reason}.`))];
 }
@@ -175,14 +176,14 @@ function factList(triple) {
 }
 
 /** The cell with the button for names and facts, and the cell of these, which are looked up when they are shown. */
-function detailCells(triple, text) {
+function detailCells(triple, text, meaning) {
   const inside = element("div"), details = element("td", { role: "cell", class: "names", colspan: 8, "aria-colspan": 8, hidden: "" }, inside);
   const button = element("button", { type: "button", "aria-label": `Names and facts: ${shown(text)}` }, element("span", {}, "names"));
   const show = (isOpen) => {
     details.hidden = !isOpen;
     button.setAttribute("aria-expanded", isOpen);
     if (!isOpen || inside.firstChild) return;
-    inside.append(element("h2", {}, "In each tool"), ...toolNames(triple), element("h2", {}, "For a linker and a driver"), factList(triple));
+    inside.append(element("h2", {}, "In each tool"), ...toolNames(triple, text, meaning), element("h2", {}, "For a linker and a driver"), factList(triple));
   };
   button.addEventListener("click", () => show(details.hidden));
   return [show, element("td", { role: "cell", class: "elsewhere" }, button), details];
@@ -233,7 +234,7 @@ function* otherMeanings(meant, text, own) {
 }
 
 /** A row of what a triple is; `fields` says where each value comes from. */
-function tripleRow(head, given, fields, text, isSuspicious, others) {
+function tripleRow(head, given, fields, text, isSuspicious, others, meaning) {
   const triple = completed(given), facts = triple.facts();
   const sources = triple.environment === given.environment ? fields : { ...fields, environment: { origin: "chosen", part: triple.environment } };
   const row = element("tr", { role: "row", class: isSuspicious ? "suspicious" : "" }, head);
@@ -242,7 +243,7 @@ function tripleRow(head, given, fields, text, isSuspicious, others) {
   row.append(...FIELDS.map((name) => fieldCell(triple, name, sources[name], text)));
   if (isSuspicious) row.children[2].querySelector("code").className = "odd";
   if (facts.objectFormat !== triple.binaryFormat) row.lastChild.append(small("objects ", code(facts.objectFormat)));
-  const [showNames, ...details] = detailCells(triple, text), pointers = cell("Pointers", facts.pointerWidth ? `${facts.pointerWidth} bits` : dim("unknown"));
+  const [showNames, ...details] = detailCells(triple, text, meaning), pointers = cell("Pointers", facts.pointerWidth ? `${facts.pointerWidth} bits` : dim("unknown"));
   pointers.firstChild.append(small(facts.endianness ? `${facts.endianness}-endian` : "byte order unknown"));
   row.append(pointers, details[0]);
   if (others.length) row.append(element("td", { role: "cell", class: "others", colspan: 8, "aria-colspan": 8 }, ...others));
@@ -268,11 +269,11 @@ function parsedRow({ text, triple, fields, suggestion }, all) {
 
 /** A row of a name of tools that is no triple: its first meaning is shown. */
 function namedRow(text, meant) {
-  const [{ triple, tools }] = meant.found, head = header(text, text);
+  const [meaning] = meant.found, { triple, level, tools } = meaning, head = header(text, text);
   const fields = Object.fromEntries(FIELDS.map((name) =>
     [name, name === "binaryFormat" ? { origin: "implied", part: null } : { origin: "given", part: triple[name] === "unknown" ? null : triple[name] }]));
-  head.append(small("a name of ", toolsOf(tools)));
-  const row = tripleRow(head, triple, fields, text, false, [...otherMeanings({ ...meant, found: meant.found.slice(1) }, text, triple)]);
+  head.append(small("a name of ", toolsOf(tools), level === null ? "" : `, for the machine's level ${level}`));
+  const row = tripleRow(head, triple, fields, text, false, [...otherMeanings({ ...meant, found: meant.found.slice(1) }, text, triple)], meaning);
   row.isName = true;
   return row;
 }
@@ -542,8 +543,8 @@ async function begin() {
     followLink();
     show();
   });
-  const lexicon = { DIALECTS, FIELDS, Triple, meanings };
-  for (const [id, entryOf] of [["copy_names", (text) => namesEntry(lexicon, text, WRITTEN, completed, hasChosenLibc())], ["copy_facts", (text) => factsEntry(lexicon, text)]]) byId(id).addEventListener("click", ({ currentTarget }) => copyJson(currentTarget, entryOf));
+  const lexicon = { DIALECTS, FIELDS, ParseError, Triple, meanings, translate };
+  for (const [id, entryOf] of [["copy_names", (text) => namesEntry(lexicon, text, WRITTEN, chosen())], ["copy_facts", (text) => factsEntry(lexicon, text)]]) byId(id).addEventListener("click", ({ currentTarget }) => copyJson(currentTarget, entryOf));
   byId("copy_link").addEventListener("click", ({ currentTarget }) => copyLink(currentTarget));
   const query = new URLSearchParams(location.search);
   for (const id of CHOICES) {

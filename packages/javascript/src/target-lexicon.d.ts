@@ -175,8 +175,11 @@ export function translate(name: string, from: Dialect | null, to: Dialect, libc?
 
 /** What a name means: each triple, with those that mean it, and the reason of each dialect that has the name for no triple. */
 export interface Meanings {
-  /** `triple` is a string that parses, and `spelling` one that is spelled like a triple, as `Triple.read` reads it. */
-  readonly meanings: readonly { readonly triple: Triple; readonly tools: readonly ((typeof DIALECTS)[number] | "triple" | "spelling")[] }[];
+  /**
+   * `triple` is a string that parses, and `spelling` one that is spelled like a triple, as `Triple.read` reads it. `level` is that of the machine,
+   * which a triple can't state, such as `v3` of `linux/amd64/v3`: then `translate` has the other tools' names.
+   */
+  readonly meanings: readonly { readonly triple: Triple; readonly level: string | null; readonly tools: readonly ((typeof DIALECTS)[number] | "triple" | "spelling")[] }[];
   readonly withoutTriple: Readonly<Partial<Record<(typeof DIALECTS)[number], string>>>;
 }
 

@@ -550,15 +550,15 @@ export function translate(name, from, to, libc = null) {
 
 export function meanings(text) {
   const it = instance(), found = new Map(), withoutTriple = {};
-  for (let number = 0, status; (status = it.call("meaning", ...it.text(stringOf(text)), number, it.base + LENGTH, it.base + FIRST)) !== NO_SUCH_MEANING; number++) {
-    const dialect = it.number(LENGTH);
+  for (let number = 0, status; (status = it.call("meaning", ...it.text(stringOf(text)), number, it.base + LENGTH, it.base + FIRST, it.base + ANSWER)) !== NO_SUCH_MEANING; number++) {
+    const dialect = it.number(LENGTH), note = it.string(it.number(ANSWER));
     if (status === NAME_WITHOUT_TRIPLE) {
-      withoutTriple[DIALECTS[dialect - 1]] = reasonOf(text, DIALECTS[dialect - 1]);
+      withoutTriple[DIALECTS[dialect - 1]] = note;
       continue;
     }
     if (status !== OK) throw failure(status);
-    const triple = it.tripleAt(), key = triple.toString();
-    if (!found.has(key)) found.set(key, { triple, tools: [] });
+    const triple = it.tripleAt(), key = `${triple} ${note}`;
+    if (!found.has(key)) found.set(key, { triple, level: note, tools: [] });
     const spelled = () => (it.call("parse", ...it.text(text), it.base + FIRST, it.base + ERROR) === OK ? "triple" : "spelling");
     found.get(key).tools.push(dialect > 0 ? DIALECTS[dialect - 1] : spelled());
   }

@@ -43,6 +43,8 @@ pub struct Meaning<'a> {
     pub of: NameOf,
     /// The canonical triple that it means, or why no triple has this name.
     pub triple: Result<TripleRef<'a>, &'static str>,
+    /// The [level](Dialect::level) of the machine that the name says, and the triple can't state.
+    pub level: Option<&'static str>,
 }
 
 /// What a name means: first as a triple, if it parses as one; then to each dialect that has it, in the order of [`Dialect::ALL`], with what
@@ -76,10 +78,10 @@ pub fn meanings(text: &str) -> impl Iterator<Item = Meaning<'_>> + Clone {
             Err(NameError::WithoutTriple(why)) if !OF_CONFIG_SUB.contains(&why) => Some(Err(why)),
             _ => None,
         };
-        let of = NameOf::Dialect(*dialect);
+        let (of, level) = (NameOf::Dialect(*dialect), dialect.level(text));
         let each = dialect.read_each(text).map(Ok);
         let why = why.filter(|_| each.clone().next().is_none());
-        each.chain(why).map(move |triple| Meaning { of, triple })
+        each.chain(why).map(move |triple| Meaning { of, triple, level })
     };
     let of_dialects = Dialect::ALL.iter().filter(is_meant).flat_map(to_dialect);
     let is_triple = text.contains('-') || of_dialects.clone().next().is_none();
@@ -103,6 +105,7 @@ fn as_triple(text: &str) -> Option<Meaning<'_>> {
         _ => Some(Meaning {
             of,
             triple: Ok(triple.step()),
+            level: None,
         }),
     }
 }

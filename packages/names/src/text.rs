@@ -278,7 +278,7 @@ fn is_given(word: &str, is_value: bool) -> bool {
 
 /// Whether a name says a machine and a system, or is a triple with a known vendor and more after it.
 fn is_whole(word: &str) -> bool {
-    let is_target = |Meaning { of, triple }| {
+    let is_target = |Meaning { of, triple, .. }| {
         triple.map_or(true, |triple: TripleRef<'_>| {
             let has_system = triple.operating_system != OperatingSystem::Unknown
                 || !triple.vendor.is_custom() && word.matches('-').count() > 1;

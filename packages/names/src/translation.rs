@@ -83,17 +83,34 @@ impl Dialect {
         triple: impl Into<TripleRef<'t>>,
         c_library: Option<LinuxLibc>,
     ) -> Result<Name, WriteError> {
-        self.write_at(&triple.into(), "", c_library)
+        self.write_at(triple, "", c_library)
     }
 
-    /// The name of a triple whose machine has a level that the triple can't state, as [`level`](Dialect::level) returns it, or nothing.
-    fn write_at(
+    /// The name in this dialect of a triple whose machine has a level that the triple can't state, as [`level`](Dialect::level) returns it, or
+    /// an empty one.
+    ///
+    /// # Errors
+    ///
+    /// The triple has no name, and why: names that the tool has for the triple may be for machines of a lower level.
+    ///
+    /// # Examples
+    ///
+    /// ```
+    /// use target_lexicon::TripleRef;
+    /// use target_names::Dialect;
+    ///
+    /// let triple = TripleRef::from_str("x86_64-unknown-linux-gnu").unwrap();
+    /// assert_eq!(Dialect::Debian.write_at(&triple, "v3", None).unwrap().as_str(), "amd64v3");
+    /// assert!(Dialect::Rust.write_at(&triple, "v3", None).is_err());
+    /// ```
+    pub fn write_at<'t>(
         self,
-        triple: &TripleRef<'_>,
+        triple: impl Into<TripleRef<'t>>,
         level: &str,
         c_library: Option<LinuxLibc>,
     ) -> Result<Name, WriteError> {
-        let triple = c_library.map_or(*triple, |it| triple.with_c_library(it));
+        let triple = triple.into();
+        let triple = c_library.map_or(triple, |it| triple.with_c_library(it));
         let is_of_linux = matches!(c_library, Some(LinuxLibc::Glibc | LinuxLibc::Musl));
         match self.name_at(&triple, level) {
             Some(_) if is_of_linux && self.would_state_c_library(&triple) => {
@@ -195,7 +212,7 @@ impl Dialect {
     ) -> Result<Name, TranslateError> {
         let triple = self.read_loosely(name).map_err(TranslateError::Read)?;
         let level = self.level(name).unwrap_or("");
-        let found = to.write_at(&triple, level, c_library);
+        let found = to.write_at(triple, level, c_library);
         // A name of the same tool stays if the one that is written says less: `manylinux_2_17_x86_64` of Python.
         let says_less = |it: &Name| self.read(it.as_str()).map_or(false, |it| it != triple);
         match found {

@@ -114,7 +114,7 @@ fn targets_of_rustc_are_themselves() {
         assert_eq!(found, Ok(triple), "{target}");
         assert_eq!(Dialect::Rust.write(triple).unwrap(), target);
         let (of, triple) = (NameOf::Triple, Ok(triple));
-        assert_eq!(meanings(target).next(), Some(Meaning { of, triple }));
+        assert_eq!(meanings(target).next(), Some(Meaning { of, triple, level: None }));
         parsed += 1;
         noted += usize::from(Dialect::Rust.note(target).is_some());
         // Nothing is offered instead of it.

@@ -50,7 +50,7 @@ class Table(unittest.TestCase):
             for name, count in ("read", row.read), ("written", row.written), ("other", len(row.other_names)), ("without", row.triple is None):
                 counts[name] += count
             if row.read:
-                self.assertIn((row.tool, Triple(row.triple), None), target_lexicon.meanings(row.name))
+                self.assertIn((row.tool, Triple(row.triple), None), [it[:3] for it in target_lexicon.meanings(row.name)])
         self.assertTrue(all(it > 100 for it in counts.values()), counts)
 
     def test_rows_that_state_a_version(self):
@@ -157,6 +157,7 @@ class Names(unittest.TestCase):
         self.assertEqual(meant(vendor)[0], (None, vendor))
         for nobody in "", "foo/bar", "\0", "linux/\u00e9", "x" * 100_000:
             self.assertEqual(meant(nobody), [])
+        self.assertEqual([[it.level for it in target_lexicon.meanings(name)] for name in ("linux/amd64/v3", "linux/amd64")], [["v3"], [None, None]])
 
     def test_changes(self):
         for text, changes in (("amd64-unknown-freebsd13.2", [(0, 5, "amd64", "x86_64"), (14, 25, "freebsd13.2", "freebsd")]), ("", []),

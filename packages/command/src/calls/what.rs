@@ -31,10 +31,10 @@ impl Call for What {
     }
 }
 
-/// What a name means: each triple, with the tools that mean it; and the reason of each tool that has the name for no triple.
+/// What a name means: each triple, with the level of its machine and the tools that mean it; and the reason of each tool that has the name for no triple.
 struct Meanings<'a> {
     text: &'a str,
-    meanings: Vec<(TripleRef<'a>, Vec<&'static str>)>,
+    meanings: Vec<(TripleRef<'a>, Option<&'static str>, Vec<&'static str>)>,
     without_triple: Vec<(&'static str, &'static str)>,
     libc: Option<LinuxLibc>,
     /// Whether a meaning states no C library, and has that of `libc` here.
@@ -50,9 +50,9 @@ impl<'a> Meanings<'a> {
             libc,
             is_completed: false,
         };
-        for Meaning { of, triple } in meanings(text) {
+        for Meaning { of, triple, level } in meanings(text) {
             match triple {
-                Ok(triple) => what.add(triple, of.name()),
+                Ok(triple) => what.add(triple, level, of.name()),
                 Err(why) => what.without_triple.push((of.name(), why)),
             }
         }
@@ -62,16 +62,17 @@ impl<'a> Meanings<'a> {
         Ok(what)
     }
 
-    fn add(&mut self, triple: TripleRef<'a>, tool: &'static str) {
+    fn add(&mut self, triple: TripleRef<'a>, level: Option<&'static str>, tool: &'static str) {
         let completed = match self.libc {
             Some(libc) => triple.with_c_library(libc),
             None => triple,
         };
         self.is_completed |= completed != triple;
         let triple = canonical(completed);
-        match self.meanings.iter_mut().find(|(it, _)| *it == triple) {
-            Some((_, tools)) => tools.push(tool),
-            None => self.meanings.push((triple, vec![tool])),
+        let same = |it: &&mut (TripleRef<'a>, _, _)| it.0 == triple && it.1 == level;
+        match self.meanings.iter_mut().find(same) {
+            Some((.., tools)) => tools.push(tool),
+            None => self.meanings.push((triple, level, vec![tool])),
         }
     }
 
@@ -86,12 +87,12 @@ impl<'a> Meanings<'a> {
     fn note(&self, triple: &TripleRef<'_>) -> Option<String> {
         use OperatingSystem::{None_, Unknown};
         let is_rustc = |tools: &[&str]| tools.contains(&Dialect::Rust.name());
-        if self.meanings.iter().any(|(_, tools)| is_rustc(tools)) {
+        if self.meanings.iter().any(|(.., tools)| is_rustc(tools)) {
             return None;
         }
         let has_system = |it: &TripleRef<'_>| !matches!(it.operating_system, None_ | Unknown);
         let is_known = |it: &TripleRef<'_>| !it.vendor.is_custom() && has_system(it);
-        let is_known = self.meanings.iter().any(|(it, _)| is_known(it));
+        let is_known = self.meanings.iter().any(|(it, ..)| is_known(it));
         let hint = Evidence::of(self.text).triple().filter(|_| !is_known);
         let VendorRef::Custom(vendor) = triple.vendor else {
             let hint = hint.filter(|it| !has_system(triple) && has_system(it));
@@ -109,15 +110,19 @@ impl Answer for Meanings<'_> {
     /// for each reason why others have none.
     fn write(&self, out: &mut dyn Write) -> io::Result<()> {
         writeln!(out, "{}", visible(self.text))?;
-        for (triple, tools) in &self.meanings {
-            writeln!(out, "  is {triple}, as {}", tools.join(", "))?;
+        for (triple, level, tools) in &self.meanings {
+            write!(out, "  is {triple}")?;
+            if let Some(level) = level {
+                write!(out, " of the level {level}")?;
+            }
+            writeln!(out, ", as {}", tools.join(", "))?;
             let own = self.note(triple).into_iter();
             for note in own.chain(self.notes(tools)) {
                 writeln!(out, "    note    {note}")?;
             }
             let mut unnamed: Vec<(&str, Vec<&str>)> = Vec::new();
             for dialect in written() {
-                match dialect.write_with(triple, self.libc) {
+                match dialect.write_at(triple, level.unwrap_or(""), self.libc) {
                     Ok(name) => writeln!(out, "    {dialect:8}{name}")?,
                     Err(error) => {
                         let (why, tool) = (reason(error), dialect.name());
@@ -138,10 +143,10 @@ impl Answer for Meanings<'_> {
     }
 
     fn members(&self) -> Object<'_> {
-        let meaning = |(triple, tools): &(TripleRef<'_>, Vec<&'static str>)| {
+        let meaning = |(triple, level, tools): &(TripleRef<'_>, Option<&'static str>, Vec<_>)| {
             let (mut names, mut reasons) = (Object::new(), Object::new());
             for dialect in written() {
-                let name = dialect.write_with(triple, self.libc);
+                let name = dialect.write_at(triple, level.unwrap_or(""), self.libc);
                 let why = name.as_ref().err().map(|it| it.reason());
                 reasons.extend(why.map(|it| (dialect.name(), it.into())));
                 names.push((dialect.name(), name.ok().map(|it| it.to_string()).into()));
@@ -151,6 +156,7 @@ impl Answer for Meanings<'_> {
             let tools = tools.iter().map(|it| Json::from(*it));
             Json::Object(vec![
                 ("canonical", triple.to_string().into()),
+                ("level", (*level).into()),
                 ("tools", Json::List(tools.collect())),
                 ("note", (!notes.is_empty()).then(|| notes.join("; ")).into()),
                 ("names", Json::Object(names)),

@@ -119,7 +119,7 @@ class ParseError(ValueError):
             return None
         utf8 = self.text.encode(errors="replace")
         dialects, calls, reasons = (None, *Dialect), [], []
-        for number, _ in _library.meanings(ctypes.create_string_buffer(utf8, len(utf8))):
+        for number, _, _ in _library.meanings(ctypes.create_string_buffer(utf8, len(utf8))):
             dialect, reason = dialects[number], _library.reason(number, utf8)
             if reason is not None:  # also of a name that means several triples
                 reasons.append(f"it is a name of {dialect} without a triple: {reason}")

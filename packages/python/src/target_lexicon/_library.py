@@ -202,7 +202,7 @@ _write_versioned = _declare("lexicon_write_versioned", c_uint32, _TRIPLE, c_uint
 complete = _declare("lexicon_complete", _TRIPLE, c_uint32)
 _translate = _declare("lexicon_translate", c_uint32, c_char_p, c_size_t, c_uint32, c_uint32, c_void_p, c_size_t, _SIZE, _ERROR)
 _change = _writing("lexicon_changes", c_char_p, c_size_t, c_size_t, POINTER(ChangeStruct))
-_meaning = _declare("lexicon_meaning", c_char_p, c_size_t, c_size_t, POINTER(c_uint32), _TRIPLE)
+_meaning = _declare("lexicon_meaning", c_char_p, c_size_t, c_size_t, POINTER(c_uint32), _TRIPLE, POINTER(c_char_p))
 _number = _declare("lexicon_number", c_uint32, c_char_p, c_size_t, POINTER(c_uint32))
 _error_line = _writing("lexicon_error_line", c_char_p, c_size_t, _ERROR)
 _suggestion = _writing("lexicon_suggestion", c_char_p, c_size_t, _ERROR)
@@ -267,16 +267,17 @@ def translate(text: bytes, from_dialect: int, libc: int, to_dialect: int) -> Tup
     return _translate(from_dialect, text, len(text), libc, to_dialect, out, FIRST_SIZE, None, error), out.value.decode(), error.reason
 
 
-def meanings(text: ctypes.Array[c_char]) -> Iterator[Tuple[int, Optional[TripleStruct]]]:
-    """The number of each dialect that has a text as a name, or 0 for one that is spelled like a triple; and what it means, which is within the text."""
+def meanings(text: ctypes.Array[c_char]) -> Iterator[Tuple[int, Optional[TripleStruct], Optional[str]]]:
+    """The number of each dialect that has a text as a name, or 0 for one that is spelled like a triple; what it means, which is within the text, and
+    the level of its machine; or else no triple, and why."""
     for number in itertools.count():
-        dialect, triple = c_uint32(), TripleStruct()
-        status = _meaning(text, len(text), number, dialect, triple)
+        dialect, triple, note = c_uint32(), TripleStruct(), c_char_p()
+        status = _meaning(text, len(text), number, dialect, triple, note)
         if status == NO_SUCH_MEANING:
             return
         if status != NAME_WITHOUT_TRIPLE:
             check(status)
-        yield dialect.value, None if status == NAME_WITHOUT_TRIPLE else triple
+        yield dialect.value, None if status == NAME_WITHOUT_TRIPLE else triple, None if note.value is None else note.value.decode()
 
 
 def changes(text: bytes) -> Iterator[Tuple[int, int, str]]:

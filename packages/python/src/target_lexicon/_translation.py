@@ -81,6 +81,8 @@ class Meaning(NamedTuple):
     triple: Optional[Triple]
     #: Why no triple means the same, or None.
     reason: Optional[str]
+    #: The level of the machine that the name says and the triple can't state, such as ``v3`` of ``linux/amd64/v3``, or None. `translate` keeps it.
+    level: Optional[str] = None
 
 
 def meanings(text: str) -> List[Meaning]:
@@ -96,8 +98,8 @@ def meanings(text: str) -> List[Meaning]:
     utf8 = encoded(text, "the name of a target")
     owner = ctypes.create_string_buffer(utf8, len(utf8))
     dialects: Tuple[Optional[Dialect], ...] = (None, *Dialect)
-    return [Meaning(dialects[number], None if struct is None else _triple_of(struct, owner), _library.reason(number, utf8))
-            for number, struct in _library.meanings(owner)]
+    return [Meaning(dialects[number], None, note) if struct is None else Meaning(dialects[number], _triple_of(struct, owner), None, note)
+            for number, struct, note in _library.meanings(owner)]
 
 
 class Change(NamedTuple):
