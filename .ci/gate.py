@@ -28,7 +28,7 @@ import traceback
 
 # Debian's packages of the tools: commands, modules of Debian's Python, and paths.
 MODULES = {it: f"python3-{it}" for it in "hypothesis pip venv hatchling build installer pandas packaging selenium jsonschema markdown".split()} | {"ensurepip": "python3-venv"}
-PACKAGES = {it: it for it in "git clang valgrind cmake meson cbindgen jq pkg-config mypy pypy3 shellcheck pyflakes3 chromium npm esbuild lintian rpm makepkg zsh fish".split()} | MODULES | {
+PACKAGES = {it: it for it in "git clang valgrind cmake meson cbindgen jq pkg-config mypy pypy3 shellcheck pyflakes3 chromium npm esbuild lintian rpm makepkg zsh fish strace".split()} | MODULES | {
     "coqc": "coq", "cargo": "cargo-web", "rustc": "rustc-web", "rustfmt": "rustfmt-web", "cargo-clippy": "rust-web-clippy", "cc": "gcc", "c++": "g++", "nm": "binutils",
     "bwrap": "bubblewrap", "man": "man-db", "cram3": "python3-cram", "chromedriver": "chromium-driver", "node": "nodejs", "tsc": "node-typescript", "dpkg-buildpackage": "dpkg-dev",
     "dh": "debhelper", "dh_python3": "dh-python", "llvm-config": "llvm-dev", "go": "golang-go", "nix-instantiate": "nix-bin",
@@ -92,7 +92,7 @@ WITHOUT_PROOF = [[
 LAST = [
     ("links, names, samples, counts and versions of the pages, and the pictures", "checks/pages", "cargo"),
     ("the program `triples` and the command `target-lexicon`: stored rows, unusual streams, large inputs, samples of the pages", "checks/rows/run", "cargo cram3"),
-    ("no message and no output has what isn't printable ASCII of a hostile string", "checks/visible", "cargo cc"),
+    ("no message and no output has what isn't printable ASCII of a hostile string; SECURITY's other promises", "checks/visible && checks/security", "cargo cc strace"),
     ("each allocation fails in turn", "checks/fail_allocations", "rt cc"),
     ("names, rules and tables are upstream's, by its kept answers", "checks/compare answers", "cargo"),
     ("the mode json: the proved program answers as Rust's serde_json does", "/usr/bin/python3 checks/compare json --inputs 200",
