@@ -5,8 +5,8 @@ of its arguments, and a proposition a test, whose variables range over the domai
 library are those of library.txt; what has no clauses there is a function of values.rs. What isn't understood is an error that names it.
 
 A proposition is translated if a Rust file of this folder, or another translated one, names it. One without arguments is a law: a
-function of its variables, except for those that an equation or a relation before the arrow gives (`solution`). The forms of laws.txt say more
-than a law: laws.rs looks for a case in which each is false.
+function of its variables, except for those that an equation or a relation before the arrow gives (`solution`). One of which both sides are one
+expression is an error. The forms of laws.txt say more than a law: laws.rs looks for a case in which each is false.
 """
 import pathlib
 import re
@@ -39,6 +39,8 @@ OTHERS = {"Values": "some_values()", "Refusal": "some_refusals()", "V": "tried()
 TESTS = {"→": "!{}.yes() || {}.yes()", "↔": "{}.yes() == {}.yes()", "⊎": "{}.yes() || {}.yes()", "×": "{}.yes() && {}.yes()",
          "||": "{}.yes() || {}.yes()", "&&": "{}.yes() && {}.yes()", "≡": "eq({}, {})", "≢": "!eq({}, {})",
          "<": "{}.number() < {}.number()", "≤": "{}.number() <= {}.number()"}
+# Those of which the sides must be two expressions.
+SIDES = {"↔", "≡", "≢", "<", "≤"}
 OPERATORS = {"∷": "cons", "++": "append", "+": "add", "-": "sub", "*": "mul", "/": "div", "%": "rem", "^": "pow", "==": "nat_eq"}
 # Words of Rust, and names of values.rs that generated functions use.
 TAKEN = set("""abstract as async await box break const continue crate do dyn else enum extern final fn for if impl in let loop macro match
@@ -75,7 +77,7 @@ class Rust:
         self.fields = {"now": None, "value": None}  # those of references and boxes; of others the definition that has one first
         self.functions, self.of, self.constants, self.fresh, self.failed = [], {}, 5, 0, []  # values.rs has the first 5 constants
         self.todo, self.definition, self.look_ups = [], None, 0
-        self.laws, self.law_definitions, self.others = [], set(), ""
+        self.laws, self.law_definitions, self.others, self.given_as = [], set(), "", {}
         self.forms, self.tried, self.wrong_forms = self.read_forms(), [], []  # tried: the law and the text of each form
 
     def read_forms(self):
@@ -306,15 +308,33 @@ class Rust:
         if str(it) in self.wholes:
             return self.wholes[str(it)], NO
         (a, b), closed = self.all(it[2:], scope)
+        if it[1] in SIDES and self.as_given(a) == self.as_given(b):
+            raise Untranslated(f"both sides of {it[1]} are one expression, {a}")
         return f"truth({TESTS[it[1]].format(a, b)})" if it[1] in TESTS else f"library::{OPERATORS[it[1]]}({a}, {b})", closed
 
     def any_code(self, it, scope):
-        self.others = OTHERS.get(it[2], "L(&[])")
-        domain = self.solution(it[1], it[3], scope, it[0] == "any") or DOMAINS.get(it[2])
+        domain = self.domain(it[1], it[2], it[3], scope, it[0] == "any") or DOMAINS.get(it[2])
         if not domain:
             raise Untranslated(f"no domain of {it[2]}")
         test, _ = self.expression(("lam", it[1], it[3]), scope)
+        self.given_as.pop(self.local(it[1]), None)
         return f"{it[0]}({domain}, {test})", NO
+
+    def domain(self, name, type, body, scope, is_condition):
+        """The values of a variable that a condition gives. If it gives another variable the same ones, there are others too: what is
+        equal to itself says nothing."""
+        self.others = OTHERS.get(type, "L(&[])")
+        found = self.solution(name, body, scope, is_condition)
+        if found and self.as_given(found) in self.given_as.values():
+            found = f"with_others({found}, {self.others})"
+        if found:
+            self.given_as[self.local(name)] = self.as_given(found)
+        return found
+
+    def as_given(self, code):
+        """Code with what gives each variable in its place, and without the numbers of constants."""
+        code = re.sub(r"once\(\d+, ", "once(", code)
+        return re.sub(r"\w+", lambda it: self.given_as.get(it[0], it[0]), code) if self.given_as else code
 
     all_code = any_code
 
@@ -335,9 +355,9 @@ class Rust:
                 variables.append(body[1:3])
                 body = body[3]
             scope, given = {}, []
+            self.given_as = {}
             for name, type in variables:
-                self.others = OTHERS.get(type, "L(&[])")
-                domain = self.solution(name, body, scope, False)
+                domain = self.domain(name, type, body, scope, False)
                 scope[name] = self.local(name)
                 given.append((name, type, domain))
             now = [(name, type) for name, type, domain in given if not domain]
