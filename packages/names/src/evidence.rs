@@ -186,6 +186,10 @@ impl<'a> Evidence<'a> {
         let says = |kind: Kind| said.split(' ').any(|it| kind_of(it) == kind);
         let is_title = !has_begun && !says(Kind::Machine) && !says(Kind::System);
         let may_be_title = ["gnu", "soft", "hard", "32", "64", "sim", "newlib"].contains(&said);
+        // What an ABI follows is a system, and no part of a name without a vendor: `arm-none-eabi-10.3-mac`.
+        if self.system == Said::One("none") && before.is_none() && says(Kind::System) {
+            self.system = Said::Contradicted;
+        }
         if !(is_title && may_be_title) {
             said.split(' ').for_each(|it| self.say(it));
         }

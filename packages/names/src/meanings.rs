@@ -68,10 +68,16 @@ pub struct Meaning<'a> {
 /// ```
 #[inline]
 pub fn meanings(text: &str) -> impl Iterator<Item = Meaning<'_>> + Clone {
-    // A file of pacman's may be MSYS2's too.
+    // A file of pacman's may be MSYS2's too, if that has the machine.
     let has_system = move || Evidence::of(text).system() != Said::Unsaid;
+    let may_be_msys2 = move || {
+        ["x86_64", "i686", "aarch64", "any"]
+            .iter()
+            .any(|it| text.contains(it))
+    };
     let is_meant = move |dialect: &&Dialect| {
-        **dialect != Dialect::Pacman || !text.contains(".pkg.tar") || has_system()
+        let is_file = text.contains(".pkg.tar");
+        **dialect != Dialect::Pacman || !is_file || has_system() || !may_be_msys2()
     };
     let to_dialect = move |dialect: &Dialect| {
         let why = match dialect.read_loosely(text) {
@@ -81,7 +87,8 @@ pub fn meanings(text: &str) -> impl Iterator<Item = Meaning<'_>> + Clone {
         let (of, level) = (NameOf::Dialect(*dialect), dialect.level(text));
         let each = dialect.read_each(text).map(Ok);
         let why = why.filter(|_| each.clone().next().is_none());
-        each.chain(why).map(move |triple| Meaning { of, triple, level })
+        each.chain(why)
+            .map(move |triple| Meaning { of, triple, level })
     };
     let of_dialects = Dialect::ALL.iter().filter(is_meant).flat_map(to_dialect);
     let is_triple = text.contains('-') || of_dialects.clone().next().is_none();
