@@ -1,6 +1,6 @@
 //! What is tried. Nothing else of this check is chosen by hand.
 use crate::report::without_names_of_structs;
-use definitions::spec as s;
+use definitions::spec::{self as s, NAMED};
 #[cfg(feature = "port")]
 use definitions::values::library;
 use definitions::values::{apply, con, eq, keep, shown, text as v, with, N, V};
@@ -153,22 +153,23 @@ fn only<T: Clone>(values: &[(V, T)], wanted: &str) -> Vec<(V, T)> {
     values.iter().filter(|it| wanted.split(' ').any(|name| name == shown(it.0))).cloned().collect()
 }
 
-/// The values of a field that special strings have, and these.
-fn of_special(field: &str, others: &str) -> String {
-    let found = s::special_rows().list().iter().map(|row| shown(s::special_triple(*row).field(field)));
-    found.chain([others.to_string()]).collect::<Vec<_>>().join(" ")
+/// The values of a type that patterns of the definitions name, and the last one that none names.
+fn named<T: Clone>(values: &[(V, T)], of: &str) -> Vec<(V, T)> {
+    let names: Vec<&str> = NAMED.iter().filter(|it| it.0 == of).map(|it| it.1).collect();
+    let fits = |it: &&(V, T), name: &str| shown(it.0) == name || name.ends_with('(') && shown(it.0).starts_with(name);
+    let other = values.iter().rfind(|it| !names.iter().any(|name| fits(it, name)));
+    names.iter().filter_map(|name| values.iter().find(|it| fits(it, name))).chain(other).cloned().collect()
 }
 
-/// The values of which exceptions, special strings and rules of printing speak, and one of each other kind.
+/// The values of which the definitions speak, one of those that a definition doesn't tell apart.
 pub fn near_exceptions() -> Fields {
     let all = fields();
     let (made, others) = all.vendors.split_last().expect("vendors");
-    let vendors = only(&others.concat(), &of_special("vendor", "Known(Unknown) Custom(\"esp\") Custom(\"q-9\")"));
     Fields {
-        architectures: only(&all.architectures, &of_special("architecture", "Clever(Clever) Wasm32 X86_64")),
-        vendors: [each(vendors), vec![made.clone()]].concat(),
-        systems: each(only(&all.systems.concat(), &of_special("operating_system", "Unknown None_ Linux Cygwin"))),
-        environments: only(&all.environments, "Unknown Newlib None Gnu GnuIlp32 LinuxKernel"),
+        architectures: named(&all.architectures, "Architecture"),
+        vendors: [each(named(&others.concat(), "VendorValue")), vec![made.clone()]].concat(),
+        systems: each(named(&all.systems.concat(), "OperatingSystem")),
+        environments: named(&all.environments, "Environment"),
         formats: all.formats,
     }
 }

@@ -7,8 +7,8 @@ use definitions::values::{con, forget, keep, some_values, text, with, FORM, N, T
 /// How many cases of a law there are first, which are all tried, how many in all, and one of them.
 type Cases = (usize, usize, Box<dyn Fn(usize) -> Vec<V>>);
 
-/// First those that print as a special string; then the values near the exceptions, with a custom vendor of a known one's name too, and with
-/// versions that the types of the code don't have; and as many of all.
+/// Those that print as a special string, and all of the values near the exceptions; then as many of all, among them some
+/// near ones with a custom vendor of a known one's name, and with versions that the types of the code don't have.
 fn triples() -> Cases {
     let (near, all) = (inputs::near_exceptions(), inputs::fields());
     let count = near.count();
@@ -18,15 +18,16 @@ fn triples() -> Cases {
     let first = special.len();
     let case = move |i: usize| {
         let Some(i) = i.checked_sub(first) else { return special[i] };
-        let t = if i < count { near.triple(i).0 } else { all.triple((i - count) * step).0 };
+        let t = near.triple(i % count).0;
         let version = [[65536, 0, 0], [0, 256, 0], [0, 0, 256]][i % 3].map(N);
         match i % 11 {
+            _ if i < count => t,
             0 => with(t, &[("vendor", con(s::VendorValue__Custom, &[s::vendor_name(s::get_vendor(t))]))]),
             1 => with(t, &[("operating_system", con(s::OperatingSystem__IOS, &[con(s::Option__Some, &[version_of(version)])]))]),
-            _ => t,
+            _ => all.triple((i - count) * step).0,
         }
     };
-    (first, first + 2 * count, Box::new(move |i| vec![case(i)]))
+    (first + count, first + 2 * count, Box::new(move |i| vec![case(i)]))
 }
 
 fn version_of([major, minor, patch]: [V; 3]) -> V {

@@ -497,6 +497,36 @@ class Rust:
             code = f"apply({code}, {argument})"
         return code, (int(bool(closed and rest)) if arguments else closed)
 
+    def named(self):
+        """The values that patterns of target_lexicon's definitions name, each with its type: of those for which a
+        definition says the same, the first."""
+        found = {}
+        for definition in self.own:
+            if definition.module.path[1] != "target_lexicon" or not definition.chunks or definition.is_proposition:
+                continue
+            self.definition, said = definition, set()
+            for patterns, body in definition.clauses:
+                for place, it in enumerate(map(self.shown_pattern, patterns)):
+                    if it and (place, it[0], str(body)) not in said:
+                        said.add((place, it[0], str(body)))
+                        found[it] = None
+        return list(found)
+
+    def shown_pattern(self, it):
+        """The type of a constructor's pattern, and the value as it is shown, up to the first variable in it."""
+        head, arguments = (it[1], it[2]) if it[0] == "app" else (it, [])
+        kind, what = self.names.resolve(self.definition, head) if head[0] in ("var", "get") else ("", "")
+        if kind != "constructor":
+            return None
+        type, name = what.split("__", 1)
+        inner = [self.shown_pattern(it) for it in arguments]
+        family = type.removesuffix("Architecture")
+        if family not in ("", type):
+            return "Architecture", f"{family}({name})"
+        if inner and inner[0]:
+            return type, inner[0][1] if inner[0][0] == type else f"{name}({inner[0][1]})"
+        return type, name + "(" * bool(inner)
+
     # ---- the whole source
 
     def source(self):
@@ -510,6 +540,9 @@ class Rust:
         for field in sorted(self.fields):
             arms = "".join(f"C(R_{'_'.join(it)}, f) => f[{it.index(field)}], " for it in shapes if field in it)
             out.append(f'pub fn get_{field}(v: V) -> V {{ match v {{ {arms}_ => stuck("{field}") }} }}\n')
+        named = ", ".join(f'("{type}", r#"{shown}"#)' for type, shown in self.named())
+        out.append("/// The values that patterns of definitions name, each with its type.\n"
+                   f"pub static NAMED: &[(&str, &str)] = &[{named}];\n")
         out.append("/// The definitions of values, the types of their arguments, and the functions.\n"
                    f"pub static ASKED: &[(&str, &[&str], fn(&[V]) -> V)] = &[{', '.join(self.asked())}];\n")
         out.append("/// The laws, what their variables are, and the numbers of their forms.\npub static LAWS: &[(&str, &[(&str, &str)], fn(&[V]) -> V, &[usize])] = &[\n")
