@@ -5,24 +5,9 @@ may overflow) has an `option` for its result, and one that loops or calls itself
 little fuel. Variables keep their names: an assignment is a `let`. Rust.v says what loops, numbers and the methods of
 std mean. What isn't understood is an error with file and line."""
 import functools
-import re
-from pathlib import Path
 
-from reading import Untranslated
 from rust_grammar import BOOL, BYTES, STR, T, UNIT, USIZE, Node, Unknown
-from rust_types import WIDTH, Crate, Function, Types
-
-# The files of checks/coq/rust, in order.
-PROOFS = "Finite Table Search Rows Round Read Sources Numbers Print Write Answers Equal Shipped Canonical Owned".split()
-# The files that are translated beside those of `proved`.
-LAYER = "canonical conversions explain extensions owned parse_error queries".split()
-# The functions of these files that aren't, and why.
-LEFT_OUT = {
-    "DefaultToHost::default": "the host is that of the build",
-    "CustomVendor::hash": "a hash of std",
-    "NotPlain::fmt": "std's formatting of a debug string",
-    "Triple::parse": "the error that shows the place",
-}
+from rust_types import WIDTH, Function, Types
 
 KEYWORDS = """fun let in if then else match with end forall exists return as fix cofix for where at using struct mod N O
     S left right not"""
@@ -43,23 +28,8 @@ OPTION, METHODS = lambda type: T("Option", type), {
     ("Option", "ok_or"): ("ok_or", lambda t, u: T("Result", t[2][0], u)),
     ("bool", "then_some"): ("then_some", lambda t, u: OPTION(u)),
 }
-SAME = {("slice", "iter"): None, ("str", "as_bytes"): BYTES, **{("str", it): STR for it in "as_str into to_string".split()}}
-
-# Of the proved source: files that don't become Rust; functions that aren't translated, since they return what the kit's
-# allocator does, and that have no function of this name in Rust; those that have another name there; and one that has
-# another meaning, with the proof for the configuration.
-NOT_ERASED = "laws steps json json_error list_error macros host parse_error round_trip lib tests".split()
-SOURCE_LEFT_OUT = {it: "an allocation" for it in """OperatingSystem::into_str CustomVendor::clone Vendor::from_str
-    Vendor::clone DefaultToHost::clone DefaultToUnknown::clone Triple::to_text Triple::to_upstream_text Triple::from_str
-    Refusal::to_error""".split()} | {"CustomVendor::hash": "a hash", "DefaultToHost::default": "the host"}
-NOT_SHIPPED = """VendorError_eqb Architecture_host BinaryFormat_host decimal_text Environment_host OperatingSystem_host
-    Vendor_host Triple_write_to Triple_normal TripleRef_normal Triple_round_trip_exception Triple_comes_back Triple_settle
-    TripleRef_settle Triple_settles_as""".split()
-RENAMED = {"VendorRef_from_str": "VendorRef_from_text", **{f"TripleRef_{it}": f"TripleRef_known_{it}" for it in (
-    "endianness", "pointer_width", "default_calling_convention", "data_model")}}
-CHANGED = {"TripleRef_shows_unknowns": ("∀ t, {} t = {} t", """intros t.
-  unfold rt_TripleRef_shows_unknowns, rs_TripleRef_shows_unknowns. cbn [negb]. now rewrite andb_true_r""")}
-
+SAME = {("slice", "iter"): None, ("str", "as_bytes"): BYTES, ("str", "as_str"): STR, ("str", "into"): STR,
+        ("str", "to_string"): STR}
 
 def bits(name):
     return "usize_bits" if name == "usize" else WIDTH[name]
@@ -69,11 +39,7 @@ class Translation(Types):
     def __init__(self, crate, known, names, others=()):
         """`known` is Coq that is read before; its functions in `others` are called in place of those of their names."""
         super().__init__(crate, known)
-        self.fresh, self.taken, self.others = 0, {*KEYWORDS.split(), *names}, dict(others)
-
-    def new(self, name):
-        self.fresh += 1
-        return f"{name}{self.fresh}"
+        self.taken, self.others = {*KEYWORDS.split(), *names}, dict(others)
 
     def local(self, name):
         return name + "_" if name in self.taken else name
@@ -120,7 +86,12 @@ class Body:
     def __init__(self, coq, f):
         self.coq, self.crate, self.f, self.effects, self.assigned = coq, coq.crate, f, 0, set()
         self.ret, self.mutable = self.ret_function, set(getattr(f, "mutable", ()))
-        self.set_names, self.hidden = set(), set()
+        self.set_names, self.hidden, self.fresh = set(), set(), 0
+
+    def new(self, name):
+        """A name that no Rust has."""
+        self.fresh += 1
+        return f"{name}'{self.fresh}"
 
     def whole(self, body):
         self.mutable |= set(self.f.muts)
@@ -157,7 +128,7 @@ class Body:
         self.assigned |= outer
         if len(types) < 2:
             return make(k)
-        name, value = self.coq.new("next"), self.coq.new("it")
+        name, value = self.new("next"), self.new("it")
         names = "".join(" " + self.coq.local(it) for it in changed)
         body = make(lambda code, _: f"({name} {code}{names})")
         return f"let {name} := λ {value}{names}, {k(value, type)} in\n  {body}"
@@ -265,7 +236,7 @@ class Body:
         if "::".join(path[-2:]) in ("Box::new", "String::from", "Cow::Borrowed", "CowStr::Borrowed"):  # it succeeds
             return self.ex(args[0], env, k)
         if path[-1] == "from_utf8" and owner in (None, "String"):
-            new = self.coq.new("it")
+            new = self.new("it")
             return self.ex(args[0], env, lambda code, _: self.bind(
                 f"from_utf8 {code}", new, k(new, T("Result", STR, UNIT))))
         name, _, type = self.constructor(path)
@@ -292,7 +263,7 @@ class Body:
             type = self.real(f.result)
             if not places and not f.impure:
                 return k(code, type)
-            names = [self.coq.new("it") for _ in [0, *places]]
+            names = [self.new("it") for _ in [0, *places]]
             then = k
             for place, new in zip(places, names[1:]):
                 then = functools.partial(self.set_then, place, new, env, then)
@@ -324,7 +295,7 @@ class Body:
                 return self.set(place[1], "{| " + "; ".join(found) + " |}", env, then)
             return self.ex(place[1], env, made)
         if place[0] == "index" and place[2][0] != "range":
-            new = self.coq.new("it")
+            new = self.new("it")
             return self.all(place[1:], env, lambda found: self.bind(
                 f"set_at {found[0][0]} {found[1][0]} {code}", new, self.set(place[1], new, env, then)))
         if place[0] in ("repeat", "list"):
@@ -359,7 +330,7 @@ class Body:
         return self.all(it[1:], env, lambda found: k(f"({found[0][0]}, {found[1][0]})", T("Range", USIZE)))
 
     def ex_index(self, it, env, k):
-        new = self.coq.new("it")
+        new = self.new("it")
         if it[2][0] != "range":
             return self.all(it[1:], env, lambda found: self.bind(
                 f"slice_get {found[0][0]} {found[1][0]}", new, k(new, self.real(found[0][1][1]))))
@@ -408,7 +379,7 @@ class Body:
                 return k(f"({x} {'/' if sign == '/' else 'mod'} {y})", type)
             if sign not in OPERATIONS:
                 raise Unknown(f"the operator {sign} of {type}")
-            new = self.coq.new("n")
+            new = self.new("n")
             return self.bind(f"{OPERATIONS[sign]} {bits(type[1])} {x} {y}", new, k(new, type))
         return self.all([left, right], env, made)
 
@@ -426,11 +397,11 @@ class Body:
     def ex_try(self, it, env, k):
         def made(code, type):
             self.effects += 1
-            new = self.coq.new("it")
+            new = self.new("it")
             if type[1] == "Option":
                 return (f"match {code} with None => {self.ret('None')} | Some {new} =>\n"
                         f"  {k(new, self.real(type[2][0]))} end")
-            error, of = self.coq.new("error"), self.real(type[2][0]) if type[2] else UNIT
+            error, of = self.new("error"), self.real(type[2][0]) if type[2] else UNIT
             refused = self.ret(f"(Result__Err {error})")
             return f"match {code} with Result__Err {error} => {refused} | Result__Ok {new} =>\n  {k(new, of)} end"
         return self.ex(it[1], env, made)
@@ -446,8 +417,6 @@ class Body:
     def arms(self, code, type, arms, env, k):
         if any(self.is_test(p) for p, _ in arms):  # one test after the other
             pattern, body = arms[0]
-            if pattern == ("_",):
-                return self.ex(body, dict(env), k)
             if len(arms) < 2:
                 raise Unknown("a match of literals without a last arm")
             return (f"(if {self.test(pattern, code, type)} then {self.ex(body, dict(env), k)}\n"
@@ -464,7 +433,8 @@ class Body:
     def test(self, p, code, type):
         if p[0] == "or":
             return "(" + " || ".join(self.test(it, code, type) for it in p[1]) + ")"
-        value = [self.pure(Node(None, "path", [it]) if it.isidentifier() and it.isupper() else Node(None, "lit", it), {}) for it in p[1:]]
+        nodes = [Node(None, "path", [it]) if it.isidentifier() and it.isupper() else Node(None, "lit", it) for it in p[1:]]
+        value = [self.pure(it, {}) for it in nodes]
         if p[0] == "range":
             return f"(({value[0]} <=? {code}) && ({code} <=? {value[1]}))"
         if p[0] != "lit":
@@ -552,7 +522,7 @@ class Body:
 
     def mapped(self, code, type, name, arg, env, k):
         """`map` and `map_err` of a Result, `map` of an Option, and `expect`."""
-        value, error, is_option = self.coq.new("it"), self.coq.new("error"), type[1] == "Option"
+        value, error, is_option = self.new("it"), self.new("error"), type[1] == "Option"
         good, bad = ("Some", "None") if is_option else ("Result__Ok", f"Result__Err {error}")
         if name == "expect":
             return self.bind("(option_of_result " + code + ")" if not is_option else code, value, k(value, type[2][0]))
@@ -580,7 +550,7 @@ class Body:
     def ex_method(self, it, env, k):
         _, of, name, args, generic = it
         if name == "copy_from_slice" and of[0] == "index" and of[2][0] == "range":
-            place, (start, end), new = of[1], of[2][1:], self.coq.new("it")
+            place, (start, end), new = of[1], of[2][1:], self.new("it")
             return self.all([place, start, end, *args], env, lambda found: self.bind(
                 f"copy_into {' '.join(c for c, _ in found)}", new, self.set(place, new, env, lambda: k("tt", UNIT))))
 
@@ -590,7 +560,7 @@ class Body:
             if type[0] == "T" and (type[1], name) in self.crate.functions:
                 return self.call(type[1], name, [of, *args], env, k)
             if kind == "Formatter" and name in ("write_str", "pad"):  # without flags, `pad` is `write_str`
-                result, after = self.coq.new("it"), self.coq.new("it")
+                result, after = self.new("it"), self.new("it")
                 return self.ex(args[0], env, lambda text, _: (
                     f"let '({result}, {after}) := write_str {code} {text} in\n  "
                     + self.set(of, after, env, lambda: k(result, T("Result", UNIT, UNIT)))))
@@ -600,10 +570,8 @@ class Body:
                 return k(f"(parse_unsigned {2 ** WIDTH[generic[1]] - 1} {code})", T("Result", generic, UNIT))
             if kind in ("Option", "Result") and name in ("map", "map_err", "expect"):
                 return self.mapped(code, type, name, args[0], env, k)
-            if name == "clone":
-                return k(code, type)
             if name == "to_string" and type[0] == "T" and (type[1], "fmt") in self.crate.functions:
-                f, result = self.coq.need(type[1], "fmt"), self.coq.new("it")
+                f, result = self.coq.need(type[1], "fmt"), self.new("it")
                 self.f.fuel |= f.fuel
                 shown = f"{self.coq.called(f)}{' fuel' * f.fuel} {code} (formatter_of [])"
                 return self.bind(f"displayed ({shown if f.impure else f'Some ({shown})'})", result, k(result, STR))
@@ -629,77 +597,8 @@ def translate(crate, known, names, others=()):
         try:
             coq.need(owner, name)
         except Unknown as problem:
-            problems["::".join(filter(None, (owner, name)))] = f"{problem.place}: {problem}"
+            problems["::".join(filter(None, (owner, name)))] = problem
     for name, derived in crate.derived.items():
         if "PartialEq" in derived:
             coq.equal(T(name), "x", "y")
     return coq.out, problems
-
-
-def texts(files, root):
-    return [(str(it.relative_to(root)), it.read_text(encoding="utf-8")) for it in files]
-
-
-def titles(code):
-    return re.findall(r"^(?:Definition|Fixpoint) (\w+)", code, re.M)
-
-
-def put(folder, name, needed, origin, code):
-    text = f"(* Written by checks/theorem from {origin}. *)\nRequire Import {needed}.\n\n" + "\n".join(code)
-    folder.joinpath(f"{name}.v").write_text(text, encoding="utf-8")
-    return text
-
-
-def check(crate, problems, left_out):
-    for name, problem in problems.items():
-        if name not in left_out:
-            raise Untranslated(f"{problem} (in {name})")
-    for owner, name in crate.functions:
-        if f"{owner}::{name}" in left_out and f"{owner}::{name}" not in problems:
-            raise Untranslated(f"{owner}::{name} is left out, and could be written")
-
-
-def write(root, folder, proofs=PROOFS, features=("alloc",), width=64):
-    """Writes Code.v, the shipped source as these features and this width of a `usize` have it. Returns the theorems."""
-    here, source = Path(__file__).parent, root / "packages/rust/src"
-    modules = source.joinpath("lib.rs").read_text(encoding="utf-8")
-    without = [] if "alloc" in features else re.findall(r'#\[cfg\(feature = "alloc"\)\]\nmod (\w+);', modules)
-    layer = LAYER + [it for it in ("upstream_printing",) if it in features]
-    files = sorted(source.joinpath("proved").rglob("*.rs")) + [source / f"{it}.rs" for it in layer if it not in without]
-    before = "".join(here.joinpath(it).read_text(encoding="utf-8") for it in ("Kit.v", "rust/Rust.v"))
-    crate = Crate(texts(files, root), features)
-    code, problems = translate(crate, folder.joinpath("Specs.v").read_text(encoding="utf-8"), titles(before))
-    check(crate, problems, LEFT_OUT)
-    prints = str("upstream_printing" in features).lower()
-    put(folder, "Code", "Kit Specs Rust", "packages/rust/src", [
-        f"Definition usize_bits : ℕ := {width}.", f"Definition upstream_printing : bool := {prints}.\n", *code])
-    proved = "".join(here.joinpath(f"rust/{it}.v").read_text(encoding="utf-8") for it in proofs)
-    return dict.fromkeys(re.findall(r"^Theorem (\w+)", proved, re.M))
-
-
-def write_source(root, folder):
-    """Writes Source.v, the proved source, and Same.v, which says that each function is that of Code.v. Returns that."""
-    known = "".join(folder.joinpath(f"{it}.v").read_text(encoding="utf-8") for it in ("Kit", "Specs", "Rust", "Code"))
-    folders = [root / f"crates/{it}/src" for it in ("lexicon_fields", "target_lexicon")]
-    files = [it for of in folders for it in sorted(of.rglob("*.rt")) if it.stem not in NOT_ERASED]
-    erased = Crate(texts(sorted((root / "packages/rust/src/proved").rglob("*.rs")), root), {"alloc"})
-    shipped = {f"rs_{it}" for it in erased.constants} | {f"rs_{it}_eqb" for it in erased.derived}
-    shipped = {*shipped, *(f.title for f in erased.functions.values())} & {*titles(known)}
-    others = {f"rt_{it[3:]}": it for it in shipped} | {f"rt_{it}": f"rs_{other}" for it, other in RENAMED.items()}
-    crate = Crate(texts(files, root), {"alloc"}, "rt")
-    code, problems = translate(crate, known, titles(known), others)
-    check(crate, problems, SOURCE_LEFT_OUT)
-    ours = titles(put(folder, "Source", "Kit Specs Rust Code", "crates", code))
-    same = {it: CHANGED.get(it[3:], ("{} = {}", "reflexivity")) for it in ours if it in others}
-    statements = {it: statement.format(it, others[it]) for it, (statement, _) in same.items()}
-    proofs = [f"Lemma same_{it[3:]} : {statements[it]}. Proof. {proof}. Qed." for it, (_, proof) in same.items()]
-    *most, last = [f"same_{it[3:]}" for it in same]
-    whole = functools.reduce(lambda rest, it: f"(conj {it} {rest})", reversed(most), last)
-    each = "\n  ∧ ".join(f"({it})" for it in statements.values())
-    proofs.append(f"Theorem the_proved_source_is_shipped :\n  {each}.\nProof. exact {whole}. Qed.")
-    if alone := sorted(shipped - {others.get(it) for it in ours}):
-        raise Untranslated(f"the proved source has no function {alone[0][3:]}")
-    if alone := [it[3:] for it in ours if it not in others and it[3:] not in NOT_SHIPPED]:
-        raise Untranslated(f"packages/rust has no function {', '.join(alone)}")
-    put(folder, "Same", "Kit Specs Rust Code Source", "crates and packages/rust/src", proofs)
-    return {"the_proved_source_is_shipped": None}

@@ -1,24 +1,28 @@
 """The grammar of the Rust that is translated: types, patterns, statements and expressions, as tuples `(kind, part..)`.
 
-Of a proved source (`.rt`) the ghost parts, the calls of laws and the counter of steps are left out. What isn't
-understood is an error with file and line. Lifetimes, visibility and `&` of a value are dropped; `&mut` is kept, and is
-an error where it isn't a call's argument."""
+What isn't understood is an error with file and line. Lifetimes, visibility and `&` of a value are dropped; `&mut` is
+kept, and is an error where it isn't a call's argument."""
 import re
+
+from reading import Untranslated
 
 TOKEN = re.compile(r"""(?P<skip>\s+|//[^\n]*)|b?"(?:\\.|[^"\\])*"|b?'(?:\\.|[^'\\])'|(?P<life>'\w+)|\d\w*"""
                    r"""|[A-Za-z_]\w*(?:!(?!=))?"""
                    r"""|\.\.=|\.\.|<<|=>|->|==|!=|<=|>=|&&|\|\||\+=|-=|::|.""", re.S)
 LEVELS = ["||", "&&", "== != < > <= >=", "|", "<<", "+ -", "* / %"]
+CLOSING = {"(": ")", "[": "]", "{": "}", "<": ">"}
 BINARY = {sign: level for level, signs in enumerate(LEVELS, 1) for sign in signs.split()}
-COUNTER = [it.split() for it in (", steps : & mut Steps", ", steps", "steps . tick ( ) ;", ", & mut Steps :: new ( )")]
 
 
-class Unknown(Exception):
+class Unknown(Untranslated):
     """Something that isn't translated; `place` is the file and the line."""
 
     def __init__(self, what, place=None):
         super().__init__(what)
         self.place = place
+
+    def __str__(self):
+        return f"{self.place}: {self.args[0]}" if self.place else self.args[0]
 
 
 class Node(tuple):
@@ -46,31 +50,9 @@ class Parser:
                 found.append((it[0], line))
             line += it[0].count("\n")
         self.set_tokens([*found, ("", line)])
-        if file.endswith(".rt"):
-            self.leave_out_ghosts()
 
     def set_tokens(self, found):
         self.tokens, self.lines = [it for it, _ in found], [line for _, line in found]
-
-    def leave_out_ghosts(self):
-        laws = set(re.findall(r"\w+", " ".join(re.findall(r"laws :: ((?:\w+|\{[^}]*\})) ;", " ".join(self.tokens)))))
-        kept = []
-        while self.peek():
-            start = self.at
-            ghost = self.next()
-            if ghost in ("ghost", "requires", "ensures"):
-                is_field = ghost == "ghost" and self.peek() != "use"
-                self.to({";", ","} if is_field else {";"} if ghost == "ghost" else {"{"})
-                self.skip("{", "}") if ghost != "ghost" else self.next()
-            elif counter := next((it for it in COUNTER if self.tokens[start:start + len(it)] == it), None):
-                self.at = start + len(counter)
-            elif ghost in laws and self.peek() == "(" and self.tokens[start - 1] in (";", "{", "}"):
-                self.to({";"})
-                self.next(";")
-            else:
-                kept.append((ghost, self.lines[start]))
-        self.set_tokens([*kept, ("", 0)])
-        self.at = 0
 
     # ---- tokens
 
@@ -109,9 +91,9 @@ class Parser:
                 break
         return found
 
-    def skip(self, opening, closing):
-        """What is between two brackets, and these."""
-        start, depth = self.at, 0
+    def skip(self, opening):
+        """What is between a bracket and the one that closes it; both are skipped too."""
+        start, depth, closing = self.at, 0, CLOSING[opening]
         while True:
             token = self.next()
             if not token:
@@ -124,7 +106,7 @@ class Parser:
         """Skips what is before one of some tokens outside of brackets."""
         while self.peek() not in ends:
             if self.peek() in ("(", "[", "{"):
-                self.skip(self.peek(), {"(": ")", "[": "]", "{": "}"}[self.peek()])
+                self.skip(self.peek())
             elif not self.next():
                 raise self.unknown(f"none of {ends} is left")
 
@@ -134,7 +116,7 @@ class Parser:
         while self.has("#"):
             self.has("!")
             start = self.at
-            words = self.skip("[", "]")
+            words = self.skip("[")
             if words[0] == "cfg":
                 end, self.at = self.at, start + 3
                 kept, self.at = self.condition() and kept, end
@@ -151,7 +133,14 @@ class Parser:
 
     def visibility(self):
         if self.has("pub") and self.peek() == "(":
-            self.skip("(", ")")
+            self.skip("(")
+
+    def path(self, first):
+        """The names of a path that begins with one."""
+        found = [first]
+        while self.has("::"):
+            found.append(self.next())
+        return found
 
     # ---- types and patterns
 
@@ -170,9 +159,7 @@ class Parser:
             of = self.type()
             self.next(">")
             return ("into", of)
-        name = self.next()
-        while self.has("::"):
-            name = self.next()
+        name = self.path(self.next())[-1]
         args = self.many(">", lambda: None if self.peek() in (">", ",") else self.type()) if self.has("<") else []
         if not re.fullmatch(r"\w+", name) or name in ("impl", "dyn", "fn"):
             raise self.unknown(f"the type {name}")
@@ -198,9 +185,7 @@ class Parser:
         token = self.next()
         if re.match(r"b?['\"]|\d", token):
             return ("range", token, self.next()) if self.has("..=") else ("lit", token)
-        path = [token]
-        while self.has("::"):
-            path.append(self.next())
+        path = self.path(token)
         if not all(re.fullmatch(r"\w+", it) for it in path) or token == "ref" or self.peek() in ("{", "@", ".."):
             raise self.unknown(f"the pattern {'::'.join(path)} {self.peek()}")
         if self.has("("):
@@ -321,7 +306,7 @@ class Parser:
             self.next(")")
             return self.node("match", of, [(pattern, self.node("lit", "true")), (("_",), self.node("lit", "false"))])
         if token == "unreachable!":
-            self.skip("(", ")")
+            self.skip("(")
             return self.node("panic")
         if token == "cfg!":
             self.next("(")
@@ -330,9 +315,7 @@ class Parser:
             return found
         if not re.fullmatch(r"\w+", token):
             raise self.unknown(f"an expression that begins with {token!r}")
-        path = [token]
-        while self.has("::"):
-            path.append(self.next())
+        path = self.path(token)
         if struct and self.peek() == "{" and path[-1][0].isupper() and not path[-1].isupper():
             fields, base = {}, None
             self.next("{")

@@ -23,7 +23,7 @@ class Function:
         p = self.parser
         p.at = self.at
         if p.peek() == "<":
-            p.skip("<", ">")
+            p.skip("<")
         p.next("(")
         self.mutable = set()
 
@@ -44,15 +44,15 @@ class Function:
 
 
 class Crate:
-    def __init__(self, files, features, prefix="rs"):
+    def __init__(self, files, features, prefix="rs", parser=Parser):
         """`files` are pairs of a name and a text; the names of what is written begin with `prefix`."""
         self.prefix = prefix
         self.enums, self.structs, self.functions, self.constants, self.aliases, self.derived = {}, {}, {}, {}, {}, {}
         self.traits = {}
         for name, text in files:
-            parser = Parser(text, name, features)
-            while parser.peek():
-                self.item(parser)
+            it = parser(text, name, features)
+            while it.peek():
+                self.item(it)
 
     def add(self, table, name, value, parser):
         table[name] = value if name not in table else parser.unknown(f"a second {name}")
@@ -61,8 +61,6 @@ class Crate:
         kept, derived = p.attributes()
         p.visibility()
         kind = p.next()
-        if kind == "const" and p.peek() == "fn":
-            kind = p.next()
         if kind in ("use", "mod", "extern"):
             p.to({";"})
             p.next(";")
@@ -79,7 +77,7 @@ class Crate:
         elif kind in ("enum", "struct"):
             name = p.next()
             if p.peek() == "<":
-                p.skip("<", ">")
+                p.skip("<")
             is_tuple = kind == "struct" and p.has("(")
             parts = p.many(")", lambda: (p.attributes(), p.visibility(), p.type())[2]) if is_tuple else None
             if parts is not None or p.has(";"):
@@ -93,7 +91,7 @@ class Crate:
                 self.derived[name] = derived
         elif kind in ("impl", "trait"):
             if p.peek() == "<":
-                p.skip("<", ">")
+                p.skip("<")
             owner, trait = p.type(), ""
             if kind == "trait":
                 trait = owner[1]
@@ -120,10 +118,9 @@ class Crate:
                     end, parser.at = parser.at, at
                     self.function(parser, owner[1], trait, kept and part_kept)
                     parser.at = end
-        elif kind == "macro_rules!" or kind.endswith("!"):
-            p.has(p.peek()) if kind == "macro_rules!" else None
-            opening = p.peek()
-            p.skip(opening, {"(": ")", "{": "}"}[opening])
+        elif kind.endswith("!"):  # a macro, or its use
+            p.to({"{", "("})
+            p.skip(p.peek())
             p.has(";")
         else:
             raise p.unknown(f"an item that begins with {kind!r}")
@@ -146,7 +143,7 @@ class Crate:
         p.to({"{", ";"})
         if p.has(";"):
             return
-        p.skip("{", "}")
+        p.skip("{")
         f.is_own = not trait
         before = self.functions.get((owner, title))
         if kept and (before is None or f.is_own and not before.is_own):
