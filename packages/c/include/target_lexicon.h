@@ -543,7 +543,7 @@ struct lexicon_versions {
   struct lexicon_stated_version operating_system, environment;
 };
 
-/* A part of a string that lexicon_read, without a dialect, reads as other names. */
+/* A part of a string, such as one that lexicon_read, without a dialect, reads as other names. */
 struct lexicon_change {
   size_t start, end;
 };
@@ -708,6 +708,12 @@ enum lexicon_status lexicon_changes(const char *text, size_t text_size, size_t n
 LEXICON_CHECKED LEXICON_NONNULL(4, 5)
 enum lexicon_status lexicon_meaning(const char *text, size_t text_size, size_t number, uint32_t *dialect, struct lexicon_triple *triple,
                                     const char **note);
+
+/* The targets in any text, such as a list, a workflow in YAML, or a page in Markdown: the ranges of the words that are a name of a machine
+   and a system, of any tool or as a triple, or are with a name that is suggested; and of all items of a list. They are written into an array
+   of so many elements at most, and in *count is how many there are: with LEXICON_TOO_SMALL there are more. */
+LEXICON_CHECKED LEXICON_NONNULL(5)
+enum lexicon_status lexicon_targets(const char *text, size_t text_size, struct lexicon_change *parts, size_t most, size_t *count);
 
 /* The name of the dialect that may have been meant, where lexicon_read gives LEXICON_UNKNOWN_NAME: linux/amd64 for linux/amd46 in
    LEXICON_DIALECT_GO. Null if there is none, and otherwise. Only names that are read are suggested. */

@@ -590,6 +590,32 @@ pub unsafe extern "C" fn lexicon_meaning(
 }
 
 #[no_mangle]
+pub unsafe extern "C" fn lexicon_targets(
+    text: *const u8,
+    text_size: usize,
+    parts: *mut Change,
+    most: usize,
+    count: *mut usize,
+) -> Status {
+    let text = match unsafe { text_at(text, text_size) } {
+        Ok(_) if most > MAX_SIZE / size_of::<Change>() => return TOO_LARGE,
+        Ok(text) => text,
+        Err(error) => return error.into(),
+    };
+    let mut found = 0;
+    for word in target_names::targets_in(text) {
+        if found < most {
+            let (start, end) = (word.start(), word.start() + word.text().len());
+            // SAFETY: the caller's array has `most` elements.
+            unsafe { parts.add(found).write(Change { start, end }) }
+        }
+        found += 1;
+    }
+    unsafe { count.write(found) }
+    if found <= most { OK } else { TOO_SMALL }
+}
+
+#[no_mangle]
 pub unsafe extern "C" fn lexicon_name_suggestion(dialect: u32, name: *const u8, name_size: usize) -> *const u8 {
     let dialect = dialect_at(dialect).flatten();
     let name = unsafe { text_at(name, name_size) }.ok();

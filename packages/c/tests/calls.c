@@ -131,6 +131,19 @@ WRITES(change) {
   return status;
 }
 
+/* Where the target with a number is, whose array has room for one more than that; the other numbers are the count and its end. */
+WRITES(target) {
+  struct lexicon_change parts[3];
+  size_t count = 77, number = it->numbers[0];
+  fill(parts, sizeof parts);
+  enum lexicon_status status = lexicon_targets(it->text, it->size, parts, number + 1, &count);
+  EXPECT(is_filled(&parts[number + 1], sizeof parts - (number + 1) * sizeof *parts));
+  if (status != LEXICON_OK && status != LEXICON_TOO_SMALL) return status;
+  EXPECT((status == LEXICON_OK) == (count <= number + 1) && count == it->numbers[1] && parts[number].end == it->numbers[2]);
+  EXPECT(lexicon_targets(it->text, it->size, NULL, 0, &count) == LEXICON_TOO_SMALL && count == it->numbers[1]);
+  return copied(it->text + parts[number].start, out, size, length);
+}
+
 static enum lexicon_status translated_with(const struct asked *it, char *out, size_t size, size_t *length, struct lexicon_error *error) {
   return lexicon_translate(it->numbers[0], it->text, it->size, it->numbers[1], it->numbers[2], out, size, length, error);
 }
@@ -361,6 +374,9 @@ static const struct row { writes *call; const char *text; uint32_t numbers[3]; e
   {change, "amd64-unknown-freebsd13.2", {0, 0, 5}, LEXICON_OK, "x86_64"},
   {change, "amd64-unknown-freebsd13.2", {1, 14, 25}, LEXICON_OK, "freebsd"},
   {change, "amd64-unknown-freebsd13.2", {2}, LEXICON_NO_SUCH_CHANGE, NULL},
+  {target, "- arm64 # no\n- linux/amd46", {0, 2, 7}, LEXICON_OK, "arm64 # no\n- linux/amd46"},
+  {target, "run: add `wasm32-wasip1`, x86_64-linxu", {1, 2, 38}, LEXICON_OK, "x86_64-linxu"},
+  {target, "\xff", {0}, LEXICON_NOT_UTF8, NULL},
   {meaning, "armhf", {0, DEBIAN}, LEXICON_OK, "armv7-unknown-linux-gnueabihf"},
   {meaning, "armhf", {1, APK}, LEXICON_OK, "armv6-unknown-linux-musleabihf"},
   {meaning, "armhf", {2}, LEXICON_NO_SUCH_MEANING, NULL},

@@ -1,6 +1,6 @@
 // The page: shows the targets and names of the text field in the table. `build` puts target-lexicon.js, the module, entries.mjs and this file into one script.
 import { DIALECTS, FIELDS, WRITTEN } from "../src/names.js";
-import { ParseError, Triple, load, meanings, translate } from "../src/target-lexicon.js";
+import { ParseError, Triple, load, meanings, targetsIn, translate } from "../src/target-lexicon.js";
 import { factsEntry, namesAndReasons, namesAtLevel, namesEntry, versionOf } from "./entries.mjs";
 
 const LABELS = {
@@ -46,42 +46,7 @@ const cell = (label, ...inside) => {
   return element("td", { role: "cell", "data-label": label }, value);
 };
 
-/** The range of a text between two places without the white space, quotes, brackets and dashes around what a list has. */
-function within(text, start, end) {
-  while (start < end && (/[\s"'[\]{}]/.test(text[start]) || (text[start] === "-" && (end - start === 1 || /\s/.test(text[start + 1]))))) start++;
-  while (end > start && /[\s"'[\]{}]/.test(text[end - 1])) end--;
-  return [start, end];
-}
-
-/**
- * The targets in a text, each with its place, and the key of YAML or JSON that it is a value of: one a line, or as lists have them, with
- * commas, quotes, brackets, a dash or a key before each, and comments.
- */
-function* itemsOf(text) {
-  let key = null, depth = 0, at = 0;
-  for (const line of text.split("\n")) {
-    const comment = line.search(/(?:^|\s)#/), used = comment < 0 ? line : line.slice(0, comment);
-    if (depth === 0 && !/^\s*-\s/.test(line)) key = null;
-    let from = at;
-    for (const part of used.split(",")) {
-      let [start, end] = within(text, from, from + part.length);
-      const before = /^([\w.-]+)["']?\s*:(?=[\s"'[{]|$)/.exec(text.slice(start, end));
-      if (before) {
-        key = before[1];
-        [start, end] = within(text, start + before[0].length, end);
-      }
-      if (start < end) yield { text: text.slice(start, end), start, end, key };
-      depth = Math.max(0, [...part].reduce((sum, it) => sum + "[{".includes(it) - "]}".includes(it), depth));
-      from += part.length + 1;
-    }
-    at += line.length + 1;
-  }
-}
-
-/** Whether the values of a key are targets: `target`, `targets`, `rust-target`, `platforms`. */
-const isRead = ({ key }) => key === null || /target|triple|platform|arch/i.test(key);
-const linesOf = (text) => [...itemsOf(text)].filter(isRead).map((item) => item.text);
-const keysLeftOut = (text) => [...new Set([...itemsOf(text)].filter((item) => !isRead(item)).map(({ key }) => key))];
+const linesOf = (text) => targetsIn(text).map((item) => item.text);
 
 // ---- rows
 
@@ -323,7 +288,7 @@ const rowsInSight = () => [...table.querySelectorAll("tbody > tr")].filter((row)
 
 /** Replaces the target in the text field, and shows it. The focus goes to the next mistake, or if there is none to the row of the target. */
 async function replaceTarget(text, fixed) {
-  const item = [...itemsOf(field.value)].find((it) => it.text === text);
+  const item = targetsIn(field.value).find((it) => it.text === text);
   if (!item) return;
   const place = rowsInSight().findIndex((row) => row.target === text);
   field.setRangeText(fixed, item.start, item.end);
@@ -429,9 +394,9 @@ async function show() {
     say(`${chipOf("all").textContent}: ${countOf(lines.length - counts.refused - counts.named)} parsed${named}, ${chipOf("refused").textContent}${more}.`, true);
   } else {
     const whyNone = isLongLink() ? `The link isn't followed: its targets are longer than ${countOf(LONGEST_LINK)} characters. ` : "";
-    say(`${whyNone}No targets. Paste some above, or names of any tool: one a line or as a list, such as what \`rustc --print target-list\` writes.`);
+    say(`${whyNone}No targets. Paste some above, or names of any tool: one a line, or any text that has some, such as a workflow.`);
   }
-  notice(leftOut(field.value));
+  notice(unread.map((it) => `A target of the link can't be read: ${shown(it)}.`).join(" "));
 }
 
 const chipOf = (kind) => byId("chips").querySelector(`[data-show=${kind}]`);
@@ -468,12 +433,8 @@ function notice(text) {
   byId("notice").hidden = text === "";
 }
 
-/** What isn't read of a list, and of the link that was followed. */
+/** What can't be read of the link that was followed. */
 let unread = [];
-function leftOut(text) {
-  const keys = keysLeftOut(text), values = keys.length ? `The values of ${listOf(keys.map(shown))} aren't targets, and are left out.` : "";
-  return [values, ...unread.map((it) => `A target of the link can't be read: ${shown(it)}.`)].filter(Boolean).join(" ");
-}
 
 /** Opens the targets of a link; those that it can't decode are said. */
 function followLink() {

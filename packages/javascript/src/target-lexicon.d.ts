@@ -187,6 +187,12 @@ export interface Meanings {
 export function meanings(text: string): Meanings;
 
 /**
+ * The targets in any text, such as a list, a workflow in YAML or a page in Markdown, each with its place: the words that are a name of a machine
+ * and a system, or are with a name that is suggested, and of a list all items.
+ */
+export function targetsIn(text: string): { readonly text: string; readonly start: number; readonly end: number }[];
+
+/**
  * The canonical string of each target, or null for one that is refused. It is one call of the module for all targets, so that a long list
  * takes a fraction of the time of a loop over `Triple.parse`.
  */

@@ -586,6 +586,26 @@ export function changes(text) {
   return found;
 }
 
+export function targetsIn(text) {
+  const it = instance(), [start, size] = it.text(stringOf(text)), out = (start + size + 3) & ~3, found = [];
+  for (let most = 0, status = TOO_SMALL; status === TOO_SMALL; most = it.number(LENGTH)) {
+    it.hold(size + 8 * most + ROOM);
+    status = it.call("targets", start, size, out, most, it.base + LENGTH);
+    if (status !== OK && status !== TOO_SMALL) throw failure(status);
+  }
+  let units = 0, before = start; // so many units of UTF-16 are before this place
+  const unitsTo = (place) => {
+    units += size === text.length ? place - before : decoder.decode(it.bytes.subarray(before, place)).length;
+    before = place;
+    return units;
+  };
+  for (let place = out; found.length < it.number(LENGTH); place += 8) {
+    const from = unitsTo(start + it.view.getUint32(place, true)), to = unitsTo(start + it.view.getUint32(place + 4, true));
+    found.push({ text: text.slice(from, to), start: from, end: to });
+  }
+  return found;
+}
+
 /** The question whether another name of a field was meant. A suggestion for a system may have a version, which is no part of its name. */
 function nearest(it, field, name) {
   const given = it.text(name), suggestion = it.written("suggestion", given[1], ...given, it.error(field + 1, 0, given[1]));

@@ -34,6 +34,12 @@ const tests = {
     assert.deepEqual([version().split(" ")[0], DIALECTS], [table.version, table.tools.map((it) => it.tool)]);
     assert.deepEqual(WebAssembly.Module.imports(wasm()), []);
   },
+  "targets are found in any text": () => {
+    const name = "x86_64-linxu", found = all.targetsIn(`\u00e9 \`avr-none\`: \u{1f600} ${name}, foo`);
+    assert.deepEqual(found, [{ text: "avr-none", start: 3, end: 11 }, { text: name, start: 17, end: 29 }]);
+    assert.deepEqual([all.targetsIn(""), all.targetsIn("- avr\n".repeat(50000)).length], [[], 50000]);
+    assert.throws(() => all.targetsIn(1), TypeError);
+  },
   "answers are the command's": () => {
     const { written, answers: wanted } = JSON.parse(readFileSync(answers, "utf8"));
     assert(wanted.facts.length > 20000 && Object.keys(wanted).length > 30);

@@ -164,15 +164,14 @@ LISTS = [
     "- arm64-linux-gnu\n- \"x86_64-pc-linx\"\n- avr", "[\"arm64-linux-gnu\", 'x86_64-pc-linx', avr]", "arm64-linux-gnu,x86_64-pc-linx,avr",
     "# what is built\narm64-linux-gnu # m1\n  # x86_64-linux\nx86_64-pc-linx\t# no\navr", "targets: [\"arm64-linux-gnu\", \"x86_64-pc-linx\", \"avr\"]",
     "include:\n  - target: arm64-linux-gnu\n  - target: 'x86_64-pc-linx' # soon\n  -\n    rust-target: avr", "- { target: arm64-linux-gnu }\n- {target: x86_64-pc-linx}\n- {\"target\": \"avr\"}",
-    "{\n  \"targets\": [\n    \"arm64-linux-gnu\",\n    \"x86_64-pc-linx\",\n    \"avr\"\n  ]\n}\n", "platforms:\n- arm64-linux-gnu\n- x86_64-pc-linx\n\navr",
+    "{\n  \"targets\": [\n    \"arm64-linux-gnu\",\n    \"x86_64-pc-linx\",\n    \"avr\"\n  ]\n}\n", "platforms:\n- arm64-linux-gnu\n- x86_64-pc-linx\n- avr",
     "[{\"triple\":\"arm64-linux-gnu\"},{\"triple\":\"x86_64-pc-linx\"},{\"triple\":\"avr\"}]",
 ]
-# Lists with other keys, which the page says that it leaves out; and names that have a colon, or are one line before others.
-KEYS = [("matrix:\n  os: [ubuntu-latest, macos-14]\n  target:\n    - avr\n    - arm64\nrunner: x", ["avr", "arm64"], "os and runner"),
-        ("include:\n  - target: avr\n    os: ubuntu-latest\n  - os: windows\n    target: arm64", ["avr", "arm64"], "os"),
-        ("{\"name\": \"one\", \"target\": \"avr\", \"features\": [\"a\", \"b\"]}", ["avr"], "name and features"),
-        ("{\n  \"os\": [\n    \"linux\",\n    \"windows\"\n  ],\n  \"targets\": [\"avr\"]\n}", ["avr"], "os"),
-        ("libc6:i386\navr", ["libc6:i386", "avr"], None), ("key:\navr", ["avr"], None)]
+# Texts with other words, which aren't targets; and names that have a colon.
+TEXTS = [("matrix:\n  os: [ubuntu-latest, macos-14]\n  target:\n    - avr\n    - arm64\nrunner: x", ["avr", "arm64"]),
+         ("{\n  \"os\": [\n    \"linux\",\n    \"windows\"\n  ],\n  \"targets\": [\"avr\"]\n}", ["avr"]), ("libc6:i386\navr", ["libc6:i386", "avr"]),
+         ("\u00e9 `wasm32-wasip1`: rustup target add avr-none", ["wasm32-wasip1", "avr-none"]),
+         ("| Target |\n|---|\n| arm64-linux-gnu |", ["arm64-linux-gnu"]), ("avr-none (installed)\narm64-linux", ["avr-none", "arm64-linux"])]
 
 
 def takes_lists(page):
@@ -183,10 +182,9 @@ def takes_lists(page):
         page.run("document.querySelector('.refused .offer').click()")
         page.until(f"{STATUS}.startsWith('3 targets: 3 parsed')")
         same([page.run(TEXT), page.run(NOTICE)], [text.replace("x86_64-pc-linx", "x86_64-pc-linux"), ""])
-    for text, targets, keys in KEYS:
+    for text, targets in TEXTS:
         typed(page, text, f"{len(targets)} target")
-        same([sorted(page.run(TARGETS)), page.run(NOTICE)], [sorted(targets), f"The values of {keys} aren't targets, and are left out." if keys else ""])
-        same(page.run("document.getElementById('notice').hidden"), not keys)
+        same(sorted(page.run(TARGETS)), sorted(targets))
 
 
 def refuses_and_suggests(page):
@@ -236,7 +234,7 @@ def mistakes_come_first(page):
 def is_cleared(page):
     typed(page, "arm64")
     press(page, "#clear")
-    page.until(f"{STATUS} === 'No targets. Paste some above, or names of any tool: one a line or as a list, such as what `rustc --print target-list` writes.'")
+    page.until(f"{STATUS} === 'No targets. Paste some above, or names of any tool: one a line, or any text that has some, such as a workflow.'")
     same(page.run(f"[{TEXT}, document.activeElement.id, document.getElementById('chips').hidden, document.getElementById('table').hidden]"), ["", "targets", True, True])
 
 
