@@ -80,12 +80,15 @@ pub fn dialects() -> impl Iterator<Item = &'static str> {
     words(Dialect::ALL.iter().copied())
 }
 
+/// The word for strings that are spelled like triples.
+pub const SPELLED: &str = "llvm";
+
 /// An option for the dialect whose names are read.
 pub fn from() -> Arg {
     dialect(
         "from",
-        dialects(),
-        "The tool whose names are read, instead of triples",
+        dialects().chain([SPELLED]),
+        "The tool whose names are read, instead of triples; `llvm` is for what is spelled like one, as clang takes it after -target",
     )
 }
 

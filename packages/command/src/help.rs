@@ -18,8 +18,8 @@ pub struct Help {
 
 pub struct Helper {
     takes: Takes,
-    /// The command that takes triples, if this one reads names of a tool.
-    for_triples: Option<String>,
+    /// The command, or one that reads names of a tool as it doesn't.
+    command: String,
     has_zero_bytes: bool,
     /// What is said of lines that were refused before: lists repeat their mistakes.
     remembered: HashMap<String, Help>,
@@ -32,8 +32,12 @@ const REMEMBERED_LENGTH: usize = 100;
 impl Helper {
     pub fn new(call: &dyn Call, reader: &Reader, arguments: &ArgMatches) -> Self {
         Helper {
-            takes: reader.from.map_or(call.takes(), |_| Takes::Names),
-            for_triples: reader.from.map(|_| call.for_triples()),
+            takes: match reader.from {
+                Some(_) => Takes::Names,
+                None if reader.is_spelled => Takes::Spellings,
+                None => call.takes(),
+            },
+            command: call.with_names(),
             has_zero_bytes: end_of_line(arguments) == 0,
             remembered: HashMap::new(),
         }
@@ -66,15 +70,11 @@ impl Helper {
         note: Option<String>,
     ) -> Option<String> {
         let is_triple = || TripleRef::from_str(text).map_or(false, |it| !it.vendor.is_custom());
-        match &self.for_triples {
-            Some(command) if refusal.is_unknown_name() && text.contains('-') && is_triple() => {
-                let before = note.map_or(String::new(), |it| format!("{it}; "));
-                Some(format!(
-                    "{before}it is a triple, which `target-lexicon {command}` and `target-lexicon what` take"
-                ))
-            }
-            _ => note,
+        if !refusal.is_unknown_name() || !text.contains('-') || !is_triple() {
+            return note;
         }
+        let (command, before) = (&self.command, note.map_or(String::new(), |it| format!("{it}; ")));
+        Some(format!("{before}it is a triple, which `target-lexicon {command}` and `target-lexicon what` take"))
     }
 
     /// What is known of the target, whatever names it resembles.
@@ -83,7 +83,8 @@ impl Helper {
         let parses = TripleRef::from_str(text).is_ok();
         let of_other_tools = match self.takes {
             Takes::Triples if !parses => {
-                note_of_others(text).or_else(|| dialects_note("target-lexicon read ", text))
+                let command = format!("target-lexicon {} ", self.command);
+                note_of_others(text).or_else(|| dialects_note(&command, text))
             }
             Takes::Spellings => dialects_note("", text),
             _ => None,

@@ -1,5 +1,5 @@
 //! What a target means, by the options of the call.
-use crate::arguments::{dialect_of, is_of_windows, libcs_of};
+use crate::arguments::{dialect_of, is_of_windows, libcs_of, SPELLED};
 use crate::fields::canonical;
 use crate::refusal::Refusal;
 use clap::ArgMatches;
@@ -20,6 +20,8 @@ pub enum Takes {
 pub struct Reader {
     /// The dialect whose names are read instead of triples.
     pub from: Option<Dialect>,
+    /// Whether strings that are spelled like triples are read instead.
+    pub is_spelled: bool,
     /// The C library that the user says, for a triple of Linux or Windows that states none.
     pub libc: Option<LinuxLibc>,
     /// That one, and the one of the other system, if the user says two.
@@ -45,6 +47,8 @@ impl Reader {
         let libcs = libcs_of(arguments);
         Reader {
             from: dialect_of(arguments, "from"),
+            is_spelled: matches!(arguments.try_get_one::<String>("from"), Ok(Some(word)) if word == SPELLED)
+                || matches!(arguments.try_get_one("changes"), Ok(Some(true))),
             libc: libcs.first().copied(),
             libcs,
             needs_libc: Cell::new(false),
@@ -85,10 +89,7 @@ impl Reader {
         text: &'a str,
     ) -> Result<(TripleRef<'a>, Option<Refusal<'a>>), Refusal<'a>> {
         let (triple, warning) = match self.from {
-            None => {
-                let parsed = self.parse(text)?;
-                (parsed.triple, parsed.warning)
-            }
+            None => self.stated(text)?,
             Some(dialect) => match dialect.read_loosely(text) {
                 Ok(triple) => (triple, None),
                 Err(error) => return Err(Refusal::of_name(text, dialect, error)),
@@ -97,11 +98,13 @@ impl Reader {
         Ok((self.completed(triple), warning))
     }
 
-    /// The triple that a string means that is spelled like one.
-    pub fn spelled<'a>(&self, text: &'a str) -> Result<TripleRef<'a>, Refusal<'a>> {
-        read(text)
-            .map(|triple| self.completed(triple))
-            .map_err(Refusal::of_part)
+    /// The triple of a string that is one, or is spelled like one if that is asked; and a warning.
+    pub fn stated<'a>(&self, text: &'a str) -> Result<(TripleRef<'a>, Option<Refusal<'a>>), Refusal<'a>> {
+        if self.is_spelled {
+            return Ok((read(text).map_err(Refusal::of_part)?, None));
+        }
+        let parsed = self.parse(text)?;
+        Ok((parsed.triple, parsed.warning))
     }
 
     /// The triple with the C library that the user says.
@@ -140,5 +143,5 @@ pub fn note_of_others(text: &str) -> Option<String> {
     let is_target =
         !triple.vendor.is_custom() && triple.operating_system != OperatingSystem::Unknown;
     let meant = canonical(triple);
-    is_target.then(|| format!("other tools mean `{meant}`, which `target-lexicon read` gives"))
+    is_target.then(|| format!("other tools mean `{meant}`, which `target-lexicon settle --from llvm` gives"))
 }

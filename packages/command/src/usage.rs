@@ -59,7 +59,8 @@ fn target_note(error: &clap::Error) -> String {
     let now = match (kind, word) {
         ("", "write") => "translate --to DIALECT",
         ("", "elsewhere") => "what",
-        ("", "host") => "read --from gnu \"$(cc -dumpmachine)\"",
+        ("", "read") => "settle --from llvm",
+        ("", "host") => "settle --from gnu \"$(cc -dumpmachine)\"",
         ("", "manual") => "--manual",
         ("--from <DIALECT>", "any") => "what",
         _ => return other_note(kind, word),

@@ -26,12 +26,13 @@ Arguments that are wrong have the status 2, and say what is right:
 
 An old word is answered with the new one:
 
-  $ for word in write elsewhere host manual; do target-lexicon $word avr | tail -n 1; done
+  $ for word in write read elsewhere host manual; do target-lexicon $word avr | tail -n 1; done
   ! `write` is `target-lexicon translate --to DIALECT` now
+  ! `read` is `target-lexicon settle --from llvm` now
   ! `elsewhere` is `target-lexicon what` now
-  ! `host` is `target-lexicon read --from gnu "$(cc -dumpmachine)"` now
+  ! `host` is `target-lexicon settle --from gnu "$(cc -dumpmachine)"` now
   ! `manual` is `target-lexicon --manual` now
-  $ target-lexicon read --from any avr | tail -n 1
+  $ target-lexicon settle --from any avr | tail -n 1
   ! `any` is `target-lexicon what` now
   $ target-lexicon names any | grep -c now
   0
@@ -51,11 +52,11 @@ A word that people try has the right one, and the subcommands follow; nothing is
   ! For `convert` use `translate`
   ! For `version` use `--version`
   $ target-lexicon frobnicate avr | tail -n 1
-  ! Commands: explain facts settle check matrix read translate cfg what names completions
+  ! Commands: explain facts settle check matrix translate cfg what names completions
   $ said() { target-lexicon "$@" | grep '^! For `\|Did you mean'; }
   $ said settle --libc gnu x86_64-linux
   ! For `gnu` use `--libc glibc` for Linux, or `--libc mingw` for Windows
-  $ said read --from containers linux/amd64
+  $ said settle --from containers linux/amd64
   ! For `containers` use `oci`
   $ said facts --field pointer_width avr
   ! For `--field` use `--json`, and a tool such as jq for one member
@@ -67,7 +68,7 @@ A word that people try has the right one, and the subcommands follow; nothing is
   $ target-lexicon --manual | sed 's/\\-/-/g' > manual
   $ for shell in bash zsh fish elvish powershell; do target-lexicon completions $shell > $shell; done
   $ calls=$(target-lexicon --help | sed -n '/^Commands:/,/^$/s/^  \([a-z]*\) .*/\1/p' | grep -vx help); echo $calls
-  explain facts settle check matrix read translate cfg what names completions
+  explain facts settle check matrix translate cfg what names completions
   $ for call in $calls; do
   >   target-lexicon $call --help > help
   >   grep -q '^  \$ target-lexicon ' help || echo "$call: no example"
@@ -81,7 +82,7 @@ A word that people try has the right one, and the subcommands follow; nothing is
 
 The manual has each key of JSON:
 
-  $ for call in explain facts settle read 'translate --to gnu' what matrix 'check foo'; do
+  $ for call in explain facts settle 'settle --changes' 'translate --to gnu' what matrix 'check foo'; do
   >   for key in $(command target-lexicon $call --json x86_64-linux-gnu | jq -r '.[] | keys[]'); do grep -qw "$key" manual || echo "$call: $key"; done
   > done
 

@@ -2,17 +2,17 @@
 
   $ . "$TESTDIR/rows.sh"
 
-  $ target-lexicon read --from oci linux/arm/v7
+  $ target-lexicon settle --from oci linux/arm/v7
   armv7-unknown-linux
-  $ target-lexicon read amd64-w64-mingw32
+  $ target-lexicon settle --from llvm amd64-w64-mingw32
   x86_64-pc-windows-gnu
-  $ target-lexicon read --libc musl amd64-linux
+  $ target-lexicon settle --from llvm --libc musl amd64-linux
   x86_64-unknown-linux-musl
-  $ target-lexicon read --from uname 'Linux x86_64'
+  $ target-lexicon settle --from uname 'Linux x86_64'
   x86_64-unknown-linux
-  $ target-lexicon read --from python manylinux_2_17_x86_64
+  $ target-lexicon settle --from python manylinux_2_17_x86_64
   x86_64-unknown-linux-gnu
-  $ target-lexicon read --from go linux/foo linux/arm64 linux/amd46 plan9/amd64
+  $ target-lexicon settle --from go linux/foo linux/arm64 linux/amd46 plan9/amd64
   aarch64-unknown-linux
   ! error: unknown name of go `linux/foo`
   !   linux/foo
@@ -50,44 +50,44 @@ One C library of each system may be said, and two of one system are no choice:
 
 What is read as other names is shown if it is asked, and always in JSON:
 
-  $ target-lexicon read --changes amd64--freebsd13.2 x86_64-linux-gnu
+  $ target-lexicon settle --changes amd64--freebsd13.2 x86_64-linux-gnu
   x86_64-unknown-freebsd
     `amd64` is read as `x86_64`
     the empty part is read as `unknown`
     `freebsd13.2` is read as `freebsd`
   x86_64-unknown-linux-gnu
-  $ target-lexicon read --json x86_64-mingw32 amd64-pc-foo
+  $ target-lexicon settle --changes --json x86_64-mingw32 amd64-pc-foo
   [{"target":"x86_64-mingw32","file":null,"line":null,"canonical":"x86_64-unknown-windows-gnu","changes":[{"part":"mingw32","start":7,"end":14,"read_as":"windows-gnu"}]},{"target":"amd64-pc-foo","file":null,"line":null,"error":"unrecognized operating system","part":"foo","start":9,"end":12,"field":"operating_system","suggestion":null,"note":null}]
   [1]
-  $ target-lexicon read --from oci --json linux/arm
-  [{"target":"linux/arm","file":null,"line":null,"canonical":"armv7-unknown-linux","changes":null}]
-  $ target-lexicon read --from oci --changes linux/arm > /dev/null
+  $ target-lexicon settle --from oci --changes linux/arm > /dev/null
   [2]
 
 What another call or tool takes is said:
 
   $ note() { target-lexicon "$@" | tail -n 1; }
   $ note check amd64-linux
-  !   note: other tools mean `x86_64-unknown-linux`, which `target-lexicon read` gives
+  !   note: other tools mean `x86_64-unknown-linux`, which `target-lexicon settle --from llvm` gives
   $ note check amd64
-  !   note: it is a name of another tool: use `target-lexicon read --from debian` or `target-lexicon read --from rpm`
+  !   note: it is a name of another tool: use `target-lexicon check --from debian` or `target-lexicon check --from rpm`
   $ note explain x86_64-freebsd13.2
-    note              other tools mean `x86_64-unknown-freebsd`, which `target-lexicon read` gives
-  $ for name in linux/arm64 linux/foo armhf js/wasm arm64e-apple-darwin foo; do note read $name; done
+    note              other tools mean `x86_64-unknown-freebsd`, which `target-lexicon settle --from llvm` gives
+  $ for name in linux/arm64 linux/foo armhf js/wasm arm64e-apple-darwin foo; do note settle --from llvm $name; done
   !   note: it is a name of another tool: use `--from go` or `--from oci`
   !   note: a name of another tool needs `--from`
   !   note: it is a name of another tool: use `--from debian` or `--from apk`
   !   note: it is a name of go without a triple: a module for Go's own JavaScript; rustc's nearest target is wasm32-unknown-unknown
   !   note: it is a name of rust without a triple: a target of rustc that has no triple here: its architecture is no known name
   !   ^^^
-  $ for call in check settle matrix facts; do note $call linux/arm/v7; done | uniq -c
-        4 !   note: it is a name of another tool: use `target-lexicon read --from oci`
-  $ for call in check settle matrix facts read 'translate --to debian'; do note $call --from docker x86_64-unknown-linux-gnu; done
-  !   note: it is a name of gnu and rust; it is a triple, which `target-lexicon settle` and `target-lexicon what` take
+  $ for call in check settle matrix facts; do note $call linux/arm/v7; done
+  !   note: it is a name of another tool: use `target-lexicon check --from oci`
+  !   note: it is a name of another tool: use `target-lexicon settle --from oci`
+  !   note: it is a name of another tool: use `target-lexicon matrix --from oci`
+  !   note: it is a name of another tool: use `target-lexicon facts --from oci`
+  $ for call in check settle matrix facts 'translate --to debian'; do note $call --from docker x86_64-unknown-linux-gnu; done
+  !   note: it is a name of gnu and rust; it is a triple, which `target-lexicon check` and `target-lexicon what` take
   !   note: it is a name of gnu and rust; it is a triple, which `target-lexicon settle` and `target-lexicon what` take
   !   note: it is a name of gnu and rust; it is a triple, which `target-lexicon matrix` and `target-lexicon what` take
   !   note: it is a name of gnu and rust; it is a triple, which `target-lexicon facts` and `target-lexicon what` take
-  !   note: it is a name of gnu and rust; it is a triple, which `target-lexicon settle` and `target-lexicon what` take
   !   note: it is a name of gnu and rust; it is a triple, which `target-lexicon translate --to debian` and `target-lexicon what` take
   $ for target in x86_64-freebsd13.2 x86_64-mingw32 aarch64-macos14 x86_64-linux5.10; do
   >   target-lexicon explain --json $target
@@ -99,9 +99,7 @@ What another call or tool takes is said:
 
 Names are taken where triples are:
 
-  $ for call in settle read matrix; do target-lexicon $call --from docker --libc musl '[linux/amd64, linux/arm64]'; done
-  x86_64-unknown-linux-musl
-  aarch64-unknown-linux-musl
+  $ for call in settle matrix; do target-lexicon $call --from docker --libc musl '[linux/amd64, linux/arm64]'; done
   x86_64-unknown-linux-musl
   aarch64-unknown-linux-musl
   x86_64-unknown-linux-musl\tlinux/amd64\t1\targument:1 (esc)
@@ -196,17 +194,17 @@ A C library that changes nothing is noted, unless nothing is answered or asked:
   > translate --from debian --to rust --libc glibc amd64 arm64
   > translate --from oci --to go --libc glibc linux/amd64
   > translate --to debian --libc glibc x86_64-unknown-linux-gnu
-  > read --from go --libc glibc windows/amd64
+  > settle --from go --libc glibc windows/amd64
   > what --libc glibc darwin/arm64
-  > read --json --libc glibc x86_64-linux-gnu
+  > settle --json --libc glibc x86_64-linux-gnu
   > facts --libc glibc x86_64-linux-gnu
   > translate --from oci --to rust --libc glibc darwin/arm64 linux/amd64
   > translate --to node --libc musl x86_64-linux
   > translate --to python --with-version 2.17 --libc glibc aarch64-linux
-  > read --from go --libc msvc windows/amd64
+  > settle --from go --libc msvc windows/amd64
   > what --libc musl linux/amd64
-  > read --quiet --libc glibc x86_64-linux-gnu
-  > read --libc glibc foo
+  > settle --quiet --libc glibc x86_64-linux-gnu
+  > settle --libc glibc foo
   > END
   1 1 1 1 1 1 1 0 0 0 0 0 0 0
 
@@ -274,14 +272,14 @@ Targets of rustc are meant as they are:
 
 ## Mistakes in names
 
-  $ target-lexicon read --from debian AMD64
+  $ target-lexicon settle --from debian AMD64
   ! error: unknown name of debian `AMD64`
   !   AMD64
   !   ^^^^^ did you mean `amd64`?
   !   note: capital letters matter
   [1]
   $ said() { jq -r '.[] | "\(.suggestion // "-")|\(.note // "-")"'; }
-  $ mistake() { echo "$1|$2|$(target-lexicon read --json --from "$1" "$2" | said | sed 's/it is a triple, which .* take/TRIPLE/')"; }
+  $ mistake() { echo "$1|$2|$(target-lexicon settle --json --from "$1" "$2" | said | sed 's/it is a triple, which .* take/TRIPLE/')"; }
   $ cat > mistakes << 'END'
   > go|Linux/AMD64|linux/amd64|capital letters matter
   > go|./linux/amd64|linux/amd64|it has a path

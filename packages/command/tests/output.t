@@ -195,16 +195,16 @@ Where it is shown, a long target is shortened. What is accepted is whole:
   !                                                                               
   $ target-lexicon explain <<< "x86_64-$long-linux" | wc -c
   3000225
-  $ target-lexicon read --from gnu "$(head -c 5000 /dev/zero | tr '\0' A)-linux-gnu" | awk 'length > 600'
+  $ target-lexicon settle --from gnu "$(head -c 5000 /dev/zero | tr '\0' A)-linux-gnu" | awk 'length > 600'
 
 Time grows with the length of a list, and a name that is longer than any has no suggestion:
 
   $ commas=$(head -c 1000 /dev/zero | tr '\0' ,)
   $ yes "amd64$commas" 2> /dev/null | head -n 5000 | tr -d '\n' > list
-  $ timeout 60 "$(type -P target-lexicon)" read --from debian < list | uniq -c
+  $ timeout 60 "$(type -P target-lexicon)" settle --from debian < list | uniq -c
      5000 x86_64-unknown-linux-gnu
   $ { head -c 100000 /dev/zero | sed 's/\x00/-a_/g'; echo /linux-x46; } > name
-  $ timeout 30 "$(type -P target-lexicon)" what < name 2>&1 | grep -c 'no tool has the name\|did you mean'
+  $ timeout 60 "$(type -P target-lexicon)" what < name 2>&1 | grep -c 'no tool has the name\|did you mean'
   1
   $ yes z80 2> /dev/null | head -n 100000 | target-lexicon settle | uniq -c
    100000 z80-unknown-unknown-elf

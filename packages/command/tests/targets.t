@@ -62,13 +62,13 @@ Each call takes targets as arguments, as lines, with commas between, and as list
   >   done
   >   echo "$*: $(grep -c . <<< "$expected")"
   > }
-  $ for call in explain facts settle check matrix read 'translate --to gnu' cfg what; do lists target-lexicon $call; done
+  $ for call in explain facts settle check matrix 'settle --from llvm' 'translate --to gnu' cfg what; do lists target-lexicon $call; done
   target-lexicon explain: 12
   target-lexicon facts: 78
   target-lexicon settle: 2
   target-lexicon check: 0
   target-lexicon matrix: 2
-  target-lexicon read: 2
+  target-lexicon settle --from llvm: 2
   target-lexicon translate --to gnu: 2
   target-lexicon cfg: 18
   target-lexicon what: 32
@@ -171,7 +171,7 @@ A zero byte ends a target and an answer; of an answer of more than one line it c
   ! 3 of 5 targets refused
   $ printf 'z80\0avr' > zero
   $ command target-lexicon facts --null -f zero | tr '\0' '\n' | cmp - <(command target-lexicon facts z80 avr)
-  $ printf 'amd64-linux\0z80' | target-lexicon read --changes -0 | tr '\0' '|'
+  $ printf 'amd64-linux\0z80' | target-lexicon settle --changes -0 | tr '\0' '|'
   x86_64-unknown-linux
     `amd64` is read as `x86_64`|z80-unknown-unknown-elf| (no-eol)
   $ target-lexicon matrix -0 -f zero | tr '\0' '|'
@@ -210,7 +210,7 @@ The others are answered:
 
 It has only a status, and the first target that is refused ends it:
 
-  $ for call in explain facts settle check matrix 'read --from node' 'translate --to node' cfg what; do
+  $ for call in explain facts settle check matrix 'settle --from node' 'translate --to node' cfg what; do
   >   target-lexicon $call -q linux-x64 nowhere -f missing; echo "$?"
   > done | uniq -c
         9 1

@@ -35,4 +35,8 @@ impl Call for Check {
             warning,
         })
     }
+
+    fn with_names(&self) -> String {
+        "check".into()
+    }
 }

@@ -21,7 +21,7 @@ impl Call for Facts {
         Ok(FactsOf { text, triple }.into())
     }
 
-    fn for_triples(&self) -> String {
+    fn with_names(&self) -> String {
         "facts".into()
     }
 }

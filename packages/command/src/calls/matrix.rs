@@ -104,7 +104,7 @@ impl Call for Matrix {
         })
     }
 
-    fn for_triples(&self) -> String {
+    fn with_names(&self) -> String {
         "matrix".into()
     }
 

@@ -6,7 +6,6 @@ mod explain;
 mod facts;
 mod matrix;
 mod names;
-mod read;
 mod settle;
 mod translate;
 mod what;
@@ -35,8 +34,8 @@ pub trait Call {
         Takes::Triples
     }
 
-    /// The command that takes triples, where this one reads names of a tool.
-    fn for_triples(&self) -> String {
+    /// The command with which names of a tool are read: this one, if it does.
+    fn with_names(&self) -> String {
         "settle".into()
     }
 
@@ -77,14 +76,13 @@ impl<'a, T: Answer + 'a> From<T> for Answered<'a> {
     }
 }
 
-pub fn commands() -> [Command; 11] {
+pub fn commands() -> [Command; 10] {
     [
         explain::command(),
         facts::command(),
         settle::command(),
         check::command(),
         matrix::command(),
-        read::command(),
         translate::command(),
         cfg::command(),
         what::command(),
@@ -98,10 +96,11 @@ pub fn run(name: &str, arguments: &ArgMatches) -> Result<i32, Fault> {
     let mut call: Box<dyn Call> = match name {
         "explain" => Box::new(explain::Explain),
         "facts" => Box::new(facts::Facts),
-        "settle" => Box::new(settle::Settle),
+        "settle" => Box::new(settle::Settle {
+            shows_changes: arguments.get_flag("changes"),
+        }),
         "check" => Box::new(check::Check),
         "matrix" => Box::new(matrix::Matrix::new(arguments)),
-        "read" => Box::new(read::Read::new(arguments)),
         "translate" => Box::new(translate::Translate::new(arguments)),
         "cfg" => Box::new(cfg::Cfg::default()),
         "what" => Box::new(what::What),

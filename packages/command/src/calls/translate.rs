@@ -72,7 +72,7 @@ impl Translate {
             return self.versioned(&triple).map_err(unwritten);
         }
         let Some(from) = reader.from else {
-            let triple = reader.parse(text)?.triple;
+            let (triple, _) = reader.stated(text)?;
             let libc = reader.libc_for(triple);
             let name = to.write_with(triple, libc).map_err(unwritten)?;
             reader.needs_libc_if(|| to.write(triple) != Some(name));
@@ -96,7 +96,7 @@ impl Call for Translate {
         Ok(self.name(target.text, reader)?.into())
     }
 
-    fn for_triples(&self) -> String {
+    fn with_names(&self) -> String {
         format!("translate --to {}", self.to)
     }
 }
