@@ -255,7 +255,7 @@ fn items(line: &str) -> impl Iterator<Item = &str> {
 /// Whether an item of a line is one word, and no key; or what `uname` prints.
 fn is_item(item: &str) -> bool {
     let is_name = || Dialect::Uname.read_loosely(item).is_ok();
-    let has_key = item.ends_with(':') || item.contains(['=', '"', '\'']);
+    let has_key = item.ends_with(':') || ["=", "\":", "':"].iter().any(|it| item.contains(it));
     !has_key && (!item.contains(char::is_whitespace) || is_name())
 }
 

@@ -40,6 +40,8 @@ fn lists() {
     same("foo\nx86_64-linxu,linux/amd46", "foo! x86_64-linxu>x86_64-linux linux/amd46>linux/amd64");
     same("Linux x86_64\n@esbuild/linux-x64", "Linux x86_64 @esbuild/linux-x64");
     same("libc6:i386,windows(10.0.25398.709)/amd64", "libc6:i386 windows(10.0.25398.709)/amd64");
+    same("x\"\"x", "x\"\"x!");
+    same("{\"target\":\"avr\",\"os\":\"amd64\"}", "avr");
     same("", "");
     same("---\n\n , [] # none\n", "");
 }
