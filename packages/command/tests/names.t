@@ -105,6 +105,17 @@ Names are taken where triples are:
   x86_64-unknown-linux-musl\tlinux/amd64\t1\targument:1 (esc)
   aarch64-unknown-linux-musl\tlinux/arm64\t1\targument:1 (esc)
   $ target-lexicon check --from docker linux/amd64,linux/arm64
+
+`check` refuses what is no name of the tool. A name without a triple is one:
+
+  $ jq -r '.names[] | select(.tool == "rust") | .name' "$TESTDIR/../../names/names.json" | target-lexicon check --from rust
+  $ target-lexicon check --from go plan9/amd64
+  $ target-lexicon settle --from go plan9/amd64 | head -n 1
+  ! error: no triple means the same as the name of go `plan9/amd64`
+  $ target-lexicon check --from rust x86_64-foo avr-unknown-linux-gnu armv7-linux-gnueabihf | grep -c '^! error: unknown'
+  3
+  $ target-lexicon check --from gnu avr-foo | head -n 1
+  ! error: unknown name of gnu `avr-foo`
   $ facts() { command target-lexicon facts --json "$@" | jq '.[] | del(.target)'; }
   $ cmp <(facts --from docker --libc musl linux/amd64) <(facts x86_64-unknown-linux-musl)
   $ facts --libc musl x86_64-linux | jq -r .environment
