@@ -99,10 +99,19 @@ impl Helper {
             _ if self.takes == Takes::Spellings && text.contains('/') => {
                 "a name of another tool needs `--from`"
             }
+            Place::Argument(_) if self.takes == Takes::Triples && has_extension(text) => {
+                "no file has this name either"
+            }
             _ => return None,
         };
         Some(note.into())
     }
+}
+
+/// Whether a string ends as the name of a file.
+fn has_extension(text: &str) -> bool {
+    let (_, end) = text.rsplit_once('.').unwrap_or_default();
+    !end.is_empty() && end.bytes().all(|it| it.is_ascii_lowercase())
 }
 
 /// How a name is read that isn't spelled like a triple, if it is one of another tool; or why that tool's name has no triple.

@@ -131,6 +131,8 @@ An argument that is the path of a file is a text, in which targets are found. A 
   wasm32-wasip1
   $ target-lexicon check --from rust rust-toolchain.toml | head -n 1
   ! rust-toolchain.toml:3:30: error: unknown name of rust `x86_64-linux-gnuu`
+  $ target-lexicon check nowhere.yml | tail -n 1
+  !   note: no file has this name either
   $ target-lexicon matrix .github | head -n 1
   ! target-lexicon: .github: Is a directory (os error 21)
   $ printf 'x86_64-linux\n\0\n' > bytes; target-lexicon check bytes

@@ -112,14 +112,14 @@ const toolsOf = (tools) => listOf(tools.map(toolName));
 /** A triple with the environment that is chosen for those that state none. */
 const CHOICES = ["linux", "windows"];
 const hasChosenLibc = () => byId("linux").value !== "";
-const chosen = () => CHOICES.map((id) => byId(id).value).filter(Boolean), completed = (triple) => chosen().reduce((it, library) => it.complete(library), triple);
+const chosenLibcs = () => CHOICES.map((id) => byId(id).value).filter(Boolean), completed = (triple) => chosenLibcs().reduce((it, library) => it.complete(library), triple);
 
 const pair = (term, ...answer) => element("div", {}, element("dt", {}, term), element("dd", {}, ...answer));
 
 /** What each tool calls a triple, or a name that says a level of its machine, and for those that have no name why. */
 function toolNames(triple, text, meaning) {
   const isOfLevel = meaning && meaning.level !== null, lexicon = { ParseError, translate };
-  const { names, reasons } = isOfLevel ? namesAtLevel(lexicon, text, meaning, WRITTEN, chosen()) : namesAndReasons(triple, WRITTEN, hasChosenLibc()), without = grouped(Object.entries(reasons).map(([dialect, reason]) => [reason, dialect]));
+  const { names, reasons } = isOfLevel ? namesAtLevel(lexicon, text, meaning, WRITTEN, chosenLibcs()) : namesAndReasons(triple, WRITTEN, hasChosenLibc()), without = grouped(Object.entries(reasons).map(([dialect, reason]) => [reason, dialect]));
   const list = element("dl", {}, ...WRITTEN.filter((dialect) => names[dialect] !== null).map((dialect) => pair(toolName(dialect), code(names[dialect]))));
   return [list, ...[...without].map(([reason, tools]) => element("p", {}, dim(`None in ${toolsOf(tools)}: `), `${reason}.`))];
 }
@@ -505,7 +505,7 @@ async function begin() {
     show();
   });
   const lexicon = { DIALECTS, FIELDS, ParseError, Triple, meanings, translate };
-  for (const [id, entryOf] of [["copy_names", (text) => namesEntry(lexicon, text, WRITTEN, chosen())], ["copy_facts", (text) => factsEntry(lexicon, text)]]) byId(id).addEventListener("click", ({ currentTarget }) => copyJson(currentTarget, entryOf));
+  for (const [id, entryOf] of [["copy_names", (text) => namesEntry(lexicon, text, WRITTEN, chosenLibcs())], ["copy_facts", (text) => factsEntry(lexicon, text)]]) byId(id).addEventListener("click", ({ currentTarget }) => copyJson(currentTarget, entryOf));
   byId("copy_link").addEventListener("click", ({ currentTarget }) => copyLink(currentTarget));
   const query = new URLSearchParams(location.search);
   for (const id of CHOICES) {
