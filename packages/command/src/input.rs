@@ -61,6 +61,10 @@ impl<'a> Target<'a> {
 
 /// Answers each item, if a text is a list of targets; else the text is one target.
 fn each_of_list(list: Target<'_>, answers: &mut impl Answers) -> Result<(), Fault> {
+    // Most lines are a word, which is the only item.
+    if list.text.bytes().all(|it| it.is_ascii_alphanumeric() || b"-_./".contains(&it)) {
+        return answers.answer(list);
+    }
     let mut at = 0;
     let (file, number, mut indent) = match list.place {
         Place::Argument(number) => (None, number, 0),
