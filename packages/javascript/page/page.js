@@ -2,6 +2,7 @@
 import { DIALECTS, FIELDS, WRITTEN } from "../src/names.js";
 import { ParseError, Triple, load, meanings, targetsIn, translate } from "../src/target-lexicon.js";
 import { factsEntry, namesAndReasons, namesAtLevel, namesEntry, versionOf } from "./entries.mjs";
+import { found } from "./search.mjs";
 
 const LABELS = {
   architecture: "Architecture", vendor: "Vendor", operatingSystem: "System", environment: "Environment", binaryFormat: "Format",
@@ -17,6 +18,7 @@ const KINDS = { all: ["target", "targets"], refused: ["refused"], suspicious: ["
 const ORDER = ["refused", "suspicious", "other"];
 const LONGEST_LINK = 32000;
 const SLICE = 12; // milliseconds of work between two chances for input
+const MOST_FOUND = 12;
 const UNFOLDED = 3; // of more targets than these, the names in other tools are folded, and on a phone the cards
 
 const byId = (id) => document.getElementById(id);
@@ -114,13 +116,20 @@ const CHOICES = ["linux", "windows"];
 const hasChosenLibc = () => byId("linux").value !== "";
 const chosenLibcs = () => CHOICES.map((id) => byId(id).value).filter(Boolean), completed = (triple) => chosenLibcs().reduce((it, library) => it.complete(library), triple);
 
+/** A name that a click copies. */
+function copied(name) {
+  const button = element("button", { type: "button", class: "copied", "aria-label": `Copy ${shown(name)}` }, code(name));
+  button.addEventListener("click", () => copy(button, name, `Copied ${shown(name)}.`));
+  return button;
+}
+
 const pair = (term, ...answer) => element("div", {}, element("dt", {}, term), element("dd", {}, ...answer));
 
 /** What each tool calls a triple, or a name that says a level of its machine, and for those that have no name why. */
 function toolNames(triple, text, meaning) {
   const isOfLevel = meaning && meaning.level !== null, lexicon = { ParseError, translate };
   const { names, reasons } = isOfLevel ? namesAtLevel(lexicon, text, meaning, WRITTEN, chosenLibcs()) : namesAndReasons(triple, WRITTEN, hasChosenLibc()), without = grouped(Object.entries(reasons).map(([dialect, reason]) => [reason, dialect]));
-  const list = element("dl", {}, ...WRITTEN.filter((dialect) => names[dialect] !== null).map((dialect) => pair(toolName(dialect), code(names[dialect]))));
+  const list = element("dl", {}, ...WRITTEN.filter((dialect) => names[dialect] !== null).map((dialect) => pair(toolName(dialect), copied(names[dialect]))));
   return [list, ...[...without].map(([reason, tools]) => element("p", {}, dim(`None in ${toolsOf(tools)}: `), `${reason}.`))];
 }
 
@@ -237,7 +246,8 @@ function namedRow(text, meant) {
   const [meaning] = meant.found, { triple, level, tools } = meaning, head = header(text, text);
   const fields = Object.fromEntries(FIELDS.map((name) =>
     [name, name === "binaryFormat" ? { origin: "implied", part: null } : { origin: "given", part: triple[name] === "unknown" ? null : triple[name] }]));
-  head.append(small("a name of ", toolsOf(tools), level === null ? "" : `, for the machine's level ${level}`));
+  const isSeveral = meant.found.slice(1).some((it) => it.tools.some((tool) => tools.includes(tool)));
+  head.append(small("a name of ", toolsOf(tools), level === null ? "" : `, for the machine's level ${level}`, isSeveral ? ", of several machines" : ""));
   const row = tripleRow(head, triple, fields, text, false, [...otherMeanings({ ...meant, found: meant.found.slice(1) }, text, triple)], meaning);
   row.isName = true;
   return row;
@@ -256,10 +266,13 @@ function* nearestNames(text) {
   for (const [name, tools] of grouped(found)) yield element("p", {}, "Did you mean ", offer(name, text, name), ` of ${toolsOf(tools)}?`);
 }
 
+const SEVERAL = ["x86_64-apple-darwin", "aarch64-apple-darwin"];
+
 function refusedRow({ text, error, fields, suggestion }, meant) {
   const part = element("strong", { class: "wrong" }, shown(error.part) || "(empty)");
   const head = header(text, text.slice(0, error.start), part, text.slice(error.end));
-  const others = [...otherMeanings(meant, text, null)];
+  const others = text === "universal2"
+    ? [element("p", {}, "It is several machines: ", ...SEVERAL.flatMap((it, at) => [at ? " and " : "", offer(it, text, it)]), ".")] : [...otherMeanings(meant, text, null)];
   const inside = others.length ? others : [element("p", { class: "message" }, `${error.report.split(":", 1)[0]}: ${shown(error.part)}`)];
   if (!others.length) inside.push(...(suggestion ? [element("p", {}, ...question(suggestion, text, error))] : error.start === 0 ? nearestNames(text) : []), ...soFar(fields));
   const answer = element("td", { role: "cell", class: "refused", colspan: 7, "aria-colspan": 7 }, ...inside);
@@ -292,7 +305,7 @@ async function replaceTarget(text, fixed) {
   if (!item) return;
   const place = rowsInSight().findIndex((row) => row.target === text);
   field.setRangeText(fixed, item.start, item.end);
-  await edited();
+  await edited(true);
   const rows = rowsInSight(), next = rows[Math.min(place, rows.length - 1)];
   const head = (next && next.kind !== "other" ? next : rows.find((row) => row.target === fixed))?.firstChild;
   head?.setAttribute("tabindex", "-1");
@@ -421,7 +434,7 @@ function linkOf(lines) {
   if (field.value.length > LONGEST_LINK) return null;
   try {
     const hash = lines.map((line) => encodeURIComponent(line.toWellFormed?.() ?? line)).join(",");
-    return hash.length > LONGEST_LINK ? null : hash ? `${page}#${hash}` : page;
+    return hash.length > LONGEST_LINK ? null : `${page}#${hash}`; // also without targets: an address without # shows the first ones
   } catch {
     return null; // an engine that has no toWellFormed, and a lone surrogate
   }
@@ -436,9 +449,13 @@ function notice(text) {
 /** What can't be read of the link that was followed. */
 let unread = [];
 
-/** Opens the targets of a link; those that it can't decode are said. */
+/** Opens the targets and choices of a link; those that it can't decode are said. */
 function followLink() {
-  const lines = [];
+  const lines = [], query = new URLSearchParams(location.search);
+  for (const id of CHOICES) {
+    byId(id).value = query.get(id) ?? "";
+    if (byId(id).selectedIndex < 0) byId(id).value = "";
+  }
   unread = [];
   if (isLongLink()) return;
   for (const item of location.hash.slice(1).split(",").filter(Boolean)) {
@@ -448,16 +465,54 @@ function followLink() {
       unread.push(item);
     }
   }
-  if (lines.length || unread.length) field.value = lines.join("\n");
+  field.value = location.href.includes("#") ? lines.join("\n") : field.defaultValue;
+  linked = location.href;
 }
 
-let linking;
-/** Shows what was edited, and after a pause makes the address the link to it: browsers don't let a page do that often. */
-function edited() {
-  unread = [];
+let linking = null, linked; // what the address will be
+
+function stopLinking() {
   clearTimeout(linking);
-  linking = setTimeout(() => history.replaceState(null, "", linkOf(linesOf(field.value)) ?? pageUrl() + chosen()), 400);
+  linking = null;
+}
+
+/**
+ * Shows what was edited, and makes the address the link to it: after a pause, since browsers don't let a page do that often. What was there before a
+ * button is a page to go back to.
+ */
+function edited(isPage = false) {
+  const before = linked, isWaiting = linking !== null;
+  unread = [];
+  stopLinking();
+  linked = linkOf(linesOf(field.value)) ?? pageUrl() + chosen();
+  if (isPage) {
+    if (isWaiting) history.replaceState(null, "", before);
+    history.pushState(null, "", linked);
+  } else {
+    linking = setTimeout(() => {
+      stopLinking();
+      history.replaceState(null, "", linked);
+    }, 400);
+  }
   return show();
+}
+
+let known; // the targets, with their names in all tools
+
+/** Shows the targets that the words of the search are about, which a click adds to the list. */
+function search() {
+  known ??= new Map(TARGETS.map((target) => [target, Object.values(Triple.parse(target).names()).filter(Boolean)]));
+  const all = found(byId("search").value, known);
+  const offers = all.slice(0, MOST_FOUND).map((target) => {
+    const button = element("button", { type: "button", class: "offer", "aria-label": `Add ${target}` }, target);
+    button.addEventListener("click", () => {
+      field.value = `${target}\n${field.value}`;
+      edited(true);
+    });
+    return button;
+  });
+  const more = all.length - offers.length;
+  byId("found").replaceChildren(...offers, ...(more > 0 ? [dim(`and ${more} more`)] : !all.length && byId("search").value.trim() ? [dim("no target has all these words")] : []));
 }
 
 async function copy(button, text, said) {
@@ -488,32 +543,32 @@ function copyLink(button) {
 function clear() {
   field.value = "";
   field.focus();
-  return edited();
+  return edited(true);
 }
 
 // ---- the beginning
 
 async function begin() {
-  await load(Uint8Array.from(atob(MODULE), (it) => it.charCodeAt(0)));
+  await load(unpacked());
   let waiting;
   field.addEventListener("input", () => {
     clearTimeout(waiting);
     waiting = setTimeout(edited, 50);
   });
-  addEventListener("hashchange", () => {
+  addEventListener("popstate", () => {
+    stopLinking();
     followLink();
+    for (const body of [...table.tBodies]) body.remove();
     show();
   });
+  byId("search").addEventListener("input", search);
   const lexicon = { DIALECTS, FIELDS, ParseError, Triple, meanings, translate };
   for (const [id, entryOf] of [["copy_names", (text) => namesEntry(lexicon, text, WRITTEN, chosenLibcs())], ["copy_facts", (text) => factsEntry(lexicon, text)]]) byId(id).addEventListener("click", ({ currentTarget }) => copyJson(currentTarget, entryOf));
   byId("copy_link").addEventListener("click", ({ currentTarget }) => copyLink(currentTarget));
-  const query = new URLSearchParams(location.search);
   for (const id of CHOICES) {
-    byId(id).value = query.get(id) ?? "";
-    if (byId(id).selectedIndex < 0) byId(id).value = "";
     byId(id).addEventListener("change", () => {
       for (const body of [...table.tBodies]) body.remove();
-      edited();
+      edited(true);
     });
   }
   byId("clear").addEventListener("click", clear);

@@ -3,9 +3,6 @@
 /** The names of the fields, in the order of their numbers. */
 export const FIELDS: readonly ["architecture", "vendor", "operatingSystem", "environment", "binaryFormat"];
 
-/** The families of architectures, by their numbers. */
-export const FAMILIES: readonly Family[];
-
 export type Architecture =
   | "unknown" | "arm" | "armeb" | "armv4" | "armv4t" | "armv5t" | "armv5te" | "armv5tej" | "armv6" | "armv6j"
   | "armv6k" | "armv6z" | "armv6kz" | "armv6t2" | "armv6m" | "armv7" | "armv7a" | "armv7k" | "armv7ve" | "armv7m"

@@ -4,7 +4,7 @@
 export const FIELDS = Object.freeze(["architecture", "vendor", "operatingSystem", "environment", "binaryFormat"]);
 
 /** The families of architectures, by their numbers. */
-export const FAMILIES = Object.freeze([
+const FAMILIES = Object.freeze([
   "unknown", "arm", "amdgcn", "aarch64", "asmjs", "avr", "bpfeb", "bpfel", "hexagon", "x86_32", "m68k", "loongarch64",
   "mips32", "mips64", "msp430", "nvptx64", "pulley32", "pulley64", "pulley32be", "pulley64be", "powerpc", "powerpc64",
   "powerpc64le", "riscv32", "riscv64", "s390x", "sparc", "sparc64", "sparcv9", "wasm32", "wasm64", "x86_64", "x86_64h",

@@ -32,7 +32,6 @@ export type Given = { [Name in Exclude<Field, "architecture">]?: Values[Name] | 
   version?: GivenVersion | null | undefined;
   /** What a triple has besides, such as one that is spread: it follows from the names, and isn't looked at. */
   hasCustomVendor?: boolean | undefined;
-  numbers?: Readonly<Record<Field, number>> | undefined;
 };
 
 /**
@@ -102,8 +101,6 @@ export class Triple {
   /** That of the operating system. */
   readonly version: Version | null;
   readonly hasCustomVendor: boolean;
-  /** The number of each field's value, as in target_lexicon.h; it never changes its meaning. Every custom vendor has 255. */
-  readonly numbers: Readonly<Record<Field, number>>;
 
   /** The triple of a string. Throws a ParseError if the string is refused. */
   static parse(text: string): Triple;
@@ -204,11 +201,8 @@ export function settleAll(targets: Iterable<string>): (string | null)[];
  */
 export function changes(text: string): Change[];
 
-/** The names of a field's values, by their numbers. */
+/** The names of a field's values. */
 export function namesOf<Name extends Field>(field: Name): readonly (Name extends "vendor" ? KnownVendor : Values[Name])[];
-
-/** The number of the value that a string is in a field, outside any triple; 255 for a custom vendor, and null for no value. */
-export function numberOf(field: Field, text: string): number | null;
 
 /**
  * The triple that Node, Deno or Bun runs as, by `process.arch` and `process.platform`; what these don't say is unknown. Throws an

@@ -135,8 +135,8 @@ class Instance {
   }
 
   /** Writes a triple. Where it is, and the bytes of strings that this used. */
-  triple({ numbers, version, vendor, hasCustomVendor }, place = FIRST, at = 0) {
-    const { bytes, view } = this, start = this.base + place;
+  triple(triple, place = FIRST, at = 0) {
+    const { bytes, view } = this, { version, vendor, hasCustomVendor } = triple, numbers = numbersOf(triple), start = this.base + place;
     view.setUint16(start, numbers.architecture, true);
     bytes[start + 2] = numbers.vendor;
     bytes[start + 3] = numbers.operatingSystem;
@@ -394,7 +394,12 @@ const SECRET = Symbol();
 
 const make = (values, version, numbers) => new Triple(SECRET, values, version, numbers);
 
+let numbersOf;
+
 export class Triple {
+  #numbers; // of the values in target_lexicon.h
+  static #friend = (numbersOf = (it) => it.#numbers);
+
   constructor(secret, values, version, numbers) {
     if (secret !== SECRET) throw new TypeError("use Triple.parse or Triple.of");
     this.architecture = values.architecture;
@@ -404,7 +409,7 @@ export class Triple {
     this.binaryFormat = values.binaryFormat;
     this.version = version && Object.freeze(version);
     this.hasCustomVendor = numbers.vendor === CUSTOM;
-    this.numbers = Object.freeze(numbers);
+    this.#numbers = numbers;
     Object.freeze(this);
   }
 
@@ -441,7 +446,7 @@ export class Triple {
   }
 
   static of(given) {
-    const { version = null, hasCustomVendor: _custom, numbers: _numbers, ...values } = givenValues(given);
+    const { version = null, hasCustomVendor: _custom, ...values } = givenValues(given);
     const it = instance(), numbers = {}, names = {};
     for (const field of Object.keys(values)) if (!FIELDS.includes(field)) throw new TypeError(`a triple has no ${field}`);
     for (const [index, field] of FIELDS.entries()) {
@@ -475,7 +480,7 @@ export class Triple {
 
   /** What `console.log` of Node shows: the call that makes the triple, on one line. */
   [Symbol.for("nodejs.util.inspect.custom")]() {
-    return this.comesBack() ? `Triple.parse(${JSON.stringify(this.toString())})` : `Triple.of(${JSON.stringify({ ...this, numbers: undefined, hasCustomVendor: undefined })})`;
+    return this.comesBack() ? `Triple.parse(${JSON.stringify(this.toString())})` : `Triple.of(${JSON.stringify({ ...this, hasCustomVendor: undefined })})`;
   }
 
   names() {
@@ -624,11 +629,9 @@ export function namesOf(field) {
   return names;
 }
 
-export function numberOf(field, text) {
-  const it = instance(), index = FIELDS.indexOf(field);
-  if (index < 0) throw new TypeError(`a triple has no ${field}`);
-  if (typeof text !== "string") throw new TypeError("a name is a string");
-  const known = it.numbers[index].get(text);
+/** The number of the value that a name or an alias is; that of custom vendors for any other vendor, and null for no value. */
+function numberOf(field, text) {
+  const it = instance(), index = FIELDS.indexOf(field), known = it.numbers[index].get(text);
   if (known !== undefined) return known;
   const status = it.call("number", index, ...it.text(text), it.base + ANSWER);
   return status === OK ? it.number(ANSWER) : null;

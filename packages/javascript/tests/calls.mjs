@@ -8,7 +8,7 @@ import { differences } from "./compare.mjs";
 
 const [script, answers] = process.argv.slice(2), file = script.replace(/js$/, "wasm");
 const all = await import(pathToFileURL(script));
-const { DIALECTS, FAMILIES, FIELDS, ParseError, Triple, changes, host, load, meanings, namesOf, numberOf, settleAll, translate, version } = all;
+const { DIALECTS, FIELDS, ParseError, Triple, changes, host, load, meanings, namesOf, settleAll, translate, version } = all;
 const refusal = (text, call = Triple.parse) => {
   try {
     call(text);
@@ -59,8 +59,8 @@ const tests = {
   "a triple never changes": () => {
     const it = Triple.parse("aarch64-acme_1.0-ios65535.255.255");
     assert.deepEqual({ ...it }, { architecture: "aarch64", vendor: "acme_1.0", operatingSystem: "ios", environment: "unknown", binaryFormat: "macho",
-      version: { major: 65535, minor: 255, patch: 255 }, hasCustomVendor: true, numbers: { ...it.numbers, vendor: 255, operatingSystem: namesOf("operatingSystem").indexOf("ios") } });
-    for (const change of [() => (it.vendor = "pc"), () => (it.version.major = 1), () => (it.numbers.vendor = 1), () => (it.canonical = "x"), () => new Triple()]) assert.throws(change, TypeError);
+      version: { major: 65535, minor: 255, patch: 255 }, hasCustomVendor: true });
+    for (const change of [() => (it.vendor = "pc"), () => (it.version.major = 1), () => (it.canonical = "x"), () => new Triple()]) assert.throws(change, TypeError);
     assert.equal(JSON.stringify([Triple.parse("wasm32-unknown-wasi")]), '["wasm32-wasi"]');
     assert(!it.sameTarget(Triple.parse("aarch64-acme_1.1-ios65535.255.255")) && !it.equals(Triple.parse("aarch64-acme_1.1-ios65535.255.255")));
     const odd = Triple.parse("clever-unknown-unknown-none");
@@ -85,7 +85,7 @@ const tests = {
     const { fields, error } = Triple.explain("arm64-acme-\u{1f600}-x");
     assert.deepEqual([fields.vendor, error.start, error.end], [{ value: "acme", origin: "given", part: "acme", start: 6, end: 10 }, 11, 13]);
     assert.deepEqual([fields.architecture.value, fields.operatingSystem], ["aarch64", { value: null, origin: "not given", part: null }]);
-    assert.equal(numberOf("vendor", "\ud800"), null);
+    assert.throws(() => Triple.of({ vendor: "\ud800" }), RangeError);
   },
   "an error of a name": () => {
     const error = (...words) => refusal(words[0], () => (words.length > 2 ? translate(...words) : Triple.read(...words)));
@@ -171,7 +171,7 @@ const tests = {
       [TypeError, "there is no dialect Docker; did you mean docker?", () => linux.nameIn("Docker")], [TypeError, "there is no dialect podman", () => linux.nameIn("podman")],
       [TypeError, "there is no dialect null", () => translate("x", "go", null), () => linux.nameIn(null)], [TypeError, "there is no dialect Symbol(go)", () => linux.nameIn(Symbol("go"))],
       [TypeError, "there is no C library MUSL; did you mean musl?", () => linux.complete("MUSL"), () => translate("amd64", "debian", "go", "MUSL")], [TypeError, "there is no C library null", () => linux.complete(null)],
-      [TypeError, "a triple has no os", () => numberOf("os", "linux"), () => namesOf("os"), () => Triple.of({ os: "linux" }), () => linux.with({ os: "linux" })],
+      [TypeError, "a triple has no os", () => namesOf("os"), () => Triple.of({ os: "linux" }), () => linux.with({ os: "linux" })],
       [TypeError, `${values}undefined`, () => Triple.of(), () => linux.with()], [TypeError, `${values}null`, () => Triple.of(null)], [TypeError, `${values}an array`, () => Triple.of(["x86_64"])],
       [TypeError, "the values are an object; Triple.parse has the triple of a string", () => Triple.of("avr"), () => linux.with("avr")],
       [TypeError, "architecture is a name, not a number", () => Triple.of({ architecture: 7 })], [TypeError, "environment is a name, not a symbol", () => linux.with({ environment: Symbol("x") })],
@@ -196,11 +196,11 @@ const tests = {
     assert.deepEqual(settleAll(targets), targets.map((it) => Triple.tryParse(it)?.canonical ?? null));
     assert.deepEqual([settleAll([]), settleAll([""]), settleAll(new Set(["avr"]))], [[], [null], ["avr-unknown-unknown"]]);
   },
-  "names and numbers": () => {
-    for (const field of FIELDS) namesOf(field).forEach((name, number) => assert.equal(numberOf(field, name), number, name));
-    assert.deepEqual([numberOf("architecture", "arm64"), numberOf("vendor", "acme"), numberOf("vendor", "ACME"), numberOf("environment", "bar")], [44, 255, null, null]);
-    assert.equal(numberOf("operatingSystem", "macosx10.7"), namesOf("operatingSystem").indexOf("macosx"));
-    assert.deepEqual([...new Set(namesOf("architecture").map((name) => Triple.of({ architecture: name }).facts().family))], FAMILIES);
+  "names of fields": () => {
+    for (const field of FIELDS) for (const name of namesOf(field)) assert.equal(Triple.of({ [field]: name })[field], name);
+    assert.deepEqual([Triple.of({ architecture: "arm64" }).architecture, Triple.of({ vendor: "acme" }).hasCustomVendor], ["aarch64", true]);
+    for (const values of [{ vendor: "ACME" }, { environment: "bar" }, { operatingSystem: "macosx10.7" }]) assert.throws(() => Triple.of(values), RangeError);
+    assert.deepEqual(["FAMILIES", "numberOf", "numbers"].filter((it) => it in all || it in Triple.parse("avr")), []);
   },
   "a triple of values": () => {
     const ios = Triple.parse("aarch64-apple-ios17"), linux = Triple.parse("x86_64-unknown-linux-gnu");
@@ -223,7 +223,7 @@ const tests = {
       port1.close();
     }
     const pc = Triple.of({ ...Triple.parse("x86_64-acme-linux"), vendor: "pc" }), odd = Triple.parse("clever-unknown-unknown-none");
-    assert.deepEqual([pc.hasCustomVendor, pc.numbers.vendor, `${pc}`], [false, numberOf("vendor", "pc"), "x86_64-pc-linux"]);
+    assert.deepEqual([pc.hasCustomVendor, `${pc}`], [false, "x86_64-pc-linux"]);
     assert.equal(inspect([Triple.parse("avr")]), '[ Triple.parse("avr-unknown-unknown") ]');
     assert(Triple.of(JSON.parse(inspect(odd).match(/^Triple\.of\((.*)\)$/)[1])).equals(odd));
   },

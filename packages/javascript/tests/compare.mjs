@@ -38,11 +38,11 @@ const CALLS = { facts: factsEntry, explain: explained, read, cfg, translate: tra
   what: (lexicon, text, libc) => namesEntry(lexicon, text, lexicon.WRITTEN, libc ? [libc] : []) };
 
 /** Whether answers of target-lexicon.js to a text that parses agree. */
-function* agreeing({ FIELDS, Triple, numberOf, settleAll }, text) {
+function* agreeing({ FIELDS, Triple, settleAll }, text) {
   const { triple, fields } = Triple.explain(text), parsed = Triple.parse(text), settled = triple.settle(), printed = Triple.parse(`${settled}`), { version } = triple;
   const given = FIELDS.filter((name) => fields[name].part !== null), isSpecial = given.length === 5 && fields.architecture.end === fields.vendor.end;
-  yield parsed.equals(triple) && FIELDS.every((name) => parsed[name] === triple[name] && parsed.numbers[name] === triple.numbers[name]);
-  yield given.every((name) => text.slice(fields[name].start, fields[name].end) === fields[name].part && (isSpecial || numberOf(name, fields[name].part) === triple.numbers[name]));
+  yield parsed.equals(triple) && FIELDS.every((name) => parsed[name] === triple[name]);
+  yield given.every((name) => text.slice(fields[name].start, fields[name].end) === fields[name].part && (isSpecial || Triple.of({ [name]: name === "operatingSystem" ? triple[name] : fields[name].part })[name] === triple[name]));
   yield Triple.of({ ...Object.fromEntries(FIELDS.map((name) => [name, triple[name]])), version }).equals(triple) && triple.with({}).equals(triple);
   yield settled.comesBack() && printed.equals(settled) && triple.sameTarget(settled) && settleAll([text])[0] === `${settled}`;
   yield triple.equals(settled) === triple.equals(printed) && triple.comesBack() === Triple.parse(`${triple}`).equals(triple);

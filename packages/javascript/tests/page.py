@@ -236,6 +236,70 @@ def is_cleared(page):
     press(page, "#clear")
     page.until(f"{STATUS} === 'No targets. Paste some above, or names of any tool: one a line, or any text that has some, such as a workflow.'")
     same(page.run(f"[{TEXT}, document.activeElement.id, document.getElementById('chips').hidden, document.getElementById('table').hidden]"), ["", "targets", True, True])
+    page.driver.refresh()
+    page.until(f"{STATUS}.startsWith('No targets. Paste')")
+    same(page.run(TEXT), "")
+
+
+def goes_back(page):
+    """To the list before each button and each choice, with the choices, and to the first targets."""
+    first = page.run(TEXT)
+    typed(page, "linux/arm64\nx86_64-pc-windws-msvc")
+    choose(page, linux="musl")
+    press(page, ".refused .offer")
+    page.until(f"{STATUS}.startsWith('2 targets: 1 parsed, 1 named')")
+    press(page, "#clear")
+    page.until(f"{STATUS}.startsWith('No targets. Paste')")
+    for text, linux in ("linux/arm64\nx86_64-pc-windows-msvc", "musl"), ("linux/arm64\nx86_64-pc-windws-msvc", "musl"), ("linux/arm64\nx86_64-pc-windws-msvc", ""):
+        page.run("history.back()")
+        page.until(f"{TEXT} === {json.dumps(text)} && {STATUS}.startsWith('2 targets')")
+        same(page.run("document.getElementById('linux').value"), linux)
+    page.run("history.forward()")
+    page.until("document.getElementById('linux').value === 'musl'")
+    page.run("history.go(-2)")
+    page.until(f"{TEXT} === ''")
+    assert first.startswith("linux/arm64\n"), first
+
+
+# Words, and targets that are found by them; the first one is the first that is shown.
+SEARCHES = {"macos": ["aarch64-apple-darwin", "x86_64-apple-darwin"], "android": ["i686-linux-android", "aarch64-linux-android"], "wasm": ["wasm32-wasip1"], "apple m1": ["aarch64-apple-darwin"],
+            "raspberry pi": ["aarch64-unknown-linux-gnu", "armv7-unknown-linux-gnueabihf"], "Windows ARM64": ["aarch64-pc-windows-msvc"], "linux/amd64": ["x86_64-unknown-linux-gnu"],
+            "iphone": ["aarch64-apple-ios"], "alpine": ["x86_64-unknown-linux-musl"], "win32-x64": ["x86_64-pc-windows-msvc"], "riscv": ["riscv64gc-unknown-linux-gnu"]}
+
+
+def is_searched(page):
+    """By the words that people have for a machine; what is found is added by a click."""
+    offers = "[...document.querySelectorAll('#found button')].map((it) => it.textContent)"
+    for words, wanted in SEARCHES.items():
+        page.run("document.getElementById('search').value = ''")
+        page.run("document.getElementById('search').focus()")
+        page.keys(words)
+        offered = page.run(offers)
+        assert set(wanted) <= set(offered), f"{words}: {offered}"
+    page.run("(document.getElementById('search').value = 'no such thing', document.getElementById('search').dispatchEvent(new Event('input')))")
+    same(page.run("document.getElementById('found').textContent"), "no target has all these words")
+    page.run("(document.getElementById('search').value = 'apple m1', document.getElementById('search').dispatchEvent(new Event('input')))")
+    typed(page, "avr")
+    press(page, "#found button")
+    page.until(f"{STATUS}.startsWith('2 targets: 2 parsed')")
+    same(page.run(TEXT), "aarch64-apple-darwin\navr")
+    for width in 320, 1280:
+        is_no_wider(page, width)
+
+
+def copies_a_name(page):
+    typed(page, "x86_64-apple-darwin")
+    press(page, "[aria-label='Copy macos-x64'], [aria-label='Copy darwin/amd64']")
+    page.until(f"{STATUS} === 'Copied darwin/amd64.'")
+    same(page.run("navigator.clipboard.readText()"), "darwin/amd64")
+
+
+def says_that_a_name_is_of_several_machines(page):
+    typed(page, "macosx_11_0_universal2\nuniversal2", "2 targets: 0 parsed, 1 named by tools, 1 refused")
+    rows = page.run(CELLS)
+    same(rows[0], ["universal2", "It is several machines: x86_64-apple-darwin and aarch64-apple-darwin."])
+    assert "a name of Python, of several machines" in rows[1][0].replace(" ,", ","), rows[1]
+    assert any("aarch64-apple-macosx11.0.0" in it for it in rows[1][1:]), rows[1]
 
 
 def links_to_pages(page):
@@ -396,10 +460,10 @@ def is_accessible(page):
         same([[role for role, _ in roles].count("columnheader"), "status" in [role for role, _ in roles]], [8, True])
     page.run("document.getElementById('targets').focus()")
     reached = []
-    for _ in range(10):
+    for _ in range(11):
         page.keys(Keys.TAB)
         reached.append(page.run("document.activeElement.id || document.activeElement.textContent"))
-    same(reached, ["linux", "windows", "copy_names", "copy_facts", "copy_link", "clear", "2 targets", "1 refused", "windows", "names"])
+    same(reached, ["linux", "windows", "search", "copy_names", "copy_facts", "copy_link", "clear", "2 targets", "1 refused", "windows", "names"])
     # The border of the text field has a contrast of 6 to 1.
     same(page.run("[getComputedStyle(document.getElementById('targets')).borderTopColor, getComputedStyle(document.body).backgroundColor]"), ["rgb(90, 98, 108)", "rgb(255, 255, 255)"])
 
@@ -504,6 +568,7 @@ def says_that_it_needs_scripts(url):
         page.driver.get(url)
         said = " ".join(name for _, name in page.roles())
         assert "which your browser doesn't run" in said and "Loading" not in said, said
+        same([name for role, name in page.roles() if role in ("button", "combobox", "textbox", "searchbox")], [])
 
 
 def opens_from_a_folder(folder):
@@ -518,7 +583,7 @@ def opens_from_a_folder(folder):
 
 def page_tests(url, folder, command):
     """The name of each test of the page at a URL, which is in a folder, and the test; `command` is the command `target-lexicon`."""
-    for test in (begins_with_targets, forbids_what_it_does_not_need, shows_fields, escapes_and_shortens, takes_lists, refuses_and_suggests, mistakes_come_first, is_cleared,
+    for test in (begins_with_targets, forbids_what_it_does_not_need, shows_fields, escapes_and_shortens, takes_lists, refuses_and_suggests, mistakes_come_first, is_cleared, goes_back, is_searched, copies_a_name, says_that_a_name_is_of_several_machines,
                  links_to_pages, says_what_names_mean, says_what_a_driver_asks, says_why_there_is_no_name, says_what_other_tools_mean, takes_targets_of_rustc, is_folded,
                  fits_each_width, is_accessible, has_a_link, takes_time_in_proportion, functools.partial(copies_what_the_command_writes, command), stays_responsive):
         yield getattr(test, "func", test).__name__.replace("_", " "), functools.partial(opened, f"{url}/", test)

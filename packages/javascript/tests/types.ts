@@ -1,7 +1,7 @@
 // For `tsc --strict`: each line after `@ts-expect-error` is an error, and no other one is.
-import { DIALECTS, FAMILIES, FIELDS, ParseError, Triple, changes, host, load, meanings, namesOf, numberOf, settleAll, translate, version } from "target-lexicon";
+import { DIALECTS, FIELDS, ParseError, Triple, changes, host, load, meanings, namesOf, settleAll, translate, version } from "target-lexicon";
 import type {
-  Architecture, BinaryFormat, Change, Dialect, Environment, Explained, Explanation, Facts, Family, Field, Given, GivenVersion, KnownVendor, LinuxLibc, Meanings, OperatingSystem, Values, Vendor, Version,
+  Architecture, BinaryFormat, Change, Dialect, Environment, Explained, Explanation, Facts, Field, Given, GivenVersion, KnownVendor, LinuxLibc, Meanings, OperatingSystem, Values, Vendor, Version,
 } from "target-lexicon";
 
 // The types are the same, and neither is wider.
@@ -11,14 +11,14 @@ type Answers<Of> = { [Name in keyof Of]: Of[Name] extends (...values: never[]) =
 
 const ofTriple: Same<Answers<Triple>, {
   readonly architecture: Architecture; readonly vendor: Vendor; readonly operatingSystem: OperatingSystem; readonly environment: Environment;
-  readonly binaryFormat: BinaryFormat; readonly version: Version | null; readonly hasCustomVendor: boolean; readonly numbers: Readonly<Record<Field, number>>;
+  readonly binaryFormat: BinaryFormat; readonly version: Version | null; readonly hasCustomVendor: boolean;
   with: Triple; complete: Triple; settle: Triple; toString: string; toJSON: string; readonly canonical: string; llvmTarget: string; nameIn: string | null;
   reasonWithoutName: string | null; multiarchTuple: string | null; names: Record<Exclude<Dialect, "docker" | "npm">, string | null>;
   comesBack: boolean; equals: boolean; sameTarget: boolean; facts: Facts; rustcCfg: Record<string, string>;
 }> = true;
 const ofClass: Same<Answers<Omit<typeof Triple, "prototype">>, { parse: Triple; tryParse: Triple | null; read: Triple; explain: Explanation; of: Triple }> = true;
-const calls = { changes, host, load, meanings, numberOf, settleAll, translate, version };
-const ofCalls: Same<Answers<typeof calls>, { changes: Change[]; host: Triple; load: Promise<void>; meanings: Meanings; numberOf: number | null;
+const calls = { changes, host, load, meanings, settleAll, translate, version };
+const ofCalls: Same<Answers<typeof calls>, { changes: Change[]; host: Triple; load: Promise<void>; meanings: Meanings;
   settleAll: (string | null)[]; translate: string; version: string }> = true;
 const ofErrors: Same<Omit<ParseError, keyof Error>, { readonly field: Field | null; readonly text: string; readonly part: string; readonly start: number; readonly end: number;
   readonly suggestion: string | null; readonly reason: string | null; readonly needsLibc: boolean; readonly report: string;
@@ -26,7 +26,7 @@ const ofErrors: Same<Omit<ParseError, keyof Error>, { readonly field: Field | nu
 const ofFacts: Same<Pick<Facts, "endianness" | "pointerWidth" | "armVersion" | "isUnix">,
   { endianness: "little" | "big" | null; pointerWidth: 16 | 32 | 64 | null; armVersion: number | null; isUnix: boolean }> = true;
 const ofSource: Same<Explanation["fields"], { [Name in Field]: Explained<Values[Name]> }> = true;
-const lists: [readonly Field[], readonly Family[], readonly Dialect[], readonly KnownVendor[], readonly Architecture[]] = [FIELDS, FAMILIES, DIALECTS, namesOf("vendor"), namesOf("architecture")];
+const lists: [readonly Field[], readonly Dialect[], readonly KnownVendor[], readonly Architecture[]] = [FIELDS, DIALECTS, namesOf("vendor"), namesOf("architecture")];
 
 const triple = Triple.read("linux/arm64", "docker"), libc: LinuxLibc = "musl", model: Facts["dataModel"] = "LP64";
 const words = [triple.nameIn("python", { major: 2, minor: 17 }), Triple.read("x", null), translate("linux/arm64", "oci", "debian", libc), translate("x", null, "go")];
@@ -53,6 +53,8 @@ triple.architecture === "arm64";
 Triple.of({ operatingSystem: "ios17" });
 // @ts-expect-error there is no such field
 triple.with({ os: "linux" });
+// @ts-expect-error the numbers of the library for C aren't shown
+triple.numbers;
 // @ts-expect-error no dialect has this name
 triple.nameIn("podman");
 // @ts-expect-error no C library has this name
