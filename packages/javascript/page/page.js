@@ -421,7 +421,7 @@ const countOf = (count) => count.toLocaleString("en");
 const pageUrl = () => location.href.split(/[?#]/, 1)[0];
 
 /** What is chosen, as the query of a link. */
-const chosenQuery = () => {
+const chosen = () => {
   const query = new URLSearchParams(CHOICES.filter((id) => byId(id).value).map((id) => [id, byId(id).value])).toString();
   return query && `?${query}`;
 };
@@ -430,7 +430,7 @@ const isLongLink = () => location.hash.length > LONGEST_LINK;
 
 /** The link to what is in the text field, or null if that is too long for one. */
 function linkOf(lines) {
-  const page = `${pageUrl()}${chosenQuery()}`;
+  const page = `${pageUrl()}${chosen()}`;
   if (field.value.length > LONGEST_LINK) return null;
   try {
     const hash = lines.map((line) => encodeURIComponent(line.toWellFormed?.() ?? line)).join(",");
@@ -484,7 +484,7 @@ function edited(isPage = false) {
   const before = linked, isWaiting = linking !== null;
   unread = [];
   stopLinking();
-  linked = linkOf(linesOf(field.value)) ?? pageUrl() + chosenQuery();
+  linked = linkOf(linesOf(field.value)) ?? pageUrl() + chosen();
   if (isPage) {
     if (isWaiting) history.replaceState(null, "", before);
     history.pushState(null, "", linked);
