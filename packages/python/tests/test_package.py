@@ -221,12 +221,12 @@ class Command(unittest.TestCase):
         def canonical(call):
             return lambda it: {"canonical": call(it).canonical}
         calls = {"facts": lambda it: Triple(it).to_dict(), "settle": canonical(Triple), "settle --libc musl": canonical(lambda it: Triple(it).complete("musl")),
-                 "read": canonical(Triple.read), **{f"read --from {tool}": canonical(lambda it, tool=tool: Triple.read(it, tool)) for tool in _dialects.READ},
+                 "settle --from llvm": canonical(Triple.read), **{f"settle --from {tool}": canonical(lambda it, tool=tool: Triple.read(it, tool)) for tool in _dialects.READ},
                  "translate --from oci --to rust --libc musl": lambda it: {"name": target_lexicon.translate(it, "oci", "rust", "musl")},
                  **{f"translate --to {tool}": lambda it, tool=tool: {"name": Triple(it).name_in(tool)} for tool in _dialects.WRITTEN}}
         for words, call in calls.items():
-            given = names if "--from" in words else targets
-            ran = run(COMMAND, *words.split(), "--json", input="".join(f"{it}\n" for it in given))
+            given = names if "--from" in words and "llvm" not in words else targets
+            ran = run(COMMAND, *words.split(), "-0", "--json", input="".join(f"{it}\0" for it in given))
             for target, answer in zip(given, json.loads(ran.stdout)):
                 try:
                     own = call(target)
