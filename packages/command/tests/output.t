@@ -200,9 +200,9 @@ Where it is shown, a long target is shortened. What is accepted is whole:
 Time grows with the length of a list, and a name that is longer than any has no suggestion:
 
   $ commas=$(head -c 1000 /dev/zero | tr '\0' ,)
-  $ yes "amd64$commas" 2> /dev/null | head -n 5000 | tr -d '\n' > list
+  $ yes "amd64$commas" 2> /dev/null | head -n 2000 | tr -d '\n' > list
   $ timeout 60 "$(type -P target-lexicon)" settle --from debian < list | uniq -c
-     5000 x86_64-unknown-linux-gnu
+     2000 x86_64-unknown-linux-gnu
   $ { head -c 100000 /dev/zero | sed 's/\x00/-a_/g'; echo /linux-x46; } > name
   $ timeout 60 "$(type -P target-lexicon)" what < name 2>&1 | grep -c 'no tool has the name\|did you mean'
   1
