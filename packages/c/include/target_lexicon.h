@@ -711,7 +711,7 @@ enum lexicon_status lexicon_meaning(const char *text, size_t text_size, size_t n
 
 /* The targets in any text, such as a list, a workflow in YAML, or a page in Markdown: the ranges of the words that are a name of a machine
    and a system, of any tool or as a triple, or are with a name that is suggested; and of all items of a list. They are written into an array
-   of so many elements at most, and in *count is how many there are: with LEXICON_TOO_SMALL there are more. */
+   of so many elements, which may be null if that is 0, and in *count is how many there are: with LEXICON_TOO_SMALL there are more. */
 LEXICON_CHECKED LEXICON_NONNULL(5)
 enum lexicon_status lexicon_targets(const char *text, size_t text_size, struct lexicon_change *parts, size_t most, size_t *count);
 

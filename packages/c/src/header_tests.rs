@@ -79,7 +79,7 @@ fn the_names_are_those_of_the_enumerators() {
     assert_eq!(of_c("linux_libc"), c_libraries.collect::<Vec<_>>());
 }
 
-/// A call may be given null for a text, a buffer, `length` and `error`, and for no other pointer.
+/// A call may be given null for a text, a buffer, an array of `parts`, `length`, `error`, `reason` and `note`, and for no other pointer.
 #[test]
 fn the_pointers_that_may_not_be_null_are_marked() {
     let (_, prototypes) = HEADER.split_once("#define LEXICON_MAX_GROWTH").expect("the calls");
@@ -90,7 +90,7 @@ fn the_pointers_that_may_not_be_null_are_marked() {
     for (before, given) in declared.filter(|(before, _)| before.contains("lexicon_")) {
         let marked = before.split_once("LEXICON_NONNULL(").map_or("", |(_, after)| after.split_once(')').expect("an end").0);
         let pointers = (1..).zip(given.split(',')).filter_map(|(number, it)| Some((number, it.rsplit_once('*')?.1)));
-        let needed = pointers.filter(|(_, name)| !["text", "name", "out", "length", "error", "reason", "note"].contains(name));
+        let needed = pointers.filter(|(_, name)| !["text", "name", "out", "parts", "length", "error", "reason", "note"].contains(name));
         assert_eq!(marked, needed.map(|(number, _)| i32::to_string(&number)).collect::<Vec<_>>().join(", "), "{before}");
         count += 1;
     }

@@ -134,13 +134,13 @@ WRITES(change) {
 /* Where the target with a number is, whose array has room for one more than that; the other numbers are the count and its end. */
 WRITES(target) {
   struct lexicon_change parts[3];
-  size_t count = 77, number = it->numbers[0];
+  size_t found = 77, number = it->numbers[0];
   fill(parts, sizeof parts);
-  enum lexicon_status status = lexicon_targets(it->text, it->size, parts, number + 1, &count);
+  enum lexicon_status status = lexicon_targets(it->text, it->size, parts, number + 1, &found);
   EXPECT(is_filled(&parts[number + 1], sizeof parts - (number + 1) * sizeof *parts));
   if (status != LEXICON_OK && status != LEXICON_TOO_SMALL) return status;
-  EXPECT((status == LEXICON_OK) == (count <= number + 1) && count == it->numbers[1] && parts[number].end == it->numbers[2]);
-  EXPECT(lexicon_targets(it->text, it->size, NULL, 0, &count) == LEXICON_TOO_SMALL && count == it->numbers[1]);
+  EXPECT((status == LEXICON_OK) == (found <= number + 1) && found == it->numbers[1] && parts[number].end == it->numbers[2]);
+  EXPECT(lexicon_targets(it->text, it->size, NULL, 0, &found) == LEXICON_TOO_SMALL && found == it->numbers[1]);
   return copied(it->text + parts[number].start, out, size, length);
 }
 
