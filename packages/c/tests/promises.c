@@ -432,6 +432,19 @@ static void try_changes(const char *text, size_t size, uint32_t parsed, const st
   CHECK(number == 0 || parsed != LEXICON_OK || triple->vendor == LEXICON_VENDOR_CUSTOM);
 }
 
+/* The targets in a text are parts of it, from its start to its end. */
+static void try_targets(const char *text, size_t size, uint32_t parsed) {
+  struct lexicon_change parts[4];
+  size_t count = 77, last = 0;
+  memset(parts, 0xa5, sizeof parts);
+  uint32_t status = lexicon_targets(text, size, parts, 3, &count);
+  CHECK(is_unchanged(&parts[3], sizeof parts[3]) && (parsed == LEXICON_NOT_UTF8) == (status == LEXICON_NOT_UTF8));
+  if (status == LEXICON_NOT_UTF8) return;
+  CHECK(status == (count > 3 ? (uint32_t)LEXICON_TOO_SMALL : (uint32_t)LEXICON_OK));
+  for (size_t at = 0; at < count && at < 3; last = parts[at++].end)
+    CHECK(last <= parts[at].start && parts[at].start <= parts[at].end && parts[at].end <= size);
+}
+
 /* The meanings of a text are that of the triple that it parses as, then those that the dialects read, in their order, a name of several machines once
    for each, and otherwise at the end at most one without a dialect. */
 static void try_meanings(const char *text, size_t size, uint32_t parsed) {
@@ -559,6 +572,7 @@ static void try_text(const char *text, size_t size) {
   }
   try_read(text, size, status, &triple);
   try_changes(text, size, status, &triple);
+  try_targets(text, size, status);
   try_meanings(text, size, status);
 }
 
