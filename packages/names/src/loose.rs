@@ -1,5 +1,6 @@
 //! Names with what files and commands have around them.
 use crate::buffer::Buffer;
+use crate::mistakes::LONGEST_PATH;
 use crate::table::OF_CONFIG_SUB;
 use crate::{Dialect, Evidence, FloatAbi, NameError, Said};
 use core::fmt::{self, Write};
@@ -135,8 +136,8 @@ impl Dialect {
             Some((name, _)) if USUAL_MACHINES.split(' ').any(|it| it == machine) => name,
             _ => machine,
         };
-        // The `armhf` of container images is Armv7, and that of others isn't.
-        if Evidence::of(machine).float_abi() != Said::Unsaid {
+        // The `armhf` of container images is Armv7, and that of others isn't. No machine has a longer name than a path.
+        if machine.len() > LONGEST_PATH || Evidence::of(machine).float_abi() != Said::Unsaid {
             return None;
         }
         let has_capital = system.starts_with(|it: char| it.is_ascii_uppercase());
