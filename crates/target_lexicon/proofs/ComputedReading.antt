@@ -5,7 +5,7 @@ use Rattle.lexicon_fields.specs.{declared.architecture.Architecture.Architecture
 use Rattle.lexicon_fields.specs.{declared.environment.Environment.Environment as AnyEnvironment, Architecture.architecture_of, declared.known_vendor.KnownVendor.TheVariants.Unknown, Vendor.vendor_of, OperatingSystem.operating_system_of, BinaryFormat.binary_format_of}
 use Rattle.target_lexicon.specs.{Values.VendorValue, Values.Known, Values.Values, Values.values, ImpliedFormat.implied_format, Laws.EveryStringHasOneOutcome, Laws.ReadingIsComputed, SpecialStrings.special_values, Reading.parts_of, Refusal.Refusal, Refusal.refusal_with}
 use Rattle.target_lexicon.specs.Field.{Field, Architecture, Vendor, OperatingSystem, Environment, BinaryFormat, field_number, parses_as}
-use Rattle.target_lexicon.specs.Reading.{part_at, IsValueOf, HoldsParts, ParsesAs, IsRefusal, IsRefusedAs, IsRefused, expected_after, last_field}
+use Rattle.target_lexicon.specs.Parsing.{part_at, IsValueOf, HoldsParts, ParsesAs, IsRefusal, IsRefusedAs, IsRefused, expected_after, last_field}
 use Rattle.target_lexicon.specs.GreedyReading.{reading_of_parts, reading_unless_special, reading}
 use Rattle.target_lexicon.proofs.FieldReading.{by_fields, field_reading_by, field_reading, final_reading, reading_from_binary_format, reading_from_environment, reading_from_operating_system, reading_from_vendor, reading_after_architecture}
 use Rattle.target_lexicon.proofs.{PartLemmas.parts_of-are, PartLemmas.parts_of-some, GreedyPlacement.IsPlacedAfter, GreedyPlacement.Follows, GreedyPlacement.filled, GreedyPlacement.unread, GreedyPlacement.filled-placed, GreedyPlacement.after_architecture, GreedyPlacement.greedy-least, RefusalLemmas.refused_first, RefusalLemmas.left-refused, UniqueReading.values_unique, UniqueReading.refusal_unique, UniqueReading.read_not_refused}

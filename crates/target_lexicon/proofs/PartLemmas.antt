@@ -6,7 +6,7 @@ use Rattle.std.proofs.{lemmas.Bool.and_parts, lemmas.Bool.cases_Bool, lemmas.Boo
 use Rattle.std.proofs.lemmas.List.Splits.{join_with_byte-slice_split, slice_split_first, slice_split_none}
 use Rattle.lexicon_fields.specs.Names.{dash}
 use Rattle.lexicon_fields.specs.Names.{is_dash_free}
-use Rattle.target_lexicon.specs.Reading.{ArePartsOf, parts_of}
+use Rattle.target_lexicon.specs.Parsing.{ArePartsOf, parts_of}
 
 -- the first byte of a string without dashes is no dash, and the rest has none
 dash_free-parts : (b : ℕ) (bs : List ℕ) → is_dash_free (b ∷ bs) ≡ true → (nat_eq b dash ≡ false) × (is_dash_free bs ≡ true)

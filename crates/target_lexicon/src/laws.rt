@@ -6,7 +6,7 @@ ghost use Rattle.lexicon_fields.specs.Laws.{HashInjectiveOn, HashInjective, Comp
 ghost use Rattle.target_lexicon.specs.FixedPoints.{ParsedTriplesArePlain, FixedExactlyOutsideExceptions, RoundIsNormalStep, OneStepSettles, CanonicalStringsAreKeys, RoundTripsAreKnown, PrintedStringsGrowAtMost, CanonicalStringsGrowAtMost, RefusedPartsDoNotGrow};
 ghost use Rattle.target_lexicon.specs.ExceptionFacts.{ExceptionsAreFactsOfFields};
 ghost use Rattle.target_lexicon.specs.Json.{ListParsesAs, list_json_of, json_error_value, list_error_value};
-ghost use Rattle.target_lexicon.specs.Reading.{HasPlacement};
+ghost use Rattle.target_lexicon.specs.Parsing.{HasPlacement};
 ghost use Rattle.target_lexicon.specs.Queries.{data_model};
 ghost use Rattle.target_lexicon.specs.QueryLaws.{ModelWidth, IntegersGrow, QueriesKept};
 ghost use Rattle.target_lexicon.specs.Refusal.{refusal_of};

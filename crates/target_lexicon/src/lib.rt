@@ -1,12 +1,12 @@
 //! Target triples: parsing, printing, queries and canonical forms.
 //!
-//! The calls of [`Triple`] are in files by topic: `triple` (the type, `unknown`, `clone`), `host`, `read`
+//! The calls of [`Triple`] are in files by topic: `triple` (the type, `unknown`, `clone`), `host`, `parse`
 //! (`from_str`), `display` (`Display`, `to_text`, and which fields are shown), `special` (the two special strings),
 //! `queries` (byte order, pointer width, calling convention, data model), `exception`, `settle` (`comes_back`, `normal`,
 //! `settle`), `settles_as`, `json`. Most of them call the same of [`TripleRef`], a borrowed triple (`triple_ref`).
 //! `round_trip` prints and parses a triple.
 //!
-//! To parse, `read` gives each part of a string to a `reading`, which looks it up and fills a field. `explanation` has
+//! To parse, `parse` gives each part of a string to a `reading`, which looks it up and fills a field. `explanation` has
 //! the types of what was found, `default_format` the implied format, and `refusal` why a string is refused.
 //!
 //! A comment `In Rust` or `Not in Rust` before an item is for `tools/erase`, which makes a Rust crate of this source.
@@ -25,9 +25,9 @@ mod json_error;
 pub mod laws;
 mod list_error;
 mod macros;
+mod parse;
 mod parse_error;
 mod queries;
-mod read;
 mod reading;
 mod refusal;
 mod round_trip;
@@ -54,8 +54,8 @@ pub use lexicon_fields::{
     row_order, version_text,
 };
 pub use list_error::ListError;
+pub use parse::{explain, first_part};
 pub use parse_error::ParseError;
-pub use read::{explain, first_part};
 pub use reading::Reading;
 pub use refusal::{Refusal, refusal_prefix};
 pub use round_trip::round;

@@ -1,7 +1,7 @@
 //! Reading: a state that takes one part after the other.
 ghost use Rattle.std.specs.Prelude.{◌≡◌, Some, IfOk, IfErr};
 ghost use Rattle.target_lexicon.specs.Explanation.{FromPart, part_value, same_sources, sources_of, NotGiven, with_source};
-ghost use Rattle.target_lexicon.specs.Reading.{expected_after};
+ghost use Rattle.target_lexicon.specs.Parsing.{expected_after};
 ghost use Rattle.target_lexicon.specs.GreedyReading.{IsNotTaken, IsTaken, finished, finished_sources};
 ghost use Rattle.target_lexicon.specs.Private.{is_open_at};
 ghost use Rattle.target_lexicon.specs.Field as field;

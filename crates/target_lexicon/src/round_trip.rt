@@ -6,7 +6,7 @@ ghost use Rattle.target_lexicon.specs.Laws.{ComesBack};
 ghost use Rattle.target_lexicon.specs.NormalStep.{normal_step};
 ghost use Rattle.target_lexicon.specs.Printing.{string_of};
 ghost use Rattle.target_lexicon.specs.QueryLaws.{HaveSameAnswers};
-ghost use Rattle.target_lexicon.specs.Reading.{ParsesAs, IsRefusalOrOutOfMemory};
+ghost use Rattle.target_lexicon.specs.Parsing.{ParsesAs, IsRefusalOrOutOfMemory};
 ghost use Rattle.target_lexicon.specs.Refusal.{refusal_of};
 ghost use Rattle.target_lexicon.specs.Values.{values_of};
 

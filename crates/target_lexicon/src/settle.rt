@@ -9,7 +9,7 @@ ghost use Rattle.target_lexicon.specs.FixedPoints.{canonical_values};
 ghost use Rattle.target_lexicon.specs.Laws.{ComesBack};
 ghost use Rattle.target_lexicon.specs.NormalStep as spec;
 ghost use Rattle.target_lexicon.specs.Printing.{string_of};
-ghost use Rattle.target_lexicon.specs.Reading.{ParsesAs};
+ghost use Rattle.target_lexicon.specs.Parsing.{ParsesAs};
 ghost use Rattle.target_lexicon.specs.Values.{values_of};
 ghost use Rattle.target_lexicon.specs.ValuesRef.{values_of_ref};
 

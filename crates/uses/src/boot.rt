@@ -1,6 +1,6 @@
 //! A boot loader: facts of an image's target, without an allocator.
 ghost use Rattle.std.specs.Prelude.{◌≡◌, IfSome, IfNone};
-ghost use Rattle.target_lexicon.specs.Reading.{IsRefused, ParsesAs};
+ghost use Rattle.target_lexicon.specs.Parsing.{IsRefused, ParsesAs};
 ghost use Rattle.target_lexicon.specs.Values.{Values};
 ghost use Rattle.uses.specs.Boot as spec;
 

@@ -2,7 +2,7 @@
 //! unchanged.
 ghost use Rattle.std.specs.Prelude.{◌≡◌, true, IfOk, IfErr};
 ghost use Rattle.lexicon_fields.specs.Vendor.{OwnsCustomString, vendor_value, is_plain};
-ghost use Rattle.target_lexicon.specs.Reading.{ParsesAs, IsErrorOf};
+ghost use Rattle.target_lexicon.specs.Parsing.{ParsesAs, IsErrorOf};
 ghost use Rattle.target_lexicon.specs.Values.{values_of};
 
 use std::alloc::Global;

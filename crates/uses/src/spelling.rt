@@ -2,7 +2,7 @@
 ghost use Rattle.std.specs.Prelude.{◌≡◌, IfOk, IfErr, string_bytes};
 ghost use Rattle.target_lexicon.specs.FixedPoints.{canonical_values};
 ghost use Rattle.target_lexicon.specs.Printing.{string_of};
-ghost use Rattle.target_lexicon.specs.Reading.{ParsesAs, IsRefusalOrOutOfMemory};
+ghost use Rattle.target_lexicon.specs.Parsing.{ParsesAs, IsRefusalOrOutOfMemory};
 ghost use Rattle.target_lexicon.specs.Values.{Values};
 
 use std::alloc::Global;

@@ -2,7 +2,7 @@ use Rattle.std.proofs.Common.{◌≡◌, get_or, subst, arith, rules}
 use Rattle.std.specs.Str.{IsUtf8}
 use Rattle.std.proofs.lemmas.Str.{IsCharBoundary-after_ascii}
 use Rattle.target_lexicon.proofs.PartLemmas.{parts_of-cut-at, parts_of-whole}
-use Rattle.target_lexicon.proofs.read.first_part.Goals as goal
+use Rattle.target_lexicon.proofs.parse.first_part.Goals as goal
 
 pub range_from-requires : goal.range_from-requires
 range_from-requires c _ =

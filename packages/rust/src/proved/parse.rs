@@ -1,4 +1,4 @@
-// @generated: erased from crates/target_lexicon/src/read.rt by tools/erase. Don't edit it here.
+// @generated: erased from crates/target_lexicon/src/parse.rt by tools/erase. Don't edit it here.
 //! Parsing: the triple of a string, or why it is refused, and the part that each field takes.
 //! Functions are inlined if they return a wide value, so that a caller that drops the sources doesn't compute them.
 

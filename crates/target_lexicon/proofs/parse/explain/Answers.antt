@@ -9,7 +9,7 @@ use Rattle.target_lexicon.proofs.{ComputedReading.Holds, ComputedReading.ordinar
 use Rattle.target_lexicon.proofs.SourceLemmas.{LeftAt, all_sources, sources-in, refused-in, sources-explained, refused-explained}
 use Rattle.target_lexicon.proofs.ReadParts.{AllGoesOn, fields_from, left_from, goes_on-first, goes_on-next, placed-some, read-sources, refused-sources, texts-placed}
 use Rattle.target_lexicon.specs.{Field.Architecture, Field.Field, Private.rest_parts, Values.Values}
-use Rattle.target_lexicon.proofs.read.explain.Goals as goal
+use Rattle.target_lexicon.proofs.parse.explain.Goals as goal
 
 -- the values or the refusal of a result
 abbrev outcome_of : Result TripleRef BorrowedRefusal → Result Values Refusal

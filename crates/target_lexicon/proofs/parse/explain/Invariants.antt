@@ -2,7 +2,7 @@ use Rattle.std.proofs.Common.{◌≤◌, length}
 use Rattle.std.specs.Option.{ForSome}
 use Rattle.target_lexicon.specs.{Explanation.placed_from, Reading.parts_of, Private.rest_parts}
 use Rattle.target_lexicon.proofs.ReadParts.{AllGoesOn}
-use Rattle.target_lexicon.proofs.read.explain.Given as goal
+use Rattle.target_lexicon.proofs.parse.explain.Given as goal
 
 abbrev pub invariant-loop-rest : goal.invariant-loop-rest
 invariant-loop-rest l = record {
