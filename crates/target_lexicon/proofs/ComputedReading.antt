@@ -3,7 +3,7 @@ use Rattle.std.proofs.Common.{◌≡◌, ℕ, ◌≤◌, List, [], ◌∷◌, tr
 use Rattle.std.specs.Prelude.{MatchResult, is_some}
 use Rattle.lexicon_fields.specs.{declared.architecture.Architecture.Architecture as AnyArchitecture, declared.operating_system.OperatingSystem.OperatingSystem as AnySystem, Environment.environment_of}
 use Rattle.lexicon_fields.specs.{declared.environment.Environment.Environment as AnyEnvironment, Architecture.architecture_of, declared.known_vendor.KnownVendor.TheVariants.Unknown, Vendor.vendor_of, OperatingSystem.operating_system_of, BinaryFormat.binary_format_of}
-use Rattle.target_lexicon.specs.{Values.VendorValue, Values.Known, Values.Values, Values.values, ImpliedFormat.implied_format, Laws.EveryStringHasOneOutcome, Laws.ReadingIsComputed, SpecialStrings.special_values, Reading.parts_of, Refusal.Refusal, Refusal.refusal_with}
+use Rattle.target_lexicon.specs.{Values.VendorValue, Values.Known, Values.Values, Values.values, ImpliedFormat.implied_format, Laws.EveryStringHasOneOutcome, Laws.ReadingIsComputed, SpecialStrings.special_values, Parsing.parts_of, Refusal.Refusal, Refusal.refusal_with}
 use Rattle.target_lexicon.specs.Field.{Field, Architecture, Vendor, OperatingSystem, Environment, BinaryFormat, field_number, parses_as}
 use Rattle.target_lexicon.specs.Parsing.{part_at, IsValueOf, HoldsParts, ParsesAs, IsRefusal, IsRefusedAs, IsRefused, expected_after, last_field}
 use Rattle.target_lexicon.specs.GreedyReading.{reading_of_parts, reading_unless_special, reading}

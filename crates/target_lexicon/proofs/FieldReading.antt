@@ -3,7 +3,7 @@ use Rattle.std.proofs.Common.{◌≡◌, ◌∙◌, ℕ, List, [], ◌∷◌, Op
 use Rattle.std.specs.Option.{option_map_or}
 use Rattle.lexicon_fields.specs.{Vendor.vendor_of, Architecture.architecture_of, declared.known_vendor.KnownVendor.TheVariants.Unknown, Environment.environment_of}
 use Rattle.lexicon_fields.specs.{OperatingSystem.operating_system_of, BinaryFormat.binary_format_of}
-use Rattle.target_lexicon.specs.{Reading.expected_after, Field.Field, Field.parses_as, Refusal.Refusal, Refusal.refusal_with, ImpliedFormat.implied_format}
+use Rattle.target_lexicon.specs.{Parsing.expected_after, Field.Field, Field.parses_as, Refusal.Refusal, Refusal.refusal_with, ImpliedFormat.implied_format}
 use Rattle.target_lexicon.specs.GreedyReading.{finished, first_field, open_fields, reading_from, reading_of_parts, with_value}
 use Rattle.target_lexicon.specs.Values.{Architecture, BinaryFormat, OperatingSystem, Environment, VendorValue, Known, Values, unknown_values, values}
 use Rattle.target_lexicon.specs.Values.operating_system

@@ -1,7 +1,7 @@
 -- The normal step leaves a triple unchanged exactly outside the exceptions.
 use Rattle.std.proofs.Common.{◌≡◌, true, sym, ap, subst}
 use Rattle.lexicon_fields.specs.{Vendor.is_plain, Laws.HasVersionInRange}
-use Rattle.target_lexicon.specs.{FixedPoints.FixedExactlyOutsideExceptions, FixedPoints.RoundIsNormalStep, Laws.ComesBack, NormalStep.normal_step, Printing.string_of, Reading.ParsesAs, Values.Values}
+use Rattle.target_lexicon.specs.{FixedPoints.FixedExactlyOutsideExceptions, FixedPoints.RoundIsNormalStep, Laws.ComesBack, NormalStep.normal_step, Printing.string_of, Parsing.ParsesAs, Values.Values}
 use Rattle.target_lexicon.proofs.StepCases.{IsOutside, step_cases, outside-fixed, plain-exception, none-plain_outside}
 use Rattle.target_lexicon.proofs.{ReadValues.read_plain, UniqueReading.values_unique}
 

@@ -2,7 +2,7 @@
 use Rattle.std.proofs.Common.{◌≡◌, ◌≢◌, ℕ, zero, suc, ◌+◌, ◌<◌, ◌≤◌, List, [], ◌∷◌, map, take, get_or, true, refl, subst, cond, arith, inl, inr}
 use Rattle.std.specs.{List.AllZip, List.Sorted.IsStrictlyIncreasing}
 use Rattle.target_lexicon.specs.Field.{Field, Architecture, Vendor, OperatingSystem, Environment, BinaryFormat, field_number, parses_as}
-use Rattle.target_lexicon.specs.{Laws.HasOneLeastPlacement, Reading.IsPlacement, Reading.AreNotAfter, Reading.IsLeastPlacement, Reading.HasPlacement}
+use Rattle.target_lexicon.specs.{Laws.HasOneLeastPlacement, Parsing.IsPlacement, Parsing.AreNotAfter, Parsing.IsLeastPlacement, Parsing.HasPlacement}
 use Rattle.std.proofs.lemmas.Bool.{cases_Bool}
 
 -- the parts parse as these fields, which strictly increase and all come after `last`

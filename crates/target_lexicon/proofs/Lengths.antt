@@ -5,7 +5,7 @@ use Rattle.std.specs.List.{join_with_byte, slice_get}
 use Rattle.std.proofs.{lemmas.List.length-append, lemmas.List.Splits.join_with_byte-slice_split, lemmas.Bool.and_parts, lemmas.Bool.not-true, Math.Bool.and-false, Math.Bool.or-true}
 use Rattle.lexicon_fields.specs.Names.{dash}
 use Rattle.target_lexicon.specs.Values.{Architecture, OperatingSystem, Environment, BinaryFormat, VendorValue, Known, Values, values, is_unknown_vendor, is_clever_without_system, is_same_format}
-use Rattle.target_lexicon.specs.{Field.Field, ImpliedFormat.default_binary_format, ImpliedFormat.implied_format, Laws.ReadingIsComputed, Reading.parts_of, NormalStep.normal_step, NormalStep.elf_if_unknown}
+use Rattle.target_lexicon.specs.{Field.Field, ImpliedFormat.default_binary_format, ImpliedFormat.implied_format, Laws.ReadingIsComputed, Parsing.parts_of, NormalStep.normal_step, NormalStep.elf_if_unknown}
 use Rattle.target_lexicon.specs.{FixedPoints.PrintedStringsGrowAtMost, FixedPoints.CanonicalStringsGrowAtMost, FixedPoints.RefusedPartsDoNotGrow}
 use Rattle.target_lexicon.specs.SpecialStrings.{SpecialRow, special_triple, special_string, special_values, implies_newlib}
 use Rattle.target_lexicon.specs.ExceptionFacts.{HasFieldsOf, HasSystemOf, HasSpecialFields, HidesNewlib, PrintsTheEspIdfString, ShowsOnlyNone}

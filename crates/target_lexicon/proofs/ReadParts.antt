@@ -6,7 +6,7 @@ use Rattle.std.specs.Option.{option_map_or}
 use Rattle.std.proofs.lemmas.Bool.{cases_Bool}
 use Rattle.target_lexicon.specs.Field as field
 use Rattle.target_lexicon.specs.Field.{Field, field_number, parses_as}
-use Rattle.target_lexicon.specs.{declared.reading.Reading.Reading, Reading.expected_after, Reading.part_at, Values.unknown_values, Values.Values, ValuesRef.values_of_ref}
+use Rattle.target_lexicon.specs.{declared.reading.Reading.Reading, Parsing.expected_after, Parsing.part_at, Values.unknown_values, Values.Values, ValuesRef.values_of_ref}
 use Rattle.target_lexicon.specs.Explanation.{PlacedPart, SourceValue, SourceValues, FromPart, Implied, NotGiven, same_sources, source_at, source_values, sources_at, sources_of, placed_from, with_source}
 use Rattle.target_lexicon.specs.GreedyReading.{HasFilled, IsTaken, field_for, finished_sources, first_field, open_fields, reading_from, reading_of_parts, with_value}
 use Rattle.target_lexicon.proofs.GreedyPlacement.{Follows, after_architecture, filled, unread}

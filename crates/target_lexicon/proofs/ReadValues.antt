@@ -1,6 +1,6 @@
 -- Facts about all parsed triples: the vendor is plain, and the version in range.
 use Rattle.std.proofs.Common.{refl, ◌≡◌, ◌∙◌, ℕ, List, true, Option, Some, None, MatchOption, sym, subst}
-use Rattle.target_lexicon.specs.{Values.OperatingSystem, Values.VendorValue, Values.Known, Values.Values, Field.Field, Laws.ReadVendorsArePlain, Reading.ArePartsOf}
+use Rattle.target_lexicon.specs.{Values.OperatingSystem, Values.VendorValue, Values.Known, Values.Values, Field.Field, Laws.ReadVendorsArePlain, Parsing.ArePartsOf}
 use Rattle.target_lexicon.specs.Parsing.{HoldsParts, ParsesAs, PartsParseAs, IsValueOf}
 use Rattle.target_lexicon.specs.SpecialStrings.{SpecialRow, special_triple, special_values}
 use Rattle.lexicon_fields.specs.{Laws.HasVersionInRange, OperatingSystem.operating_system_of, declared.known_vendor.KnownVendor.TheVariants.Unknown, Vendor.vendor_of, Vendor.is_plain}

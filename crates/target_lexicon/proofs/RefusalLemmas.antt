@@ -2,7 +2,7 @@
 use Rattle.std.proofs.Common.{◌≡◌, ℕ, suc, ◌≤◌, List, [], ◌∷◌, ◌++◌, length, take, true, false, refl, sym, ap, subst, Some, arith, inl, inr}
 use Rattle.std.proofs.{Math.Seq.take-append_seam, lemmas.List.take-append-le, lemmas.Bool.cases_Bool}
 use Rattle.std.specs.Prelude.{slice_get}
-use Rattle.target_lexicon.specs.{Field.Field, Field.Architecture, Field.parses_as, Reading.HasPlacement, Reading.IsRefusal, Reading.IsExpectedAfter, Reading.expected_after, Reading.last_field}
+use Rattle.target_lexicon.specs.{Field.Field, Field.Architecture, Field.parses_as, Parsing.HasPlacement, Parsing.IsRefusal, Parsing.IsExpectedAfter, Parsing.expected_after, Parsing.last_field}
 use Rattle.target_lexicon.specs.Refusal.{refusal_with}
 use Rattle.target_lexicon.proofs.GreedyPlacement.{filled, unread, after_architecture, greedy-least, greedy-finds, placement_prefix}
 

@@ -3,7 +3,7 @@ use Rattle.std.proofs.Common.{◌≡◌, ◌∙◌, ℕ, List, Bool, true, false
 use Rattle.std.specs.Prelude.{◌↔◌, IfSome, MatchOption}
 use Rattle.lexicon_fields.specs.{Laws.HasVersionInRange, Vendor.is_plain}
 use Rattle.target_lexicon.specs.{Exceptions.exception, FixedPoints.FixedExactlyOutsideExceptions, FixedPoints.RoundIsNormalStep, FixedPoints.OneStepSettles, FixedPoints.CanonicalStringsAreKeys, Laws.ComesBack, Laws.EveryStringHasOneOutcome, NormalStep.normal_step, Printing.string_of}
-use Rattle.target_lexicon.specs.{QueryLaws.HaveSameAnswers, QueryLaws.QueriesKept, Reading.ParsesAs, Reading.IsErrorOf, Reading.IsRefusalOrOutOfMemory, Reading.MayAllocate, Reading.IsRefusedAs, Refusal.Refusal, Refusal.refusal_of, Values.Values, declared.parse_error.ParseError.ParseError}
+use Rattle.target_lexicon.specs.{QueryLaws.HaveSameAnswers, QueryLaws.QueriesKept, Parsing.ParsesAs, Parsing.IsErrorOf, Parsing.IsRefusalOrOutOfMemory, Parsing.MayAllocate, Parsing.IsRefusedAs, Refusal.Refusal, Refusal.refusal_of, Values.Values, declared.parse_error.ParseError.ParseError}
 
 pub read-step : EveryStringHasOneOutcome → RoundIsNormalStep → (t u : Values) → is_plain t.vendor ≡ true → HasVersionInRange t.operating_system
     → ParsesAs (string_of t) u → u ≡ normal_step t

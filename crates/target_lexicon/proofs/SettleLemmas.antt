@@ -1,7 +1,7 @@
 -- A second step changes no triple.
 use Rattle.std.proofs.Common.{◌≡◌, ℕ, List, true, refl, sym, ap, subst, Option, true≢false}
 use Rattle.target_lexicon.specs.{Values.Architecture, Values.BinaryFormat, Values.VendorValue, Values.Known, Values.Values, Values.values, Laws.ComesBack, NormalStep.normal_step, NormalStep.step_of, NormalStep.elf_if_unknown}
-use Rattle.target_lexicon.specs.{Exceptions.exception, Exceptions.RoundTripException, ExceptionFacts.HasSpecialFields, ExceptionFacts.HidesNewlib, ExceptionFacts.PrintsTheEspIdfString, Printing.string_of, Reading.ParsesAs, SpecialStrings.special_string}
+use Rattle.target_lexicon.specs.{Exceptions.exception, Exceptions.RoundTripException, ExceptionFacts.HasSpecialFields, ExceptionFacts.HidesNewlib, ExceptionFacts.PrintsTheEspIdfString, Printing.string_of, Parsing.ParsesAs, SpecialStrings.special_string}
 use Rattle.target_lexicon.specs.FixedPoints.{IsPlainTriple, RoundIsNormalStep, canonical_values, OneStepSettles, CanonicalStringsAreKeys}
 use Rattle.lexicon_fields.specs.{Vendor.is_plain, Laws.HasVersionInRange, declared.known_vendor.KnownVendor.TheVariants.Espressif}
 use Rattle.target_lexicon.proofs.{SpecialRows.fields_of_special, SpecialRows.special_of_fields, SpecialRows.row_of_system, SpecialRows.special_system, StepCases.outside-fixed, StepCases.special-own, StepCases.step_cases, UniqueReading.values_unique}

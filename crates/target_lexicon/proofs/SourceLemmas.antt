@@ -7,7 +7,7 @@ use Rattle.std.proofs.{Math.Seq.take-append_seam, Math.Seq.drop-append_seam, Mat
 use Rattle.lexicon_fields.specs.Names.{dash}
 use Rattle.target_lexicon.specs.Field.{Field, Architecture, Vendor, OperatingSystem, Environment, BinaryFormat, field_number, parses_as}
 use Rattle.target_lexicon.specs.Explanation.{PlacedPart, part_from, placed_from, SourceValue, NotGiven, Implied, SourceValues, source_at, sources_at, whole_text_sources, AreSourcesOf, IsRefusalAfter, IsRefusedAfter, IsInString, IsSourceInString, AreInString}
-use Rattle.target_lexicon.specs.{Reading.ArePartsOf, Reading.IsLeastPlacement, Reading.HasPlacement, Reading.parts_of, SpecialStrings.special_values, Values.Values}
+use Rattle.target_lexicon.specs.{Parsing.ArePartsOf, Parsing.IsLeastPlacement, Parsing.HasPlacement, Parsing.parts_of, SpecialStrings.special_values, Values.Values}
 use Rattle.target_lexicon.specs.Parsing.{IsRefusal, IsRefusedAs, PartsParseAs, ParsesAs, expected_after, last_field}
 use Rattle.target_lexicon.specs.Refusal.{Refusal, refusal_with}
 use Rattle.target_lexicon.proofs.GreedyPlacement.{filled, unread, after_architecture, greedy-finds, greedy-least, placement_prefix}

@@ -8,7 +8,7 @@ use Rattle.lexicon_fields.specs.declared.pointer_width.PointerWidth.TheVariants.
 use Rattle.lexicon_fields.specs.declared.known_vendor.KnownVendor.TheVariants as known_vendor
 use Rattle.target_lexicon.specs.SpecialStrings.{SpecialRow, special_rows, special_pair, special_triple, special_values, special_string, implies_newlib}
 use Rattle.target_lexicon.specs.ExceptionFacts.{SomeRow, HasSystemOf, HasFieldsOf, HasSpecialFields}
-use Rattle.target_lexicon.specs.{Exceptions.is_custom_esp, Field.parses_as, ImpliedFormat.implied_format, Printing.is_none_or_unknown, Reading.parts_of, GreedyReading.reading_of_parts, Refusal.Refusal}
+use Rattle.target_lexicon.specs.{Exceptions.is_custom_esp, Field.parses_as, ImpliedFormat.implied_format, Printing.is_none_or_unknown, Parsing.parts_of, GreedyReading.reading_of_parts, Refusal.Refusal}
 use Rattle.target_lexicon.specs.Values.{Architecture, OperatingSystem, Environment, BinaryFormat, VendorValue, Known, Values, values, is_unknown_vendor}
 use Rattle.target_lexicon.specs.Values.architecture
 use Rattle.target_lexicon.specs.Values.operating_system

@@ -4,9 +4,9 @@ use Rattle.std.specs.{List.list_all, List.join_with_byte}
 use Rattle.std.proofs.{lemmas.Bool.cases_Bool, lemmas.Bool.false≢true}
 use Rattle.lexicon_fields.specs.Names.{dash}
 use Rattle.target_lexicon.specs.Values.{Architecture, OperatingSystem, Environment, BinaryFormat, VendorValue, Known, Custom, Values, values}
-use Rattle.target_lexicon.specs.{FixedPoints.RoundIsNormalStep, ImpliedFormat.implied_format, NormalStep.normal_step, NormalStep.step_of, NormalStep.elf_if_unknown, Exceptions.RoundTripException, Exceptions.exception, Exceptions.has_newlib_and_elf, Exceptions.is_custom_esp, ExceptionFacts.HasFieldsOf, ExceptionFacts.HasSpecialFields, ExceptionFacts.PrintsTheEspIdfString, Reading.parts_of}
+use Rattle.target_lexicon.specs.{FixedPoints.RoundIsNormalStep, ImpliedFormat.implied_format, NormalStep.normal_step, NormalStep.step_of, NormalStep.elf_if_unknown, Exceptions.RoundTripException, Exceptions.exception, Exceptions.has_newlib_and_elf, Exceptions.is_custom_esp, ExceptionFacts.HasFieldsOf, ExceptionFacts.HasSpecialFields, ExceptionFacts.PrintsTheEspIdfString, Parsing.parts_of}
 use Rattle.target_lexicon.specs.Printing.{shows_vendor, shows_operating_system, shows_environment, shows_binary_format, shows_unknowns, shown_names, string_of, cons_if}
-use Rattle.target_lexicon.specs.{Field.parses_as, Reading.ParsesAs, GreedyReading.reading_of_parts, GreedyReading.reading_unless_special, GreedyReading.reading}
+use Rattle.target_lexicon.specs.{Field.parses_as, Parsing.ParsesAs, GreedyReading.reading_of_parts, GreedyReading.reading_unless_special, GreedyReading.reading}
 use Rattle.target_lexicon.specs.SpecialStrings.{SpecialRow, special_triple, special_string, special_values, implies_newlib}
 use Rattle.lexicon_fields.specs.{Names.is_dash_free, Architecture.architecture_name, Laws.HasVersionInRange, Environment.environment_name}
 use Rattle.lexicon_fields.specs.{Vendor.vendor_name, Vendor.is_custom, Vendor.is_plain, BinaryFormat.binary_format_name}

@@ -2,7 +2,7 @@
 use Rattle.std.proofs.Common.{◌≡◌, ℕ, ◌<◌, List, [], ◌∷◌, take, refl, sym, ◌∙◌, ap, subst, Option, Some, None, arith}
 use Rattle.std.specs.Prelude.{MatchOption, slice_get}
 use Rattle.lexicon_fields.specs.{Architecture.architecture_of, Vendor.vendor_of, OperatingSystem.operating_system_of, Environment.environment_of, BinaryFormat.binary_format_of}
-use Rattle.target_lexicon.specs.{Field.Field, ImpliedFormat.default_binary_format, Reading.ArePartsOf, Reading.parts_of, Reading.HasPlacement, SpecialStrings.special_values, Values.Values}
+use Rattle.target_lexicon.specs.{Field.Field, ImpliedFormat.default_binary_format, Parsing.ArePartsOf, Parsing.parts_of, Parsing.HasPlacement, SpecialStrings.special_values, Values.Values}
 use Rattle.target_lexicon.specs.Refusal.{Refusal, refusal_with}
 use Rattle.target_lexicon.specs.Parsing.{IsValueOf, HoldsParts, PartsParseAs, ParsesAs, IsRefusal, IsExpectedAfter, IsRefusedAs, IsRefused, expected_after, last_field}
 use Rattle.target_lexicon.proofs.{GreedyPlacement.placement_prefix, GreedyPlacement.least-unique, PartLemmas.parts-only, SameValues.same_values}

@@ -2,8 +2,8 @@
 use Rattle.std.specs.Prelude.{◌≡◌, ℕ, ◌+◌, ◌≤◌, List, [], ◌∷◌, length, take, Some, MatchOption, slice_get}
 use Rattle.std.specs.{List.slice_range, Option.option_map_or}
 use Rattle.target_lexicon.specs.declared.explanation.{Source.Source, Sources.Sources, TextPart.TextPart}
-use Rattle.target_lexicon.specs.{Field.Field, Reading.ArePartsOf, Reading.IsLeastPlacement, Reading.part_at}
-use Rattle.target_lexicon.specs.{Reading.IsRefusal, Refusal.Refusal, SpecialStrings.special_values}
+use Rattle.target_lexicon.specs.{Field.Field, Parsing.ArePartsOf, Parsing.IsLeastPlacement, Parsing.part_at}
+use Rattle.target_lexicon.specs.{Parsing.IsRefusal, Refusal.Refusal, SpecialStrings.special_values}
 use Rattle.target_lexicon.specs.declared.explanation.Source.TheVariants as source
 use Rattle.target_lexicon.specs.Field as field
 

@@ -1,7 +1,7 @@
 -- Laws of round trips, in which a triple is printed and its string parsed again: which triples come back, what the
 -- others become, and how long strings are.
 use Rattle.std.specs.Prelude.{ℕ, ◌+◌, ◌≤◌, List, length, ◌≡◌, ◌↔◌, None, true}
-use Rattle.target_lexicon.specs.{Reading.IsRefusedAs, Reading.ParsesAs, Refusal.Refusal, Exceptions.exception}
+use Rattle.target_lexicon.specs.{Parsing.IsRefusedAs, Parsing.ParsesAs, Refusal.Refusal, Exceptions.exception}
 use Rattle.target_lexicon.specs.{Laws.EveryStringHasOneOutcome, Laws.ComesBack, NormalStep.normal_step}
 use Rattle.target_lexicon.specs.{Printing.string_of}
 use Rattle.target_lexicon.specs.{QueryLaws.QueriesKept, Values.Values}

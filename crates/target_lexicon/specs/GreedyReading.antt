@@ -8,8 +8,8 @@ use Rattle.lexicon_fields.specs.{Environment.environment_of}
 use Rattle.lexicon_fields.specs.{OperatingSystem.operating_system_of, BinaryFormat.binary_format_of}
 use Rattle.target_lexicon.specs.{declared.parse_error.ParseError.ParseError, declared.reading.Reading.Reading}
 use Rattle.target_lexicon.specs.{declared.refusal.Refusal.Refusal as BorrowedRefusal, declared.triple.Triple.Triple}
-use Rattle.target_lexicon.specs.{Reading.ParsesAs, Reading.IsErrorOf, Reading.expected_after, Field.Field}
-use Rattle.target_lexicon.specs.{Field.parses_as, Reading.parts_of}
+use Rattle.target_lexicon.specs.{Parsing.ParsesAs, Parsing.IsErrorOf, Parsing.expected_after, Field.Field}
+use Rattle.target_lexicon.specs.{Field.parses_as, Parsing.parts_of}
 use Rattle.target_lexicon.specs.{Refusal.refusal_of, Refusal.Refusal, Refusal.refusal_with}
 use Rattle.target_lexicon.specs.{ImpliedFormat.default_binary_format, SpecialStrings.special_values}
 use Rattle.target_lexicon.specs.Explanation.{FromPart, Implied, PlacedPart, SourceValues, part_value, sources_of}

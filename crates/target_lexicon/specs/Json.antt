@@ -5,7 +5,7 @@ use Rattle.serde_json.specs.Data.{Data, string, array, Items, no_items, item}
 use Rattle.serde_json.specs.Find.{as_str, as_array, get_item}
 use Rattle.serde_json.specs.View.{items_of}
 use Rattle.target_lexicon.specs.{declared.json_error.JsonError.JsonError, declared.list_error.ListError.ListError}
-use Rattle.target_lexicon.specs.{Printing.string_of, Reading.ParsesAs, Reading.IsRefusedAs, Reading.MayAllocate}
+use Rattle.target_lexicon.specs.{Printing.string_of, Parsing.ParsesAs, Parsing.IsRefusedAs, Parsing.MayAllocate}
 use Rattle.target_lexicon.specs.{Refusal.Refusal, Refusal.refusal_of, Refusal.refusal_line, Values.Values}
 use Rattle.target_lexicon.specs.declared.json_error.JsonError.TheVariants as json_error
 use Rattle.target_lexicon.specs.declared.list_error.ListError.TheVariants as list_error

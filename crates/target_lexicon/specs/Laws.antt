@@ -1,8 +1,8 @@
 -- Laws of parsing and printing.
 use Rattle.std.specs.Prelude.{◌≡◌, ◌↔◌, ℕ, List, true, Ok, Err, ◌⊎◌}
 use Rattle.lexicon_fields.specs.Vendor.{is_plain}
-use Rattle.target_lexicon.specs.{Field.Field, Reading.IsLeastPlacement, Printing.string_of, Reading.ParsesAs}
-use Rattle.target_lexicon.specs.{Reading.IsParsed, Reading.IsRefusedAs, Reading.IsRefused, GreedyReading.reading}
+use Rattle.target_lexicon.specs.{Field.Field, Parsing.IsLeastPlacement, Printing.string_of, Parsing.ParsesAs}
+use Rattle.target_lexicon.specs.{Parsing.IsParsed, Parsing.IsRefusedAs, Parsing.IsRefused, GreedyReading.reading}
 use Rattle.target_lexicon.specs.{Refusal.Refusal}
 use Rattle.target_lexicon.specs.Values.{Values}
 pub use Rattle.lexicon_fields.specs.Laws.{ComparesByValue, CopiesEqualTheirSources}

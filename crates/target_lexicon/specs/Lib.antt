@@ -9,12 +9,12 @@ pub mod ImpliedFormat
 pub mod Json
 pub mod Laws
 pub mod NormalStep
+pub mod Parsing
 pub mod Pieces
 pub mod Printing
 pub mod Private
 pub mod Queries
 pub mod QueryLaws
-pub mod Reading
 pub mod GreedyReading
 pub mod Refusal
 pub mod SpecialStrings

@@ -4,7 +4,7 @@ use Rattle.std.specs.Prelude.{◌-◌, length, ℕ, ◌∷◌, List, [], Option,
 use Rattle.lexicon_fields.specs.Names.{dash}
 use Rattle.target_lexicon.specs.Field as field
 use Rattle.target_lexicon.specs.Field.{Field}
-use Rattle.target_lexicon.specs.{Explanation.PlacedPart, Explanation.placed_from, Reading.parts_of}
+use Rattle.target_lexicon.specs.{Explanation.PlacedPart, Explanation.placed_from, Parsing.parts_of}
 
 -- the parts of what is left of a string, if anything is
 abbrev pub rest_parts : List ℕ → Option (Bor (List ℕ)) → List PlacedPart

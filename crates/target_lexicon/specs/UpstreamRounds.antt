@@ -7,7 +7,7 @@ use Rattle.lexicon_fields.specs.Laws.{HasVersionInRange}
 use Rattle.target_lexicon.specs.{Exceptions.exception, FixedPoints.IsPlainTriple, ImpliedFormat.default_binary_format}
 use Rattle.target_lexicon.specs.{NormalStep.normal_step}
 use Rattle.target_lexicon.specs.{Printing.shows_unknowns, Printing.upstream_string_of, QueryLaws.HaveSameAnswers}
-use Rattle.target_lexicon.specs.{Reading.ParsesAs}
+use Rattle.target_lexicon.specs.{Parsing.ParsesAs}
 use Rattle.target_lexicon.specs.Values.{Custom, Values, values}
 use Rattle.target_lexicon.specs.Values.architecture
 use Rattle.target_lexicon.specs.Values.riscv32

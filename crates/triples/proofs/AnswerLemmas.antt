@@ -4,7 +4,7 @@ use Rattle.std.proofs.{lemmas.List.append-nil, lemmas.List.Folds.list_any-append
 use Rattle.std.proofs.lemmas.{Bool.Decides.same_from_decides, Map.Text.hash_set_updates_text, Slice.Eq.bytes_eq-Decides}
 use Rattle.std.specs.{HashSet.IsEmpty, HashSet.UpdatesBy, HashSet.contains_text, List.list_any, Str.bytes_eq, String.string_bytes, String.string_eq}
 use Rattle.std.specs.declared.alloc.Global.{Global}
-use Rattle.target_lexicon.specs.{FixedPoints.canonical_string, Reading.ParsesAs, Reading.IsErrorOf, Reading.IsRefusedAs, Reading.MayAllocate, Refusal.Refusal, Refusal.refusal_of, Values.Values, declared.parse_error.ParseError.ParseError}
+use Rattle.target_lexicon.specs.{FixedPoints.canonical_string, Parsing.ParsesAs, Parsing.IsErrorOf, Parsing.IsRefusedAs, Parsing.MayAllocate, Refusal.Refusal, Refusal.refusal_of, Values.Values, declared.parse_error.ParseError.ParseError}
 use Rattle.triples.specs.Lines.{line_feed}
 use Rattle.triples.specs.Output.{Answer, Shown, Refused, IsAnswer, AreAnswers, IsLineOutput, IsMatrix, shows, is_kept_after, kept_answers, matrix_of, answer_bytes, written_lines}
 use Rattle.triples.specs.Private.{Seen, HasOneMore, is_repeated, refused_answer, AddsAnswer, AddsEntry, AddsRefusal}

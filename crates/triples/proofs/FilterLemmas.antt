@@ -12,7 +12,7 @@ use Rattle.target_lexicon.specs.{CallingConvention.convention_name, DataModel.mo
 use Rattle.target_lexicon.specs.declared.calling_convention.CallingConvention.TheVariants.{SystemV, WasmBasicCAbi, WindowsFastcall, AppleAarch64}
 use Rattle.target_lexicon.specs.declared.data_model.CDataModel.TheVariants.{LP32, ILP32, LLP64, LP64, ILP64}
 use Rattle.target_lexicon.specs.Queries.{endianness_name, width_name, endianness, pointer_width, calling_convention, data_model}
-use Rattle.target_lexicon.specs.{FixedPoints.PrintedStringsGrowAtMost, FixedPoints.CanonicalStringsGrowAtMost, Laws.EveryStringHasOneOutcome, Printing.string_of, Reading.ParsesAs, Reading.IsRefusedAs, Refusal.Refusal, Refusal.refusal_line, Values.Values}
+use Rattle.target_lexicon.specs.{FixedPoints.PrintedStringsGrowAtMost, FixedPoints.CanonicalStringsGrowAtMost, Laws.EveryStringHasOneOutcome, Printing.string_of, Parsing.ParsesAs, Parsing.IsRefusedAs, Refusal.Refusal, Refusal.refusal_line, Values.Values}
 use Rattle.triples.specs.{Facts.facts_of, Facts.spaced_word, Filter.AreFilterAnswers, Filter.IsFilterAnswer}
 use Rattle.triples.specs.FilterSteps.{AnswersLines, AnswersRest, HasNoFeed, IsFilteredTo, IsLate, IsLineAnswer, IsLineEnd, IsShortAnswer, Pushes, PushesAnswer, with_feeds}
 use Rattle.triples.specs.Lines.{line_feed, lines_of, ended_lines_of, parts_without_empty_last, parts_without_last}

@@ -1,7 +1,7 @@
 -- Laws of mode `matrix`.
 use Rattle.std.specs.Prelude.{ℕ, ◌≡◌, ◌↔◌, Bool, true, false, not, List, [], ◌∷◌, ◌++◌, take, map}
 use Rattle.std.specs.List.{filter}
-use Rattle.target_lexicon.specs.{FixedPoints.canonical_values, FixedPoints.canonical_string, Reading.ParsesAs}
+use Rattle.target_lexicon.specs.{FixedPoints.canonical_values, FixedPoints.canonical_string, Parsing.ParsesAs}
 use Rattle.target_lexicon.specs.{Values.Values}
 use Rattle.triples.specs.Output.{Answer, Shown, Refused, IsAnswer, AreAnswers, shows, matrix_of, answer_bytes}
 

@@ -2,8 +2,8 @@
 use Rattle.std.specs.Prelude.{ℕ, ◌≡◌, Bool, true, false, not, if◌then◌else◌, List, [], ◌∷◌, ◌++◌, codes}
 use Rattle.std.specs.List.{AllZip, list_any}
 use Rattle.std.specs.Str.{bytes_eq}
-use Rattle.target_lexicon.specs.{FixedPoints.canonical_string, Printing.string_of, Reading.ParsesAs}
-use Rattle.target_lexicon.specs.{Reading.IsRefusedAs, Refusal.Refusal, Refusal.refusal_line, Values.Values}
+use Rattle.target_lexicon.specs.{FixedPoints.canonical_string, Printing.string_of, Parsing.ParsesAs}
+use Rattle.target_lexicon.specs.{Parsing.IsRefusedAs, Refusal.Refusal, Refusal.refusal_line, Values.Values}
 use Rattle.triples.specs.{declared.line_mode.LineMode.LineMode, declared.mode.Mode.Mode, Facts.text_with_facts}
 use Rattle.triples.specs.declared.line_mode.LineMode.TheVariants as line_mode
 use Rattle.triples.specs.declared.mode.Mode.TheVariants.{Print, Show, Settle, Json, Matrix}

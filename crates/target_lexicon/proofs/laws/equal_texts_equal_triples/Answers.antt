@@ -1,5 +1,5 @@
 use Rattle.std.proofs.Common.{ap, sym, subst, ℕ, List}
-use Rattle.target_lexicon.specs.{Reading.ParsesAs, Printing.string_of}
+use Rattle.target_lexicon.specs.{Parsing.ParsesAs, Printing.string_of}
 use Rattle.target_lexicon.proofs.UniqueReading.{values_unique}
 use Rattle.target_lexicon.proofs.laws.equal_texts_equal_triples.Goals as goal
 

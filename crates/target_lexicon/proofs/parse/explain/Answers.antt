@@ -3,7 +3,7 @@ use Rattle.std.specs.Borrow.{Bor}
 use Rattle.std.proofs.Common.{arith, ◌≤◌, ◌+◌, ◌-◌, length, rules, refl, [], ◌∷◌, Option, ◌≡◌, ◌∙◌, ℕ, List, Result, Ok, Err, Some, None, ap, sym, subst}
 use Rattle.std.specs.Option.{option_map_or}
 use Rattle.std.specs.Prelude.{IfOk, IfErr, IfSome}
-use Rattle.target_lexicon.specs.{declared.reading.Reading.Reading, declared.explanation.Sources.Sources, declared.explanation.Explanation.Explanation, declared.refusal.Refusal.Refusal as BorrowedRefusal, declared.triple_ref.TripleRef.TripleRef, GreedyReading.IsNotTaken, GreedyReading.finished, GreedyReading.finished_sources, GreedyReading.reading_of_parts, Reading.parts_after, Reading.parts_of, Reading.ParsesAs, Reading.IsRefusedAs, SpecialStrings.special_values, ValuesRef.values_of_ref, ValuesRef.refusal_value, Refusal.Refusal, Refusal.refusal_with}
+use Rattle.target_lexicon.specs.{declared.reading.Reading.Reading, declared.explanation.Sources.Sources, declared.explanation.Explanation.Explanation, declared.refusal.Refusal.Refusal as BorrowedRefusal, declared.triple_ref.TripleRef.TripleRef, GreedyReading.IsNotTaken, GreedyReading.finished, GreedyReading.finished_sources, GreedyReading.reading_of_parts, Parsing.parts_after, Parsing.parts_of, Parsing.ParsesAs, Parsing.IsRefusedAs, SpecialStrings.special_values, ValuesRef.values_of_ref, ValuesRef.refusal_value, Refusal.Refusal, Refusal.refusal_with}
 use Rattle.target_lexicon.specs.Explanation.{AreInString, AreSourcesOf, IsInString, IsRefusedAfter, Implied, NotGiven, PlacedPart, part_from, part_value, placed_from, sources_at, sources_of}
 use Rattle.target_lexicon.proofs.{ComputedReading.Holds, ComputedReading.ordinary-holds, PartLemmas.parts_of-some}
 use Rattle.target_lexicon.proofs.SourceLemmas.{LeftAt, all_sources, sources-in, refused-in, sources-explained, refused-explained}

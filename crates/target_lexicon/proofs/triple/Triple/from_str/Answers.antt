@@ -1,7 +1,7 @@
 use Rattle.std.proofs.Common.{◌≡◌, ℕ, List, Result, Ok, Err, inl}
 use Rattle.std.specs.Prelude.{IfErr}
 use Rattle.std.specs.Result.{IsErrAnd}
-use Rattle.target_lexicon.specs.{declared.parse_error.ParseError.ParseError, declared.triple.Triple.Triple, Reading.IsErrorOf, Reading.IsRefusedAs, Refusal.Refusal, Values.values_of}
+use Rattle.target_lexicon.specs.{declared.parse_error.ParseError.ParseError, declared.triple.Triple.Triple, Parsing.IsErrorOf, Parsing.IsRefusedAs, Refusal.Refusal, Values.values_of}
 use Rattle.target_lexicon.specs.declared.parse_error.ParseError.TheVariants.{OutOfMemory}
 use Rattle.target_lexicon.proofs.ReadValues.{read_plain}
 use Rattle.target_lexicon.proofs.triple.Triple.from_str.Goals as goal

@@ -1,7 +1,7 @@
 use Rattle.std.proofs.Common.{◌≡◌, List, ℕ, Result, Ok, Err, true}
 use Rattle.std.specs.Prelude.{IfOk, IfErr}
 use Rattle.lexicon_fields.specs.{Vendor.is_plain, VendorRef.ref_value}
-use Rattle.target_lexicon.specs.{declared.refusal.Refusal.Refusal, declared.triple_ref.TripleRef.TripleRef, Reading.ParsesAs, ValuesRef.refusal_value, ValuesRef.values_of_ref}
+use Rattle.target_lexicon.specs.{declared.refusal.Refusal.Refusal, declared.triple_ref.TripleRef.TripleRef, Parsing.ParsesAs, ValuesRef.refusal_value, ValuesRef.values_of_ref}
 use Rattle.target_lexicon.specs.Explanation.{SourceValues, IsRefusedAfter, IsRefusedAt, part_value}
 use Rattle.target_lexicon.proofs.ReadValues.{read_plain}
 use Rattle.target_lexicon.proofs.triple_ref.TripleRef.from_str.Goals as goal
