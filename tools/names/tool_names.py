@@ -9,6 +9,8 @@ PATH = "packages/names/elsewhere.tsv"
 DAY = re.compile(r"\d{4}-\d\d-\d\d")
 WAYS = {"rw": "Both", "r": "Read", "w": "Written", "-": "NoTriple", "several": "Several"}
 DIALECT, ONLY_WRITTEN = "# dialect ", "# only written: "
+# What words say that are no names here, and the field in which none of them may be one.
+OTHERS = {"other-machine": "architecture", "other-system": "operating_system", "other-abi": "environment"}
 # The rules of a dialect: for each field of `Rules` its value for each choice. The first choice goes without saying. A dialect may have
 # other names too.
 RULES = {"machine": {"order": "MachineRule::Order", "version": "MachineRule::Version", "rustc": "MachineRule::Rustc",
@@ -87,7 +89,7 @@ class Elsewhere:
 
 
 def tables_of(text, known, wrong):
-    """The tables. `known` are the names of the values: of architectures for "", and of the parts after it for "-"."""
+    """The tables. `known` are the names of values: of each field, of architectures for "", and of later parts for "-"."""
     found, cited = Elsewhere(), set()
     read_lines("elsewhere.tsv", text, wrong, lambda line: read_line(found, line, known, cited))
     wrong += [f"elsewhere.tsv: no row cites the reason {it}: remove its line `# why`, or write it as the note of a row" for it in sorted(found.whys.keys() - cited)]
@@ -111,8 +113,10 @@ def read_line(found, line, known, cited):
     elif (words := line.split("\t"))[0] == "word":
         said, of_line = columns(words[1:], ["what words say", "words"])
         add_words(found.said, of_line, said)
+        check_no_name(of_line, known[OTHERS[said]] if said in OTHERS else ())
     elif words[0] in found.words:
         add_words(found.words[words[0]], *columns(words[1:], ["words"]))
+        check_no_name(words[1], known["operating_system"] if words[0] == "system" else ())
     elif not line.startswith("#"):
         dialect, names, triple, ways, *rest = columns(line, ["a dialect", "its names", "a triple", "the ways", "a note", "a level"], 4)
         note, level = (*rest, "", "")[:2]
@@ -187,6 +191,13 @@ def add_words(known, words, said=""):
         if not word or word in known:
             raise Mistake(f"a list has each word once, with a space between two, and not `{word}`")
         known[word] = said
+
+
+def check_no_name(words, names):
+    """Refuses a word of a list of what has no name here, if it is one of the names by now."""
+    for word in words.split(" "):
+        if word in names:
+            raise Mistake(f"the list is of what has no name, but tools/names/names.tsv has `{word}`: say what it means")
 
 
 def is_known_by_now(name, reason, known):
