@@ -2,8 +2,9 @@
 -- field, parsed as an earlier field); GreedyPlacement, RefusalLemmas, UniqueReading, ComputedReading (from parsing as a
 -- function to the least placement); FieldReading (that function field by field); ReadParts, SourceLemmas (part by part,
 -- and the source of each field); ReadValues, Vendors (facts about all parsed triples). Printing: PrintingLemmas,
--- Upstream, Lengths (how much longer than the string). Round trips: RoundTrips, TextRoundTrips (a printed string parsed
--- again); SpecialRows (the facts of each special string), StepCases (those of each exception), FixedPointLemmas, RoundCall, SettleLemmas, ModelsKnown, QueriesKept.
+-- Upstream, Lengths (how much longer than the string), WordLengths (the words of queries). Round trips: RoundTrips,
+-- TextRoundTrips (a printed string parsed again); SpecialRows (the facts of each special string), StepCases (those of
+-- each exception), FixedPointLemmas, RoundCall, SettleLemmas, ModelsKnown, QueriesKept.
 -- Elements: JSON lists. SameValues: equality of triples. HashInputPairs, VariantHashes: what is fed to a hasher.
 -- OnLiterals: for proofs of callers.
 pub mod ComputedReading
@@ -34,3 +35,4 @@ pub mod UniqueReading
 pub mod Upstream
 pub mod VariantHashes
 pub mod Vendors
+pub mod WordLengths

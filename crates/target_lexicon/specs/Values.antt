@@ -5,7 +5,7 @@ pub use Rattle.lexicon_fields.specs.{declared.architecture.Architecture.Architec
 pub use Rattle.lexicon_fields.specs.{declared.operating_system.OperatingSystem.OperatingSystem}
 pub use Rattle.lexicon_fields.specs.{declared.environment.Environment.Environment}
 pub use Rattle.lexicon_fields.specs.{declared.binary_format.BinaryFormat.BinaryFormat}
-pub use Rattle.lexicon_fields.specs.Vendor.{VendorValue, Known, Custom}
+pub use Rattle.lexicon_fields.specs.Vendor.{VendorValue, Known, Custom, is_plain}
 pub use Rattle.lexicon_fields.specs.declared.architecture.Architecture.TheVariants as architecture
 pub use Rattle.lexicon_fields.specs.declared.architecture.aarch64.Aarch64Architecture.TheVariants as aarch64
 pub use Rattle.lexicon_fields.specs.declared.architecture.arm.ArmArchitecture.TheVariants as arm

@@ -5,14 +5,10 @@ use Rattle.std.proofs.lemmas.List.Elements.{All-append}
 use Rattle.std.proofs.lemmas.List.Splits.{slice_split_at, slice_split_none, length-slice_split}
 use Rattle.std.specs.List.{AllZip, AllByRecursion, slice_split}
 use Rattle.std.specs.Str.{IsUtf8}
-use Rattle.lexicon_fields.specs.{declared.endianness.Endianness.Endianness, declared.pointer_width.PointerWidth.PointerWidth}
-use Rattle.lexicon_fields.specs.declared.endianness.Endianness.TheVariants.{Little, Big}
-use Rattle.lexicon_fields.specs.declared.pointer_width.PointerWidth.TheVariants.{U16, U32, U64}
-use Rattle.target_lexicon.specs.{CallingConvention.convention_name, DataModel.model_name, declared.calling_convention.CallingConvention.CallingConvention, declared.data_model.CDataModel.CDataModel}
-use Rattle.target_lexicon.specs.declared.calling_convention.CallingConvention.TheVariants.{SystemV, WasmBasicCAbi, WindowsFastcall, AppleAarch64}
-use Rattle.target_lexicon.specs.declared.data_model.CDataModel.TheVariants.{LP32, ILP32, LLP64, LP64, ILP64}
+use Rattle.target_lexicon.specs.{CallingConvention.convention_name, DataModel.model_name}
 use Rattle.target_lexicon.specs.Queries.{endianness_name, width_name, endianness, pointer_width, calling_convention, data_model}
 use Rattle.target_lexicon.specs.{FixedPoints.PrintedStringsGrowAtMost, FixedPoints.CanonicalStringsGrowAtMost, Laws.EveryStringHasOneOutcome, Printing.string_of, Parsing.ParsesAs, Parsing.IsRefusedAs, Refusal.Refusal, Refusal.refusal_line, Values.Values}
+use Rattle.target_lexicon.proofs.WordLengths.{short-endianness, short-width, short-convention, short-model}
 use Rattle.triples.specs.{Facts.facts_of, Facts.spaced_word, Filter.AreFilterAnswers, Filter.IsFilterAnswer}
 use Rattle.triples.specs.FilterSteps.{AnswersLines, AnswersRest, HasNoFeed, IsFilteredTo, IsLate, IsLineAnswer, IsLineEnd, IsShortAnswer, Pushes, PushesAnswer, with_feeds}
 use Rattle.triples.specs.Lines.{line_feed, lines_of, ended_lines_of, parts_without_empty_last, parts_without_last}
@@ -53,28 +49,6 @@ refused-pushes mode line refusal old one mid new at a m end utf8 refused words f
 short-word : {A : Type 0} (name : A → List ℕ) (most : ℕ) → 1 ≤ most → ((a : A) → length (name a) ≤ most) → (o : Option A) → length (spaced_word (option_map name o)) ≤ most + 1
 short-word name most some short None = omega (arith, some)
 short-word name most some short (Some a) = omega (arith, short a)
-
-short-endianness : (e : Endianness) → length (endianness_name e) ≤ 6
-short-endianness Little = lit≤ tt
-short-endianness Big = lit≤ tt
-
-short-width : (w : PointerWidth) → length (width_name w) ≤ 2
-short-width U16 = lit≤ tt
-short-width U32 = lit≤ tt
-short-width U64 = lit≤ tt
-
-short-convention : (c : CallingConvention) → length (convention_name c) ≤ 15
-short-convention SystemV = lit≤ tt
-short-convention WasmBasicCAbi = lit≤ tt
-short-convention WindowsFastcall = lit≤ tt
-short-convention AppleAarch64 = lit≤ tt
-
-short-model : (m : CDataModel) → length (model_name m) ≤ 5
-short-model LP32 = lit≤ tt
-short-model ILP32 = lit≤ tt
-short-model LLP64 = lit≤ tt
-short-model LP64 = lit≤ tt
-short-model ILP64 = lit≤ tt
 
 pub facts-short : (t : Values) → length (facts_of t) ≤ 32
 facts-short t =

@@ -1,9 +1,8 @@
 //! A filter: it answers line by line, between a buffer for its input and one for its output. It takes no memory.
 ghost use Rattle.std.specs.Prelude.{◌≡◌, ◌+◌, ◌-◌, ◌<◌, ◌≤◌, length, option_map, take, drop, true};
-ghost use Rattle.lexicon_fields.specs.Vendor.{is_plain};
-ghost use Rattle.lexicon_fields.specs.VendorRef.{ref_value};
 ghost use Rattle.target_lexicon.specs.Printing.{string_of};
 ghost use Rattle.target_lexicon.specs.Refusal.{refusal_line};
+ghost use Rattle.target_lexicon.specs.Values.{is_plain};
 ghost use Rattle.target_lexicon.specs.ValuesRef.{refusal_value, values_of_ref};
 ghost use Rattle.triples.specs.Facts.{facts_of, spaced_word};
 ghost use Rattle.triples.specs.Filter.{FilterEndsAs};
@@ -235,7 +234,7 @@ fn push_answer(mode: LineMode, line: &[u8], out: &mut [u8], at: usize) -> usize
 
 /// Puts what the mode shows of a triple into the buffer at this position. Returns where it ends.
 fn put_shown(mode: LineMode, out: &mut [u8], at: usize, triple: TripleRef<'_>) -> usize
-    requires plain { is_plain (ref_value triple.vendor) ≡ true }
+    requires plain { is_plain (values_of_ref triple).vendor ≡ true }
     requires room { at + length (shown_by mode (values_of_ref triple)) ≤ length out.old }
     ensures { Pushes (shown_by mode (values_of_ref triple.entry)) out.old at out.new result }
 {
