@@ -785,6 +785,22 @@ inline std::vector<Change> changes(std::string_view text) {
   }
 }
 
+// A target in a text.
+struct Target {
+  std::size_t start = 0, end = 0;  // in bytes
+  std::string text;
+};
+
+// The targets in any text, as `lexicon_targets` finds them. One that isn't UTF-8 has none.
+inline std::vector<Target> targets_in(std::string_view text) {
+  std::size_t count = 0;
+  std::vector<lexicon_change> parts;
+  while (lexicon_targets(text.data(), text.size(), parts.data(), parts.size(), &count) == LEXICON_TOO_SMALL) parts.resize(count);
+  std::vector<Target> found;
+  for (const auto& it : parts) found.push_back({it.start, it.end, std::string(text.substr(it.start, it.end - it.start))});
+  return found;
+}
+
 // The canonical form of each line of a string, with a line feed after it; of a line that is refused, only the line feed.
 inline std::string settle_lines(std::string_view text) {
   std::size_t lines = 1 + static_cast<std::size_t>(std::count(text.begin(), text.end(), '\n')), length = 0;

@@ -253,11 +253,7 @@ pub unsafe extern "C" fn lexicon_parse(text: *const u8, text_size: usize, triple
 
 #[no_mangle]
 pub unsafe extern "C" fn lexicon_explain(
-    text: *const u8,
-    text_size: usize,
-    triple: *mut Triple,
-    sources: *mut FieldSources,
-    error: *mut TextError,
+    text: *const u8, text_size: usize, triple: *mut Triple, sources: *mut FieldSources, error: *mut TextError,
 ) -> Status {
     let explained = unsafe { text_at(text, text_size) }.map(TripleRef::explain);
     unsafe {
@@ -315,11 +311,7 @@ pub unsafe extern "C" fn lexicon_settle(triple: *mut Triple) -> Status {
 
 #[no_mangle]
 pub unsafe extern "C" fn lexicon_settle_lines(
-    text: *const u8,
-    text_size: usize,
-    out: *mut u8,
-    out_size: usize,
-    length: *mut usize,
+    text: *const u8, text_size: usize, out: *mut u8, out_size: usize, length: *mut usize,
 ) -> Status {
     let text = unsafe { bytes_at(text, text_size) };
     unsafe { Text::write(out, out_size, length, |out| Ok(settle_lines(text?, out))) }
@@ -422,11 +414,7 @@ unsafe fn answer_of<'a, T>(triple: *const Triple, find: impl FnOnce(&TripleRef<'
 
 #[no_mangle]
 pub unsafe extern "C" fn lexicon_read(
-    dialect: u32,
-    text: *const u8,
-    text_size: usize,
-    triple: *mut Triple,
-    error: *mut TextError,
+    dialect: u32, text: *const u8, text_size: usize, triple: *mut Triple, error: *mut TextError,
 ) -> Status {
     let find = || {
         let bytes = unsafe { bytes_at(text, text_size) }?;
@@ -446,22 +434,14 @@ fn meant(dialect: Option<Dialect>, text: &str) -> Result<TripleRef<'_>, TextErro
 
 #[no_mangle]
 pub unsafe extern "C" fn lexicon_stated_versions(
-    text: *const u8,
-    text_size: usize,
-    versions: *mut StatedVersions,
-    error: *mut TextError,
+    text: *const u8, text_size: usize, versions: *mut StatedVersions, error: *mut TextError,
 ) -> Status {
     unsafe { answer_or_error(versions, text_at(text, text_size).and_then(|text| Ok(target_names::stated_versions(text)?)), error) }
 }
 
 #[no_mangle]
 pub unsafe extern "C" fn lexicon_write(
-    dialect: u32,
-    triple: *const Triple,
-    out: *mut u8,
-    out_size: usize,
-    length: *mut usize,
-    reason: *mut *const u8,
+    dialect: u32, triple: *const Triple, out: *mut u8, out_size: usize, length: *mut usize, reason: *mut *const u8,
 ) -> Status {
     let find = |dialect: Dialect, triple: &TripleRef<'_>| dialect.write_with(triple, None);
     unsafe { write_name(dialect, triple, find, out, out_size, length, reason) }
@@ -469,13 +449,7 @@ pub unsafe extern "C" fn lexicon_write(
 
 #[no_mangle]
 pub unsafe extern "C" fn lexicon_write_versioned(
-    dialect: u32,
-    triple: *const Triple,
-    major: u32,
-    minor: u32,
-    out: *mut u8,
-    out_size: usize,
-    length: *mut usize,
+    dialect: u32, triple: *const Triple, major: u32, minor: u32, out: *mut u8, out_size: usize, length: *mut usize,
     reason: *mut *const u8,
 ) -> Status {
     // No version has numbers that are larger than those of Rust's call.
@@ -489,13 +463,8 @@ pub unsafe extern "C" fn lexicon_write_versioned(
 
 /// Writes the name of a triple that is found in a dialect, or why there is none if the caller wants it.
 unsafe fn write_name(
-    dialect: u32,
-    triple: *const Triple,
-    find: impl FnOnce(Dialect, &TripleRef<'_>) -> Result<Name, WriteError>,
-    out: *mut u8,
-    out_size: usize,
-    length: *mut usize,
-    reason: *mut *const u8,
+    dialect: u32, triple: *const Triple, find: impl FnOnce(Dialect, &TripleRef<'_>) -> Result<Name, WriteError>,
+    out: *mut u8, out_size: usize, length: *mut usize, reason: *mut *const u8,
 ) -> Status {
     let named = || {
         let dialect = dialect_at(dialect).flatten().ok_or(TextError::without_part(NO_SUCH_DIALECT))?;
@@ -512,15 +481,8 @@ unsafe fn write_name(
 
 #[no_mangle]
 pub unsafe extern "C" fn lexicon_translate(
-    from: u32,
-    name: *const u8,
-    name_size: usize,
-    linux_libc: u32,
-    to: u32,
-    out: *mut u8,
-    out_size: usize,
-    length: *mut usize,
-    error: *mut TextError,
+    from: u32, name: *const u8, name_size: usize, linux_libc: u32, to: u32, out: *mut u8, out_size: usize,
+    length: *mut usize, error: *mut TextError,
 ) -> Status {
     let find = || {
         let no_range = TextError::without_part;
@@ -546,12 +508,7 @@ pub unsafe extern "C" fn lexicon_translate(
 
 #[no_mangle]
 pub unsafe extern "C" fn lexicon_changes(
-    text: *const u8,
-    text_size: usize,
-    number: usize,
-    change: *mut Change,
-    out: *mut u8,
-    out_size: usize,
+    text: *const u8, text_size: usize, number: usize, change: *mut Change, out: *mut u8, out_size: usize,
     length: *mut usize,
 ) -> Status {
     let find = || {
@@ -569,12 +526,7 @@ pub unsafe extern "C" fn lexicon_changes(
 
 #[no_mangle]
 pub unsafe extern "C" fn lexicon_meaning(
-    text: *const u8,
-    text_size: usize,
-    number: usize,
-    dialect: *mut u32,
-    triple: *mut Triple,
-    note: *mut *const u8,
+    text: *const u8, text_size: usize, number: usize, dialect: *mut u32, triple: *mut Triple, note: *mut *const u8,
 ) -> Status {
     let find = || {
         let text = unsafe { text_at(text, text_size) }?;
@@ -591,11 +543,7 @@ pub unsafe extern "C" fn lexicon_meaning(
 
 #[no_mangle]
 pub unsafe extern "C" fn lexicon_targets(
-    text: *const u8,
-    text_size: usize,
-    parts: *mut Change,
-    most: usize,
-    count: *mut usize,
+    text: *const u8, text_size: usize, parts: *mut Change, most: usize, count: *mut usize,
 ) -> Status {
     let text = match unsafe { text_at(text, text_size) } {
         Ok(_) if most > MAX_SIZE / size_of::<Change>() => return TOO_LARGE,
@@ -625,12 +573,7 @@ pub unsafe extern "C" fn lexicon_name_suggestion(dialect: u32, name: *const u8, 
 
 #[no_mangle]
 pub unsafe extern "C" fn lexicon_error_line(
-    text: *const u8,
-    text_size: usize,
-    error: *const TextError,
-    out: *mut u8,
-    out_size: usize,
-    length: *mut usize,
+    text: *const u8, text_size: usize, error: *const TextError, out: *mut u8, out_size: usize, length: *mut usize,
 ) -> Status {
     match unsafe { refused_at(text, text_size, error, out_size) } {
         Ok((bytes, error)) => unsafe { Text::write(out, out_size, length, |out| line(bytes, &error, out)) },
@@ -640,12 +583,7 @@ pub unsafe extern "C" fn lexicon_error_line(
 
 #[no_mangle]
 pub unsafe extern "C" fn lexicon_error_text(
-    text: *const u8,
-    text_size: usize,
-    error: *const TextError,
-    out: *mut u8,
-    out_size: usize,
-    length: *mut usize,
+    text: *const u8, text_size: usize, error: *const TextError, out: *mut u8, out_size: usize, length: *mut usize,
 ) -> Status {
     match unsafe { refused_at(text, text_size, error, out_size) } {
         Ok((bytes, error)) => unsafe { Text::write(out, out_size, length, |out| line_and_caret(bytes, &error, out)) },
@@ -655,12 +593,7 @@ pub unsafe extern "C" fn lexicon_error_text(
 
 #[no_mangle]
 pub unsafe extern "C" fn lexicon_suggestion(
-    text: *const u8,
-    text_size: usize,
-    error: *const TextError,
-    out: *mut u8,
-    out_size: usize,
-    length: *mut usize,
+    text: *const u8, text_size: usize, error: *const TextError, out: *mut u8, out_size: usize, length: *mut usize,
 ) -> Status {
     match unsafe { refused_at(text, text_size, error, out_size) } {
         Err(TOO_LARGE) => TOO_LARGE,

@@ -114,14 +114,4 @@ mod tests {
         assert!(!is_name_in(Field::Architecture, "arm64") && !is_name_in(Field::OperatingSystem, "ios17"));
         assert_eq!((vendor_number(VendorRef::Custom("acme")), name_at(Field::Vendor, 255)), (CUSTOM_VENDOR, None));
     }
-
-    #[test]
-    fn only_systems_like_darwin_have_a_version() {
-        let version = Some(DeploymentTarget { major: 17, minor: 2, patch: 1 });
-        for (number, system) in (0..).map_while(|it| Some((it, operating_system_at(it, None)?))) {
-            let versioned = operating_system_at(number, version);
-            assert_eq!(versioned.is_some(), system.is_like_darwin());
-            assert!(versioned.map_or(true, |it| operating_system_number(it) == number && it.version() == version));
-        }
-    }
 }

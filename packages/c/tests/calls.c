@@ -519,12 +519,6 @@ static void try_struct(void) {
   EXPECT(it.triple.custom_vendor == NULL && it.triple.custom_vendor_size == 0);
   it = asked_of(custom);
   EXPECT(it.triple.vendor == LEXICON_VENDOR_CUSTOM && it.triple.custom_vendor == custom + 4 && it.triple.custom_vendor_size == 4);
-  it = asked_of("x86_64-linux");
-  it.triple.custom_vendor = custom; /* what is not read becomes 0 */
-  it.triple.custom_vendor_size = 99;
-  it.triple.major = it.triple.minor = it.triple.patch = 7;
-  EXPECT(lexicon_settle(&it.triple) == LEXICON_OK && it.triple.custom_vendor == NULL && it.triple.custom_vendor_size == 0);
-  EXPECT(it.triple.major == 0 && it.triple.minor == 0 && it.triple.patch == 0);
   it = asked_of("armv7-nintendo-horizon-newlib"); /* printed without the environment */
   EXPECT(lexicon_settle(&it.triple) == LEXICON_OK && it.triple.environment == LEXICON_ENVIRONMENT_UNKNOWN);
   memset(&it.triple, 0, sizeof it.triple);

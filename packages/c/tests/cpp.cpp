@@ -136,6 +136,12 @@ static void try_lines() {
   EXPECT(settle_lines(text) == settled);
 }
 
+static void try_targets() {
+  auto found = targets_in("\xc3\xa9 `avr-none`: linux/arm64 x86_64-linxu, foo");
+  EXPECT(found.size() == 3 && found[0].start == 4 && found[0].end == 12 && found[0].text == "avr-none" && found[2].text == "x86_64-linxu");
+  EXPECT(targets_in({}).empty() && targets_in("avr-\xff avr-none").empty());
+}
+
 // What a driver asks.
 static void try_driver() {
   auto arm = parsed("armv7-linux-gnueabihf"), thumb = parsed("thumbv7em-none-eabihf"), ios = parsed("arm64-apple-ios"), uefi = parsed("x86_64-uefi"), avr = parsed("avr");
@@ -267,6 +273,7 @@ int main() {
   try_changes();
   try_explain();
   try_lines();
+  try_targets();
   try_driver();
   try_ownership();
   try_containers();

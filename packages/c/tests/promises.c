@@ -124,20 +124,12 @@ static void try_names(const struct lexicon_triple *triple) {
   }
 }
 
-/* Names with the smallest and the right buffers. There is a reason exactly if there is no name. */
-static enum lexicon_status with_reason(enum lexicon_status status, const char *why) {
-  CHECK((why != NULL) == (status == LEXICON_TRIPLE_WITHOUT_NAME || status == LEXICON_NEEDS_C_LIBRARY));
-  return status;
-}
+/* Names with the smallest and the right buffers. */
 static enum lexicon_status go_name(const struct lexicon_triple *triple, char *out, size_t out_size, size_t *length) {
-  const char *why = NULL;
-  enum lexicon_status status = lexicon_write(LEXICON_DIALECT_GO, triple, out, out_size, length, &why);
-  return with_reason(status, why);
+  return lexicon_write(LEXICON_DIALECT_GO, triple, out, out_size, length, NULL);
 }
 static enum lexicon_status versioned_name(const struct lexicon_triple *triple, char *out, size_t out_size, size_t *length) {
-  const char *why = NULL;
-  enum lexicon_status status = lexicon_write_versioned(LEXICON_DIALECT_PYTHON, triple, 2, 17, out, out_size, length, &why);
-  return with_reason(status, why);
+  return lexicon_write_versioned(LEXICON_DIALECT_PYTHON, triple, 2, 17, out, out_size, length, NULL);
 }
 
 /* The calls that write a text, and the status where there is none. */

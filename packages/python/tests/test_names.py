@@ -167,6 +167,14 @@ class Names(unittest.TestCase):
             self.assertEqual(target_lexicon.changes(text), changes)
         self.assertRaises(ParseError, target_lexicon.changes, "amd64-\udcff")
 
+    def test_targets_in_a_text(self):
+        text = "\u00e9 `avr-none`: \U0001f600 \udcff x86_64-linxu, foo"
+        self.assertEqual([(it, text[it.start:it.end] == it.text) for it in target_lexicon.targets_in(text)],
+                         [(("avr-none", 3, 11), True), (("x86_64-linxu", 18, 30), True)])
+        self.assertEqual((target_lexicon.targets_in(""), len(target_lexicon.targets_in("- avr\n" * 50_000))), ([], 50_000))
+        for wrong in None, b"avr", 1, ["avr"]:
+            self.assertRaisesRegex(TypeError, "the text must be a str, not ", target_lexicon.targets_in, wrong)
+
     def test_wrong_arguments(self):
         linux = Triple("x86_64-linux")
         dialects = [lambda it: Triple.read("linux/amd64", it), linux.name_in, linux.reason_without_name,

@@ -199,6 +199,8 @@ class FindsTheLibrary(Folder):
         self.assertEqual(prints(LD_LIBRARY_PATH=self.folder), f"aarch64-unknown-linux {NAME}\n")
         for file, old, new, said in (("_values.py", '    XCOFF = "xcoff"\n', '    XCOFF = "xcoff"\n    ELF2 = "elf2"\n',
                                       "has other names than this package"),
+                                     ("_library.py", '("_reason", c_char_p)]', '("_reason", c_char_p), ("more", c_char_p)]', "is of another build than this package"),
+                                     ("_library.py", '("end", c_size_t), ("_reason", c_char_p)]', '("end", c_size_t)]', "is of another build than this package"),
                                      ("_library.py", f'VERSION = "{CALLS}.', 'VERSION = "9.9.', r"isn't libtarget_lexicon 9\.9: its version is")):
             path = pathlib.Path(package, file)
             text = path.read_text(encoding="utf-8")

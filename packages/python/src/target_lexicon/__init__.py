@@ -7,7 +7,7 @@ wasm32-wasi 32 wasm
 
 `Triple` has the fields, the facts and the printed string of a triple. `explain` says which part of a string gave which
 field. `Triple.read` and `Triple.name_in` know the names of other tools, `translate` leads from one to another, and `meanings` says
-whose name a string is. `settle_all` and `facts_all` answer for a column of targets.
+whose name a string is. `settle_all` and `facts_all` answer for a column of targets, and `targets_in` finds those in a text.
 """
 from ._columns import Errors, facts_all, settle_all
 from ._errors import ParseError
@@ -17,7 +17,7 @@ from ._fields import CustomVendor
 from ._library import LIBRARY_PATH, LIBRARY_VERSION, LibraryError
 from ._library import VERSION as __version__
 from ._names import Dialect, DialectName, LinuxLibc, LinuxLibcName
-from ._translation import Change, Meaning, TranslationError, changes, meanings, translate
+from ._translation import Change, Meaning, Target, TranslationError, changes, meanings, targets_in, translate
 from ._triple import Keep, Triple, Version
 from ._values import Architecture, BinaryFormat, Environment, Family, OperatingSystem, Vendor
 
@@ -51,6 +51,7 @@ __all__ = [
     "ParseError",
     "Signedness",
     "Source",
+    "Target",
     "TranslationError",
     "Triple",
     "Vendor",
@@ -61,5 +62,6 @@ __all__ = [
     "facts_all",
     "meanings",
     "settle_all",
+    "targets_in",
     "translate",
 ]

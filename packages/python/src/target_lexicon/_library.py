@@ -203,6 +203,7 @@ complete = _declare("lexicon_complete", _TRIPLE, c_uint32)
 _translate = _declare("lexicon_translate", c_uint32, c_char_p, c_size_t, c_uint32, c_uint32, c_void_p, c_size_t, _SIZE, _ERROR)
 _change = _writing("lexicon_changes", c_char_p, c_size_t, c_size_t, POINTER(ChangeStruct))
 _meaning = _declare("lexicon_meaning", c_char_p, c_size_t, c_size_t, POINTER(c_uint32), _TRIPLE, POINTER(c_char_p))
+_targets = _declare("lexicon_targets", c_char_p, c_size_t, POINTER(ChangeStruct), c_size_t, _SIZE)
 _number = _declare("lexicon_number", c_uint32, c_char_p, c_size_t, POINTER(c_uint32))
 _error_line = _writing("lexicon_error_line", c_char_p, c_size_t, _ERROR)
 _suggestion = _writing("lexicon_suggestion", c_char_p, c_size_t, _ERROR)
@@ -217,6 +218,18 @@ name = _returning("lexicon_name", c_uint32, c_uint32)
 LIBRARY_VERSION = _version().decode()
 if not LIBRARY_VERSION.startswith(f"{_CALLS_VERSION}."):
     raise ImportError(f"{LIBRARY_PATH} isn't libtarget_lexicon {_CALLS_VERSION}: its version is {LIBRARY_VERSION}")
+
+
+def _writes_whole_errors() -> bool:
+    """Whether an error of the library has the size of one here, which two builds of a version below 1 needn't have."""
+    errors, size = (ErrorStruct * 2)(), ctypes.sizeof(ErrorStruct)
+    ctypes.memset(errors, 255, 2 * size)
+    parse(b"", 0, TripleStruct(), errors[0])
+    return bytes(errors)[size - 1:size + 1] == b"\0\xff"
+
+
+if not _writes_whole_errors():
+    raise ImportError(f"{LIBRARY_PATH} is of another build than this package, whose errors have another size: build both of one commit")
 
 
 class LibraryError(RuntimeError):
@@ -288,6 +301,15 @@ def changes(text: bytes) -> Iterator[Tuple[int, int, str]]:
         if names is None:
             return
         yield change.start, change.end, names
+
+
+def targets(text: bytes) -> Iterator[Tuple[int, int]]:
+    """The range in bytes of each target in a text."""
+    count = c_size_t()
+    _targets(text, len(text), None, 0, count)
+    parts = (ChangeStruct * count.value)()
+    check(_targets(text, len(text), parts, count.value, count))
+    return ((it.start, it.end) for it in parts)
 
 
 def number(field: int, text: bytes) -> Tuple[int, int]:

@@ -1,4 +1,4 @@
-"""From the name of one tool to that of another, what a name means to each, and what is read as other names."""
+"""From the name of one tool to that of another, what a name means to each, what is read as other names, and the targets in a text."""
 import ctypes
 from typing import List, NamedTuple, Optional, Tuple, Union
 
@@ -124,4 +124,32 @@ def changes(text: str) -> List[Change]:
     for start, end, names in _library.changes(utf8):
         first, part = range_in(utf8, start, end)
         found.append(Change(first, first + len(part), part, names))
+    return found
+
+
+class Target(NamedTuple):
+    """A target in a text, which has it from `start` to `end`."""
+
+    text: str
+    start: int
+    end: int
+
+
+def targets_in(text: str) -> List[Target]:
+    """The targets in any text, such as a list, a workflow in YAML, or a page in Markdown, as the command finds them in a file.
+
+    >>> targets_in("run: rustup target add `aarch64-apple-darwn`  # for Macs")
+    [Target(text='aarch64-apple-darwn', start=24, end=43)]
+
+    They are the words that are a name of a machine and a system, of any tool or as a triple, or are with a name that is suggested; and
+    all items of a list.
+    """
+    if not isinstance(text, str):
+        raise TypeError(f"the text must be a str, not {type(text).__name__}")
+    utf8 = str.encode(text, errors="replace")  # a byte for a lone surrogate, which is in no target
+    found, at, index = [], 0, 0
+    for start, end in _library.targets(utf8):
+        first = index + len(utf8[at:start].decode())
+        at, index = end, first + len(utf8[start:end].decode())
+        found.append(Target(text[first:index], first, index))
     return found
