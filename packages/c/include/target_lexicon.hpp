@@ -823,7 +823,8 @@ template <> struct std::hash<lexicon::Triple> {
 #if defined(__cpp_lib_format)
 template <> struct std::formatter<lexicon::Triple> : std::formatter<std::string_view> {
   template <class Context> auto format(const lexicon::Triple& triple, Context& context) const {
-    return std::formatter<std::string_view>::format(triple.printed(), context);
+    std::formatter<std::string_view> same = *this;  // some libraries' isn't const
+    return same.format(triple.printed(), context);
   }
 };
 #endif
