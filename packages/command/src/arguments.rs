@@ -45,13 +45,18 @@ pub fn libc_conflict(call: &str, arguments: &ArgMatches) -> Option<clap::Error> 
     let mut words: Vec<&String> = given.collect();
     words.dedup();
     let is_same = |it: &[&String]| call == "what" || is_of_windows(it[0]) == is_of_windows(it[1]);
-    let why = match &words[..] {
+    match &words[..] {
         [one, other, ..] if words.len() > 2 || is_same(&words) => {
-            format!("`--libc {one}` and `--libc {other}` can't be used together")
+            Some(conflict(&format!("--libc {one}"), &format!("--libc {other}")))
         }
-        _ => return None,
-    };
-    Some(command().error(ErrorKind::ArgumentConflict, why))
+        _ => None,
+    }
+}
+
+/// Two arguments that exclude one another.
+pub fn conflict(one: &str, other: &str) -> clap::Error {
+    let why = format!("`{one}` and `{other}` can't be used together");
+    command().error(ErrorKind::ArgumentConflict, why)
 }
 
 /// The names of dialects, each followed by its other ones.

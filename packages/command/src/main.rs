@@ -29,10 +29,10 @@ fn run(arguments: &ArgMatches) -> Result<i32, Fault> {
         return write_only(|out| out.write_all(include_bytes!("../man/target-lexicon.1")));
     }
     match arguments.subcommand() {
-        Some((name, arguments)) => match arguments::libc_conflict(name, arguments) {
-            Some(error) => usage::show(&error),
-            None => calls::run(name, arguments),
-        },
+        Some((name, arguments)) => {
+            let conflict = arguments::libc_conflict(name, arguments).or_else(|| calls::version_conflict(arguments));
+            conflict.map_or_else(|| calls::run(name, arguments), |it| usage::show(&it))
+        }
         None => {
             let mut command = arguments::command();
             usage::show(&command.error(ErrorKind::MissingSubcommand, "a command is missing"))

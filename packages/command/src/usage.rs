@@ -68,6 +68,21 @@ fn target_note(error: &clap::Error) -> String {
     format!("\n`{word}` is `target-lexicon {now}` now\n")
 }
 
+/// The dialect that a word means, though it isn't its name.
+fn dialect_meant(word: &str) -> &'static str {
+    match word {
+        "container" | "containers" | "image" => "`oci`",
+        "cargo" | "rustc" | "rustup" => "`rust`",
+        "wheel" | "wheels" | "pip" | "pypi" => "`python`",
+        "apt" | "deb" | "dpkg" | "ubuntu" => "`debian`",
+        "dnf" | "fedora" | "redhat" | "yum" => "`rpm`",
+        "alpine" => "`apk`",
+        "arch" | "archlinux" => "`pacman`",
+        "gcc" | "mingw" => "`gnu`",
+        _ => "",
+    }
+}
+
 /// What a word may mean that never was one of the command's, and the subcommands, if it is where one of them belongs.
 fn other_note(kind: &str, word: &str) -> String {
     if kind.is_empty() && TripleRef::from_str(word).is_ok() {
@@ -82,7 +97,10 @@ fn other_note(kind: &str, word: &str) -> String {
         ("", "version") => "`--version`",
         ("", "dedup" | "unique") => "`matrix`",
         ("--libc <LIBRARY>", "gnu") => "`--libc glibc` for Linux, or `--libc mingw` for Windows",
-        ("--from <DIALECT>" | "--to <DIALECT>", "container" | "containers" | "image") => "`oci`",
+        ("--from <DIALECT>", "clang") => "`llvm`",
+        ("--to <DIALECT>", "clang" | "llvm") => "`target-lexicon facts`, whose `llvm_target` it is",
+        ("--from <DIALECT>" | "--to <DIALECT>", tool) => dialect_meant(tool),
+        ("option", "--from") => "`what`, or `check`, `facts`, `matrix`, `settle` or `translate`, which have it",
         ("option", "--field" | "--fields") => "`--json`, and a tool such as jq for one member",
         _ => "",
     };

@@ -56,8 +56,20 @@ A word that people try has the right one, and the subcommands follow; nothing is
   $ said() { target-lexicon "$@" | grep '^! For `\|Did you mean'; }
   $ said settle --libc gnu x86_64-linux
   ! For `gnu` use `--libc glibc` for Linux, or `--libc mingw` for Windows
-  $ said settle --from containers linux/amd64
+  $ for tool in containers cargo wheel deb fedora alpine arch gcc clang; do said translate --to $tool avr; done
   ! For `containers` use `oci`
+  ! For `cargo` use `rust`
+  ! For `wheel` use `python`
+  ! For `deb` use `debian`
+  ! For `fedora` use `rpm`
+  ! For `alpine` use `apk`
+  ! For `arch` use `pacman`
+  ! For `gcc` use `gnu`
+  ! For `clang` use `target-lexicon facts`, whose `llvm_target` it is
+  $ said settle --from clang avr
+  ! For `clang` use `llvm`
+  $ said explain --from go linux/amd64
+  ! For `--from` use `what`, or `check`, `facts`, `matrix`, `settle` or `translate`, which have it
   $ said facts --field pointer_width avr
   ! For `--field` use `--json`, and a tool such as jq for one member
 

@@ -175,7 +175,7 @@ The names of each dialect are listed, and are read:
   $ target-lexicon translate --to go --json x86_64-apple-darwin
   [{"target":"x86_64-apple-darwin","file":null,"line":null,"name":"darwin/amd64"}]
 
-A version is one or two numbers, and of several each target gets the first that fits:
+A version is one or two numbers, and of several each target gets the one that fits, of which there are no two:
 
   $ python() { target-lexicon translate --to python "$@"; }
   $ python --with-version 2.17,1.2,11 x86_64-unknown-linux-gnu aarch64-unknown-linux-musl arm64-apple-darwin i686-pc-windows-msvc
@@ -183,6 +183,13 @@ A version is one or two numbers, and of several each target gets the first that 
   musllinux_1_2_aarch64
   macosx_11_0_arm64
   win32
+  $ for versions in 2.17,2.28 '2.17 --with-version 2.28' 1.1,11,1.2 11,21,21.0; do python --with-version $versions avr | head -n 1; done
+  ! error: `--with-version 2.17` and `--with-version 2.28` can't be used together
+  ! error: `--with-version 2.17` and `--with-version 2.28` can't be used together
+  ! error: `--with-version 1.1` and `--with-version 1.2` can't be used together
+  ! error: `--with-version 11.0` and `--with-version 21.0` can't be used together
+  $ python --with-version 2.17 --with-version 2.17 x86_64-unknown-linux-gnu
+  manylinux_2_17_x86_64
   $ python --with-version 2.17 --libc glibc aarch64-linux
   manylinux_2_17_aarch64
   $ python --with-version 2.17 --from rust x86_64-unknown-linux-gnu

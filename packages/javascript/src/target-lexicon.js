@@ -238,7 +238,7 @@ function dialectOf(name) {
 /** The number of a C library of Linux in target_lexicon.h. */
 function libcOf(name) {
   const number = LINUX_LIBCS.indexOf(name);
-  if (number < 1) throw new TypeError(`there is no C library ${String(name)}${meant(name, LINUX_LIBCS.slice(1))}`);
+  if (number < 1) throw new TypeError(`there is no C library ${String(name)}${name === "gnu" ? "; did you mean glibc or mingw?" : meant(name, LINUX_LIBCS.slice(1))}`);
   return number;
 }
 

@@ -171,6 +171,7 @@ const tests = {
       [TypeError, "there is no dialect Docker; did you mean docker?", () => linux.nameIn("Docker")], [TypeError, "there is no dialect podman", () => linux.nameIn("podman")],
       [TypeError, "there is no dialect null", () => translate("x", "go", null), () => linux.nameIn(null)], [TypeError, "there is no dialect Symbol(go)", () => linux.nameIn(Symbol("go"))],
       [TypeError, "there is no C library MUSL; did you mean musl?", () => linux.complete("MUSL"), () => translate("amd64", "debian", "go", "MUSL")], [TypeError, "there is no C library null", () => linux.complete(null)],
+      [TypeError, "there is no C library gnu; did you mean glibc or mingw?", () => linux.complete("gnu")],
       [TypeError, "a triple has no os", () => namesOf("os"), () => Triple.of({ os: "linux" }), () => linux.with({ os: "linux" })],
       [TypeError, `${values}undefined`, () => Triple.of(), () => linux.with()], [TypeError, `${values}null`, () => Triple.of(null)], [TypeError, `${values}an array`, () => Triple.of(["x86_64"])],
       [TypeError, "the values are an object; Triple.parse has the triple of a string", () => Triple.of("avr"), () => linux.with("avr")],

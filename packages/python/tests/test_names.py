@@ -191,6 +191,7 @@ class Names(unittest.TestCase):
                 self.assertRaisesRegex(TypeError, f"the {what} must be of type {names.__name__} or str", call, value)
         for call in linux.name_in, linux.complete, lambda it: target_lexicon.translate("amd64", "debian", it):
             self.assertRaises(TypeError, call, None)
+        self.assertRaisesRegex(ValueError, "did you mean glibc or mingw\\?$", linux.complete, "gnu")
         for value, meant in ("Go", "go"), ("golang", "go"), ("rustc", "rust"), ("dotent", "dotnet"):
             self.assertRaisesRegex(ValueError, f", not {value}; did you mean {meant}\\?$", linux.name_in, value)
 

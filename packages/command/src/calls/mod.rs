@@ -24,6 +24,7 @@ use clap::{ArgMatches, Command};
 use std::io::{self, Write};
 use target_lexicon::TripleRef;
 use target_names::TargetInfo;
+pub use translate::version_conflict;
 
 /// A subcommand that answers for targets.
 pub trait Call {

@@ -1,6 +1,6 @@
 //! `translate`: the name that a tool has for a target.
 use super::*;
-use crate::arguments::{dialect, dialect_of, words, written};
+use crate::arguments::{conflict, dialect, dialect_of, words, written};
 use clap::{Arg, ArgAction};
 use target_names::{Dialect, Name, TranslateError, WriteError};
 
@@ -22,7 +22,7 @@ pub fn command() -> Command {
             .value_delimiter(',')
             .action(ArgAction::Append)
             .value_parser(version)
-            .help("The version that names state, of glibc, musl, macOS or Android; of several with commas, the first that fits"),
+            .help("The version that names state, of glibc, musl, macOS or Android: one that fits each, or with commas one for each"),
     ])
 }
 
@@ -38,9 +38,28 @@ fn version(text: &str) -> Result<Version, String> {
     }
 }
 
+/// Triples of the systems and C libraries whose version some dialect's names state.
+const VERSIONED: [&str; 4] =
+    ["x86_64-linux-gnu", "x86_64-linux-musl", "x86_64-apple-darwin", "x86_64-linux-android"];
+
+/// Two versions of one system or C library.
+pub fn version_conflict(arguments: &ArgMatches) -> Option<clap::Error> {
+    let given = arguments.try_get_many::<Version>("with-version").ok()??;
+    let to = dialect_of(arguments, "to")?;
+    VERSIONED.iter().find_map(|text| {
+        let triple = TripleRef::from_str(text).ok()?;
+        let fits = |it: &&Version| to.write_versioned(triple, it.0, it.1).is_some();
+        let mut versions = given.clone().filter(fits);
+        let first = versions.next()?;
+        let other = versions.find(|it| *it != first)?;
+        let [one, other] = [first, other].map(|(major, minor)| format!("--with-version {major}.{minor}"));
+        Some(conflict(&one, &other))
+    })
+}
+
 pub struct Translate {
     to: Dialect,
-    /// Of which a name states the first that fits.
+    /// Of which at most one fits a triple.
     versions: Vec<Version>,
 }
 
@@ -53,7 +72,7 @@ impl Translate {
         }
     }
 
-    /// The name that states the first of the versions that fits.
+    /// The name that states the version that fits.
     fn versioned(&self, triple: &TripleRef<'_>) -> Result<Name, WriteError> {
         let mut names = self
             .versions

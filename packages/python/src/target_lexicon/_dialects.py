@@ -28,7 +28,8 @@ def _number(value: str, of: Type[NamedValue], what: str) -> int:
     names = list(of)
     if value not in names:
         word = value.lower()
-        near = [it for it in names if word.startswith(it)] or [it for it in names if len(it) == len(word) and sorted(it) == sorted(word)]
+        near = ["glibc or mingw"] if word == "gnu" else [it for it in names if word.startswith(it)]
+        near = near or [it for it in names if len(it) == len(word) and sorted(it) == sorted(word)]
         meant = f"; did you mean {near[0]}?" if near else ""
         raise ValueError(f"the {what} must be one of {', '.join(names)}, not {shown(value)}{meant}")
     return names.index(of(value)) + 1
