@@ -6,6 +6,8 @@ const ABOUT = [
   [/^(intel|amd|pc)$/, /^(x86_64|i[3-6]86)-/], [/^arm$/, /^(aarch64|arm|thumb)/], [/^(win|windows|microsoft)$/, /-windows-/],
   [/^(ubuntu|debian|fedora|redhat|rhel|suse|arch|glibc)$/, /-linux-gnu/], [/^alpine$/, /-linux-musl/], [/^(mobile|phone)$/, /-android|-apple-ios$/],
   [/^(graviton\d?|ampere)$/, /^aarch64-unknown-linux-gnu$/], [/^(microcontroller|embedded|bare|cortex)$/, /-none-e|^avr/], [/^(nvidia|cuda)$/, /^nvptx/], [/^(64|64bit)$/, /64/],
+  [/^(32|32bit)$/, /^(arm|thumb|i[3-6]86|mips(el)?-|powerpc-|riscv32|sparc-|wasm32)/], [/^bits?$/, /-/], [/^(aws|ec2)$/, /^(aarch64|x86_64)-unknown-linux-(gnu|musl)$/],
+  [/^(docker|podman|kubernetes|containers?)$/, /-linux-(gnu|musl)/],
 ];
 
 /**

@@ -260,6 +260,7 @@ def goes_back(page):
 # Words, and targets that are found by them; the first one is the first that is shown.
 SEARCHES = {"macos": ["aarch64-apple-darwin", "x86_64-apple-darwin"], "android": ["i686-linux-android", "aarch64-linux-android"], "wasm": ["wasm32-wasip1"], "apple m1": ["aarch64-apple-darwin"],
             "raspberry pi": ["aarch64-unknown-linux-gnu", "armv7-unknown-linux-gnueabihf"], "Windows ARM64": ["aarch64-pc-windows-msvc"], "linux/amd64": ["x86_64-unknown-linux-gnu"],
+            "windows 32 bit": ["i686-pc-windows-msvc"], "docker arm": ["aarch64-unknown-linux-musl"], "aws graviton": ["aarch64-unknown-linux-gnu"],
             "iphone": ["aarch64-apple-ios"], "alpine": ["x86_64-unknown-linux-musl"], "win32-x64": ["x86_64-pc-windows-msvc"]}
 
 
