@@ -19,6 +19,7 @@ OPTION, METHODS = lambda type: T("Option", type), {
     ("str", "len"): ("length", lambda t: USIZE), ("slice", "len"): ("length", lambda t: USIZE),
     ("str", "is_empty"): ("is_empty", lambda t: BOOL), ("str", "strip_prefix"): ("strip_prefix", lambda t: OPTION(STR)),
     ("str", "split_once"): ("split_once", lambda t: OPTION(("tuple", (STR, STR)))),
+    ("str", "get"): ("str_get", lambda t: OPTION(STR)),
     ("slice", "split_first"): ("split_first", lambda t: OPTION(("tuple", (t[1], t)))),
     ("slice", "cmp"): ("bytes_cmp", lambda t: T("Ordering")), ("number", "cmp"): ("N.compare", lambda t: T("Ordering")),
     ("slice", "position"): ("position", lambda t: OPTION(USIZE)), ("slice", "all"): ("forallb", lambda t: BOOL),
@@ -520,31 +521,6 @@ class Body:
         name = self.pattern(it[1], type, inner) if it[0] == "closure" else self.fail("a function as a value")
         return f"(λ {name}, {self.pure(it[2], inner)})"
 
-    def mapped(self, code, type, name, arg, env, k):
-        """`map` and `map_err` of a Result, `map` of an Option, and `expect`."""
-        value, error, is_option = self.new("it"), self.new("error"), type[1] == "Option"
-        good, bad = ("Some", "None") if is_option else ("Result__Ok", f"Result__Err {error}")
-        if name == "expect":
-            return self.bind("(option_of_result " + code + ")" if not is_option else code, value, k(value, type[2][0]))
-
-        def applied(constructor, variable, of, k):
-            inner = dict(env)
-            pattern = self.pattern(arg[1], self.real(of), inner)
-            quote = "'" if pattern[0] == "(" else ""
-            code = self.ex(arg[2], inner, lambda code, t: k(f"({constructor} {code})", t))
-            return f"let {quote}{pattern} := {variable} in {code}"
-
-        def made(k):
-            if name == "map":
-                new = lambda t: T("Option", t) if is_option else T("Result", t, type[2][1])  # noqa: E731
-                mapped = applied(good, value, type[2][0], lambda code, t: k(code, new(t)))
-                return (f"match {code} with {good} {value} => {mapped}\n"
-                        f"  | {bad} => {k(bad if is_option else f'({bad})', None)} end")
-            same = k(f"({good} {value})", None)
-            mapped = applied("Result__Err", error, type[2][1], lambda code, t: k(code, T("Result", type[2][0], t)))
-            return f"match {code} with {good} {value} => {same}\n  | {bad} => {mapped} end"
-        return self.join(env, k, made)
-
     # ---- methods
 
     def ex_method(self, it, env, k):
@@ -568,8 +544,6 @@ class Body:
                 return k(code, type[1] if kind == "into" else SAME[kind, name] or type)
             if (kind, name) == ("str", "parse"):
                 return k(f"(parse_unsigned {2 ** WIDTH[generic[1]] - 1} {code})", T("Result", generic, UNIT))
-            if kind in ("Option", "Result") and name in ("map", "map_err", "expect"):
-                return self.mapped(code, type, name, args[0], env, k)
             if name == "to_string" and type[0] == "T" and (type[1], "fmt") in self.crate.functions:
                 f, result = self.coq.need(type[1], "fmt"), self.new("it")
                 self.f.fuel |= f.fuel

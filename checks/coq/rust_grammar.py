@@ -11,6 +11,7 @@ TOKEN = re.compile(r"""(?P<skip>\s+|//[^\n]*)|b?"(?:\\.|[^"\\])*"|b?'(?:\\.|[^'\
                    r"""|\.\.=|\.\.|<<|=>|->|==|!=|<=|>=|&&|\|\||\+=|-=|::|.""", re.S)
 LEVELS = ["||", "&&", "== != < > <= >=", "|", "<<", "+ -", "* / %"]
 CLOSING = {"(": ")", "[": "]", "{": "}", "<": ">"}
+FEATURES = ("alloc", "upstream_printing")  # those that may change what a function does
 BINARY = {sign: level for level, signs in enumerate(LEVELS, 1) for sign in signs.split()}
 
 
@@ -129,7 +130,10 @@ class Parser:
         if self.has("("):
             found = self.many(")", self.condition)
             return {"not": lambda: not found[0], "all": lambda: all(found), "any": lambda: any(found)}[name]()
-        return self.has("=") and self.next().strip('"') in self.features if name == "feature" else False
+        feature = self.next().strip('"') if name == "feature" and self.has("=") else ""
+        if feature not in FEATURES:
+            raise self.unknown(f"the configuration {feature or name}")
+        return feature in self.features
 
     def visibility(self):
         if self.has("pub") and self.peek() == "(":

@@ -62,7 +62,10 @@ class Crate:
         p.visibility()
         kind = p.next()
         if kind in ("use", "mod", "extern"):
+            start = p.at
             p.to({";"})
+            if " as " in " ".join(p.tokens[start:p.at]).replace(" as _", ""):
+                raise p.unknown("another name of what is imported")
             p.next(";")
         elif kind == "fn":
             self.function(p, None, "", kept)

@@ -17,13 +17,13 @@ CONFIGURATIONS = {
     "upstream_printing": (("alloc", "upstream_printing"), [*PROOFS, "Owned", "UpstreamCanonical"]),
 }
 # The files that are translated beside those of `proved`.
-LAYER = "canonical conversions explain extensions owned parse_error queries".split()
+LAYER = "canonical conversions display explain extensions owned parse_error parse_triple_error queries".split()
 # The functions of these files that aren't, and why.
 LEFT_OUT = {
     "DefaultToHost::default": "the host is that of the build",
     "CustomVendor::hash": "a hash of std",
     "NotPlain::fmt": "std's formatting of a debug string",
-    "Triple::parse": "the error that shows the place",
+    "ParseTripleError::fmt": "escapes of std", "write_visible": "escapes of std", "write_times": "escapes of std",
 }
 
 

@@ -3,7 +3,7 @@ use crate::common::{self, Shown};
 use crate::report::Report;
 use crate::{answers, inputs};
 use definitions::spec as s;
-use definitions::values::{con, eq, function, library, named, text as v, with, V};
+use definitions::values::{con, eq, function, named, text as v, with, V};
 use std::borrow::Cow;
 use std::fmt::Display;
 use target_lexicon::{Named as _, OperatingSystemExt as _, ParseErrorExt as _, TripleExt as _};
@@ -193,11 +193,9 @@ pub fn triple(r: &mut Report, t: V, owned: &Triple) {
         (written, exception, owned.endianness(), owned.pointer_width(), owned.default_calling_convention(), owned.data_model(), triple.data_model())
     });
     r.holds("queries allocate nothing", silent, input);
-    let (plain, settled, step) = (s::is_plain(s::get_vendor(t)).yes(), s::canonical_values(t), s::normal_step(t));
+    let (plain, settled) = (s::is_plain(s::get_vendor(t)).yes(), s::canonical_values(t));
     let comes_back = eq(s::exception(t), V::C(s::Option__None, &[]));
     r.holds("comes_back", triple.comes_back() == comes_back && owned.comes_back() == comes_back, input);
-    r.holds("one step settles", eq(step, settled), input);
-    r.holds("the round trip is the normal step", !plain || eq(s::reading(s::string_of(t)), con(s::Result__Ok, &[step])), input);
     match (triple.settle(), owned.clone().settle()) {
         (Ok(it), Ok(other)) if plain => {
             r.same("canonical_values", settled, &it, input);
@@ -244,35 +242,10 @@ fn found(sources: Sources, format: Source) -> V {
     s::source_values(value(sources.architecture), value(sources.vendor), value(sources.operating_system), value(sources.environment), value(format))
 }
 
-/// Of all triples that differ in one field from what a string parses as, it parses as none; and a refused one as none that differs so from another.
-pub fn neighbours(r: &mut Report, string: &str) {
+/// Where the fields of a string come from is in the relation of the specification, and with two sources swapped it isn't.
+pub fn sources(r: &mut Report, string: &str) {
     let x = v(string);
-    let read = if let V::C(s::Result__Ok, it) = s::reading(x) { it[0] } else { s::unknown_values() };
-    for (field, all) in inputs::values_of_fields() {
-        for value in all.list() {
-            let other = with(read, &[(field, *value)]);
-            let is_it = eq(s::reading(x), con(s::Result__Ok, &[other]));
-            r.holds("ParsesAs of a neighbour", s::ParsesAs(x, other).yes() == is_it, &(string, definitions::values::shown(*value)));
-        }
-    }
-}
-
-/// The relations of the specification: what `reading` gives is in them, and its neighbours aren't.
-pub fn relations(r: &mut Report, string: &str) {
-    let (x, reading) = (v(string), s::reading(v(string)));
-    let V::C(tag, it) = reading else { panic!("a result") };
-    if tag == s::Result__Ok {
-        r.holds("ParsesAs", s::ParsesAs(x, it[0]).yes(), &string);
-        for field in ["architecture", "vendor", "operating_system", "environment", "binary_format"] {
-            let other = with(it[0], &[(field, s::special_triple(s::special_rows().list()[0]).field(field))]);
-            r.holds("ParsesAs of a neighbour", s::ParsesAs(x, other).yes() == eq(other, it[0]), &string);
-        }
-        let refusal = s::refusal_with(con(s::Option__Some, &[V::C(s::Field__Architecture, &[])]), library::seq(&[]));
-        r.holds("IsRefusedAs of what is read", !s::IsRefusedAs(x, refusal).yes(), &string);
-        // a special string would be refused by its parts
-        if let V::C(s::Result__Err, refused) = s::reading_of_parts(s::parts_of(x)) {
-            r.holds("IsRefusedAs of a special string", !s::IsRefusedAs(x, refused[0]).yes(), &string);
-        }
+    if let V::C(s::Result__Ok, _) = s::reading(x) {
         let all = found(TripleRef::explain(string).sources, Source::NotGiven);
         let (environment, format) = (all.field("environment"), all.field("binary_format"));
         r.holds("AreSourcesOf", s::AreSourcesOf(x, all).yes() && s::AreInString(x, all).yes(), &string);
@@ -286,11 +259,5 @@ pub fn relations(r: &mut Report, string: &str) {
         let is_special = start > 0 && !eq(s::special_values(before), V::C(s::Option__None, &[]));
         let holds = if start > 0 { is_special || s::AreSourcesOf(before, sources).yes() } else { eq(sources, s::same_sources(V::C(s::SourceValue__NotGiven, &[]))) };
         r.holds("the sources of a refused string", holds && explanation.triple.is_err(), &string);
-        r.holds("IsRefusedAs", s::IsRefusedAs(x, it[0]).yes(), &string);
-        for other in definitions::values::fields().list() {
-            let other = with(it[0], &[("expected", con(s::Option__Some, &[*other]))]);
-            r.holds("IsRefusedAs of a neighbour", s::IsRefusedAs(x, other).yes() == eq(other, it[0]), &string);
-        }
-        r.holds("ParsesAs of what is refused", !s::ParsesAs(x, s::unknown_values()).yes(), &string);
     }
 }

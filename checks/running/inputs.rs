@@ -1,8 +1,6 @@
 //! What is tried. Nothing else of this check is chosen by hand.
 use crate::report::without_names_of_structs;
 use definitions::spec::{self as s, NAMED};
-#[cfg(feature = "port")]
-use definitions::values::library;
 use definitions::values::{apply, con, eq, keep, shown, text as v, with, N, V};
 use std::fmt::Debug;
 use target_lexicon::{Architecture, BinaryFormat, CustomVendor, Environment, OperatingSystem, Triple, Vendor};
@@ -121,32 +119,6 @@ pub fn fields() -> Fields {
         environments: paired(s::environment_values().list(), s::environment_name, |name| name.parse().ok()),
         formats: paired(s::binary_format_values().list(), s::binary_format_name, |name| name.parse().ok()),
     }
-}
-
-/// The values of each field, by its name: all of the tables, and some custom vendors and systems with versions.
-#[cfg(feature = "port")]
-pub fn values_of_fields() -> [(&'static str, V); 5] {
-    static mut ALL: Option<[V; 5]> = None;
-    fn values<'a, T: 'a>(all: impl IntoIterator<Item = &'a (V, T)>) -> V {
-        library::seq(&all.into_iter().map(|it| it.0).collect::<Vec<_>>())
-    }
-    fn make() -> [V; 5] {
-        let all = fields();
-        let (made, others) = all.vendors.split_last().expect("vendors");
-        let vendors = others.iter().flatten().chain(made.iter().step_by(100));
-        let systems = all.systems.iter().flat_map(|it| it.iter().step_by(50));
-        [values(&all.architectures), values(vendors), values(systems), values(&all.environments), values(&all.formats)]
-    }
-    let all = unsafe { *ALL.get_or_insert_with(|| {
-        let mut found = None;
-        keep(|| {
-            found = Some(make());
-            V::N(0)
-        });
-        found.unwrap()
-    }) };
-    let [architecture, vendor, system, environment, format] = all;
-    [("architecture", architecture), ("vendor", vendor), ("operating_system", system), ("environment", environment), ("binary_format", format)]
 }
 
 fn only<T: Clone>(values: &[(V, T)], wanted: &str) -> Vec<(V, T)> {

@@ -93,7 +93,7 @@ fn run(part: &str, chosen: Chosen, r: &mut Report) {
             #[cfg(feature = "port")]
             {
                 calls::owned(r, string);
-                calls::relations(r, string);
+                calls::sources(r, string);
             }
         }),
         "lengths" => words(chosen, inputs::long_and_spaced(), r, |r, string| {
@@ -112,9 +112,7 @@ fn run(part: &str, chosen: Chosen, r: &mut Report) {
         #[cfg(feature = "port")]
         "owned" => strings(chosen, r, calls::owned),
         #[cfg(feature = "port")]
-        "relations" => strings(chosen, r, calls::relations),
-        #[cfg(feature = "port")]
-        "neighbours" => strings(chosen, r, calls::neighbours),
+        "sources" => strings(chosen, r, calls::sources),
         "by_value" => {
             if chosen.shard == 0 {
                 by_value::values(r);

@@ -96,9 +96,12 @@ impl<'a> VendorRef<'a> {
     /// ```
     #[inline]
     pub fn from_str(text: &'a str) -> Result<VendorRef<'a>, Refusal<'a>> {
-        VendorRef::from_text(text).map_err(|()| Refusal {
-            expected: Some(Field::Vendor),
-            part: TextPart { text, start: 0 },
-        })
+        match VendorRef::from_text(text) {
+            Ok(vendor) => Ok(vendor),
+            Err(()) => Err(Refusal {
+                expected: Some(Field::Vendor),
+                part: TextPart { text, start: 0 },
+            }),
+        }
     }
 }

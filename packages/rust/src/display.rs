@@ -5,25 +5,40 @@ use crate::{
 };
 use core::fmt;
 
-/// `Display` as the name.
-macro_rules! display {
-    ($($value:ident),*) => {$(
-        impl fmt::Display for $value {
-            #[inline]
-            fn fmt(&self, f: &mut fmt::Formatter<'_>) -> fmt::Result {
-                f.pad(self.name())
-            }
-        }
-    )*};
+impl fmt::Display for CDataModel {
+    #[inline]
+    fn fmt(&self, f: &mut fmt::Formatter<'_>) -> fmt::Result {
+        f.pad(self.name())
+    }
 }
 
-display!(
-    CDataModel,
-    CallingConvention,
-    Endianness,
-    KnownVendor,
-    PointerWidth
-);
+impl fmt::Display for CallingConvention {
+    #[inline]
+    fn fmt(&self, f: &mut fmt::Formatter<'_>) -> fmt::Result {
+        f.pad(self.name())
+    }
+}
+
+impl fmt::Display for Endianness {
+    #[inline]
+    fn fmt(&self, f: &mut fmt::Formatter<'_>) -> fmt::Result {
+        f.pad(self.name())
+    }
+}
+
+impl fmt::Display for KnownVendor {
+    #[inline]
+    fn fmt(&self, f: &mut fmt::Formatter<'_>) -> fmt::Result {
+        f.pad(self.name())
+    }
+}
+
+impl fmt::Display for PointerWidth {
+    #[inline]
+    fn fmt(&self, f: &mut fmt::Formatter<'_>) -> fmt::Result {
+        f.pad(self.name())
+    }
+}
 
 impl fmt::Display for Field {
     /// The words for the field in errors, such as `operating system`.

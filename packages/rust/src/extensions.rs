@@ -152,7 +152,10 @@ impl TripleExt for Triple {
     #[cfg(feature = "alloc")]
     #[inline]
     fn parse(text: &str) -> Result<Self, ParseTripleError> {
-        TripleRef::parse(text).map(|triple| triple.to_triple())
+        match TripleRef::parse(text) {
+            Ok(triple) => Ok(triple.to_triple()),
+            Err(error) => Err(error),
+        }
     }
 
     #[inline]

@@ -24,7 +24,10 @@ impl FromStr for Vendor {
     /// assert_eq!("linux".parse::<Vendor>(), Err(()));
     /// ```
     fn from_str(text: &str) -> Result<Self, ()> {
-        VendorRef::from_text(text).map(|vendor| vendor.to_vendor())
+        match VendorRef::from_text(text) {
+            Ok(vendor) => Ok(vendor.to_vendor()),
+            Err(()) => Err(()),
+        }
     }
 }
 
@@ -159,6 +162,9 @@ impl TripleRef<'_> {
     pub fn to_upstream_text(&self) -> String {
         let mut bytes = vec![0; self.write_upstream_to(&mut [])];
         self.write_upstream_to(&mut bytes);
-        String::from_utf8(bytes).expect("a triple's text is UTF-8")
+        match String::from_utf8(bytes) {
+            Ok(text) => text,
+            Err(_) => unreachable!(),
+        }
     }
 }

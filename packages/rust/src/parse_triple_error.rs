@@ -31,8 +31,9 @@ use core::ops::Range;
 pub struct ParseTripleError {
     text: Box<str>,
     expected: Option<Field>,
-    /// The refused part, which is in the text.
-    range: Range<usize>,
+    /// Where the refused part begins and ends in the text.
+    start: usize,
+    end: usize,
 }
 
 impl<'a> TripleRef<'a> {
@@ -51,7 +52,10 @@ impl<'a> TripleRef<'a> {
     /// ```
     #[inline]
     pub fn parse(text: &'a str) -> Result<TripleRef<'a>, ParseTripleError> {
-        TripleRef::from_str(text).map_err(|refusal| refusal.in_text(text))
+        match TripleRef::from_str(text) {
+            Ok(triple) => Ok(triple),
+            Err(refusal) => Err(refusal.in_text(text)),
+        }
     }
 }
 
@@ -69,15 +73,21 @@ impl Refusal<'_> {
     #[must_use]
     #[inline]
     pub fn in_text(&self, text: &str) -> ParseTripleError {
-        let range = self.range();
-        let (text, range) = match text.get(range.clone()) {
-            Some(part) if part == self.part.text => (text, range),
-            _ => (self.part.text, 0..self.part.text.len()),
-        };
-        ParseTripleError {
-            text: text.into(),
-            expected: self.expected,
-            range,
+        let part = self.part.text;
+        if text.get(self.range()) == Some(part) {
+            ParseTripleError {
+                text: text.into(),
+                expected: self.expected,
+                start: self.part.start,
+                end: self.part.start + part.len(),
+            }
+        } else {
+            ParseTripleError {
+                text: part.into(),
+                expected: self.expected,
+                start: 0,
+                end: part.len(),
+            }
         }
     }
 }
@@ -108,7 +118,7 @@ impl ParseTripleError {
     #[must_use]
     #[inline]
     pub fn part(&self) -> &str {
-        &self.text[self.range.clone()]
+        &self.text[self.start..self.end]
     }
 
     /// The range of the refused part in the string, in bytes.
@@ -122,7 +132,7 @@ impl ParseTripleError {
     #[must_use]
     #[inline]
     pub fn range(&self) -> Range<usize> {
-        self.range.clone()
+        self.start..self.end
     }
 
     /// The field that was expected: this one or a later one. After a binary format none was, and it is `None`.
@@ -161,9 +171,9 @@ impl fmt::Display for ParseTripleError {
         f.write_str(refusal_prefix(self.expected))?;
         write_visible(f, self.part())?;
         f.write_str("\n  ")?;
-        let before = write_visible(f, &self.text[..self.range.start])?;
+        let before = write_visible(f, &self.text[..self.start])?;
         let part = write_visible(f, self.part())?;
-        write_visible(f, &self.text[self.range.end..])?;
+        write_visible(f, &self.text[self.end..])?;
         f.write_str("\n  ")?;
         write_times(f, ' ', before)?;
         // An empty part has a caret too.
