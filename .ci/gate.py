@@ -1,7 +1,8 @@
 #!/usr/bin/env python3
 """The gate: its steps, of which the first that fails ends the run.
 
-usage: .ci/run [--without NAME]..   NAME is a tool or Debian's package of it, as PACKAGES has them, or `kit`, `browser`, `wasm32`
+usage: .ci/run [--without NAME]..   NAME is a tool or Debian's package of it, as PACKAGES has them, or `kit`, `browser`,
+                                    `wasm32`
 
 .ci/isolated starts this in a copy of the tree, and as root installs Debian's packages of missing tools. If one is still
 missing, or too old, that no --without names, no step runs, and the gate fails. While `rt ci` proves, what needs no
@@ -27,28 +28,37 @@ import time
 import traceback
 
 # Debian's packages of the tools: commands, modules of Debian's Python, and paths.
-MODULES = {it: f"python3-{it}" for it in "hypothesis pip venv hatchling build installer pandas packaging selenium jsonschema markdown".split()} | {"ensurepip": "python3-venv"}
-PACKAGES = {it: it for it in "git clang valgrind cmake meson cbindgen jq pkg-config mypy pypy3 shellcheck pyflakes3 chromium npm esbuild lintian rpm makepkg zsh fish strace".split()} | MODULES | {
-    "coqc": "coq", "cargo": "cargo-web", "rustc": "rustc-web", "rustfmt": "rustfmt-web", "cargo-clippy": "rust-web-clippy", "cc": "gcc", "c++": "g++", "nm": "binutils",
-    "bwrap": "bubblewrap", "man": "man-db", "cram3": "python3-cram", "chromedriver": "chromium-driver", "node": "nodejs", "tsc": "node-typescript", "dpkg-buildpackage": "dpkg-dev",
-    "dh": "debhelper", "dh_python3": "dh-python", "llvm-config": "llvm-dev", "go": "golang-go", "nix-instantiate": "nix-bin",
+MODULES = {it: f"python3-{it}"
+           for it in "hypothesis pip venv hatchling build installer pandas packaging selenium jsonschema markdown".split()} | {"ensurepip": "python3-venv"}
+PACKAGES = {
+    it: it for it in "git clang valgrind cmake meson cbindgen jq pkg-config mypy pypy3 shellcheck pyflakes3 chromium npm esbuild lintian rpm makepkg zsh fish strace".split()} | MODULES | {
+    "coqc": "coq", "cargo": "cargo-web", "rustc": "rustc-web", "rustfmt": "rustfmt-web",
+    "cargo-clippy": "rust-web-clippy", "cc": "gcc", "c++": "g++", "nm": "binutils",
+    "bwrap": "bubblewrap", "man": "man-db", "cram3": "python3-cram", "chromedriver": "chromium-driver",
+    "node": "nodejs", "tsc": "node-typescript", "dpkg-buildpackage": "dpkg-dev",
+    "dh": "debhelper", "dh_python3": "dh-python", "llvm-config": "llvm-dev", "go": "golang-go",
+    "nix-instantiate": "nix-bin",
     "/usr/share/gocode/src/github.com/containerd/containerd/platforms": "golang-github-containerd-containerd-dev",
     "/usr/share/doc/librust-proptest+std-dev": "librust-proptest+std-dev",
     "/usr/share/misc/config.sub": "autotools-dev", "/usr/share/doc/nodejs/api/process.md*": "nodejs-doc",
     **{f"/usr/share/cargo/registry/{crate}": f"librust-{package}-dev" for crate, package in (
-        ("clap-4.0.32", "clap-4"), ("clap_complete-4.0.7", "clap-complete"), ("serde_json-1.0.87", "serde-json"), ("cfg-expr-0.10.3", "cfg-expr"), ("cc-1*", "cc"), ("syn-1*", "syn"))},
+        ("clap-4.0.32", "clap-4"), ("clap_complete-4.0.7", "clap-complete"), ("serde_json-1.0.87", "serde-json"),
+        ("cfg-expr-0.10.3", "cfg-expr"), ("cc-1*", "cc"), ("syn-1*", "syn"))},
 }
-# The oldest versions that will do, also of what is in /usr/bin, where Debian's packages are built. An older tool is a missing one.
+# The oldest versions that will do, also of what is in /usr/bin, where Debian's packages are built. An older tool is a
+# missing one.
 OLDEST = {"rustc": "1.68", "cargo": "1.68", "cmake": "3.19", "node": "18.0", "clang": "14.0"}
 GROUPS = {"kit": ["rt"], "browser": ["chromium", "chromedriver", "selenium"]}
 
 
-parser = argparse.ArgumentParser(prog=".ci/run", description=__doc__, formatter_class=argparse.RawDescriptionHelpFormatter)
+parser = argparse.ArgumentParser(prog=".ci/run", description=__doc__,
+                                 formatter_class=argparse.RawDescriptionHelpFormatter)
 parser.add_argument("--without", metavar="NAME", action="append", default=[])
 parser.add_argument("--prepare", action="store_true", help=argparse.SUPPRESS)
 OPTIONS = parser.parse_args()
 WITHOUT = {*OPTIONS.without, *os.environ.get("WITHOUT", "").split()}
-WITHOUT |= {tool for name in WITHOUT for tool in GROUPS.get(name, [])} | {tool for tool, package in PACKAGES.items() if package in WITHOUT}
+WITHOUT |= {tool for name in WITHOUT for tool in GROUPS.get(name, [])} | {
+    tool for tool, package in PACKAGES.items() if package in WITHOUT}
 
 TOP = os.path.dirname(os.path.dirname(os.path.realpath(__file__)))
 WORK = os.environ["WORK"]  # a folder that is closed to others, as .ci/isolated makes it
@@ -63,7 +73,8 @@ FIRST = [
     ("nothing that another user of the machine plants reaches the gate", "checks/planted", ""),
 ]
 PROOFS = ("all proofs, must-fail edits, tests and proved programs", "rt ci", "rt")
-# Two rows of steps: those that need nothing which the gate builds, and those that build something, or need what is built before them.
+# Two rows of steps: those that need nothing which the gate builds, and those that build something, or need what is
+# built before them.
 WITHOUT_PROOF = [[
     ("the Rust crate, as its users build it: tests, samples of the documentation, public surface, features, a dependent",
      "packages/rust/test", "cargo"),
@@ -73,29 +84,40 @@ WITHOUT_PROOF = [[
      "checks/specification quick && checks/running/test && checks/mutants rust 12", "cargo"),
     ("Coq proves the laws of the definitions, and of the Rust source, which is the proved source; twelve edits of them, others on each day, are refused at their lemmas; bad input",
      'checks/theorem --keep "$WORK/theorem" && checks/coq/edits "$WORK/theorem" 12 && checks/coq/test', "coqc"),
-    ("they, and the table of names, say what upstream's own crate answers", 'if [ "$UPSTREAM" ]; then tools/port "$UPSTREAM"; else echo "left out: upstream\'s crate (UPSTREAM isn\'t set)"; fi', "cargo"),
+    ("they, and the table of names, say what upstream's own crate answers",
+     'if [ "$UPSTREAM" ]; then tools/port "$UPSTREAM"; else echo "left out: upstream\'s crate (UPSTREAM isn\'t set)"; fi', "cargo"),
     ("the command `target-lexicon`: arguments, output and statuses", "packages/command/test", "cargo cram3 jq"),
     ("the library for C, header, packages and samples, as C and C++ users have them", "packages/c/test", "cargo cc"),
-    ("Debian's packages are built, and lintian finds no error", 'checks/planted packages/debian/build debian -d', "cargo cc dpkg-buildpackage"),
+    ("Debian's packages are built, and lintian finds no error", 'checks/planted packages/debian/build debian -d',
+     "cargo cc dpkg-buildpackage"),
 ], [
     ("the command `target-lexicon`, and a program to compare with, are built for the next steps",
      f'cd packages/command && cargo build --quiet --locked --release --all-features && cp ../../{COMMANDS}/lines ../../{COMMANDS}/target-lexicon "$BUILT/bin"', "cargo"),
-    ("the library for C is built and installed for the next steps", 'checks/planted packages/c/install "$BUILT"', "cargo cc"),
-    ("what other tools say of names and targets; suggestions keep the machine", "checks/compare elsewhere && checks/compare llvm && checks/compare edits", "cargo cc"),
-    ("the Python package: each answer, wheels, types, samples", f'packages/python/test "$BUILT/lib/libtarget_lexicon.so" {COMMANDS}/lines',
+    ("the library for C is built and installed for the next steps", 'checks/planted packages/c/install "$BUILT"',
+     "cargo cc"),
+    ("what other tools say of names and targets; suggestions keep the machine",
+     "checks/compare elsewhere && checks/compare llvm && checks/compare edits", "cargo cc"),
+    ("the Python package: each answer, wheels, types, samples",
+     f'packages/python/test "$BUILT/lib/libtarget_lexicon.so" {COMMANDS}/lines',
      "cargo cc hatchling"),
-    ("a list of misspelled names takes at most ten times as long as one of right names", f"packages/command/tests/cost {COMMANDS}/target-lexicon", "cargo valgrind"),
-    ("what is released is made, and works in clean folders", 'umask 077; checks/planted tools/release release', "cargo cc"),
-    ("the module, the package and the page for JavaScript are built", 'checks/planted packages/javascript/build --out "$WORK/web"', "cargo wasm32"),
-    ("the page and the package for JavaScript answer as the command does, in Node and in a browser", f'packages/javascript/test "$WORK/web" --command {COMMANDS}/target-lexicon', "cargo wasm32"),
+    ("a list of misspelled names takes at most ten times as long as one of right names",
+     f"packages/command/tests/cost {COMMANDS}/target-lexicon", "cargo valgrind"),
+    ("what is released is made, and works in clean folders", 'umask 077; checks/planted tools/release release',
+     "cargo cc"),
+    ("the module, the package and the page for JavaScript are built",
+     'checks/planted packages/javascript/build --out "$WORK/web"', "cargo wasm32"),
+    ("the page and the package for JavaScript answer as the command does, in Node and in a browser",
+     f'packages/javascript/test "$WORK/web" --command {COMMANDS}/target-lexicon', "cargo wasm32"),
 ]]
 LAST = [
     ("links, names, samples, counts and versions of the pages, and the pictures", "checks/pages", "cargo"),
     ("the program `triples` and the command `target-lexicon`: stored rows, unusual streams, large inputs, samples of the pages", "checks/rows/run", "cargo cram3"),
-    ("no message and no output has what isn't printable ASCII of a hostile string; SECURITY's other promises", "checks/visible && checks/security", "cargo cc strace"),
+    ("no message and no output has what isn't printable ASCII of a hostile string; SECURITY's other promises",
+     "checks/visible && checks/security", "cargo cc strace"),
     ("each allocation fails in turn", "checks/fail_allocations", "rt cc"),
     ("names, rules and tables are upstream's, by its kept answers", "checks/compare answers", "cargo"),
-    ("the mode json: the proved program answers as Rust's serde_json does", "/usr/bin/python3 checks/compare json --inputs 200",
+    ("the mode json: the proved program answers as Rust's serde_json does",
+     "/usr/bin/python3 checks/compare json --inputs 200",
      "rt cargo hypothesis"),
 ]
 
@@ -142,8 +164,10 @@ def run(step):
     path = f"{WASM}/bin:{ENVIRONMENT['PATH']}" if "wasm32" in tools else ENVIRONMENT["PATH"]
     print(f"step: {command}   # {purpose}\n", end="", flush=True)
     begun = time.monotonic()
-    process = subprocess.Popen(command, shell=True, cwd=TOP, env={**ENVIRONMENT, "PATH": path}, stdin=subprocess.DEVNULL,
-                               stdout=subprocess.PIPE, stderr=subprocess.STDOUT, text=True, errors="replace", start_new_session=True)
+    process = subprocess.Popen(command, shell=True, cwd=TOP, env={**ENVIRONMENT, "PATH": path},
+                               stdin=subprocess.DEVNULL,
+                               stdout=subprocess.PIPE, stderr=subprocess.STDOUT, text=True, errors="replace",
+                               start_new_session=True)
     running.add(process)
     output = None
     while output is None:
@@ -188,7 +212,8 @@ def main():
     tools = missing()
     if tools:
         old = "".join(f" ({it})" for tool in tools for it in too_old(tool))
-        failed.append((f"missing: {' '.join(tools)}{old}. Install these, or name what may be left out, as with --without {tools[0]}", 2))
+        failed.append(
+            (f"missing: {' '.join(tools)}{old}. Install these, or name what may be left out, as with --without {tools[0]}", 2))
         return
     with open("/proc/meminfo", encoding="utf-8") as file:
         memory = next(int(line.split()[1]) // 1000000 for line in file if line.startswith("MemAvailable"))
@@ -196,7 +221,8 @@ def main():
         ENVIRONMENT.setdefault("RT_JOBS", str(os.cpu_count()))
     os.makedirs(f"{BUILT}/bin")
     # With Debian's crates cargo needs no network.
-    if has("/usr/share/cargo/registry/clap-4.0.32") and subprocess.run(["tools/debian_crates", CARGO_HOME], cwd=TOP).returncode == 0:
+    if has("/usr/share/cargo/registry/clap-4.0.32") and subprocess.run(
+        ["tools/debian_crates", CARGO_HOME], cwd=TOP).returncode == 0:
         ENVIRONMENT["CARGO_HOME"] = CARGO_HOME
     if "rt" not in WITHOUT:
         first_page = subprocess.run(["rt", "doc"], capture_output=True, text=True).stdout.strip()
@@ -206,8 +232,10 @@ def main():
             return
         if "rt" in WITHOUT and "cargo" not in WITHOUT:
             shutil.copy(f"{TOP}/{COMMANDS}/lines", f"{BUILT}/bin/triples")
-            left_out.append("all proofs; the pages were tried with the Rust crate's program instead of the proved `triples`")
-        for program in glob.glob(f"{TOP}/crates/triples/out/triples") + glob.glob(f"{TOP}/crates/oom_probe/out/oom_probe"):
+            left_out.append(
+                "all proofs; the pages were tried with the Rust crate's program instead of the proved `triples`")
+        for program in glob.glob(f"{TOP}/crates/triples/out/triples") + glob.glob(
+            f"{TOP}/crates/oom_probe/out/oom_probe"):
             shutil.copy(program, f"{BUILT}/bin")  # where `rt ci` left none, the checks ask `rt run`
         list(pool.map(run, LAST))
 

@@ -23,7 +23,8 @@ def left_out(tool, what):
 def made(check, command, folder, status, **environment):
     """Runs a command that makes a program. If that fails, the check ends with the status."""
     print(f"{check}: {' '.join(command)}, in {folder}", flush=True)
-    ran = subprocess.run(command, cwd=folder, env={**os.environ, **environment}, stdin=subprocess.DEVNULL, stdout=subprocess.DEVNULL,
+    ran = subprocess.run(command, cwd=folder, env={**os.environ, **environment}, stdin=subprocess.DEVNULL,
+                         stdout=subprocess.DEVNULL,
                          stderr=subprocess.PIPE, text=True, errors="replace")
     if ran.returncode:
         print(*ran.stderr.splitlines()[-10:], f"{check}: that failed", sep="\n")
@@ -31,14 +32,16 @@ def made(check, command, folder, status, **environment):
 
 
 def cargo_program(check, name, status=1):
-    """The path of a program of packages/command, which has a workspace of its own: `target-lexicon`, or `lines` for comparisons."""
+    """The path of a program of packages/command, which has a workspace of its own: `target-lexicon`, or `lines` for
+    comparisons."""
     if BUILT and os.path.exists(f"{BUILT}/bin/{name}"):
         return f"{BUILT}/bin/{name}"
     environment = {}
     if os.path.isdir("/usr/share/cargo/registry/clap-4.0.32"):
         environment["CARGO_HOME"] = f"{COMMANDS_TARGET}/debian"
         made(check, [f"{ROOT}/tools/debian_crates", environment["CARGO_HOME"]], COMMANDS, status)
-    made(check, ["cargo", "build", "--quiet", "--release", "--locked", "--all-features"], COMMANDS, status, **environment)
+    made(check, ["cargo", "build", "--quiet", "--release", "--locked", "--all-features"], COMMANDS, status,
+         **environment)
     return f"{os.environ.get('CARGO_TARGET_DIR', COMMANDS_TARGET)}/release/{name}"
 
 

@@ -1,8 +1,9 @@
 """Reads the definitions of crates/*/specs, a small functional language, for what writes them in another one.
 
-A module is a file. Its definitions have clauses, which are patterns and an expression; its records and types have their parameters, and
-the types of their fields and constructors. What the definitions take from the kit's library is in checks/running/library.txt, where a
-definition without clauses is one that each other language has anew. What isn't understood is an error that names it.
+A module is a file. Its definitions have clauses, which are patterns and an expression; its records and types have their
+parameters, and the types of their fields and constructors. What the definitions take from the kit's library is in
+checks/running/library.txt, where a definition without clauses is one that each other language has anew. What isn't
+understood is an error that names it.
 """
 import contextlib
 import functools
@@ -48,7 +49,8 @@ def chunks(text):
     return found
 
 class Parser:
-    """Expressions are tuples: var, num, str, nil, get, app, op, tuple, lam, if, record, all, any. Patterns are expressions too."""
+    """Expressions are tuples: var, num, str, nil, get, app, op, tuple, lam, if, record, all, any. Patterns are
+    expressions too."""
 
     def __init__(self, text):
         self.tokens, self.at = [(it[0], it.start(), it.end()) for it in TOKEN.finditer(text)] + [("", -1, -1)], 0
@@ -134,10 +136,12 @@ class Parser:
         elif token == "[]":
             found = ("nil",)
         elif re.match(r'["\w⊤⊥]', token):
-            found = ("str", token) if token[0] == '"' else ("num", int(token, 0)) if token[0].isdigit() else ("var", token)
+            found = ("str", token) if token[0] == '"' else ("num", int(token, 0)) if token[0].isdigit() else (
+                "var", token)
         else:
             raise Untranslated(f"unexpected {token!r}")
-        while self.peek() == "." and self.tokens[self.at][1] == self.tokens[self.at - 1][2] == self.tokens[self.at + 1][1] - 1:
+        while self.peek() == "." and self.tokens[self.at][1] == self.tokens[self.at - 1][2] == self.tokens[self.at + 1][
+            1] - 1:
             self.next()
             found = ("get", found, self.next())
         return found
@@ -155,7 +159,8 @@ class Parser:
 
 
 class Definition:
-    """Its clauses are chunks of text, with the numbers of their lines; `locals` are the definitions after its `where`."""
+    """Its clauses are chunks of text, with the numbers of their lines; `locals` are the definitions after its
+    `where`."""
 
     def __init__(self, module, name, type, local_to=None):
         self.module, self.name, self.type, self.chunks, self.lines = module, name, type, [], []
@@ -201,7 +206,8 @@ FORMS = {
 
 
 class Typed:
-    """A type: a `record` of fields or a `data` of constructors, each with its type; its parameters with their types and brackets."""
+    """A type: a `record` of fields or a `data` of constructors, each with its type; its parameters with their types and
+    brackets."""
 
     def __init__(self, kind, parameters, items, file, line):
         self.kind, self.parameters, self.items, self.file, self.line = kind, parameters, items, file, line
@@ -277,8 +283,10 @@ class Kit(Module):
     """The kit's library: the first definition of each name in these files. What isn't a definition is left out."""
 
     FILES = ["core/specs/" + name for name in (
-        "Option", "Result", "Bool", "List", "List/Sorted", "Str", "Str/Parse", "Char", "Int", "Ordering", "Fmt", "Cmp/Lexicographic")]
-    FILES += ["logic/Lib/ListN", "logic/Lib/Pointwise", "antt/port/mathlib/src/Core/Bool", "serde_json/specs/Find", "serde_json/specs/View"]
+        "Option", "Result", "Bool", "List", "List/Sorted", "Str", "Str/Parse", "Char", "Int", "Ordering", "Fmt",
+        "Cmp/Lexicographic")]
+    FILES += ["logic/Lib/ListN", "logic/Lib/Pointwise", "antt/port/mathlib/src/Core/Bool", "serde_json/specs/Find",
+              "serde_json/specs/View"]
 
     def __init__(self, kit):
         self.path, self.file, self.definitions, self.constructors, self.uses, self.typed = KIT, kit, {}, {}, {}, {}
@@ -297,8 +305,8 @@ class Kit(Module):
 
 
 class Names:
-    """What a name is: a definition, a constructor, a function that library.txt has without clauses, or a module or namespace. What each
-    module is given to, after it is read, may add definitions."""
+    """What a name is: a definition, a constructor, a function that library.txt has without clauses, or a module or
+    namespace. What each module is given to, after it is read, may add definitions."""
 
     def __init__(self, root=ROOT, kit=None, prepare=lambda module: None):
         self.root, self.kit, self.prepare = root, kit and Kit(kit), prepare
@@ -318,7 +326,8 @@ class Names:
     def modules(self):
         """All modules of the crates."""
         return [self.module(("Rattle", crate, "specs") + file.relative_to(folder).with_suffix("").parts)
-                for crate in CRATES for folder in [self.root / "crates" / crate / "specs"] for file in sorted(folder.rglob("*.antt"))]
+                for crate in CRATES for folder in [self.root / "crates" / crate / "specs"]
+                for file in sorted(folder.rglob("*.antt"))]
 
     def lookup(self, path):
         path = tuple(path)
@@ -356,7 +365,8 @@ class Names:
 
 
 def parts(expression):
-    return expression.values() if isinstance(expression, dict) else expression if isinstance(expression, (tuple, list)) else ()
+    return expression.values() if isinstance(expression, dict) else expression if isinstance(
+        expression, (tuple, list)) else ()
 
 
 def variables(expression):
@@ -366,7 +376,8 @@ def variables(expression):
 
 
 def arguments_in(type):
-    """The types of the arguments: what is before arrows that are outside of brackets. Implicit arguments are left out."""
+    """The types of the arguments: what is before arrows that are outside of brackets. Implicit arguments are left
+    out."""
     found, depth = [[]], 0
     for token in TOKEN.findall(re.sub(r"\{[^}]*\} →", "", type)):
         depth += (token in "({") - (token in ")}")
@@ -401,8 +412,10 @@ class Laws(Module):
         for line in re.findall(r"^ghost (use .*);", text, re.M):
             self.read_use(re.match(FORMS["use"], line), 0)
         for it in re.finditer(r"^pub fn (\w+)\((.*?)\)\n(.*?)^\{", text, re.M | re.S):
-            parts = [" ".join(part.split()) for part in re.findall(r"ensures (?:\w+ )?\{(.*?)\}(?=\s*(?:ensures|\Z))", it[3], re.S)]
+            parts = [" ".join(part.split())
+                     for part in re.findall(r"ensures (?:\w+ )?\{(.*?)\}(?=\s*(?:ensures|\Z))", it[3], re.S)]
             law = self.definitions[it[1]] = Definition(self, it[1], "Type 0")
-            law.chunks.append(f"{it[1]} = " + (" × ".join(f"({part})" for part in parts) if len(parts) > 1 else parts[0]))
+            law.chunks.append(f"{it[1]} = " + (" × ".join(f"({part})" for part in parts) if len(parts) > 1
+                                               else parts[0]))
             law.lines.append(text.count("\n", 0, it.start()) + 1)
             law.is_of_code = bool(it[2]) or "⟦" in it[3]

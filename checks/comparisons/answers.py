@@ -1,19 +1,21 @@
-"""Compares with upstream's answers, which checks/upstream.tsv keeps. Upstream's crate is needed only to write that file and known_triples.txt, the
-list of upstream's own test, with --write.
+"""Compares with upstream's answers, which checks/upstream.tsv keeps. Upstream's crate is needed only to write that file
+and known_triples.txt, the list of upstream's own test, with --write.
 
 Each line of the file has words with tabs between them: what was asked, and the answer.
 
 - `word`: what a word of upstream's sources, or of a few more, parses as in each field.
-- `architecture`: byte order, pointer width, whether it is Clever, and what the types of Arm's answer themselves. `system`: whether it
-  is like Darwin. `model`, `size`, `width`: sizes.
-- `all`, for each architecture, system and environment: a checksum of pointer width, calling convention, data model and implied format of all
-  triples that have it, and of what is printed of these with the vendors unknown, pc, nintendo and espressif, and each format. An unknown
-  environment with an unknown format isn't asked, since this repository prints both if another format is implied.
-- `string`, for known triples and a few other strings: the five values, what is printed, the canonical string and the four answers; or the
-  error and its line.
+- `architecture`: byte order, pointer width, whether it is Clever, and what the types of Arm's answer themselves.
+  `system`: whether it is like Darwin. `model`, `size`, `width`: sizes.
+- `all`, for each architecture, system and environment: a checksum of pointer width, calling convention, data model and
+  implied format of all triples that have it, and of what is printed of these with the vendors unknown, pc, nintendo and
+  espressif, and each format. An unknown environment with an unknown format isn't asked, since this repository prints
+  both if another format is implied.
+- `string`, for known triples and a few other strings: the five values, what is printed, the canonical string and the
+  four answers; or the error and its line.
 
-The same program asks upstream's crate and the Rust crate of this repository, whose source is the proved one. The proved program is
-asked for these strings, in each mode, if it is there: nothing is proved for that. A name of the table that upstream doesn't have differs.
+The same program asks upstream's crate and the Rust crate of this repository, whose source is the proved one. The proved
+program is asked for these strings, in each mode, if it is there: nothing is proved for that. A name of the table that
+upstream doesn't have differs.
 """
 import re
 
@@ -21,13 +23,15 @@ import built
 import target_lines
 import upstream
 
-PATH, PACKAGE, OURS = (f"{built.ROOT}/{path}" for path in ("checks/upstream.tsv", "checks/answers", "packages/rust/patch"))
+PATH, PACKAGE, OURS = (f"{built.ROOT}/{path}" for path in ("checks/upstream.tsv", "checks/answers",
+                                                           "packages/rust/patch"))
 KNOWN = f"{built.ROOT}/checks/known_triples.txt"
 HEAD = """# @generated: answers of upstream's crate, target-lexicon 0.13.5. checks/comparisons/answers.py says what each line is.
 # `checks/compare answers --write` writes them, and `checks/compare answers` compares them with the answers of this repository.
 """
 # Words that aren't in upstream's sources: systems with versions, custom vendors, and words that parse as nothing.
-MORE_WORDS = ["darwin23.6.0", "ios17", "macosx10.7", "tvos+1.02", "visionos0.0.0", "watchos1.2.3.4", "xros65535.255.255", "xros65536",
+MORE_WORDS = ["darwin23.6.0", "ios17", "macosx10.7", "tvos+1.02", "visionos0.0.0", "watchos1.2.3.4",
+              "xros65535.255.255", "xros65536",
               "xros1.256", "xros1.2.256", "ios1.", "iosfoo", "acme", "a_b.c9", "7up", "_esp", "PC"]
 # Special strings, triples that don't come back, and strings that are refused.
 MORE_STRINGS = """armv6k-nintendo-3ds riscv32imc-esp-espidf riscv32imc-esp-espidf-unknown armv6k-nintendo-3ds-elf
@@ -45,7 +49,8 @@ def add_arguments(parser):
 
 def file_lines(crate, asked):
     """The lines of the file, as a crate answers: that of a folder, or upstream's, which cargo fetches."""
-    return upstream.cargo(crate, "run", "--release", package=PACKAGE, given="".join(f"{kind}\t{text}\n" for kind, text in asked)).splitlines()
+    return upstream.cargo(crate, "run", "--release", package=PACKAGE,
+                          given="".join(f"{kind}\t{text}\n" for kind, text in asked)).splitlines()
 
 
 def known_triples(crate):
@@ -57,7 +62,8 @@ def known_triples(crate):
 def names_asked(more_words=()):
     """The names of the table and more words; known triples and more strings."""
     names = target_lines.table_names()
-    return dict.fromkeys([*(("word", word) for word in (*names.each, *more_words)), *(("string", text) for text in (*names.known, *MORE_STRINGS))])
+    return dict.fromkeys([*(("word", word) for word in (*names.each, *more_words)),
+                          *(("string", text) for text in (*names.known, *MORE_STRINGS))])
 
 
 # ---- comparing
@@ -83,7 +89,8 @@ def json_list(strings):
 
 def difference(who, ours, theirs):
     """Says how many lines differ, and returns these."""
-    wrong = [f"{who}: {line}" for line in ours if line not in {*theirs}] + [f"upstream: {line}" for line in theirs if line not in {*ours}]
+    wrong = [f"{who}: {line}" for line in ours if line not in {*theirs}] + [f"upstream: {line}" for line in theirs
+                                                                            if line not in {*ours}]
     if ours != theirs and not wrong:
         wrong = [f"{who}: the lines are in another order, or not as many"]
     print(f"{who}: {len(theirs)} lines of upstream, {len(wrong)} differ", flush=True)
@@ -105,7 +112,8 @@ def main(options, _folder):
     wrong = difference("the Rust crate", file_lines(OURS, asked | names_asked()), kept)
     rows = [words[1:] for words in rows if words[0] == "string"]
     parsed, outputs = [row for row in rows if len(row) > 3], mode_outputs(rows)
-    inputs = dict.fromkeys(outputs, "".join(f"{row[0]}\n" for row in rows)) | {"json": json_list(row[0] for row in parsed)}
+    inputs = dict.fromkeys(outputs, "".join(f"{row[0]}\n"
+                                            for row in rows)) | {"json": json_list(row[0] for row in parsed)}
     outputs["json"] = [json_list(row[6] for row in parsed)]
     for name, program in upstream.programs_there().items():
         for mode in (*upstream.LINE_MODES, "json"):

@@ -1,6 +1,6 @@
-"""Compares what the Rust crate says of C libraries, floating-point arguments and types of C with what rustc and clang say, the
-rules of packages/names/examples/linkers.rs with rustc's, variants and versions with LLVM's, and what the sample driver in C says of
-clang's triples with clang."""
+"""Compares what the Rust crate says of C libraries, floating-point arguments and types of C with what rustc and clang
+say, the rules of packages/names/examples/linkers.rs with rustc's, variants and versions with LLVM's, and what the
+sample driver in C says of clang's triples with clang."""
 import concurrent.futures
 import re
 import shutil
@@ -9,18 +9,22 @@ import subprocess
 import built
 from comparisons.tools import output, rustc_specs
 
-# Where clang 14 knows less: visionOS, what `wchar_t` is on UEFI, and that Arm is hard-float by its system or with uClibc.
+# Where clang 14 knows less: visionOS, what `wchar_t` is on UEFI, and that Arm is hard-float by its system or with
+# uClibc.
 LAYOUTS, FLOATS = "visionos|uefi", "freebsd|3ds|uclibceabihf"
 # A compiler of GNU's without GNU's options, and a linker of its own.
 LINKERS = "msp430-none-elf|x86_64-unknown-l4re-uclibc"
 # Of clang's triples: those of rustc, and these machines with these systems.
-MACHINES = ("x86_64 i686 aarch64 armv7", "i386 aarch64_be armv6 armeb thumbv7a mips mipsel mips64 mips64el powerpc powerpc64 powerpc64le riscv32 "
+MACHINES = ("x86_64 i686 aarch64 armv7",
+            "i386 aarch64_be armv6 armeb thumbv7a mips mipsel mips64 mips64el powerpc powerpc64 powerpc64le riscv32 "
             "riscv64 s390x sparc sparc64 m68k")
-SYSTEMS = ("windows windows-macho unknown-uefi pc-windows-msvc pc-windows-msvc19.33.31629 w64-mingw32 apple-darwin22.6 apple-macos13.1 apple-ios16.2",
+SYSTEMS = (
+    "windows windows-macho unknown-uefi pc-windows-msvc pc-windows-msvc19.33.31629 w64-mingw32 apple-darwin22.6 apple-macos13.1 apple-ios16.2",
            "linux-gnu none-linux-musl linux-android21 unknown-freebsd14.0 unknown-netbsd9.3 unknown-netbsd-eabihf unknown-openbsd7.3 "
            "unknown-elf")
-# Where clang 14 knows less: that ILP32 has narrow pointers, and visionOS. With Mach-O on Windows it has a Mac's types, and links as MSVC does. It takes other processors of Arm for the two names of macOS, needs a system
-# to say how frames are unwound, and is given Windows for UEFI.
+# Where clang 14 knows less: that ILP32 has narrow pointers, and visionOS. With Mach-O on Windows it has a Mac's types,
+# and links as MSVC does. It takes other processors of Arm for the two names of macOS, needs a system to say how frames
+# are unwound, and is given Windows for UEFI.
 ILP32, SIGNS, LINKED, MACROS = "gnu_ilp32|x86_64-windows-macho", "xros", "windows-macho", "(aarch64|armv7)-apple-darwin|unknown-unknown|-unknown-elf|-unknown-uefi"
 SOURCE = """
 int long_double_size = sizeof(long double), long_double_alignment = _Alignof(long double);
@@ -33,9 +37,10 @@ int is_hard = 0;
 """
 
 
-# The variants of an architecture, and where LLVM's differ: in pointers of x32 and its like, in architectures that have no name here, in
-# extensions of RISC-V, which stay here, and in the byte order of Arm, of which clang is asked.
-VARIANTS = {"of 32 bits": "gnux32|gnu_ilp32|'nvptx'|'powerpcle'|riscv64a23", "of 64 bits": "riscv32(i|im|ima|imafc|imc)-",
+# The variants of an architecture, and where LLVM's differ: in pointers of x32 and its like, in architectures that have
+# no name here, in extensions of RISC-V, which stay here, and in the byte order of Arm, of which clang is asked.
+VARIANTS = {"of 32 bits": "gnux32|gnu_ilp32|'nvptx'|'powerpcle'|riscv64a23",
+            "of 64 bits": "riscv32(i|im|ima|imafc|imc)-",
             "little-endian": "'arm', '-'|'powerpcle'|'sparcel'", "big-endian": "'armeb', '-'"}
 
 
@@ -44,7 +49,8 @@ def library_of_rustc(spec):
     env, system = spec.get("env", ""), spec.get("os", "none")
     if system == "android":
         return "bionic"
-    return {"gnu": {"windows": "mingw", "vxworks": "system"}.get(system, "glibc"), "ohos": "musl", "msvc": "msvc", "musl": "musl",
+    return {"gnu": {"windows": "mingw", "vxworks": "system"}.get(system, "glibc"), "ohos": "musl", "msvc": "msvc",
+            "musl": "musl",
             "newlib": "newlib", "relibc": "relibc", "uclibc": "uclibc"}.get(env)
 
 
@@ -77,33 +83,45 @@ def deployment_target(target):
 
 def check_variants(report, targets, asked):
     """Compares the variants of the targets and of all architectures. `asked` returns what LLVM says of each string."""
-    systems = [f"darwin{major}{minor}" for major in range(1, 25) for minor in ("", ".6")] + [f"macosx{version}" for version in ("10.7", "10.15.7", "11", "15.2")]
-    strings = [*targets, *(f"{it}-unknown-linux-gnu" for it in report.target_lexicon.Architecture), *(f"x86_64-apple-{it}" for it in systems)]
+    systems = [f"darwin{major}{minor}" for major in range(1, 25)
+               for minor in ("", ".6")] + [f"macosx{version}" for version in ("10.7", "10.15.7", "11", "15.2")]
+    strings = [*targets, *(f"{it}-unknown-linux-gnu" for it in report.target_lexicon.Architecture),
+               *(f"x86_64-apple-{it}" for it in systems)]
     ours = our_answers(strings)
     theirs = asked(sorted({*strings, *(name for it in ours.values() for name in it[8:13])}))
     known = [(string, it, theirs[it[8]]) for string, it in ours.items() if theirs[it[8]]["machine"] != "-"]
     for i, (kind, but) in enumerate(VARIANTS.items(), 9):
-        report.fact(f"LLVM's variant {kind} is the same", ((string, theirs[it[i]]["machine"], llvm[kind]) for string, it, llvm in known), but)
+        report.fact(f"LLVM's variant {kind} is the same",
+                    ((string, theirs[it[i]]["machine"], llvm[kind]) for string, it, llvm in known), but)
     if report.has("clang", shutil.which("clang")):
         arm = [(string, option, order) for string, it, llvm in known if llvm["machine"].startswith("arm")
                for option, order in (("-mlittle-endian", it[11]), ("-mbig-endian", it[12])) if order != "-"]
         report.fact("clang's other byte order of Arm is the same", (
-            (string, order.startswith("armeb"), clang_machine(string, option).startswith("armeb")) for string, option, order in arm))
-        changed = [(it[8], bits, variant.rpartition("-")[2]) for _, it, _ in known for bits, variant in ((32, it[9]), (64, it[10]))
+            (string, order.startswith("armeb"), clang_machine(string, option).startswith("armeb"))
+            for string, option, order in arm))
+        changed = [(it[8], bits, variant.rpartition("-")[2]) for _, it, _ in known
+                   for bits, variant in ((32, it[9]), (64, it[10]))
                    if "-linux-" in it[8] and variant.rpartition("-")[2] not in ("", it[8].rpartition("-")[2])]
         report.fact("clang's environment on Linux with other pointers is the same", (
-            (target, bits, ours, clang_environment(target, bits)) for target, bits, ours in changed), "arm|aarch64|thumb|gnuspe")
-    report.fact("LLVM's version of macOS is the same", ((string, it[13], theirs[string]["version of macOS"]) for string, it, _ in known))
-    report.fact("LLVM's oldest version is the same", ((string, it[14], llvm["oldest version"]) for string, it, llvm in known if llvm["oldest version"] != "-"))
+            (target, bits, ours, clang_environment(target, bits)) for target, bits, ours in changed),
+                    "arm|aarch64|thumb|gnuspe")
+    report.fact("LLVM's version of macOS is the same",
+                ((string, it[13], theirs[string]["version of macOS"]) for string, it, _ in known))
+    report.fact("LLVM's oldest version is the same",
+                ((string, it[14], llvm["oldest version"]) for string, it, llvm in known
+                 if llvm["oldest version"] != "-"))
     apple = [target for target in targets if "-apple-" in target]
     with concurrent.futures.ThreadPoolExecutor() as pool:
-        report.fact("rustc's oldest version is the same", zip(apple, (ours[target][14] for target in apple), pool.map(deployment_target, apple)))
-    report.fact("and no other system has one", ((string, it[14], "-") for string, it in ours.items() if "-apple-" not in string))
+        report.fact("rustc's oldest version is the same",
+                    zip(apple, (ours[target][14] for target in apple), pool.map(deployment_target, apple)))
+    report.fact("and no other system has one", ((string, it[14], "-") for string, it in ours.items()
+                                                if "-apple-" not in string))
 
 
 def macros_of(target):
     """The macros that clang defines; none if it doesn't know the target."""
-    ran = subprocess.run(["clang", "-target", target, "-dM", "-E", "-x", "c", "/dev/null"], capture_output=True, text=True, check=False)
+    ran = subprocess.run(["clang", "-target", target, "-dM", "-E", "-x", "c", "/dev/null"], capture_output=True,
+                         text=True, check=False)
     return dict(re.findall(r"^#define (\S+) ?(.*)", ran.stdout, re.M)) if ran.returncode == 0 else {}
 
 
@@ -112,48 +130,63 @@ def clang_facts(target):
     macros = macros_of(target)
     if "__BYTE_ORDER__" not in macros:
         return None
-    linked = subprocess.run(["clang", "-target", target, "-###", "-x", "c", "/dev/null", "-o", "it"], capture_output=True, text=True, check=False).stderr
+    linked = subprocess.run(["clang", "-target", target, "-###", "-x", "c", "/dev/null", "-o", "it"],
+                            capture_output=True, text=True, check=False).stderr
     size = {name: macros[f"__SIZEOF_{name.upper()}__"] for name in ("int", "long", "pointer")}
-    return {"C types": "int {int}, long {long}, pointer {pointer} bytes".format(**size), "char": "unsigned" if "__CHAR_UNSIGNED__" in macros else "signed",
-            "-m": "".join(re.findall(r'"-m" "([^"]*)"', linked)[:1]), "-dynamic-linker": "".join(re.findall(r'"--?dynamic-linker(?:=|" ")([^"]*)"', linked)[:1]),
+    return {"C types": "int {int}, long {long}, pointer {pointer} bytes".format(**size),
+            "char": "unsigned" if "__CHAR_UNSIGNED__" in macros else "signed",
+            "-m": "".join(re.findall(r'"-m" "([^"]*)"', linked)[:1]),
+            "-dynamic-linker": "".join(re.findall(r'"--?dynamic-linker(?:=|" ")([^"]*)"', linked)[:1]),
             "linker": linker_of(linked), "macros": macros}
 
 
 def linker_of(linked):
     """LLVM's linker with the interface of that which clang calls; the empty string if another compiler links."""
     last = linked.strip().splitlines()[-1]
-    forms = {"lld-link": '"-out:', "wasm-ld": "wasm-ld", "ld64.lld": '"-platform_version"|"-macosx_version_min"|"-arch" "', "": r'^\s*"[^"]*(gcc|cc)"',
+    forms = {"lld-link": '"-out:', "wasm-ld": "wasm-ld",
+             "ld64.lld": '"-platform_version"|"-macosx_version_min"|"-arch" "', "": r'^\s*"[^"]*(gcc|cc)"',
              "ld": '"-bpT:|-b(?:32|64)"'}
     return next((name for name, form in forms.items() if re.search(form, last)), "ld.lld")
 
 
 def check_clang(report, asked, folder):
-    """Asks the sample driver in C, as one passes -target to it, and clang, of the same triples. `asked` returns what LLVM says of each."""
+    """Asks the sample driver in C, as one passes -target to it, and clang, of the same triples. `asked` returns what
+    LLVM says of each."""
     if not report.has("clang", shutil.which("clang")):
         return
-    subprocess.run(["cc", "-std=c99", f"{built.ROOT}/packages/c/samples/driver.c", f"-I{report.tree}/include", f"{report.tree}/lib/libtarget_lexicon.a",
+    subprocess.run(["cc", "-std=c99", f"{built.ROOT}/packages/c/samples/driver.c", f"-I{report.tree}/include",
+                    f"{report.tree}/lib/libtarget_lexicon.a",
                     "-o", f"{folder}/driver"], check=True)
     everywhere = f"{MACHINES[0]} {MACHINES[1]}".split()
-    triples = sorted({it["llvm-target"] for it in rustc_specs().values()} | {f"{it}-{of}" for it in MACHINES[0].split() for of in SYSTEMS[0].split()} |
+    triples = sorted({it["llvm-target"] for it in rustc_specs().values()}
+                     | {f"{it}-{of}" for it in MACHINES[0].split() for of in SYSTEMS[0].split()} |
                      {f"{it}-{of}" for it in everywhere for of in SYSTEMS[1].split()})
     ours = {}
     for triple in triples:
-        said = output(f"{folder}/driver", triple).replace("options  -m ", "-m       ").replace("options  -dynamic-linker ", "-dynamic-linker ")
+        said = output(f"{folder}/driver", triple).replace("options  -m ",
+                                                          "-m       ").replace(
+            "options  -dynamic-linker ", "-dynamic-linker ")
         if not said.startswith("error: "):
-            ours[triple] = {key.strip(): value.strip() for key, value in re.findall(r"^  (-dynamic-linker|.{8}) (.*)", said, re.M)}
+            ours[triple] = {key.strip(): value.strip()
+                            for key, value in re.findall(r"^  (-dynamic-linker|.{8}) (.*)", said, re.M)}
     versions = asked([*ours])
     with concurrent.futures.ThreadPoolExecutor() as pool:
         theirs = {triple: it for triple, it in zip(ours, pool.map(clang_facts, ours)) if it}
         for_llvm = dict(zip(theirs, pool.map(lambda it: macros_of(ours[it]["for LLVM"]), theirs)))
-    report.fact(f"the driver in C answers of {len(theirs)} of clang's {len(triples)} triples, of 300 at least", [(len(theirs) >= 300, True)])
+    report.fact(f"the driver in C answers of {len(theirs)} of clang's {len(triples)} triples, of 300 at least",
+                [(len(theirs) >= 300, True)])
     for kind, but in {"C types": ILP32, "char": SIGNS, "-m": None, "-dynamic-linker": None, "linker": LINKED}.items():
-        answered = [(triple, ours[triple].get(kind, "-"), it[kind]) for triple, it in theirs.items() if kind != "linker" or it[kind]]
+        answered = [(triple, ours[triple].get(kind, "-"), it[kind]) for triple, it in theirs.items() if kind != "linker"
+                    or it[kind]]
         report.fact(f"and clang has the same {kind}", (row for row in answered if row[1] != "-"), but)
     for kind in ("system", "version"):
-        report.fact(f"LLVM has the same stated {kind}", ((triple, it.get(kind, "-"), versions[triple][kind]) for triple, it in ours.items()))
+        report.fact(f"LLVM has the same stated {kind}",
+                    ((triple, it.get(kind, "-"), versions[triple][kind]) for triple, it in ours.items()))
     report.fact("clang defines the same macros for the string for LLVM, where it drops no version", (
-        (triple, sorted(name for name in {*it["macros"], *for_llvm[triple]} if it["macros"].get(name) != for_llvm[triple].get(name))[:5], [])
-        for triple, it in theirs.items() if versions[triple]["version"] == "-" and ("apple" in triple or versions[triple]["system"] == "-")), MACROS)
+        (triple, sorted(name for name in {*it["macros"], *for_llvm[triple]}
+                        if it["macros"].get(name) != for_llvm[triple].get(name))[:5], [])
+        for triple, it in theirs.items() if versions[triple]["version"] == "-"
+        and ("apple" in triple or versions[triple]["system"] == "-")), MACROS)
 
 
 def check(report, targets, specs):
@@ -168,10 +201,12 @@ def check(report, targets, specs):
     report.fact("rustc passes floating-point arguments in the same way on Arm", (
         (target, ours[target][1], specs[target].get("llvm-floatabi")) for target in arm if ours[target][1] != "-"))
     report.fact("rustc's linker has the interface of the example", (
-        (target, it[6], specs[target].get("linker-flavor", "gnu-cc").split("-")[0]) for target, it in ours.items()), LINKERS)
+        (target, it[6], specs[target].get("linker-flavor", "gnu-cc").split("-")[0]) for target, it in ours.items()),
+                LINKERS)
     report.fact("and its programs have the same names", (
         (target, it[7], f"program{specs[target].get('exe-suffix', '')}") for target, it in ours.items()))
-    report.fact("and LLVM gets the same string", ((target, it[8], specs[target]["llvm-target"]) for target, it in ours.items()))
+    report.fact("and LLVM gets the same string", ((target, it[8], specs[target]["llvm-target"])
+                                                  for target, it in ours.items()))
     if not report.has("clang", shutil.which("clang")):
         return
     with concurrent.futures.ThreadPoolExecutor() as pool:

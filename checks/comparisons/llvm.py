@@ -1,10 +1,11 @@
 """Compares what the Python package says of rustc's targets with what LLVM, clang and rustc say.
 
-The targets are those of the installed rustc that parse. llvm.cpp asks LLVM for the byte order, the pointer width and the object
-format of each, for the version and the profile of 32-bit Arm, emulated TLS, COMDAT, variants of its architecture, and versions. The macros that clang defines give the first two, and the sizes of C's arithmetic types. rustc's descriptions of targets
-have the byte order, the pointer width and the object format, and a name for LLVM, which is read as a string spelled like a triple.
-What a driver asks is compared with rustc's descriptions and with clang: C libraries, floating-point arguments, and layouts of types.
-What a tool doesn't know isn't compared.
+The targets are those of the installed rustc that parse. llvm.cpp asks LLVM for the byte order, the pointer width and
+the object format of each, for the version and the profile of 32-bit Arm, emulated TLS, COMDAT, variants of its
+architecture, and versions. The macros that clang defines give the first two, and the sizes of C's arithmetic types.
+rustc's descriptions of targets have the byte order, the pointer width and the object format, and a name for LLVM, which
+is read as a string spelled like a triple. What a driver asks is compared with rustc's descriptions and with clang: C
+libraries, floating-point arguments, and layouts of types. What a tool doesn't know isn't compared.
 
 Debian's packages: llvm-14-dev g++ clang; and rustc.
 """
@@ -22,8 +23,10 @@ NARROW = "gnux32|gnu_ilp32"
 KINDS = ("order", "width", "format", "version of Arm", "profile of Arm", "emulated TLS", "COMDAT")
 
 def our_answers(triple):
-    sizes = (triple.short_size, triple.int_size, triple.long_size, triple.long_long_size, triple.float_size, triple.double_size)
-    return {"order": str(triple.endianness or "-"), "width": str(triple.pointer_width or "-"), "format": str(triple.object_format),
+    sizes = (triple.short_size, triple.int_size, triple.long_size, triple.long_long_size, triple.float_size,
+             triple.double_size)
+    return {"order": str(triple.endianness or "-"), "width": str(triple.pointer_width or "-"),
+            "format": str(triple.object_format),
             "sizes": " ".join(map(str, sizes)) if triple.int_size else "-",
             "version of Arm": str(triple.arm_version or "-"), "profile of Arm": str(triple.arm_profile or "-"),
             "emulated TLS": str(triple.has_emulated_tls), "COMDAT": str(triple.has_comdat)}
@@ -37,7 +40,8 @@ def llvm_asked(folder):
 
     def asked(strings):
         lines = output(f"{folder}/llvm", input="".join(f"{string}\n" for string in strings)).splitlines()
-        return {string: dict(zip(kinds, line.split(), strict=True)) for string, line in zip(strings, lines, strict=True)}
+        return {string: dict(zip(kinds, line.split(), strict=True))
+                for string, line in zip(strings, lines, strict=True)}
     return asked
 
 
@@ -69,16 +73,19 @@ def main(options, folder):
             # LLVM 14 knows neither UEFI nor visionOS, nor the TLS of OpenHarmony.
             asked = llvm_asked(folder)
             theirs = {name: {kind: it[kind] for kind in KINDS} for name, it in asked([*parsed]).items()}
-            compare("LLVM", parsed, theirs, width=NARROW, format="uefi|visionos", **{"emulated TLS": "ohos"}, COMDAT="visionos")
+            compare("LLVM", parsed, theirs, width=NARROW, format="uefi|visionos", **{"emulated TLS": "ohos"},
+                    COMDAT="visionos")
             driver.check_variants(report, [*parsed], asked)
             driver.check_clang(report, asked, folder)
         if report.has("clang", shutil.which("clang")):
-            compare("clang", parsed, dict(zip(parsed, pool.map(clang_answer, parsed))), width="gnu_ilp32", sizes="gnu_ilp32")
+            compare("clang", parsed, dict(zip(parsed, pool.map(clang_answer, parsed))), width="gnu_ilp32",
+                    sizes="gnu_ilp32")
         report.has("rustc", True)
         specs = rustc_specs()
         theirs = rustc_answers(specs)
         by_llvm_name = {it["llvm"]: {kind: it[kind] for kind in ("order", "width")} for it in theirs.values()}
-        theirs = {name: {kind: it[kind] for kind in ("order", "width", "format", "emulated TLS")} for name, it in theirs.items()}
+        theirs = {name: {kind: it[kind] for kind in ("order", "width", "format", "emulated TLS")}
+                  for name, it in theirs.items()}
         # rustc doesn't say that this target's objects are Wasm.
         compare("rustc", parsed, theirs, format="wali")
         compare("rustc, of its names for LLVM,", {name: report.read(name) for name in by_llvm_name}, by_llvm_name)

@@ -20,9 +20,11 @@ def check(report):
         return
     program = built.cargo_program("compare", "lines", 2)
     texts = output(program, "cfg", input="".join(f"{target}\n" for target in targets)).split("\n\n")[:-1]
-    ours = {target: options(text) for target, text in zip(targets, texts, strict=True) if not text.startswith("error: ")}
+    ours = {target: options(text) for target, text in zip(targets, texts, strict=True)
+            if not text.startswith("error: ")}
     with concurrent.futures.ThreadPoolExecutor() as pool:
         said = pool.map(lambda target: options(output("rustc", "--print", "cfg", "--target", target)), ours)
     theirs = dict(zip(ours, said))
     for key in (*KEYS, "name of a family"):
-        report.fact(f"{key} is that of `rustc --print cfg`", ((target, it[key], theirs[target][key]) for target, it in ours.items()))
+        report.fact(f"{key} is that of `rustc --print cfg`",
+                    ((target, it[key], theirs[target][key]) for target, it in ours.items()))

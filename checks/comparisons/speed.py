@@ -1,8 +1,9 @@
-"""Counts with valgrind the instructions and the mispredicted branches of each row of docs/speed.tsv, here and in upstream's crate.
+"""Counts with valgrind the instructions and the mispredicted branches of each row of docs/speed.tsv, here and in
+upstream's crate.
 
-Lines are 20,000 of rustc's targets in turn, or the same with an `x` at the end; upstream's program writes straight into its output.
-The calls are those of speed.rs, with these targets. With `--store` the figures are written into the file; then run tools/pictures/speed. The
-status is 1 if a query takes more instructions than upstream's.
+Lines are 20,000 of rustc's targets in turn, or the same with an `x` at the end; upstream's program writes straight into
+its output. The calls are those of speed.rs, with these targets. With `--store` the figures are written into the file;
+then run tools/pictures/speed. The status is 1 if a query takes more instructions than upstream's.
 """
 import os
 import re
@@ -16,14 +17,16 @@ FIGURES = f"{built.ROOT}/docs/speed.tsv"
 
 
 def add_arguments(parser):
-    parser.add_argument("parts", nargs="*", metavar="PART", help="the parts that are counted, such as `query`, if not all")
+    parser.add_argument("parts", nargs="*", metavar="PART",
+                        help="the parts that are counted, such as `query`, if not all")
     parser.add_argument("--store", action="store_true")
 
 
 def counted(command, path):
     """The instructions and the mispredicted branches of a program, and what it prints."""
     with open(path, "rb") as given:
-        ran = subprocess.run(["valgrind", "--tool=callgrind", "--branch-sim=yes", "--callgrind-out-file=/dev/null", *command], stdin=given, capture_output=True)
+        ran = subprocess.run(["valgrind", "--tool=callgrind", "--branch-sim=yes", "--callgrind-out-file=/dev/null",
+                              *command], stdin=given, capture_output=True)
     count, missed = (re.search(pattern, ran.stderr) for pattern in (rb"Collected : (\d+)", rb"Mispredicts: +([\d,]+)"))
     if ran.returncode or not count or not missed:
         raise RuntimeError(f"valgrind doesn't run {command}: {ran.stderr[-300:]}")
@@ -44,13 +47,15 @@ def of_call(program, who, call, path):
 def main(options, folder):
     head, *rows = [line.split("\t") for line in upstream.read(FIGURES).splitlines() if not line.startswith("#")]
     rows = [dict(zip(head, row, strict=True)) for row in rows]
-    targets = subprocess.run(["rustc", "--print", "target-list"], check=True, capture_output=True, text=True).stdout.splitlines()
+    targets = subprocess.run(["rustc", "--print", "target-list"], check=True, capture_output=True,
+                             text=True).stdout.splitlines()
     lines = (targets * (LINES // len(targets) + 1))[:LINES]
     for end in "", "x":
         upstream.write(f"{folder}/lines{end}", "".join(f"{line}{end}\n" for line in lines))
     upstream.write(f"{folder}/targets", "".join(f"{line}\n" for line in targets))
     of_c = f"-L native={os.path.realpath(built.c_library(folder))}/lib -l static=target_lexicon"
-    with_calls, lines_of = upstream.rust_program(options.upstream, "speed", of_c), upstream.rust_program(options.upstream, "lines_upstream")
+    with_calls, lines_of = upstream.rust_program(options.upstream, "speed",
+                                                 of_c), upstream.rust_program(options.upstream, "lines_upstream")
     status = 0
     for row in rows:
         part, call = row["part"], row["call"].replace("`", "")
@@ -59,7 +64,8 @@ def main(options, folder):
         ours = "kit" if part == "program" else "cargo"
         if part in ("program", "Rust"):
             path = f"{folder}/lines{'x' if 'x' in row['lines'] else ''}"
-            program = built.program("compare", "triples", 2) if part == "program" else upstream.rust_program(options.upstream, "lines_ours")
+            program = built.program("compare", "triples",
+                                    2) if part == "program" else upstream.rust_program(options.upstream, "lines_ours")
             numbers = of_line([program, call], path)
             theirs = row["upstream"] != "-" and of_line([lines_of, call], path)
         else:
@@ -74,5 +80,6 @@ def main(options, folder):
         print(*row.values(), sep="\t", flush=True)
     if options.store:
         comments = [line for line in upstream.read(FIGURES).splitlines() if line.startswith("#")]
-        upstream.write(FIGURES, "".join(f"{line}\n" for line in [*comments, "\t".join(head), *("\t".join(row.values()) for row in rows)]))
+        upstream.write(FIGURES, "".join(f"{line}\n" for line in [
+            *comments, "\t".join(head), *("\t".join(row.values()) for row in rows)]))
     return int(status)

@@ -1,4 +1,5 @@
-"""What the comparisons with other tools share: the answers of the Python package, and a report of what was asked and what differs."""
+"""What the comparisons with other tools share: the answers of the Python package, and a report of what was asked and
+what differs."""
 import collections
 import json
 import os
@@ -20,7 +21,8 @@ def rows_of_names():
     """The rows of packages/names/elsewhere.tsv, one for each name of a line or a rule."""
     with open(f"{built.ROOT}/packages/names/elsewhere.tsv", encoding="utf-8") as file:
         lines = [line.rstrip("\n").split("\t") for line in file if not line.startswith("#")]
-    return [Row(dialect, name, meaning, *rest) for dialect, names, triple, *rest in (line for line in lines if len(line) > 3)
+    return [Row(dialect, name, meaning, *rest)
+            for dialect, names, triple, *rest in (line for line in lines if len(line) > 3)
             for name, meaning in products(names, triple)]
 
 
@@ -50,7 +52,8 @@ class Report:
             return None
 
     def has(self, name, there):
-        """Notes whether a tool is there, and returns it. Without it the comparison fails, unless WITHOUT names the tool."""
+        """Notes whether a tool is there, and returns it. Without it the comparison fails, unless WITHOUT names the
+        tool."""
         if there:
             self.asked.append(name)
         else:
@@ -58,7 +61,8 @@ class Report:
         return there
 
     def fact(self, what, rows, but=None):
-        """A fact about rows, in each of which the last two values must be equal; a row that matches `but` is a known difference."""
+        """A fact about rows, in each of which the last two values must be equal; a row that matches `but` is a known
+        difference."""
         rows = list(rows)
         wrong = [row for row in rows if row[-2] != row[-1]]
         found = [row for row in wrong if not (but and re.search(but, str(row)))]
@@ -83,7 +87,8 @@ def rustc_specs():
 
 def rustc_answers(specs):
     """What rustc says of each target."""
-    return {name: {"order": it.get("target-endian", "little"), "width": str(it["target-pointer-width"]), "machine": it["arch"],
+    return {name: {"order": it.get("target-endian", "little"), "width": str(it["target-pointer-width"]),
+                   "machine": it["arch"],
                    "format": it.get("binary-format", "elf").replace("-", ""), "llvm": it["llvm-target"],
                    "emulated TLS": str(it.get("tls-model") == "emulated")} for name, it in specs.items()}
 

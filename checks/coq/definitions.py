@@ -1,8 +1,10 @@
-"""Writes definitions of crates/*/specs, and laws of crates/*/src/laws.rt, as Coq: those that are asked for, and what they need.
+"""Writes definitions of crates/*/specs, and laws of crates/*/src/laws.rt, as Coq: those that are asked for, and what
+they need.
 
-A definition becomes a Definition or a Fixpoint whose clauses are one `match`, a record a Record, and a proposition a Type, as in the specs;
-a law becomes the Definition `law_` and its name. Coq checks the types. What the kit's library means is in Kit.v, where library.txt has no
-clause, and else written from its clauses. What isn't understood is an error with its file and line.
+A definition becomes a Definition or a Fixpoint whose clauses are one `match`, a record a Record, and a proposition a
+Type, as in the specs; a law becomes the Definition `law_` and its name. Coq checks the types. What the kit's library
+means is in Kit.v, where library.txt has no clause, and else written from its clauses. What isn't understood is an error
+with its file and line.
 """
 import functools
 import re
@@ -45,7 +47,9 @@ def replaced(it, wholes):
 
 
 def mentions(it, name):
-    return it in (("var", name), ("whole", name)) or isinstance(it, (tuple, list, dict)) and any(mentions(part, name) for part in parts(it))
+    return it in (("var", name), ("whole", name)) or isinstance(it, (tuple, list,
+                                                                     dict)) and any(
+        mentions(part, name) for part in parts(it))
 
 
 def folded(line):
@@ -61,7 +65,8 @@ def folded(line):
 
 
 class Coq:
-    """The Coq source. What is needed is written first; a Coq name that another module has taken has its module's before it."""
+    """The Coq source. What is needed is written first; a Coq name that another module has taken has its module's before
+    it."""
 
     def __init__(self, root=ROOT):
         self.names, self.code = Names(root), code_types(root)
@@ -108,7 +113,8 @@ class Coq:
     # ---- types
 
     def type_of(self, module, name):
-        """The module and the declaration of a type: of this module, of one that it takes names from, of the code, or of the library."""
+        """The module and the declaration of a type: of this module, of one that it takes names from, of the code, or of
+        the library."""
         if name in module.typed:
             return module, module.typed[name]
         if isinstance(module, Laws) and name in self.code:
@@ -141,11 +147,13 @@ class Coq:
         parameters = [name for _, name, _ in found.parameters]
         lines = [f"  | {title}__{it} : {self.type(module, of, set(parameters))}" for it, of in found.items]
         binders = "".join(f" ({it} : Type)" for it in parameters)
-        given = "".join(f"Arguments {title}__{it} {' '.join('{%s}' % name for name in parameters)}.\n" for it, _ in found.items if parameters)
+        given = "".join(f"Arguments {title}__{it} {' '.join('{%s}' % name for name in parameters)}.\n"
+                        for it, _ in found.items if parameters)
         self.add(found.file, f"Inductive {title}{binders} : Type :=\n" + "\n".join(lines) + f".\n{given}")
 
     def write_enum(self, module, title, found):
-        lines = [f"  | {title}__{it} : " + (f"{self.code_type(module, of)} → " if of else "") + title for it, of in found.items]
+        lines = [f"  | {title}__{it} : " + (f"{self.code_type(module, of)} → " if of else "") + title
+                 for it, of in found.items]
         self.add(found.file, f"Inductive {title} : Type :=\n" + "\n".join(lines) + ".\n")
 
     def write_struct(self, module, title, found):
@@ -248,11 +256,13 @@ class Coq:
 
     def record_of(self, it, go):
         of = it[1] and go(it[1])
-        titles = [title for title, fields in self.records.items() if set(fields) >= set(it[2]) and (it[1] or len(fields) == len(it[2]))]
+        titles = [title for title, fields in self.records.items() if set(fields) >= set(it[2])
+                  and (it[1] or len(fields) == len(it[2]))]
         title = self.result if self.result in titles else next(iter(titles), None)
         if not title:
             raise Untranslated(f"no record has the fields {', '.join(it[2])}")
-        fields = [f"{title}__{name} := " + (go(it[2][name]) if name in it[2] else f"{title}__{name} {of}") for name in self.records[title]]
+        fields = [f"{title}__{name} := " + (go(it[2][name]) if name in it[2] else f"{title}__{name} {of}")
+                  for name in self.records[title]]
         return "{| " + "; ".join(fields) + " |}"
 
     def named(self, d, what, name):
@@ -296,7 +306,8 @@ class Coq:
         self.result = result  # of two records with the same fields it is that one
         names, columns = [], []  # the arguments; those that are matched
         for i in range(count):
-            found = {patterns[i] if self.is_variable(d, patterns[i]) else None for patterns, _ in d.clauses} - {("var", "_")}
+            found = {patterns[i] if self.is_variable(d, patterns[i]) else None
+                     for patterns, _ in d.clauses} - {("var", "_")}
             if len(found) == 1 and None not in found:
                 names.append(self.local(next(iter(found))[1]))
             else:
@@ -309,7 +320,8 @@ class Coq:
         matched = f"match {', '.join(names[i] for i in columns)} with"
         if len(columns) > 3:  # one after the other: a `match` of all would have a branch for each way to combine the cases
             no = ", ".join("_" for _ in columns)
-            code = "\n  ".join([*(f"({matched} {left} => Some {body} | {no} => None end) ??" for left, body in arms[:-1]),
+            code = "\n  ".join([*(f"({matched} {left} => Some {body} | {no} => None end) ??"
+                                  for left, body in arms[:-1]),
                                 f"{matched} {arms[-1][0]} => {arms[-1][1]} end"])
         elif columns:
             code = "\n".join([matched, *(f"  {left} => {body}" for left, body in arms), "  end"])
@@ -317,8 +329,10 @@ class Coq:
             code = arms[0][1]
         else:
             raise Untranslated("several clauses without patterns")
-        binders = "".join(f" {{{it} : Type}}" for it in implicit) + "".join(f" ({it} : {of})" for it, of in zip(names, types))
-        self.add(d.module.file, f"{'Fixpoint' if is_recursive else 'Definition'} {title}{binders} : {result} :=\n  {code}.\n")
+        binders = "".join(f" {{{it} : Type}}" for it in implicit) + "".join(
+            f" ({it} : {of})" for it, of in zip(names, types))
+        self.add(d.module.file,
+                 f"{'Fixpoint' if is_recursive else 'Definition'} {title}{binders} : {result} :=\n  {code}.\n")
 
     def arm(self, d, patterns, body, heads, columns, scope):
         """The patterns of these columns, and the body."""
@@ -335,7 +349,8 @@ class Coq:
         return it[0] == "var" and it[1] not in ("zero", "suc") and self.names.resolve(d, it)[0] != "constructor"
 
     def pattern(self, d, it, scope, wholes, used=None, inside=False):
-        """A pattern. A list inside of it that the body has again, `used`, gets a name: Coq must see that it is a part of the argument."""
+        """A pattern. A list inside of it that the body has again, `used`, gets a name: Coq must see that it is a part
+        of the argument."""
         go = functools.partial(self.pattern, d, scope=scope, wholes=wholes, used=used, inside=True)
         if self.is_variable(d, it):
             scope.add(it[1])
@@ -380,4 +395,5 @@ def write(root, folder):
     coq = Coq(root)
     laws = [name for name, law in coq.laws.items() if not law.is_of_code and name not in LEFT_OUT]
     folder.joinpath("Specs.v").write_text(coq.source([*laws, *PROPOSITIONS.values(), *NEEDED]), encoding="utf-8")
-    return {name: f"Specs.law_{name}" for name in laws} | {name: f"Specs.{of.rpartition('.')[2]}" for name, of in PROPOSITIONS.items()}
+    return {name: f"Specs.law_{name}" for name in laws} | {name: f"Specs.{of.rpartition('.')[2]}"
+                                                           for name, of in PROPOSITIONS.items()}

@@ -1,4 +1,5 @@
-"""Writes the proved source (`.rt`) as Coq, by the translator of Rust; and that each function is the one that is shipped.
+"""Writes the proved source (`.rt`) as Coq, by the translator of Rust; and that each function is the one that is
+shipped.
 
 Ghost parts, the calls of laws and the counter of steps are left out."""
 import functools

@@ -1,15 +1,16 @@
 """Mutants of the definitions of crates/*/specs: branches of the Rust that checks/running/translate.py makes of them.
 
-Another constructor, a field of a record left out or two of them swapped, a part of a proposition left out, true instead of an equation, a clause
-left out, a number or a letter moved by one, another operator, a function that isn't called, or whose first arguments are swapped. Laws have
-none: checks/specification tries forms that say more.
+Another constructor, a field of a record left out or two of them swapped, a part of a proposition left out, true instead
+of an equation, a clause left out, a number or a letter moved by one, another operator, a function that isn't called, or
+whose first arguments are swapped. Laws have none: checks/specification tries forms that say more.
 """
 import pathlib
 import re
 
 import translate
 
-OTHER = {"&&": "||", "||": "&&", "≡": "≢", "≢": "≡", "<": "≤", "≤": "<", "+": "-", "-": "+", "×": "⊎", "*": "+", "/": "*", "%": "/"}
+OTHER = {"&&": "||", "||": "&&", "≡": "≢", "≢": "≡", "<": "≤", "≤": "<", "+": "-", "-": "+", "×": "⊎", "*": "+",
+         "/": "*", "%": "/"}
 # Domain-specific operators whose parts may be left out.
 OF_PARTS = ("×", "⊎", "&&", "||", "++", "→", "↔")
 
@@ -99,7 +100,8 @@ class Mutated(translate.Rust):
         return what if kind == "constructor" else None
 
     def expression(self, it, scope):
-        if not self.has_mutants() or it[0] in ("all", "any", "lam") or it[0] == "app" and it[1] == ("var", "value_named"):
+        if not self.has_mutants() or it[0] in ("all", "any",
+                                               "lam") or it[0] == "app" and it[1] == ("var", "value_named"):
             return super().expression(it, scope)
         code, closed = super().expression(it, scope)
         self.is_off, branches = True, ""
@@ -116,7 +118,8 @@ class Mutated(translate.Rust):
             if other:
                 self.constructor(other)
                 alike = self.plain.arity.get(other, 0) == self.plain.arity.get(key, 0)
-                new = re.sub(rf"\b{key}\b", other, super().expression(it, scope)[0], count=1) if alike else f"C({other}, &[])"
+                new = re.sub(rf"\b{key}\b", other, super().expression(it, scope)[0],
+                             count=1) if alike else f"C({other}, &[])"
                 branches += f"if switch::on({self.new('constructor', it, other)}) {{ {new} }} else "
         finally:
             self.is_off = False
@@ -130,7 +133,8 @@ class Mutated(translate.Rust):
             self.is_off = before
 
     def with_forms(self, title, text, write):
-        return super().with_forms(title, text, lambda now: write(now) if now == text else self.without_mutants(write, now))
+        return super().with_forms(title, text, lambda now: write(now) if now == text
+                                  else self.without_mutants(write, now))
 
     def law(self, *words):
         return self.without_mutants(super().law, *words)

@@ -1,12 +1,14 @@
 """Translates the definitions of crates/*/specs into Rust, so that they can be run.
 
-The definitions are a small functional language. Types aren't used: each value is a `V` of values.rs. A definition becomes a function
-of its arguments, and a proposition a test, whose variables range over the domain of their type (DOMAINS). Definitions of the kit's
-library are those of library.txt; what has no clauses there is a function of values.rs. What isn't understood is an error that names it.
+The definitions are a small functional language. Types aren't used: each value is a `V` of values.rs. A definition
+becomes a function of its arguments, and a proposition a test, whose variables range over the domain of their type
+(DOMAINS). Definitions of the kit's library are those of library.txt; what has no clauses there is a function of
+values.rs. What isn't understood is an error that names it.
 
-A proposition is translated if a Rust file of this folder, or another translated one, names it. One without arguments is a law: a
-function of its variables, except for those that an equation or a relation before the arrow gives (`solution`). One of which both sides are one
-expression is an error. The forms of laws.txt say more than a law: laws.rs looks for a case in which each is false.
+A proposition is translated if a Rust file of this folder, or another translated one, names it. One without arguments is
+a law: a function of its variables, except for those that an equation or a relation before the arrow gives (`solution`).
+One of which both sides are one expression is an error. The forms of laws.txt say more than a law: laws.rs looks for a
+case in which each is false.
 """
 import pathlib
 import re
@@ -29,19 +31,23 @@ NOT_RUN = {
 }
 # The function that gives the last argument of a relation: the constructor of its result, with that argument.
 GIVEN_BY = {"ParsesAs": ("reading", "Result__Ok"), "IsRefusedAs": ("reading", "Result__Err")}
-# What a variable of a proposition ranges over, where no condition gives its values. The fields of a placement increase, so no other list
-# of fields matters. The values that are tried, and what hashers are fed, are those of the Rust file that asks.
-DOMAINS = {"ℕ": "numbers()", "Field": "fields()", "List Field": "field_lists()", "List ( List ℕ )": "library::seq(&[parts_of(text_)])",
+# What a variable of a proposition ranges over, where no condition gives its values. The fields of a placement increase,
+# so no other list of fields matters. The values that are tried, and what hashers are fed, are those of the Rust file
+# that asks.
+DOMAINS = {"ℕ": "numbers()", "Field": "fields()", "List Field": "field_lists()",
+           "List ( List ℕ )": "library::seq(&[parts_of(text_)])",
            "V": "tried()", "Values": "tried()", "HashWrites": "writes()"}
 
 # What both sides of an equivalence are tried with, besides what makes one of them true.
 OTHERS = {"Values": "some_values()", "Refusal": "some_refusals()", "V": "tried()"}
-TESTS = {"→": "!{}.yes() || {}.yes()", "↔": "{}.yes() == {}.yes()", "⊎": "{}.yes() || {}.yes()", "×": "{}.yes() && {}.yes()",
+TESTS = {"→": "!{}.yes() || {}.yes()", "↔": "{}.yes() == {}.yes()", "⊎": "{}.yes() || {}.yes()",
+         "×": "{}.yes() && {}.yes()",
          "||": "{}.yes() || {}.yes()", "&&": "{}.yes() && {}.yes()", "≡": "eq({}, {})", "≢": "!eq({}, {})",
          "<": "{}.number() < {}.number()", "≤": "{}.number() <= {}.number()"}
 # Those of which the sides must be two expressions.
 SIDES = {"↔", "≡", "≢", "<", "≤"}
-OPERATORS = {"∷": "cons", "++": "append", "+": "add", "-": "sub", "*": "mul", "/": "div", "%": "rem", "^": "pow", "==": "nat_eq"}
+OPERATORS = {"∷": "cons", "++": "append", "+": "add", "-": "sub", "*": "mul", "/": "div", "%": "rem", "^": "pow",
+             "==": "nat_eq"}
 # Words of Rust, and names of values.rs that generated functions use.
 TAKEN = set("""abstract as async await box break const continue crate do dyn else enum extern final fn for if impl in let loop macro match
     mod move mut override priv pub ref return self static struct super then trait try type unsafe use virtual where while with yield
@@ -81,7 +87,8 @@ class Rust:
         self.forms, self.tried, self.wrong_forms = self.read_forms(), [], []  # tried: the law and the text of each form
 
     def read_forms(self):
-        """The forms of laws.txt that say more: the law, the definition that is changed, the old text and the new one."""
+        """The forms of laws.txt that say more: the law, the definition that is changed, the old text and the new
+        one."""
         found, self.listed = {}, []
         for line in (HERE / "laws.txt").read_text(encoding="utf-8").splitlines():
             if line.startswith("    "):
@@ -127,11 +134,13 @@ class Rust:
         for definition in self.names.module(LIBRARY).definitions.values() if kit else []:
             theirs = kit.definitions.get(definition.name)
             if theirs:
-                self.compared.append((definition, self.name_of(definition) if definition.chunks else f"library::{definition.name}", self.name_of(theirs)))
+                self.compared.append((definition, self.name_of(definition) if definition.chunks
+                                      else f"library::{definition.name}", self.name_of(theirs)))
         for definition in self.todo:  # it grows
             if definition not in self.law_definitions:
                 self.function(definition)
-        of_code = "".join(it.read_text(encoding="utf-8") for crate in CRATES for it in (self.root / "crates" / crate / "src").rglob("*.rt"))
+        of_code = "".join(it.read_text(encoding="utf-8") for crate in CRATES
+                          for it in (self.root / "crates" / crate / "src").rglob("*.rt"))
         known = set().union(*self.shapes).union(re.findall(r"^\s+(?:pub(?:\(\w+\))? )?(\w+): ", of_code, re.M))
         self.failed += [(definition, f"no record has the field {field}") for field, definition in self.fields.items()
                         if definition and field not in known]
@@ -157,7 +166,8 @@ class Rust:
         return self.shapes.setdefault(frozenset(fields), list(fields))
 
     def name_of(self, definition):
-        """The name of the function, which will be written. Where two have a name, the later one has its module's before it."""
+        """The name of the function, which will be written. Where two have a name, the later one has its module's before
+        it."""
         key = definition.module.path, definition.name
         if key not in self.of:
             is_free = definition.name not in {*self.of.values(), *TAKEN}
@@ -190,13 +200,15 @@ class Rust:
             self.look_ups += 1
             code = f"remember({self.look_ups - 1}, {parameters[0]}, || {code})"
         place = self.todo.index(definition)
-        self.functions.append(f"pub fn {name}({', '.join(it + ': V' for it in parameters)}) -> V {{\n    reached({place});\n    {code}\n}}\n")
+        self.functions.append(
+            f"pub fn {name}({', '.join(it + ': V' for it in parameters)}) -> V {{\n    reached({place});\n    {code}\n}}\n")
 
     def local(self, name):
         return name + "_" if name in TAKEN else name
 
     def is_variable(self, pattern):
-        return pattern[0] == "var" and pattern[1] not in ("zero", "suc") and self.names.resolve(self.definition, pattern)[0] != "constructor"
+        return pattern[0] == "var" and pattern[1] not in ("zero", "suc") and self.names.resolve(
+            self.definition, pattern)[0] != "constructor"
 
     def arm(self, parameters, patterns, body):
         binds, guards, scope, self.wholes = [], [], {}, {}
@@ -310,7 +322,8 @@ class Rust:
         (a, b), closed = self.all(it[2:], scope)
         if it[1] in SIDES and self.as_given(a) == self.as_given(b):
             raise Untranslated(f"both sides of {it[1]} are one expression, {a}")
-        return f"truth({TESTS[it[1]].format(a, b)})" if it[1] in TESTS else f"library::{OPERATORS[it[1]]}({a}, {b})", closed
+        return f"truth({TESTS[it[1]].format(a, b)})" if it[
+            1] in TESTS else f"library::{OPERATORS[it[1]]}({a}, {b})", closed
 
     def any_code(self, it, scope):
         domain = self.domain(it[1], it[2], it[3], scope, it[0] == "any") or DOMAINS.get(it[2])
@@ -321,8 +334,8 @@ class Rust:
         return f"{it[0]}({domain}, {test})", NO
 
     def domain(self, name, type, body, scope, is_condition):
-        """The values of a variable that a condition gives. If it gives another variable the same ones, there are others too: what is
-        equal to itself says nothing."""
+        """The values of a variable that a condition gives. If it gives another variable the same ones, there are others
+        too: what is equal to itself says nothing."""
         self.others = OTHERS.get(type, "L(&[])")
         found = self.solution(name, body, scope, is_condition)
         if found and self.as_given(found) in self.given_as.values():
@@ -379,13 +392,16 @@ class Rust:
         self.laws.append((title, free, f"|a| {{ reached({self.todo.index(definition)}); {lets}{code} }}"))
 
     def solution(self, name, body, scope, is_condition, names=None, depth=0):
-        """The code of the values of a variable with which the conditions of a proposition can be true, if one of them gives these. What an
-        implication ends in is no condition, unless it is an equivalence: the variable has other values too, of which it may be false."""
+        """The code of the values of a variable with which the conditions of a proposition can be true, if one of them
+        gives these. What an implication ends in is no condition, unless it is an equivalence: the variable has other
+        values too, of which it may be false."""
         names = names or {name}
         if body[0] in ("all", "any"):
-            return self.solution(name, body[3], {it: code for it, code in scope.items() if it != body[1]}, is_condition, names, depth)
+            return self.solution(name, body[3], {it: code for it, code in scope.items() if it != body[1]}, is_condition,
+                                 names, depth)
         if body[0] == "op" and body[1] == "↔":
-            found = self.solution(name, body[2], scope, True, names, depth) or self.solution(name, body[3], scope, True, names, depth)
+            found = self.solution(name, body[2], scope, True, names,
+                                  depth) or self.solution(name, body[3], scope, True, names, depth)
             return found and f"with_others({found}, {self.others})"
         if body[0] == "op" and body[1] == "→":
             left = self.solution(name, body[2], scope, True, names, depth)
@@ -393,7 +409,8 @@ class Rust:
         if not is_condition:
             return None
         if body[0] == "op" and body[1] == "×":
-            return self.solution(name, body[2], scope, True, names, depth) or self.solution(name, body[3], scope, True, names, depth)
+            return self.solution(name, body[2], scope, True, names,
+                                 depth) or self.solution(name, body[3], scope, True, names, depth)
         if body[0] == "op" and body[1] == "≡":
             for pattern, other in (body[2:], body[3:1:-1]):
                 found = self.solved(names, pattern, other, scope)
@@ -401,7 +418,8 @@ class Rust:
                     return found
         if body[0] == "app" and body[1][0] == "var":
             kind, what = self.names.resolve(self.definition, body[1])
-            if kind == "definition" and what.name in GIVEN_BY and body[2][-1] in [("var", it) for it in names] and self.known(body[2][:-1], scope):
+            if kind == "definition" and what.name in GIVEN_BY and body[2][-1] in [
+                ("var", it) for it in names] and self.known(body[2][:-1], scope):
                 function, constructor = GIVEN_BY[what.name]
                 given = self.name_of(self.exported_by(what, function))
                 return f"arguments(&[{self.constructor(constructor)}], {given}({self.all(body[2][:-1], scope)[0][0]}))"
@@ -430,7 +448,8 @@ class Rust:
 
     def known(self, expressions, scope):
         """Whether all variables are in scope: what else has a name is no variable."""
-        bound = {it for it in variables(expressions) if it not in scope and self.names.exported(self.definition.module, it)[0] == "unknown"}
+        bound = {it for it in variables(expressions) if it not in scope
+                 and self.names.exported(self.definition.module, it)[0] == "unknown"}
         return not bound - {"⊤", "⊥"}
 
     def solved(self, names, pattern, other, scope):
@@ -442,12 +461,14 @@ class Rust:
         if pattern in is_it:
             return f"library::seq(&[{code}])"
         constructors, inner = [], pattern
-        while inner[0] == "app" and len(inner[2]) == 1 and inner[1][0] == "var" and self.names.resolve(self.definition, inner[1])[0] == "constructor":
+        while inner[0] == "app" and len(inner[2]) == 1 and inner[1][0] == "var" and self.names.resolve(
+            self.definition, inner[1])[0] == "constructor":
             constructors.append(self.constructor(self.names.resolve(self.definition, inner[1])[1]))
             inner = inner[2][0]
         if constructors and inner in is_it:
             return f"arguments(&[{', '.join(constructors)}], {code})"
-        if pattern[0] == "app" and pattern[1] == ("var", "slice_get") and pattern[2][1] in is_it and self.known([pattern[2][0]], scope):
+        if pattern[0] == "app" and pattern[1] == ("var", "slice_get") and pattern[2][1] in is_it and self.known(
+            [pattern[2][0]], scope):
             return f"indexes({self.once(*self.expression(pattern[2][0], scope))})"
         return None
 
@@ -459,7 +480,8 @@ class Rust:
             (of,), closed = self.all([head[1]], scope)
             if not head[2].isdigit():
                 self.fields.setdefault(head[2], self.definition)
-            return self.given(f"{of}.at({head[2]})" if head[2].isdigit() else f"get_{head[2]}({of})", closed, arguments, scope)
+            return self.given(f"{of}.at({head[2]})" if head[2].isdigit() else f"get_{head[2]}({of})", closed, arguments,
+                              scope)
         if head == ("var", "zero"):
             return "N(0)", TRIVIALLY
         if head[1] in ("⊤", "⊥", "Unit"):
@@ -482,7 +504,8 @@ class Rust:
             return f"or({codes[0]}, || {codes[1]})", closed
         if len(codes) < count:  # a function of what is missing
             self.fresh += 1
-            given, more = [f"g{self.fresh}_{i}" for i in range(len(codes))], [f"x{i}" for i in range(count - len(codes))]
+            given, more = [f"g{self.fresh}_{i}" for i in range(len(codes))], [
+                f"x{i}" for i in range(count - len(codes))]
             lets = "".join(f"let {name} = {code}; " for name, code in zip(given, codes))
             functions = "".join(f"function(move |{name}| " for name in more)
             return f"{{ {lets}{functions}{call.format(', '.join(given + more))}{')' * len(more)} }}", closed
@@ -533,10 +556,12 @@ class Rust:
         shapes = list(self.shapes.values())
         tags = [(it, *it.split("__", 1), []) for it in self.constructors]
         tags += [("R_" + "_".join(it), "", "", it) for it in shapes] + [("TUPLE", "", "", [])]
-        out = ["// Written by checks/specification from the definitions of crates/*/specs.\nuse crate::values::*;\n", *self.functions]
+        out = ["// Written by checks/specification from the definitions of crates/*/specs.\nuse crate::values::*;\n",
+               *self.functions]
         out += [f"pub const {it[0]}: u32 = {i};\n" for i, it in enumerate(tags)]
         rows = ", ".join(f"({type!r}, {name!r}, &{fields})".replace("'", '"') for _, type, name, fields in tags)
-        out.append(f"/// A tag: its type, its name, and the fields of a record.\npub static TAGS: &[(&str, &str, &[&str])] = &[{rows}];\n")
+        out.append(
+            f"/// A tag: its type, its name, and the fields of a record.\npub static TAGS: &[(&str, &str, &[&str])] = &[{rows}];\n")
         for field in sorted(self.fields):
             arms = "".join(f"C(R_{'_'.join(it)}, f) => f[{it.index(field)}], " for it in shapes if field in it)
             out.append(f'pub fn get_{field}(v: V) -> V {{ match v {{ {arms}_ => stuck("{field}") }} }}\n')
@@ -545,23 +570,28 @@ class Rust:
                    f"pub static NAMED: &[(&str, &str)] = &[{named}];\n")
         out.append("/// The definitions of values, the types of their arguments, and the functions.\n"
                    f"pub static ASKED: &[(&str, &[&str], fn(&[V]) -> V)] = &[{', '.join(self.asked())}];\n")
-        out.append("/// The laws, what their variables are, and the numbers of their forms.\npub static LAWS: &[(&str, &[(&str, &str)], fn(&[V]) -> V, &[usize])] = &[\n")
+        out.append(
+            "/// The laws, what their variables are, and the numbers of their forms.\npub static LAWS: &[(&str, &[(&str, &str)], fn(&[V]) -> V, &[usize])] = &[\n")
         for title, free, code in self.laws:
             variables_ = ", ".join(f'("{name}", "{type}")' for name, type in free)
-            out.append(f'    ("{title}", &[{variables_}], {code}, &{[i for i, (law, _) in enumerate(self.tried) if law == title]}),\n')
+            out.append(
+                f'    ("{title}", &[{variables_}], {code}, &{[i for i, (law, _) in enumerate(self.tried) if law == title]}),\n')
         out.append("];\n")
-        out.append("/// The definitions of the library, the types of their arguments, and the functions: ours, and the kit's.\n"
+        out.append(
+            "/// The definitions of the library, the types of their arguments, and the functions: ours, and the kit's.\n"
                    "pub static LIBRARY: &[(&str, &[&str], fn(&[V]) -> V, fn(&[V]) -> V)] = &[\n")
         for definition, ours, theirs in self.compared:
             types = arguments_in(definition.type)
             given = ", ".join(f"a[{i}]" for i in range(len(types)))
             kinds = ", ".join(f'"{it}"' for it in types)
-            out.append(f'    ("{definition.name}", &[{kinds}], |a| {ours}({given}), |a| {self.curried(theirs, len(types))}),\n')
+            out.append(
+                f'    ("{definition.name}", &[{kinds}], |a| {ours}({given}), |a| {self.curried(theirs, len(types))}),\n')
         out.append("];\n")
         titles = ", ".join(f'"{it.title}"' for it in self.todo)
         out.append(f"pub static TITLES: [&str; {len(self.todo)}] = [{titles}];\n")
         out.append(f"pub static mut REACHED: [bool; {len(self.todo)}] = [false; {len(self.todo)}];\n")
-        out.append(f"const NONE: Option<std::collections::HashMap<u128, V>> = None;\npub static mut FOUND: [Option<std::collections::HashMap<u128, V>>; {self.look_ups}] = "
+        out.append(
+            f"const NONE: Option<std::collections::HashMap<u128, V>> = None;\npub static mut FOUND: [Option<std::collections::HashMap<u128, V>>; {self.look_ups}] = "
                    f"[NONE; {self.look_ups}];\n")
         out.append(f"pub static mut ONCE: [Option<V>; {self.constants}] = [None; {self.constants}];\n")
         return "".join(out)

@@ -1,8 +1,10 @@
-"""What hatchling asks of this package: the shared library in the wheel, its platform's tag, and the library's sources in the sdist.
+"""What hatchling asks of this package: the shared library in the wheel, its platform's tag, and the library's sources
+in the sdist.
 
-The library is the file that the variable TARGET_LEXICON_LIBRARY names. Without that variable cargo builds it, from the sources in
-the repository or, in an sdist, below the folder `native`. If the variable is `system`, the wheel has no library: then the package
-loads the one that is installed. An editable wheel has only the path of the sources, beside which the library is written.
+The library is the file that the variable TARGET_LEXICON_LIBRARY names. Without that variable cargo builds it, from the
+sources in the repository or, in an sdist, below the folder `native`. If the variable is `system`, the wheel has no
+library: then the package loads the one that is installed. An editable wheel has only the path of the sources, beside
+which the library is written.
 """
 import os
 import re
@@ -22,10 +24,12 @@ CARGO_FAILED = "the shared library of this package isn't built: cargo ended with
 LICENCES = ("LICENSE", "COPYRIGHT")
 # The table of the names that other tools have for targets.
 TABLES = ("names.json", "names.csv", "names.schema.json", "targets.csv")
-# What an sdist has of the repository, below `native`: what cargo builds the library from, what the tests read, and the licence.
+# What an sdist has of the repository, below `native`: what cargo builds the library from, what the tests read, and the
+# licence.
 SOURCES = ("Cargo.toml", "Cargo.lock", *(f"packages/names/{name}" for name in ("Cargo.toml", "src", *TABLES)),
            *(f"packages/{package}/{name}" for package in ("c", "rust") for name in ("Cargo.toml", "build.rs", "src")))
-LISTS = ("packages/c/include", "tools/names/names.tsv", "tools/names/names_table.py", "checks/known_triples.txt", "checks/target_lines.py",
+LISTS = ("packages/c/include", "tools/names/names.tsv", "tools/names/names_table.py", "checks/known_triples.txt",
+         "checks/target_lines.py",
          "checks/failing_allocator.c")
 
 
@@ -42,9 +46,11 @@ class CustomBuildHook(BuildHookInterface):
         included.update({os.path.join(self.top, name): f"{licences}/{name}" for name in LICENCES})
         if version == "editable":
             for name in TABLES:
-                shutil.copyfile(os.path.join(self.top, "packages", "names", name), os.path.join(self.root, "src", "target_lexicon", name))
+                shutil.copyfile(os.path.join(self.top, "packages", "names", name),
+                                os.path.join(self.root, "src", "target_lexicon", name))
         else:
-            included.update({os.path.join(self.top, "packages", "names", name): f"target_lexicon/{name}" for name in TABLES})
+            included.update({os.path.join(self.top, "packages", "names", name): f"target_lexicon/{name}"
+                             for name in TABLES})
         given = os.environ.get("TARGET_LEXICON_LIBRARY")
         if given == "system":
             return
@@ -65,7 +71,8 @@ class CustomBuildHook(BuildHookInterface):
         target = os.environ.get("CARGO_BUILD_TARGET", "")
         self.folder = tempfile.TemporaryDirectory()  # which stays until the wheel is written
         work = self.folder.name
-        words = [os.environ.get("CARGO", "cargo"), "build", "--quiet", "--release", "--locked", "--offline", "--target-dir", work, "--manifest-path",
+        words = [os.environ.get("CARGO", "cargo"), "build", "--quiet", "--release", "--locked", "--offline",
+                 "--target-dir", work, "--manifest-path",
                  os.path.join(self.top, "packages", "c", "Cargo.toml")]
         try:
             # Above the folder that pip builds in, others may have put settings of cargo.
@@ -74,7 +81,8 @@ class CustomBuildHook(BuildHookInterface):
             raise SystemExit(NO_CARGO.format(error=error)) from None
         if status:
             raise SystemExit(CARGO_FAILED.format(status=status))
-        paths = [os.path.join(work, target, "release", it) for it in ("libtarget_lexicon.so", "libtarget_lexicon.dylib", "target_lexicon.dll")]
+        paths = [os.path.join(work, target, "release", it)
+                 for it in ("libtarget_lexicon.so", "libtarget_lexicon.dylib", "target_lexicon.dll")]
         path = next(it for it in paths if os.path.exists(it))
         platform = linux_platform(read(path))
         if not platform and target:
@@ -106,13 +114,15 @@ MANYLINUX_LIBRARIES = {b"libc.so.6", b"libgcc_s.so.1", b"libm.so.6", b"libpthrea
 def linux_platform(content):
     """The tag of the Linux platforms that a shared library is for, by what it needs of the C library, or None.
 
-    A library that needs other ones than the C library is for `linux_x86_64`, for which nothing is promised. What it needs are strings
-    in the file that end in a zero byte. Others may look the same: then the tag is of fewer platforms than would do.
+    A library that needs other ones than the C library is for `linux_x86_64`, for which nothing is promised. What it
+    needs are strings in the file that end in a zero byte. Others may look the same: then the tag is of fewer platforms
+    than would do.
     """
     machine = MACHINES.get(struct.unpack_from("<H", content, 18)[0]) if content[:6] == b"\x7fELF\x02\x01" else None
     if machine is None:
         return None
-    libraries = {it for it in re.findall(rb"(?<=\0)[^\0]+\.so[.\d]*(?=\0)", content) if not it.startswith(b"libtarget_lexicon.so")}
+    libraries = {it for it in re.findall(rb"(?<=\0)[^\0]+\.so[.\d]*(?=\0)", content)
+                 if not it.startswith(b"libtarget_lexicon.so")}
     versions = re.findall(rb"GLIBC_(\d+)\.(\d+)[^\0]*\0", content)
     if not libraries <= MANYLINUX_LIBRARIES or b"GLIBC_PRIVATE\0" in content:
         return f"linux_{machine}"

@@ -7,10 +7,12 @@ from names_table import Mistake, columns, filled
 GROUPS = {"queries": "queries()", "formats": "formats()", "driver": "facts()"}
 # The variables of which an answer may be a member: their types in the library for C.
 PARTS = {"sizes": "TypeSizes", "long_double": "LayoutNumbers", "wchar": "LayoutNumbers"}
-# The structs of the library for C: of each group the name, what it has, and what its answers are computed from besides the triple.
+# The structs of the library for C: of each group the name, what it has, and what its answers are computed from besides
+# the triple.
 STRUCTS = {
     "queries": ("QueryFacts", "What the queries of a triple answer.", [
-        "let data_model = triple.data_model().map_or(0, |it| 1 + it as u8);", "let sizes = || TYPE_SIZES[usize::from(data_model)];"]),
+        "let data_model = triple.data_model().map_or(0, |it| 1 + it as u8);",
+        "let sizes = || TYPE_SIZES[usize::from(data_model)];"]),
     "formats": ("FormatFacts", "Binary formats, and the family of the architecture.", []),
     "driver": ("DriverFacts", "What a compiler's driver asks.", [
         "let (long_double, wchar) = (|| triple.long_double_layout().into(), || triple.wchar_layout().into());"]),
@@ -51,7 +53,8 @@ class Fact:
 
     @property
     def c_about(self):
-        enum = {"format": "enum lexicon_binary_format", "family": "enum lexicon_family", "bool": "", "bytes": "", "number": ""}.get(self.type, f"enum lexicon_{self.type}")
+        enum = {"format": "enum lexicon_binary_format", "family": "enum lexicon_family", "bool": "", "bytes": "",
+                "number": ""}.get(self.type, f"enum lexicon_{self.type}")
         return f"/* {f'{enum}: ' * bool(enum)}{self.about[0].lower() + self.about[1:].rstrip('.').replace('`', '')} */"
 
     @property
@@ -59,7 +62,8 @@ class Fact:
         """The answer as a number of C. A variable is one already."""
         if self.words and self.is_optional:
             return self.answer if self.answer.isidentifier() else f"{self.answer}.map_or(0, |it| 1 + it as u8)"
-        return {"bool": "{}", "format": "binary_format_number({})", "family": "family_number({})", "number": "{}.unwrap_or(0)"}[self.type].format(self.answer)
+        return {"bool": "{}", "format": "binary_format_number({})", "family": "family_number({})",
+                "number": "{}.unwrap_or(0)"}[self.type].format(self.answer)
 
     @property
     def json(self):
@@ -68,7 +72,8 @@ class Fact:
             return f"{self.part[0]}.map(|it| it.{self.part[1]}).into()"
         if self.words and self.is_optional:
             return f"{self.answer}.map(|it| it.name()).into()"
-        return {"bool": "{}.into()", "format": "{}.to_string().into()", "family": "family({}).into()", "number": "{}.into()"}[self.type].format(self.answer)
+        return {"bool": "{}.into()", "format": "{}.to_string().into()", "family": "family({}).into()",
+                "number": "{}.into()"}[self.type].format(self.answer)
 
     @property
     def cpp(self):
@@ -92,7 +97,8 @@ class Fact:
 
 
 def add_fact(found, line, enums, constants):
-    _, name, type_, group, answer, about = columns(line, ["`fact`", "a name", "a type", "a group", "the answer in Rust", "what it is"])
+    _, name, type_, group, answer, about = columns(line, ["`fact`", "a name", "a type", "a group", "the answer in Rust",
+                                                          "what it is"])
     type_, *numbers = type_.split()
     types = ("bool", "format", "family", "bytes", "number", *enums)
     if type_ not in types:
@@ -115,43 +121,54 @@ def add_reason(found, line, facts):
 
 
 def lists(facts, reasons):
-    """The lists in each language, and why facts have no answer. C has the facts by groups, and the others have them in their order."""
+    """The lists in each language, and why facts have no answer. C has the facts by groups, and the others have them in
+    their order."""
     by_groups = [it for group in GROUPS for it in facts if it.group == group]
     numbers = {it.name: f"n[{number}]" for number, it in enumerate(by_groups)}
     found = {
-        "the facts for C": [f"{'bool' if it.type == 'bool' else 'uint8_t'} {it.name}; {it.c_about}" for it in by_groups],
+        "the facts for C": [f"{'bool' if it.type == 'bool' else 'uint8_t'} {it.name}; {it.c_about}"
+                            for it in by_groups],
         "the size of the facts": [f"pub(crate) const FACT_COUNT: usize = {len(facts)};"],
         "the facts for C++": [it.cpp for it in facts if it.name != KNOWN],
         "the facts for the command": [f'("{it.name}", {it.json}),' for it in facts],
-        "the reasons for the command": [f"""{' | '.join(f'"{name}"' for name in names)} => "{reason}",""" for names, reason in reasons],
+        "the reasons for the command": [f"""{' | '.join(f'"{name}"' for name in names)} => "{reason}","""
+                                        for names, reason in reasons],
         "the names of facts for Python": filled([f'"{it.name}",' for it in by_groups], " "),
         "the size of the facts for JavaScript": [f"const FACTS_SIZE = {len(facts)};"],
         "the facts for JavaScript": [
-            "/** What a compiler asks, from the bytes of the struct of facts and the names of binary formats. */", "const factsOf = (n, formats) => ({", *(
+            "/** What a compiler asks, from the bytes of the struct of facts and the names of binary formats. */",
+            "const factsOf = (n, formats) => ({", *(
             f"  {it.camel}: {it.javascript(numbers[it.name])}," for it in facts), "});"],
-        "the facts for TypeScript": ["/** What a compiler asks of a triple; null where there is no answer. */", "export interface Facts {",
-                                     *(line for it in facts for line in (f"  /** {it.about} */", f"  {it.typescript}")), "}"],
+        "the facts for TypeScript": ["/** What a compiler asks of a triple; null where there is no answer. */",
+                                     "export interface Facts {",
+                                     *(line for it in facts for line in (f"  /** {it.about} */", f"  {it.typescript}")),
+                                     "}"],
     }
     return found
 
 
 def groups_of_c(facts):
     """The file of the groups of facts in the library for C."""
-    lines = ["// @generated by tools/names/write. Don't edit it here.", "//! The facts of a triple by their groups. Each number is 0 where there is no answer.",
-             "use crate::facts::{LayoutNumbers, TypeSizes, TYPE_SIZES};", "use crate::numbers::{binary_format_number, family_number};",
+    lines = ["// @generated by tools/names/write. Don't edit it here.",
+             "//! The facts of a triple by their groups. Each number is 0 where there is no answer.",
+             "use crate::facts::{LayoutNumbers, TypeSizes, TYPE_SIZES};",
+             "use crate::numbers::{binary_format_number, family_number};",
              "use target_lexicon::{Architecture, PointerWidth, TripleRef};", "use target_names::TargetInfo;"]
     for group, (name, about, before) in STRUCTS.items():
         of = [it for it in facts if it.group == group]
         parts = list(dict.fromkeys(it.part[0] for it in of if it.part))
         # The parts are computed last, so that they are copied straight into the struct.
         answers = [*(f"{it.name}: {it.number}," for it in of if not it.part), *(f"{it}: {it}()," for it in parts)]
-        lines += ["", f"/// {about}", "#[repr(C)]", f"pub struct {name} {{", *(f"    {it}" for it in members(of)), "}", "", f"impl From<&TripleRef<'_>> for {name} {{",
-                  "    #[inline(always)]", f"    fn from(triple: &TripleRef<'_>) -> {name} {{", *(f"        {it}" for it in before), f"        {name} {{",
+        lines += ["", f"/// {about}", "#[repr(C)]", f"pub struct {name} {{", *(f"    {it}" for it in members(of)), "}",
+                  "", f"impl From<&TripleRef<'_>> for {name} {{",
+                  "    #[inline(always)]", f"    fn from(triple: &TripleRef<'_>) -> {name} {{",
+                  *(f"        {it}" for it in before), f"        {name} {{",
                   *(f"            {it}" for it in answers), "        }", "    }", "}"]
     return "\n".join([*lines, ""])
 
 
 def members(facts):
     """The members of a group in Rust, of which one that has several answers comes once."""
-    types = dict((it.part[0], PARTS[it.part[0]]) if it.part else (it.name, "bool" if it.type == "bool" else "u8") for it in facts)
+    types = dict((it.part[0], PARTS[it.part[0]]) if it.part else (it.name, "bool" if it.type == "bool" else "u8")
+                 for it in facts)
     return [f"pub {name}: {of}," for name, of in types.items()]

@@ -1,4 +1,5 @@
-"""The table of names, tools/names/names.tsv: its values by field and by Rust type, what is wrong in it, columns of lines, and words in lines."""
+"""The table of names, tools/names/names.tsv: its values by field and by Rust type, what is wrong in it, columns of
+lines, and words in lines."""
 import hashlib
 import re
 from collections import namedtuple
@@ -13,7 +14,8 @@ VARIANT = re.compile(r"[A-Z][A-Za-z0-9_]*")
 SPECIAL = re.compile(r"[a-z0-9_.]+(-[a-z0-9_.]+)+")
 LONGEST_SPECIAL = 255
 # How many values of a field the table first had, and a checksum of their names, in the order of their numbers.
-UPSTREAM = {"architecture": (107, "a141708f0cf0b4e1"), "vendor": (15, "35e14047bd8121b2"), "operating_system": (40, "03073d1aaf018aed"),
+UPSTREAM = {"architecture": (107, "a141708f0cf0b4e1"), "vendor": (15, "35e14047bd8121b2"),
+            "operating_system": (40, "03073d1aaf018aed"),
             "environment": (35, "c4961a463ba6aac0"), "binary_format": (6, "4a7f083dc9f45cae")}
 
 # The rules of a field, which are what follows from a value alone, each with its answers. The default is the first one.
@@ -49,10 +51,12 @@ class Mistake(Exception):
 
 
 def columns(line, names, least=0, more=False):
-    """The columns of a line, or those that are split already. `names` says what they are, and only the first `least` must be there, or all; `more` may follow."""
+    """The columns of a line, or those that are split already. `names` says what they are, and only the first `least`
+    must be there, or all; `more` may follow."""
     found = line if isinstance(line, list) else line.split("\t")
     if not (least or len(names)) <= len(found) or len(found) > len(names) and not more or "" in found[:1]:
-        raise Mistake(f"a line has {', '.join(names)}, with tabs between them: this one has {len(found)} column{'s' * (len(found) != 1)}")
+        raise Mistake(
+            f"a line has {', '.join(names)}, with tabs between them: this one has {len(found)} column{'s' * (len(found) != 1)}")
     return found
 
 
@@ -66,7 +70,8 @@ def read_lines(name, text, wrong, read):
 
 
 def table_of(text):
-    """The values of the table, those of a field in the order of their numbers, its special strings, and what is wrong in it."""
+    """The values of the table, those of a field in the order of their numbers, its special strings, and what is wrong
+    in it."""
     values, specials, wrong = [], [], []
 
     def read(line):
@@ -86,10 +91,12 @@ def special_of(values, earlier, line):
     known = [{it.name: it for it in values if it.field == field} for field in fields]
     for field, name, of in zip(fields, names, known):
         if name not in of or name in ("unknown", "none") or of[name].family == "Darwin":
-            raise Mistake(f"`{name}` is no {field.replace('_', ' ')} of an earlier line, or it is `unknown`, `none` or has a version")
+            raise Mistake(
+                f"`{name}` is no {field.replace('_', ' ')} of an earlier line, or it is `unknown`, `none` or has a version")
     row = Special(text, *(of[name] for name, of in zip(names, known)))
     if not SPECIAL.fullmatch(text) or len(text) > len("-".join(names)) or len(text) > LONGEST_SPECIAL:
-        raise Mistake(f"the string `{text}` isn't made of names and dashes, or is longer than `{'-'.join(names)}` or {LONGEST_SPECIAL} bytes")
+        raise Mistake(
+            f"the string `{text}` isn't made of names and dashes, or is longer than `{'-'.join(names)}` or {LONGEST_SPECIAL} bytes")
     if text in [it.text for it in earlier] or row[1:] in [it[1:] for it in earlier]:
         raise Mistake(f"the string `{text}`, or its triple, is there twice")
     return row
@@ -106,15 +113,19 @@ def add_value(earlier, line):
     if value.field not in (*FIELDS, "alias"):
         raise Mistake(f"`{value.field}` is no field: {', '.join(FIELDS)} or alias")
     if not NAME.fullmatch(value.name):
-        raise Mistake(f"the name `{value.name}` has a character that no name may have: it begins with a-z, and has a-z, 0-9, `_` and `.`")
+        raise Mistake(
+            f"the name `{value.name}` has a character that no name may have: it begins with a-z, and has a-z, 0-9, `_` and `.`")
     if not VARIANT.fullmatch(value.variant):
-        raise Mistake(f"`{value.variant}` is no variant: it begins with a capital letter, and has letters, digits and `_`")
-    if value.family and not (is_architecture and VARIANT.fullmatch(value.family) or (value.field, value.family) == ("operating_system", "Darwin")):
+        raise Mistake(
+            f"`{value.variant}` is no variant: it begins with a capital letter, and has letters, digits and `_`")
+    if value.family and not (is_architecture and VARIANT.fullmatch(value.family)
+                             or (value.field, value.family) == ("operating_system", "Darwin")):
         raise Mistake(f"`{value.family}` is no family of the field")
     if value.name in [it.name for it in earlier if it.field in names]:
         raise Mistake(f"the name `{value.name}` is there twice")
     if is_there != (value.field == "alias"):
-        raise Mistake(f"the variant `{value.variant}` is in the field twice" if is_there else "the alias comes before its architecture")
+        raise Mistake(f"the variant `{value.variant}` is in the field twice" if is_there
+                      else "the alias comes before its architecture")
     earlier.append(value)
 
 
@@ -124,7 +135,8 @@ def rules_of(value):
     for word in value.rules.split():
         rule, _, answer = word.partition("=")
         if rule in found or answer not in known.get(rule, ())[1:]:
-            raise Mistake(f"`{word}` is there twice, or is no rule of the field with an answer other than the default: RULES in "
+            raise Mistake(
+                f"`{word}` is there twice, or is no rule of the field with an answer other than the default: RULES in "
                           "names_table.py has them; a system like Darwin has none")
         found[rule] = answer
     return {rule: found.get(rule, answers[0]) for rule, answers in known.items()}
@@ -164,7 +176,8 @@ class Table:
         self.types[name] = Type(name, word, variants, [it for it in variants if not it.holds], held)
 
     def architectures(self):
-        """A variant for each architecture without a family, and one for each family, in the order of their first numbers."""
+        """A variant for each architecture without a family, and one for each family, in the order of their first
+        numbers."""
         found = {}
         for it, plain in zip(self.field["architecture"], variants_of(self.field["architecture"])):
             sub = f"{it.family}Architecture"
@@ -174,7 +187,8 @@ class Table:
 
 
 def variants_of(values):
-    return [Variant(it.variant, it.name, "Option<DeploymentTarget>" * (it.family == "Darwin"), it.about) for it in values]
+    return [Variant(it.variant, it.name, "Option<DeploymentTarget>" * (it.family == "Darwin"), it.about)
+            for it in values]
 
 
 def filled(words, between, indent=""):

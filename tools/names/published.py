@@ -1,4 +1,5 @@
-"""The table of other tools' names as it is published, from packages/names/elsewhere.tsv: packages/names/names.json and names.csv."""
+"""The table of other tools' names as it is published, from packages/names/elsewhere.tsv: packages/names/names.json and
+names.csv."""
 import csv
 import fnmatch
 import io
@@ -11,8 +12,10 @@ COLUMNS = ["tool", "name", "triple", "read", "written", "other_names", "states_v
 OF_SOURCE = ["version", "where", "seen", "asked"]
 
 def sources_of(dialect, name, note, in_notes):
-    """The names of the sources of a row: that of the first pattern that it has, or those of `in_notes` that its note names, or the dialect's own."""
-    found = [source for source, patterns in dialect.sources.items() if any(fnmatch.fnmatchcase(name, it) for it in patterns)]
+    """The names of the sources of a row: that of the first pattern that it has, or those of `in_notes` that its note
+    names, or the dialect's own."""
+    found = [source for source, patterns in dialect.sources.items()
+             if any(fnmatch.fnmatchcase(name, it) for it in patterns)]
     if found:
         return found[:1]
     places = {source: re.search(rf"(?<![\w.@/]){re.escape(source)}(?![\w/-]|\.\w)", note) for source in in_notes}
@@ -27,14 +30,16 @@ def rows(tables, wrong):
     for dialect in tables.dialects.values():
         for name, triple, ways, *note in dialect.lines:
             note = "".join(note)
-            others = [other for other, same, way, *_ in dialect.lines if same == triple and other != name and way == "r"]
+            others = [other for other, same, way, *_ in dialect.lines if same == triple and other != name
+                      and way == "r"]
             ranges = [about for text, _, _, about in tables.versions if name.startswith(text) or name.endswith(text)]
             of = sources_of(dialect, name, note, in_notes)
             used |= {*of}
             has_triple = ways not in ("-", "several")
             if ways == "several":
                 note = triple.replace("+", " and ")
-            yield {"tool": dialect.name, "name": name, "triple": triple if has_triple else None, "read": ways in ("r", "rw"), "written": "w" in ways,
+            yield {"tool": dialect.name, "name": name, "triple": triple if has_triple else None,
+                   "read": ways in ("r", "rw"), "written": "w" in ways,
                    "other_names": others if "w" in ways else [], "states_version_of": ranges[0] if ranges else None,
                    "reason": None if has_triple else "several machines" if ways == "several" else note,
                    "note": note if note and ways != "-" else None, "sources": of}
@@ -42,15 +47,20 @@ def rows(tables, wrong):
 
 
 def as_json(tables, version, of_rows):
-    tools = [{"tool": it.name, "also": it.other_names, "about": it.about, "read": it.is_read, "written": it.is_written} for it in tables.dialects.values()]
-    sources = {it.name: {"version": it.version or None, "debian_package": it.package or None, "where": it.where, "seen": it.seen, "asked": it.is_asked}
+    tools = [{"tool": it.name, "also": it.other_names, "about": it.about, "read": it.is_read, "written": it.is_written}
+             for it in tables.dialects.values()]
+    sources = {it.name: {"version": it.version or None, "debian_package": it.package or None, "where": it.where,
+                         "seen": it.seen, "asked": it.is_asked}
                for it in tables.sources.values()}
-    parts = [{"place": place, "part": name, "read_as": meaning} for place, found in tables.parts.items() for name, meaning, _ in found]
+    parts = [{"place": place, "part": name, "read_as": meaning} for place, found in tables.parts.items()
+             for name, meaning, _ in found]
     reasons = [{"reason": name, "text": text} for name, text in tables.reasons]
-    head = {"$schema": "names.schema.json", "generated_by": "tools/names/write, from packages/names/elsewhere.tsv", "version": version,
+    head = {"$schema": "names.schema.json", "generated_by": "tools/names/write, from packages/names/elsewhere.tsv",
+            "version": version,
             "licence": "Apache-2.0 WITH LLVM-exception"}
     lines = [f"  {dumped(name)}: {dumped(value)}" for name, value in head.items()]
-    lines.append('  "sources": {\n' + ",\n".join(f"    {dumped(name)}: {dumped(it)}" for name, it in sources.items()) + "\n  }")
+    lines.append('  "sources": {\n' + ",\n".join(f"    {dumped(name)}: {dumped(it)}" for name, it in sources.items())
+                 + "\n  }")
     lines += [f'  "{name}": [\n' + ",\n".join(f"    {dumped(it)}" for it in values) + "\n  ]"
               for name, values in (("tools", tools), ("reasons", reasons), ("parts", parts), ("names", of_rows))]
     return "{\n" + ",\n".join(lines) + "\n}\n"
@@ -68,7 +78,8 @@ def as_csv(tables, of_rows):
         it = tables.sources[row["sources"][0]]
         cells = [", ".join(cell) if isinstance(cell, list) else cell for cell in (row[name] for name in COLUMNS)]
         cells += [it.version, it.where, it.seen, it.is_asked]
-        writer.writerow(["" if cell is None else str(cell).lower() if isinstance(cell, bool) else cell for cell in cells])
+        writer.writerow(["" if cell is None else str(cell).lower() if isinstance(cell, bool) else cell
+                         for cell in cells])
     return out.getvalue()
 
 

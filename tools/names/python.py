@@ -1,4 +1,5 @@
-"""The files of the Python package that are written whole: the names of other lists, the values of the fields, and the answers."""
+"""The files of the Python package that are written whole: the names of other lists, the values of the fields, and the
+answers."""
 from answers import ENUMS
 from facts import KNOWN
 from names_table import FIELDS
@@ -132,9 +133,11 @@ def enumeration(name, base, about, members):
 def names(lists, dialects, libcs):
     """The file of the lists that the others need, which are removed from `lists`, and of what callers name."""
     members = ([(it.constant, it.name, it.about) for it in of] for of in (dialects, libcs))
-    classes = ["\n".join(enumeration(name, "NamedValue", about, of)) for (name, about), of in zip(GIVEN.items(), members)]
+    classes = ["\n".join(enumeration(name, "NamedValue", about, of))
+               for (name, about), of in zip(GIVEN.items(), members)]
     return HEAD.format("answers.tsv and packages/names/elsewhere.tsv") + NAMES.format(
-        fields=", ".join(f'"{it}"' for it in FIELDS), statuses="\n".join(lists.pop("the statuses for Python")), facts="\n".join(f"    {it}" for it in lists.pop("the names of facts for Python")),
+        fields=", ".join(f'"{it}"' for it in FIELDS), statuses="\n".join(lists.pop("the statuses for Python")),
+        facts="\n".join(f"    {it}" for it in lists.pop("the names of facts for Python")),
         dialects=classes[0], names="\n".join(lists.pop("the dialects' names for Python")), libcs=classes[1],
         libc_names=", ".join(f'"{it.name}"' for it in libcs))
 
@@ -166,10 +169,13 @@ def python_type(fact):
 def answers(answered, facts, reasons):
     """The file of the answers, from those of each kind, the facts, and why one has no answer."""
     members = {kind: [(it.constant, it.name, it.about) for it in answered[kind]] for kind in ANSWERS}
-    enumerations = [line for kind, about in ANSWERS.items() for line in enumeration(ENUMS[kind], "NamedValue", about, members[kind])]
+    enumerations = [line for kind, about in ANSWERS.items()
+                    for line in enumeration(ENUMS[kind], "NamedValue", about, members[kind])]
     by_number = {True: "(None, *{})", False: "tuple({})"}
-    tables = {table_of(it): f"Tuple[{python_type(it)}, ...] = {by_number[it.is_optional].format(it.words)}" for it in facts if it.words}
-    columns = dict.fromkeys(FIRST, "str") | {it.name: "str" if it.words else plain_type(it) for it in facts} | dict.fromkeys(LAST, "str")
+    tables = {table_of(it): f"Tuple[{python_type(it)}, ...] = {by_number[it.is_optional].format(it.words)}"
+              for it in facts if it.words}
+    columns = dict.fromkeys(FIRST, "str") | {it.name: "str" if it.words else plain_type(it)
+                                             for it in facts} | dict.fromkeys(LAST, "str")
     return HEAD.format("answers.tsv") + FACTS.format(
         enumerations="\n".join(enumerations),
         facts="\n".join(f'    "{it.name}": {table_of(it)},' for it in facts),

@@ -11,8 +11,8 @@ WAYS = {"rw": "Both", "r": "Read", "w": "Written", "-": "NoTriple", "several": "
 DIALECT, ONLY_WRITTEN = "# dialect ", "# only written: "
 # What words say that are no names here, and the field in which none of them may be one.
 OTHERS = {"other-machine": "architecture", "other-system": "operating_system", "other-abi": "environment"}
-# The rules of a dialect: for each field of `Rules` its value for each choice. The first choice goes without saying. A dialect may have
-# other names too.
+# The rules of a dialect: for each field of `Rules` its value for each choice. The first choice goes without saying. A
+# dialect may have other names too.
 RULES = {"machine": {"order": "MachineRule::Order", "version": "MachineRule::Version", "rustc": "MachineRule::Rustc",
                      "alpine": "MachineRule::Alpine", "packages": "MachineRule::Packages"},
          "abi": {"kept": "AbiRule::Kept", "dropped": "AbiRule::Dropped", "linux": "AbiRule::KeptOnLinux",
@@ -20,14 +20,18 @@ RULES = {"machine": {"order": "MachineRule::Order", "version": "MachineRule::Ver
          **{word: {"no": "false", "yes": "true"} for word in ("versions", "tags", "spelled", "platforms", "itself")}}
 
 # The columns of the lines that begin with `#` and one of these words.
-COLUMNS = {"why": ["the name of a reason", "the reason"], "note": ["the name of a note", "the note"], "refusal": ["a constant", "the reason"],
-           "reason": ["a variant of `WriteError`", "the reason"], "versions": ["the start or end of names", "the least number", "the most", "what it is"],
-           "source": ["a source", "its version", "Debian's package", "a file, a command in backquotes or an address", "the day"], "from": ["a source"]}
+COLUMNS = {"why": ["the name of a reason", "the reason"], "note": ["the name of a note", "the note"],
+           "refusal": ["a constant", "the reason"],
+           "reason": ["a variant of `WriteError`", "the reason"],
+           "versions": ["the start or end of names", "the least number", "the most", "what it is"],
+           "source": ["a source", "its version", "Debian's package", "a file, a command in backquotes or an address",
+                      "the day"], "from": ["a source"]}
 
 
 @dataclass
 class Source:
-    """Where names can be seen again: its name, its version, Debian's package of it, a file, a command in backquotes or a page's address, and when."""
+    """Where names can be seen again: its name, its version, Debian's package of it, a file, a command in backquotes or
+    a page's address, and when."""
     name: str
     version: str
     package: str
@@ -42,8 +46,10 @@ class Source:
 
 @dataclass
 class Dialect:
-    """A dialect: its rules, its other names, what is said of it, the patterns of names of each source, and its rows. A row is a name, what it means
-    or why it has no triple, and its way. `notes` are those for who reads a name, and `levels` those of machines that triples can't state. `lines` are the rows as the file has them: name, triple, ways and note, or the reason."""
+    """A dialect: its rules, its other names, what is said of it, the patterns of names of each source, and its rows. A
+    row is a name, what it means or why it has no triple, and its way. `notes` are those for who reads a name, and
+    `levels` those of machines that triples can't state. `lines` are the rows as the file has them: name, triple, ways
+    and note, or the reason."""
     name: str
     rules: dict
     other_names: list
@@ -73,10 +79,12 @@ class Dialect:
 
 @dataclass
 class Elsewhere:
-    """The dialects in the order of their numbers, the rows of `first` and `later`, the words of config.sub, and why a name isn't read
-    that is only written. `said` is what words say in names that no tool has. `whys` has the reasons that rows without a triple cite, by their names."""
+    """The dialects in the order of their numbers, the rows of `first` and `later`, the words of config.sub, and why a
+    name isn't read that is only written. `said` is what words say in names that no tool has. `whys` has the reasons
+    that rows without a triple cite, by their names."""
     dialects: dict = field(default_factory=dict)
-    words: dict = field(default_factory=lambda: {it: {} for it in ("maker", "kernel", "system", "notmachine", "notsystem", "othermaker", "novendor")})
+    words: dict = field(default_factory=lambda: {it: {} for it in ("maker", "kernel", "system", "notmachine",
+                                                                   "notsystem", "othermaker", "novendor")})
     said: dict = field(default_factory=dict)
     parts: dict = field(default_factory=lambda: {"first": [], "second": [], "hard": [], "later": []})
     only_written: str = ""
@@ -89,12 +97,16 @@ class Elsewhere:
 
 
 def tables_of(text, known, wrong):
-    """The tables. `known` are the names of values: of each field, of architectures for "", and of later parts for "-"."""
+    """The tables. `known` are the names of values: of each field, of architectures for "", and of later parts for
+    "-"."""
     found, cited = Elsewhere(), set()
     read_lines("elsewhere.tsv", text, wrong, lambda line: read_line(found, line, known, cited))
-    wrong += [f"elsewhere.tsv: no row cites the reason {it}: remove its line `# why`, or write it as the note of a row" for it in sorted(found.whys.keys() - cited)]
+    wrong += [f"elsewhere.tsv: no row cites the reason {it}: remove its line `# why`, or write it as the note of a row"
+              for it in sorted(found.whys.keys() - cited)]
     for it in found.dialects.values():
-        wrong += [f"elsewhere.tsv: the dialect {it.name} has no {what}" for what, there in (("line that says what it is, after `# dialect`", it.about), ("row", it.rows)) if not there]
+        wrong += [f"elsewhere.tsv: the dialect {it.name} has no {what}"
+                  for what, there in (("line that says what it is, after `# dialect`", it.about), ("row", it.rows))
+                  if not there]
         if sum(not patterns for patterns in it.sources.values()) != 1:
             wrong.append(f"elsewhere.tsv: the dialect {it.name} needs one line `# from` with a source and no patterns")
     return found
@@ -118,7 +130,8 @@ def read_line(found, line, known, cited):
         add_words(found.words[words[0]], *columns(words[1:], ["words"]))
         check_no_name(words[1], known["operating_system"] if words[0] == "system" else ())
     elif not line.startswith("#"):
-        dialect, names, triple, ways, *rest = columns(line, ["a dialect", "its names", "a triple", "the ways", "a note", "a level"], 4)
+        dialect, names, triple, ways, *rest = columns(line, ["a dialect", "its names", "a triple", "the ways", "a note",
+                                                             "a level"], 4)
         note, level = (*rest, "", "")[:2]
         for name, meaning, of_name in products(names, triple, level):
             add_row(found, [dialect, name, meaning, ways, *[note] * bool(note)], known, cited)
@@ -129,14 +142,16 @@ def read_line(found, line, known, cited):
 
 
 def products(names, *columns):
-    """The names of a row, each with its other columns: those of a rule are its products. Braces have words, and after `=` what a word means, if it isn't
-    itself."""
+    """The names of a row, each with its other columns: those of a rule are its products. Braces have words, and after
+    `=` what a word means, if it isn't itself."""
     for name in names.split(", "):
         words = [[word.partition("=") for word in it.split(" ")] for it in re.findall(r"{(.*?)}", name)]
         for chosen in itertools.product(*words):
-            of_words, of_meanings = iter(chosen), {f"{{{number}}}": meaning or word for number, (word, _, meaning) in enumerate(chosen, 1)}
+            of_words, of_meanings = iter(chosen), {f"{{{number}}}": meaning or word
+                                                   for number, (word, _, meaning) in enumerate(chosen, 1)}
             one = re.sub("{.*?}", lambda it: next(of_words)[0], name)
-            yield one, *(one if it == "=" else re.sub(r"{\d}", lambda it: of_meanings.get(it[0], it[0]), it) for it in columns)
+            yield one, *(one if it == "=" else re.sub(r"{\d}", lambda it: of_meanings.get(it[0], it[0]), it)
+                         for it in columns)
 
 
 def add_dialect(found, name="", *rules):
@@ -144,12 +159,14 @@ def add_dialect(found, name="", *rules):
     others = [it for it in rules.pop("names", "").split(",") if it]
     taken = {*found.dialects, *(other for other, _ in other_names(found)), *found.parts, *found.words}
     # It is there for its rows even if something is wrong.
-    found.dialects.setdefault(name, Dialect(name, {word: rules.get(word, next(iter(choices))) for word, choices in RULES.items()}, others))
+    found.dialects.setdefault(name, Dialect(name, {word: rules.get(word, next(iter(choices)))
+                                                   for word, choices in RULES.items()}, others))
     for it in [name, *others]:
         if it in taken:
             raise Mistake(f"`{it}` is the name of another dialect or list")
         if not re.fullmatch("[a-z][a-z0-9]*", it):
-            raise Mistake(f"the name of a dialect is part of names in each language: lower-case letters and digits, not `{it}`")
+            raise Mistake(
+                f"the name of a dialect is part of names in each language: lower-case letters and digits, not `{it}`")
     for word, choice in rules.items():
         if word not in RULES:
             raise Mistake(f"there is no rule `{word}`, only {', '.join(RULES)} and names")
@@ -223,7 +240,8 @@ def add_row(found, cells, known, cited):
     if ways == "-" and "".join(note) not in found.whys:
         raise Mistake(f"the note is the name of a line `# why`, not `{''.join(note)}`: {', '.join(found.whys)}")
     if ways == "-" and is_known_by_now(name, found.whys[note[0]], known):
-        raise Mistake(f"`{name}` has no triple for this reason: {found.whys[note[0]]}. But tools/names/names.tsv has it: "
+        raise Mistake(
+            f"`{name}` has no triple for this reason: {found.whys[note[0]]}. But tools/names/names.tsv has it: "
                       "write the triple, or another reason")
     for it in triple.split("+") if ways != "-" else []:
         check_triple(it, known, of, name)
@@ -247,7 +265,8 @@ def add_row(found, cells, known, cited):
 
 
 def check_triple(triple, known, of, name):
-    """Each part is a known name, or a part of the name if its triple may be itself. That the triple is canonical is tried by the tests of packages/names."""
+    """Each part is a known name, or a part of the name if its triple may be itself. That the triple is canonical is
+    tried by the tests of packages/names."""
     first, *later = triple.split("-")
     if of and of.rules["itself"] == "yes":
         later = [part for part in later if part not in name.split("-")]
@@ -261,10 +280,12 @@ def check_triple(triple, known, of, name):
 def check_row(lines, name, triple, ways):
     """No name has two meanings, and no triple two names that are written."""
     if ("*" in triple) != ("*" in name and bool(re.search("macosx|ios", triple))):
-        raise Mistake("a triple of macOS or iOS has a star if and only if its name has one, and no other triple has one")
+        raise Mistake(
+            "a triple of macOS or iOS has a star if and only if its name has one, and no other triple has one")
     same = [it for it in lines if it[0] == name]
     if same and (ways != "w" or same[0][2] not in ("-", "r")):
-        raise Mistake(f"`{name}` means {same[0][1]} already: only rows `w` share a name, after a row `r` or `-` that says what it means or why it isn't read")
+        raise Mistake(
+            f"`{name}` means {same[0][1]} already: only rows `w` share a name, after a row `r` or `-` that says what it means or why it isn't read")
     written = [it[0] for it in lines if it[1] == triple and "w" in it[2]]
     if written and "w" in ways:
         raise Mistake(f"{triple} has the name `{written[0]}` already: one of the two is only read, `r`")
@@ -276,7 +297,8 @@ def other_names(tables):
 
 
 def names_that_are_read(tables):
-    return {name for it in tables.dialects.values() for name, _, way in it.rows if way in ("Both", "Read") and "*" not in name}
+    return {name for it in tables.dialects.values() for name, _, way in it.rows if way in ("Both", "Read")
+            and "*" not in name}
 
 
 # The place of each list of rules, and the forms of a text by how it ends.
@@ -286,9 +308,11 @@ FORMS = {"*": "Dropped", "+": "MacOs", "!": "HardFloats", "-": "PairWithin"}
 
 def spelling_rules(tables, lists):
     """The rules of these lists, those that look at more than a part before the others."""
-    rows = [(PLACES[it], text, names) for is_wide in (True, False) for it in lists for text, names, _ in tables.parts[it] if (it == "hard" or "-" in text) == is_wide]
+    rows = [(PLACES[it], text, names) for is_wide in (True, False) for it in lists
+            for text, names, _ in tables.parts[it] if (it == "hard" or "-" in text) == is_wide]
     form = lambda text: FORMS.get(text[-1:], "Pair" if "-" in text else "Whole")
-    return [f'    ({place}, "{text[:-1] if text[-1:] in FORMS else text}", {form(text)}, "{names}"),' for place, text, names in rows]
+    return [f'    ({place}, "{text[:-1] if text[-1:] in FORMS else text}", {form(text)}, "{names}"),'
+            for place, text, names in rows]
 
 
 NO_SYSTEM = "triples have no system "
@@ -306,30 +330,42 @@ def lists(tables):
     words = [it.name for it in dialects]
     written = ", ".join(f'"{it.name}"' for it in dialects if it.is_written)
     return {
-        "the dialects for C": [f"LEXICON_DIALECT_{it.constant} = {number}, /* {it.about.rstrip('.').replace('`', '')} */" for number, it in enumerate(dialects, 1)],
+        "the dialects for C": [
+        f"LEXICON_DIALECT_{it.constant} = {number}, /* {it.about.rstrip('.').replace('`', '')} */"
+        for number, it in enumerate(dialects, 1)],
         "the last dialect": [f"enum {{ LAST_DIALECT = {len(dialects)} }};"],
         "the dialects for C++": filled([f"{it.variant} = {number}," for number, it in enumerate(dialects, 1)], " "),
         "the dialects' names for C": [f"{names},"],
-        "the other names of dialects for C": [f'if (strcmp(name, "{name}") == 0) return LEXICON_DIALECT_{it.constant};' for name, it in others],
+        "the other names of dialects for C": [f'if (strcmp(name, "{name}") == 0) return LEXICON_DIALECT_{it.constant};'
+                                              for name, it in others],
         "the dialects that are only read": ["fn is_only_read(dialect: Dialect) -> bool {",
                                             f"    matches!(dialect, {' | '.join(f'Dialect::{it.variant}' for it in dialects if not it.is_written)})", "}"],
         "the other names of dialects for the command": [f"const OTHER_NAMES: [(&str, Dialect); {len(others)}] = "
                                                         f"[{', '.join(f'({chr(34)}{name}{chr(34)}, Dialect::{it.variant})' for name, it in others)}];"],
-        "the dialects for the manual": [f"the tool whose names are read or written: {', '.join(words[:-1])} or {words[-1]}.",
+        "the dialects for the manual": [
+        f"the tool whose names are read or written: {', '.join(words[:-1])} or {words[-1]}.",
                                         f"{' and '.join(f'{name} is {it.name}' for name, it in others)}.",
                                         f"Names of {' and '.join(it.name for it in dialects if not it.is_written)} are only read."],
         "the dialects' names for Python": [f"DialectName = {literal([*words, *(name for name, _ in others)])}",
                                            f"OTHER_NAMES = {{{', '.join(f'{chr(34)}{name}{chr(34)}: {chr(34)}{it.name}{chr(34)}' for name, it in others)}}}",
                                            f"ONLY_READ = [{', '.join(f'Dialect.{it.constant}' for it in dialects if not it.is_written)}]",
                                            f"ONLY_WRITTEN: List[Dialect] = [{', '.join(f'Dialect.{it.constant}' for it in dialects if not it.is_read)}]"],
-        "the other names of dialects for JavaScript": [f"const OTHER_NAMES = {{ {', '.join(f'{name}: {chr(34)}{it.name}{chr(34)}' for name, it in others)} }};"],
+        "the other names of dialects for JavaScript": [
+        f"const OTHER_NAMES = {{ {', '.join(f'{name}: {chr(34)}{it.name}{chr(34)}' for name, it in others)} }};"],
         "the dialects for the documentation": ["", "| Dialect | Its names |", "|---|---|",
-                                               *(f"| {', '.join(f'`{name}`' for name in [it.name, *it.other_names])} | {it.about} |" for it in dialects)],
-        "the dialects for JavaScript": ["/** The tools whose names of targets are known, by their numbers, which begin with 1; and those whose names are written. */",
-                                        f"export const DIALECTS = Object.freeze([{names}]);", f"const WRITTEN = [{written}];"],
-        "the dialects for TypeScript": ["/** The dialects, in the order of their numbers in target_lexicon.h, which begin with 1. */", f"export const DIALECTS: readonly [{names}];",
-                                        "", "/**", " * A tool, or a group of tools, that names targets in its own way.", *(f" * - `{it.name}`: {it.about}" for it in dialects), " */",
-                                        "export type Dialect = (typeof DIALECTS)[number] | " + " | ".join(f'"{name}"' for name, _ in others) + ";"],
+                                               *(
+        f"| {', '.join(f'`{name}`' for name in [it.name, *it.other_names])} | {it.about} |" for it in dialects)],
+        "the dialects for JavaScript": [
+        "/** The tools whose names of targets are known, by their numbers, which begin with 1; and those whose names are written. */",
+                                        f"export const DIALECTS = Object.freeze([{names}]);",
+        f"const WRITTEN = [{written}];"],
+        "the dialects for TypeScript": [
+        "/** The dialects, in the order of their numbers in target_lexicon.h, which begin with 1. */",
+        f"export const DIALECTS: readonly [{names}];",
+                                        "", "/**", " * A tool, or a group of tools, that names targets in its own way.",
+        *(f" * - `{it.name}`: {it.about}" for it in dialects), " */",
+                                        "export type Dialect = (typeof DIALECTS)[number] | "
+        + " | ".join(f'"{name}"' for name, _ in others) + ";"],
     }
 
 
@@ -338,52 +374,65 @@ def literal(names):
 
 
 def table_rules(it):
-    said = [f"{word}: {values[it.rules[word]]}" for word, values in RULES.items() if it.rules[word] != next(iter(values))]
+    said = [f"{word}: {values[it.rules[word]]}" for word, values in RULES.items()
+            if it.rules[word] != next(iter(values))]
     return f"Rules {{ {', '.join([*said, '..USUAL'])} }}" if said else "USUAL"
 
 
 def row_orders(it):
-    """The numbers of the rows without a star in the order of their names, of which the first row has the name; and those of the others."""
+    """The numbers of the rows without a star in the order of their names, of which the first row has the name; and
+    those of the others."""
     numbers = {}
     for number, (name, _, _) in enumerate(it.rows):
         numbers.setdefault(name, number)
     by_name = [numbers[name] for name in sorted(numbers, key=str.encode) if "*" not in name]
-    return [[f"{number}," for number in of] for of in (by_name, [number for name, number in numbers.items() if "*" in name])]
+    return [[f"{number}," for number in of] for of in (by_name, [number for name, number in numbers.items()
+                                                                 if "*" in name])]
 
 
 def files(tables, types):
     """The table of names, which says of the dialects what isn't the same for all, and these types."""
     words, dialects, others = tables.words, tables.dialects.values(), other_names(tables)
-    texts = lambda name, of: ["", f"pub(crate) static {name}: &[&str] = &[", *filled([f'"{it}",' for it in words[of]], " ", "    "), "];"]
+    texts = lambda name, of: ["", f"pub(crate) static {name}: &[&str] = &[",
+                              *filled([f'"{it}",' for it in words[of]], " ", "    "), "];"]
     lines = [
         "// @generated by tools/names/write from packages/names/elsewhere.tsv. Don't edit it here.",
         "//! The dialects, the rules and rows of each in their order, and the words of config.sub.",
         "use crate::dialect::{Table, Way::*};", "use crate::shape::{AbiRule, MachineRule, Rules, USUAL};", "",
-        "/// A tool, or a group of tools, that names targets in its own way.", "///", "/// # Examples", "///", "/// ```",
+        "/// A tool, or a group of tools, that names targets in its own way.", "///", "/// # Examples", "///",
+        "/// ```",
         "/// use target_lexicon::TripleRef;", "/// use target_names::Dialect;", "///",
         '/// let triple = TripleRef::from_str("x86_64-unknown-linux-gnu").unwrap();',
-        '/// assert_eq!(Dialect::Debian.write(&triple).unwrap().as_str(), "amd64");', '/// assert_eq!("go".parse(), Ok(Dialect::Go));', "/// ```",
+        '/// assert_eq!(Dialect::Debian.write(&triple).unwrap().as_str(), "amd64");',
+        '/// assert_eq!("go".parse(), Ok(Dialect::Go));', "/// ```",
         "#[non_exhaustive]", "#[derive(Clone, Copy, Debug, PartialEq, Eq, Hash)]", "pub enum Dialect {",
         *(line for it in dialects for line in (f"    /// {it.about}", f"    {it.variant},")), "}", "",
-        "impl Dialect {", "    /// All dialects, in the order of the variants.", "    ///", "    /// # Examples", "    ///", "    /// ```",
-        "    /// use target_lexicon::triple;", "    /// use target_names::Dialect;", "    ///", '    /// let triple = triple!("aarch64-apple-darwin");',
+        "impl Dialect {", "    /// All dialects, in the order of the variants.", "    ///", "    /// # Examples",
+        "    ///", "    /// ```",
+        "    /// use target_lexicon::triple;", "    /// use target_names::Dialect;", "    ///",
+        '    /// let triple = triple!("aarch64-apple-darwin");',
         "    /// let names = Dialect::ALL.iter().filter_map(|it| it.write(&triple));",
         '    /// assert!(names.map(|it| it.to_string()).any(|it| it == "darwin/arm64"));', "    /// ```",
-        "    pub const ALL: &'static [Dialect] = &[", *(f"        Dialect::{it.variant}," for it in dialects), "    ];", "}", "",
-        f"pub(crate) const DIALECT_NAMES: [&str; {len(dialects)}] = [", *filled([f'"{it.name}",' for it in dialects], " ", "    "), "];",
+        "    pub const ALL: &'static [Dialect] = &[", *(f"        Dialect::{it.variant}," for it in dialects), "    ];",
+        "}", "",
+        f"pub(crate) const DIALECT_NAMES: [&str; {len(dialects)}] = [",
+        *filled([f'"{it.name}",' for it in dialects], " ", "    "), "];",
         f"pub(crate) const OTHER_NAMES: [(&str, Dialect); {len(others)}] = [{', '.join(f'({chr(34)}{name}{chr(34)}, Dialect::{it.variant})' for name, it in others)}];", "",
         f'pub(crate) const ONLY_WRITTEN: &str = "{tables.only_written}";', "",
         "/// Why a triple has no name in a dialect. `Display` says it, and what would help.",
         "#[derive(Clone, Copy, Debug, PartialEq, Eq, Hash)]", "#[non_exhaustive]", "pub enum WriteError {",
-        *(line for name, text in tables.reasons for line in (f"    /// {text[0].upper()}{text[1:]}.", f"    {name},")), "}", "",
-        "/// The reasons, in the order of the variants.", f"pub(crate) const WRITE_REASONS: [&str; {len(tables.reasons)}] = [",
+        *(line for name, text in tables.reasons for line in (f"    /// {text[0].upper()}{text[1:]}.", f"    {name},")),
+        "}", "",
+        "/// The reasons, in the order of the variants.",
+        f"pub(crate) const WRITE_REASONS: [&str; {len(tables.reasons)}] = [",
         *(f'    "{text}",' for _, text in tables.reasons), "];", *types, "",
         "/// Why a string isn't read that has such a system, by its name.",
         "macro_rules! systems {", "    ($($word:literal)*) => {",
         f'        &[$(($word, concat!("{NO_SYSTEM}", $word))),*]', "    };", "}", "",
         "/// Why a name isn't read that no row refuses.", "pub(crate) mod refusals {",
         *(f'    pub(crate) const {name}: &str = "{text}";' for name, text in tables.refusals), "}", "",
-        "/// Why config.sub refuses a string, which is no name.", f"pub(crate) const OF_CONFIG_SUB: [&str; {len(tables.refusals) - 1}] = [",
+        "/// Why config.sub refuses a string, which is no name.",
+        f"pub(crate) const OF_CONFIG_SUB: [&str; {len(tables.refusals) - 1}] = [",
         *(f"    refusals::{name}," for name, _ in tables.refusals if name != "SEVERAL"), "];", "",
         "/// A text that patterns begin or end with, the least first number of a version, and the most.",
         "pub(crate) static VERSION_RANGES: &[(&str, u16, u16)] = &[",
@@ -391,14 +440,19 @@ def files(tables, types):
         f"pub(crate) static TABLES: [Table; {len(dialects)}] = [",
     ]
     for it in dialects:
-        lines += [f"    Table {{ rules: {table_rules(it)}, rows: &[", *(f'        ("{name}", "{meaning}", {way}),' for name, meaning, way in it.rows), "    ],"]
+        lines += [f"    Table {{ rules: {table_rules(it)}, rows: &[",
+                  *(f'        ("{name}", "{meaning}", {way}),' for name, meaning, way in it.rows), "    ],"]
         for word, of in (("notes", it.notes), ("levels", it.levels)):
             lines += [f"    {word}: &[", *(f'        ("{name}", "{of_name}"),' for name, of_name in of), "    ],"]
         for word, numbers in zip(("by_name", "patterns"), row_orders(it)):
             lines += [f"    {word}: &[", *(filled(numbers, " ", "        ") if numbers else []), "    ],"]
         lines += ["    },"]
-    lines += ["];", *texts("MAKERS", "maker"), *texts("KERNELS", "kernel"), *texts("NOT_MACHINES", "notmachine"), *texts("NOT_SYSTEMS", "notsystem"), *texts("OTHER_MAKERS", "othermaker"), *texts("NO_VENDORS", "novendor"), "",
-              "pub(crate) static SYSTEMS: &[(&str, &str)] = systems![", *filled([f'"{it}"' for it in words["system"]], " ", "    "), "];", "",
-              "/// What words say, in the order of the bytes of the words.", "pub(crate) static WORDS: &[(&str, &str)] = &[",
+    lines += ["];", *texts("MAKERS", "maker"), *texts("KERNELS", "kernel"), *texts("NOT_MACHINES", "notmachine"),
+              *texts("NOT_SYSTEMS", "notsystem"), *texts("OTHER_MAKERS", "othermaker"),
+              *texts("NO_VENDORS", "novendor"), "",
+              "pub(crate) static SYSTEMS: &[(&str, &str)] = systems![",
+              *filled([f'"{it}"' for it in words["system"]], " ", "    "), "];", "",
+              "/// What words say, in the order of the bytes of the words.",
+              "pub(crate) static WORDS: &[(&str, &str)] = &[",
               *filled([f'("{word}", "{said}"),' for word, said in sorted(tables.said.items())], " ", "    "), "];", ""]
     return {"packages/names/src/table.rs": "\n".join(lines)}

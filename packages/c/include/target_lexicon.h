@@ -1,7 +1,8 @@
-/* Target triples for C: parsing, printing, queries, and the names of other tools. `target_lexicon.hpp` beside it is for C++17.
+/* Target triples for C: parsing, printing, queries, and the names of other tools. `target_lexicon.hpp` beside it is for
+   C++17.
 
-   A triple is a struct of numbers, which you may `switch` over, copy and keep. Only a custom vendor is a string: the struct
-   has a pointer to it, so the string that was parsed must stay as long as the struct is used.
+   A triple is a struct of numbers, which you may `switch` over, copy and keep. Only a custom vendor is a string: the
+   struct has a pointer to it, so the string that was parsed must stay as long as the struct is used.
 
        struct lexicon_triple triple;
        struct lexicon_error error;
@@ -11,28 +12,28 @@
          fprintf(stderr, "%s\n", why);
        }
 
-   Names are case-sensitive. Names, rules and tables are those of the Rust crate target-lexicon 0.13.5 (upstream), even where
-   toolchains differ (docs/DIFFERENCES.md). Parsing, printing and queries are compiled from source that is proved to follow
-   written definitions (docs/PROOF.md), which were compared with upstream; one rule of printing differs.
+   Names are case-sensitive. Names, rules and tables are those of the Rust crate target-lexicon 0.13.5 (upstream), even
+   where toolchains differ (docs/DIFFERENCES.md). Parsing, printing and queries are compiled from source that is proved
+   to follow written definitions (docs/PROOF.md), which were compared with upstream; one rule of printing differs.
 
-   A string goes in as a pointer and a size. It needs no zero byte at its end, and need not be UTF-8. Of a string that ends
-   in a zero byte, LEXICON_Z is both arguments. A string comes out into the caller's buffer, with a zero byte after it, and
-   *length becomes the length of the whole string without that byte, even if the buffer is too small. Such a buffer is
-   unchanged, except where a call says otherwise.
+   A string goes in as a pointer and a size. It needs no zero byte at its end, and need not be UTF-8. Of a string that
+   ends in a zero byte, LEXICON_Z is both arguments. A string comes out into the caller's buffer, with a zero byte after
+   it, and *length becomes the length of the whole string without that byte, even if the buffer is too small. Such a
+   buffer is unchanged, except where a call says otherwise.
 
-   A string or a buffer of size 0 may be null, as with snprintf, and so may `length`, `error`, `reason` and `note`; no other pointer may. What a
-   call writes may not overlap any other argument, and no other byte is changed. No memory has more than PTRDIFF_MAX bytes, so a
-   larger size is a mistake: the status is LEXICON_TOO_LARGE whatever else is wrong, or the returned string is null. No call
-   allocates, waits, or stops the program, and nothing is kept or shared between calls. So threads and signal handlers may make
-   calls at any time.
+   A string or a buffer of size 0 may be null, as with snprintf, and so may `length`, `error`, `reason` and `note`; no
+   other pointer may. What a call writes may not overlap any other argument, and no other byte is changed. No memory has
+   more than PTRDIFF_MAX bytes, so a larger size is a mistake: the status is LEXICON_TOO_LARGE whatever else is wrong,
+   or the returned string is null. No call allocates, waits, or stops the program, and nothing is kept or shared between
+   calls. So threads and signal handlers may make calls at any time.
 
-   Most calls return a status. Except where a call says otherwise, it writes nothing if the status is not LEXICON_OK. A struct
-   with a number that names no value gives LEXICON_NO_SUCH_VALUE, and one with a custom vendor that no string parses as gives
-   LEXICON_NO_SUCH_VENDOR. If several fields are wrong, the status is that of the first one, in the order of the struct. Of two
-   structs that are wrong, the status is the first one's.
+   Most calls return a status. Except where a call says otherwise, it writes nothing if the status is not LEXICON_OK. A
+   struct with a number that names no value gives LEXICON_NO_SUCH_VALUE, and one with a custom vendor that no string
+   parses as gives LEXICON_NO_SUCH_VENDOR. If several fields are wrong, the status is that of the first one, in the
+   order of the struct. Of two structs that are wrong, the status is the first one's.
 
-   The members of the structs are integers of fixed sizes. Cast one to its enum, so that -Wswitch reports the values that a
-   switch leaves out.
+   The members of the structs are integers of fixed sizes. Cast one to its enum, so that -Wswitch reports the values
+   that a switch leaves out.
 
    SPDX-License-Identifier: Apache-2.0 WITH LLVM-exception */
 #ifndef TARGET_LEXICON_VERIFIED_H
@@ -451,10 +452,11 @@ enum lexicon_signedness {
 };
 
 /* Zeros are the unknown triple. What the library writes has 0 in every field that is not read, and its custom_vendor
-   points into the string that was parsed. Compare two structs with lexicon_equal: memcmp would compare their padding too.
+   points into the string that was parsed. Compare two structs with lexicon_equal: memcmp would compare their padding
+   too.
 
-   LEXICON_BINARY_FORMAT_UNKNOWN is a format of its own, which parsing gives only if no other is implied. If you fill in a
-   struct yourself, call lexicon_facts and set binary_format to facts.implied_format. */
+   LEXICON_BINARY_FORMAT_UNKNOWN is a format of its own, which parsing gives only if no other is implied. If you fill in
+   a struct yourself, call lexicon_facts and set binary_format to facts.implied_format. */
 struct lexicon_triple {
   uint16_t architecture;     /* enum lexicon_architecture */
   uint8_t vendor;            /* enum lexicon_vendor */
@@ -468,11 +470,12 @@ struct lexicon_triple {
   size_t custom_vendor_size;
 };
 
-/* Why a string is refused: the status, from 1 to 7 or one that lexicon_read names, and where the refused part is. Here and
-   below, start and end are byte indices: of the part's first byte, and of the byte after its last. They are equal for an empty
-   part, which may be at the end of the string. In a string that isn't UTF-8, the part is the first bytes that are no character.
-   At LEXICON_TOO_LARGE both are 0. The reason is why a name has no triple, or isn't written, and what would help: null, except at
-   LEXICON_NAME_WITHOUT_TRIPLE, LEXICON_TRIPLE_WITHOUT_NAME and LEXICON_NEEDS_C_LIBRARY. It is no input of any call. */
+/* Why a string is refused: the status, from 1 to 7 or one that lexicon_read names, and where the refused part is. Here
+   and below, start and end are byte indices: of the part's first byte, and of the byte after its last. They are equal
+   for an empty part, which may be at the end of the string. In a string that isn't UTF-8, the part is the first bytes
+   that are no character. At LEXICON_TOO_LARGE both are 0. The reason is why a name has no triple, or isn't written, and
+   what would help: null, except at LEXICON_NAME_WITHOUT_TRIPLE, LEXICON_TRIPLE_WITHOUT_NAME and
+   LEXICON_NEEDS_C_LIBRARY. It is no input of any call. */
 struct lexicon_error {
   uint32_t status; /* enum lexicon_status */
   size_t start, end;
@@ -548,17 +551,18 @@ struct lexicon_change {
   size_t start, end;
 };
 
-/* A buffer of text_size + LEXICON_MAX_GROWTH + 1 bytes always has room for what lexicon_print writes for the triple that the
-   string parses as, and for its canonical form. arm64 prints as aarch64-unknown-unknown-elf, and no string grows by more. */
+/* A buffer of text_size + LEXICON_MAX_GROWTH + 1 bytes always has room for what lexicon_print writes for the triple
+   that the string parses as, and for its canonical form. arm64 prints as aarch64-unknown-unknown-elf, and no string
+   grows by more. */
 #define LEXICON_MAX_GROWTH 22
 
-/* Parses a string. At LEXICON_OK the triple is written. At any other status, from 1 to 7 or LEXICON_TOO_LARGE, the error is
-   written, unless it is null: whoever only asks whether a string parses needs none. */
+/* Parses a string. At LEXICON_OK the triple is written. At any other status, from 1 to 7 or LEXICON_TOO_LARGE, the
+   error is written, unless it is null: whoever only asks whether a string parses needs none. */
 LEXICON_CHECKED LEXICON_NONNULL(3)
 enum lexicon_status lexicon_parse(const char *text, size_t text_size, struct lexicon_triple *triple, struct lexicon_error *error);
 
-/* Parses a string, and says where each field comes from. The sources are written at each status; those from the refused part
-   on are LEXICON_ORIGIN_NOT_GIVEN. */
+/* Parses a string, and says where each field comes from. The sources are written at each status; those from the refused
+   part on are LEXICON_ORIGIN_NOT_GIVEN. */
 LEXICON_CHECKED LEXICON_NONNULL(3, 4)
 enum lexicon_status lexicon_explain(const char *text, size_t text_size, struct lexicon_triple *triple,
                                     struct lexicon_sources *sources, struct lexicon_error *error);
@@ -567,14 +571,14 @@ enum lexicon_status lexicon_explain(const char *text, size_t text_size, struct l
 LEXICON_CHECKED LEXICON_NONNULL(1)
 enum lexicon_status lexicon_print(const struct lexicon_triple *triple, char *out, size_t out_size, size_t *length);
 
-/* Replaces a triple by its canonical form, which is what its printed string parses as. It round-trips. Two canonical triples
-   with the same printed string are equal, so the string is a key. */
+/* Replaces a triple by its canonical form, which is what its printed string parses as. It round-trips. Two canonical
+   triples with the same printed string are equal, so the string is a key. */
 LEXICON_CHECKED LEXICON_NONNULL(1)
 enum lexicon_status lexicon_settle(struct lexicon_triple *triple);
 
-/* Writes the canonical form of each line of a string, with a line feed after it; of a line that is refused, only the line feed.
-   A line ends with a line feed, which the last one may lack. A buffer of text_size + lines * LEXICON_MAX_GROWTH + 2 bytes has
-   room. One that is too small has the first lines, as far as they fit. */
+/* Writes the canonical form of each line of a string, with a line feed after it; of a line that is refused, only the
+   line feed. A line ends with a line feed, which the last one may lack. A buffer of text_size + lines *
+   LEXICON_MAX_GROWTH + 2 bytes has room. One that is too small has the first lines, as far as they fit. */
 LEXICON_CHECKED
 enum lexicon_status lexicon_settle_lines(const char *text, size_t text_size, char *out, size_t out_size, size_t *length);
 
@@ -588,9 +592,10 @@ enum lexicon_status lexicon_equal(const struct lexicon_triple *first, const stru
 LEXICON_CHECKED LEXICON_NONNULL(1, 2, 3)
 enum lexicon_status lexicon_same_target(const struct lexicon_triple *first, const struct lexicon_triple *second, bool *answer);
 
-/* What a compiler asks about a triple. Call lexicon_all_facts(triple, facts), which passes facts_size: sizeof *facts, so that the library
-   may be older or later than the header that a program was compiled with: so many bytes of the struct are written, and the members
-   that an older library doesn't have become 0. Up to offsetof implied_format it takes the least time, then up to offsetof c_library. */
+/* What a compiler asks about a triple. Call lexicon_all_facts(triple, facts), which passes facts_size: sizeof *facts,
+   so that the library may be older or later than the header that a program was compiled with: so many bytes of the
+   struct are written, and the members that an older library doesn't have become 0. Up to offsetof implied_format it
+   takes the least time, then up to offsetof c_library. */
 LEXICON_CHECKED LEXICON_NONNULL(1, 2)
 enum lexicon_status lexicon_facts(const struct lexicon_triple *triple, struct lexicon_triple_facts *facts, size_t facts_size);
 
@@ -599,14 +604,15 @@ LEXICON_CHECKED LEXICON_NONNULL(1)
 enum lexicon_status lexicon_rustc_cfg(const struct lexicon_triple *triple, char *out, size_t out_size, size_t *length);
 
 /* The string that LLVM and clang take for the target, which is rustc's llvm-target for each of its targets that parses:
-   arm64-apple-macosx for aarch64-apple-darwin, x86_64-apple-macosx13.0.0 for x86_64-apple-darwin22. It has the versions that
-   a triple has, those of Apple's systems: lexicon_stated_versions gives the others of a string. */
+   arm64-apple-macosx for aarch64-apple-darwin, x86_64-apple-macosx13.0.0 for x86_64-apple-darwin22. It has the versions
+   that a triple has, those of Apple's systems: lexicon_stated_versions gives the others of a string. */
 LEXICON_CHECKED LEXICON_NONNULL(1)
 enum lexicon_status lexicon_llvm_target(const struct lexicon_triple *triple, char *out, size_t out_size, size_t *length);
 
-/* What clang passes to the linker for the target: the dynamic linker that programs name, and the emulation after -m; and
-   what ends the name of a program, as rustc has it, which may be nothing. /lib64/ld-linux-x86-64.so.2, elf_x86_64 and an
-   empty string for x86_64-unknown-linux-gnu. LEXICON_NO_ANSWER where clang passes none, or the triple states no C library. */
+/* What clang passes to the linker for the target: the dynamic linker that programs name, and the emulation after -m;
+   and what ends the name of a program, as rustc has it, which may be nothing. /lib64/ld-linux-x86-64.so.2, elf_x86_64
+   and an empty string for x86_64-unknown-linux-gnu. LEXICON_NO_ANSWER where clang passes none, or the triple states no
+   C library. */
 LEXICON_CHECKED LEXICON_NONNULL(1)
 enum lexicon_status lexicon_dynamic_linker(const struct lexicon_triple *triple, char *out, size_t out_size, size_t *length);
 LEXICON_CHECKED LEXICON_NONNULL(1)
@@ -614,132 +620,141 @@ enum lexicon_status lexicon_linker_emulation(const struct lexicon_triple *triple
 LEXICON_CHECKED LEXICON_NONNULL(1)
 enum lexicon_status lexicon_program_suffix(const struct lexicon_triple *triple, char *out, size_t out_size, size_t *length);
 
-/* Debian's multiarch tuple, as dpkg-architecture -qDEB_HOST_MULTIARCH prints it: i386-linux-gnu for i686-unknown-linux-gnu.
-   If there is none, the status is LEXICON_TRIPLE_WITHOUT_NAME; lexicon_write with LEXICON_DIALECT_DEBIAN says why. */
+/* Debian's multiarch tuple, as dpkg-architecture -qDEB_HOST_MULTIARCH prints it: i386-linux-gnu for
+   i686-unknown-linux-gnu. If there is none, the status is LEXICON_TRIPLE_WITHOUT_NAME; lexicon_write with
+   LEXICON_DIALECT_DEBIAN says why. */
 LEXICON_CHECKED LEXICON_NONNULL(1)
 enum lexicon_status lexicon_multiarch_tuple(const struct lexicon_triple *triple, char *out, size_t out_size, size_t *length);
 
-/* Reads what another tool calls a target. At LEXICON_OK the triple is written. At any other status the error is, unless it is null.
+/* Reads what another tool calls a target. At LEXICON_OK the triple is written. At any other status the error is, unless
+   it is null.
 
-   With LEXICON_DIALECT_NONE, the string is spelled like a triple, as clang takes it after -target. Some parts are other spellings of
-   known names: amd64 is x86_64, w64 is pc, mingw32 is windows-gnu, macos13 is macosx13; after armv7hl, which is armv7, gnueabi is
-   gnueabihf. Versions of systems other than Apple's are dropped: lexicon_stated_versions has them. What parses without a custom
-   vendor is read as it parses, and the status and the error are as those of lexicon_parse.
+   With LEXICON_DIALECT_NONE, the string is spelled like a triple, as clang takes it after -target. Some parts are other
+   spellings of known names: amd64 is x86_64, w64 is pc, mingw32 is windows-gnu, macos13 is macosx13; after armv7hl,
+   which is armv7, gnueabi is gnueabihf. Versions of systems other than Apple's are dropped: lexicon_stated_versions has
+   them. What parses without a custom vendor is read as it parses, and the status and the error are as those of
+   lexicon_parse.
 
-   With a dialect, the string is a name of that tool, and no other dialect is tried; what cc -dumpmachine prints is one of
-   LEXICON_DIALECT_GNU. The triple is canonical, and what the name doesn't state is unknown: linux/arm64 is aarch64-unknown-linux.
-   Around the name may be what files and commands have, such as the scope of a package of npm: docs/TOOL_NAMES.md. The status is then
-   LEXICON_OK, LEXICON_UNKNOWN_NAME, LEXICON_NAME_WITHOUT_TRIPLE or LEXICON_NOT_UTF8; of the first two refusals, the range is that of
-   the whole name. At LEXICON_NO_SUCH_DIALECT it is empty. */
+   With a dialect, the string is a name of that tool, and no other dialect is tried; what cc -dumpmachine prints is one
+   of LEXICON_DIALECT_GNU. The triple is canonical, and what the name doesn't state is unknown: linux/arm64 is
+   aarch64-unknown-linux. Around the name may be what files and commands have, such as the scope of a package of npm:
+   docs/TOOL_NAMES.md. The status is then LEXICON_OK, LEXICON_UNKNOWN_NAME, LEXICON_NAME_WITHOUT_TRIPLE or
+   LEXICON_NOT_UTF8; of the first two refusals, the range is that of the whole name. At LEXICON_NO_SUCH_DIALECT it is
+   empty. */
 LEXICON_CHECKED LEXICON_NONNULL(4)
 enum lexicon_status lexicon_read(uint32_t dialect, const char *text, size_t text_size, struct lexicon_triple *triple,
                                  struct lexicon_error *error);
 
-/* The versions that a string states which lexicon_read reads without a dialect: 14.0 of the system of x86_64-unknown-freebsd14.0, 21 of the
-   environment, the API level, of aarch64-linux-android21, 19.33.31629 of x86_64-pc-windows-msvc19.33.31629. The version of one of
-   Apple's systems is the triple's too. If the string is refused, the status and the error are those of lexicon_read. */
+/* The versions that a string states which lexicon_read reads without a dialect: 14.0 of the system of
+   x86_64-unknown-freebsd14.0, 21 of the environment, the API level, of aarch64-linux-android21, 19.33.31629 of
+   x86_64-pc-windows-msvc19.33.31629. The version of one of Apple's systems is the triple's too. If the string is
+   refused, the status and the error are those of lexicon_read. */
 LEXICON_CHECKED LEXICON_NONNULL(3)
 enum lexicon_status lexicon_stated_versions(const char *text, size_t text_size, struct lexicon_versions *versions,
                                             struct lexicon_error *error);
 
-/* The name of a triple in a dialect, which has at most 36 bytes. The vendor doesn't matter, nor what the dialect doesn't name;
-   byte order, pointer width and object format do. Without a name, the status is LEXICON_NEEDS_C_LIBRARY if lexicon_complete gives
-   the triple one, and otherwise LEXICON_TRIPLE_WITHOUT_NAME, and unless `reason` is null, *reason becomes why, and what would help:
+/* The name of a triple in a dialect, which has at most 36 bytes. The vendor doesn't matter, nor what the dialect
+   doesn't name; byte order, pointer width and object format do. Without a name, the status is LEXICON_NEEDS_C_LIBRARY
+   if lexicon_complete gives the triple one, and otherwise LEXICON_TRIPLE_WITHOUT_NAME, and unless `reason` is null,
+   *reason becomes why, and what would help:
 
        it depends on the C library: say glibc or musl */
 LEXICON_CHECKED LEXICON_NONNULL(2)
 enum lexicon_status lexicon_write(uint32_t dialect, const struct lexicon_triple *triple, char *out, size_t out_size, size_t *length,
                                   const char **reason);
 
-/* The name of a triple in a dialect that states a version which triples don't have: manylinux_2_17_x86_64 of Python with glibc
-   2.17, musllinux_1_2_aarch64 with musl 1.2, macosx_11_0_arm64 with macOS 11.0, or android_21_x86_64 with Android's API level 21,
-   which has no second number: pass 0. LEXICON_TRIPLE_WITHOUT_NAME if the dialect has no such name, or a number is too large for one:
-   over 65535, or 255 for the second. */
+/* The name of a triple in a dialect that states a version which triples don't have: manylinux_2_17_x86_64 of Python
+   with glibc 2.17, musllinux_1_2_aarch64 with musl 1.2, macosx_11_0_arm64 with macOS 11.0, or android_21_x86_64 with
+   Android's API level 21, which has no second number: pass 0. LEXICON_TRIPLE_WITHOUT_NAME if the dialect has no such
+   name, or a number is too large for one: over 65535, or 255 for the second. */
 LEXICON_CHECKED LEXICON_NONNULL(2)
 enum lexicon_status lexicon_write_versioned(uint32_t dialect, const struct lexicon_triple *triple, uint32_t major, uint32_t minor,
                                             char *out, size_t out_size, size_t *length, const char **reason);
 
-/* Gives a triple of Linux or Windows, whose environment is unknown, the usual one of a C library: gnueabihf, gnu and so on. Only the
-   environment changes. Any other triple stays as it is, and so does arm-unknown-linux, which may be gnueabi or gnueabihf. */
+/* Gives a triple of Linux or Windows, whose environment is unknown, the usual one of a C library: gnueabihf, gnu and so
+   on. Only the environment changes. Any other triple stays as it is, and so does arm-unknown-linux, which may be
+   gnueabi or gnueabihf. */
 LEXICON_CHECKED LEXICON_NONNULL(1)
 enum lexicon_status lexicon_complete(struct lexicon_triple *triple, uint32_t linux_libc);
 
-/* Replaces a triple by the variant of its architecture whose pointers have 16, 32 or 64 bits, or that has a byte order of enum
-   lexicon_endianness: i686-unknown-linux-gnu for x86_64-unknown-linux-gnu and 32. With other pointers the environment becomes the usual
-   one of the same C library; all else stays. LEXICON_NO_ANSWER if no architecture is such a variant, and LEXICON_NO_SUCH_VALUE for any
-   other number. */
+/* Replaces a triple by the variant of its architecture whose pointers have 16, 32 or 64 bits, or that has a byte order
+   of enum lexicon_endianness: i686-unknown-linux-gnu for x86_64-unknown-linux-gnu and 32. With other pointers the
+   environment becomes the usual one of the same C library; all else stays. LEXICON_NO_ANSWER if no architecture is such
+   a variant, and LEXICON_NO_SUCH_VALUE for any other number. */
 LEXICON_CHECKED LEXICON_NONNULL(1)
 enum lexicon_status lexicon_set_pointer_width(struct lexicon_triple *triple, uint32_t bits);
 LEXICON_CHECKED LEXICON_NONNULL(1)
 enum lexicon_status lexicon_set_endianness(struct lexicon_triple *triple, uint32_t endianness);
 
-/* The version of macOS that a triple states, 10.15 for x86_64-apple-darwin19.6: that of darwin is the kernel's. And the oldest version of
-   one of Apple's systems that rustc builds programs for unless it is asked for another one, 11.0 for aarch64-apple-darwin.
-   LEXICON_NO_ANSWER if there is none. */
+/* The version of macOS that a triple states, 10.15 for x86_64-apple-darwin19.6: that of darwin is the kernel's. And the
+   oldest version of one of Apple's systems that rustc builds programs for unless it is asked for another one, 11.0 for
+   aarch64-apple-darwin. LEXICON_NO_ANSWER if there is none. */
 LEXICON_CHECKED LEXICON_NONNULL(1, 2)
 enum lexicon_status lexicon_macos_version(const struct lexicon_triple *triple, struct lexicon_os_version *version);
 LEXICON_CHECKED LEXICON_NONNULL(1, 2)
 enum lexicon_status lexicon_minimum_os_version(const struct lexicon_triple *triple, struct lexicon_os_version *version);
 
-/* The name in a dialect of what a name of another one means, or a string that is spelled like a triple: it is read, completed with
-   a C library unless that is LEXICON_LINUX_LIBC_NONE, and written. The name has at most 36 bytes. If it can't be read, the status
-   and the error are those of lexicon_read. LEXICON_TRIPLE_WITHOUT_NAME and LEXICON_NEEDS_C_LIBRARY say that what it means can't be
-   written; the range of the error is that of the whole name. At any other status from 15 on the range is empty, and at
-   LEXICON_TOO_SMALL no error is written. */
+/* The name in a dialect of what a name of another one means, or a string that is spelled like a triple: it is read,
+   completed with a C library unless that is LEXICON_LINUX_LIBC_NONE, and written. The name has at most 36 bytes. If it
+   can't be read, the status and the error are those of lexicon_read. LEXICON_TRIPLE_WITHOUT_NAME and
+   LEXICON_NEEDS_C_LIBRARY say that what it means can't be written; the range of the error is that of the whole name. At
+   any other status from 15 on the range is empty, and at LEXICON_TOO_SMALL no error is written. */
 LEXICON_CHECKED
 enum lexicon_status lexicon_translate(uint32_t from, const char *name, size_t name_size, uint32_t linux_libc, uint32_t to, char *out,
                                       size_t out_size, size_t *length, struct lexicon_error *error);
 
-/* The change with this number, from 0, of those that lexicon_read, without a dialect, makes in a string: the range of a part, and
-   the names that it is read as. Of amd64-unknown-freebsd13.2 the first is amd64, read as x86_64, and the second freebsd13.2, read as
-   freebsd: the version is dropped. After the last one the status is LEXICON_NO_SUCH_CHANGE. A string that is refused has its changes
-   too. If the buffer is too small, the change is unchanged too. */
+/* The change with this number, from 0, of those that lexicon_read, without a dialect, makes in a string: the range of a
+   part, and the names that it is read as. Of amd64-unknown-freebsd13.2 the first is amd64, read as x86_64, and the
+   second freebsd13.2, read as freebsd: the version is dropped. After the last one the status is LEXICON_NO_SUCH_CHANGE.
+   A string that is refused has its changes too. If the buffer is too small, the change is unchanged too. */
 LEXICON_CHECKED LEXICON_NONNULL(4)
 enum lexicon_status lexicon_changes(const char *text, size_t text_size, size_t number, struct lexicon_change *change, char *out,
                                     size_t out_size, size_t *length);
 
-/* What a string means to those who have it as a name: the meaning with this number, from 0. If it parses, its triple comes first, with
-   LEXICON_DIALECT_NONE as the dialect; then the dialects, in the order of their numbers, where a name of several machines has a meaning for each;
-   otherwise, last and without a dialect, the string as one that is spelled like a triple. A single word that some dialect has has no meaning
-   without a dialect. The triple is canonical. Where the dialect has the name and no triple means the same, the status is
-   LEXICON_NAME_WITHOUT_TRIPLE, and no triple is written. Unless `note` is null, *note becomes why, and at LEXICON_OK the level of the machine that the
-   name says and the triple can't state, such as v3 of linux/amd64/v3: then lexicon_translate has the names at this level. Else it becomes null. After the last meaning the status is
-   LEXICON_NO_SUCH_MEANING, and nothing is written. */
+/* What a string means to those who have it as a name: the meaning with this number, from 0. If it parses, its triple
+   comes first, with LEXICON_DIALECT_NONE as the dialect; then the dialects, in the order of their numbers, where a name
+   of several machines has a meaning for each; otherwise, last and without a dialect, the string as one that is spelled
+   like a triple. A single word that some dialect has has no meaning without a dialect. The triple is canonical. Where
+   the dialect has the name and no triple means the same, the status is LEXICON_NAME_WITHOUT_TRIPLE, and no triple is
+   written. Unless `note` is null, *note becomes why, and at LEXICON_OK the level of the machine that the name says and
+   the triple can't state, such as v3 of linux/amd64/v3: then lexicon_translate has the names at this level. Else it
+   becomes null. After the last meaning the status is LEXICON_NO_SUCH_MEANING, and nothing is written. */
 LEXICON_CHECKED LEXICON_NONNULL(4, 5)
 enum lexicon_status lexicon_meaning(const char *text, size_t text_size, size_t number, uint32_t *dialect, struct lexicon_triple *triple,
                                     const char **note);
 
-/* The targets in any text, such as a list, a workflow in YAML, or a page in Markdown: the ranges of the words that are a name of a machine
-   and a system, of any tool or as a triple, or are with a name that is suggested; and of all items of a list. They are written into an array
-   of so many elements, which may be null if that is 0, and in *count is how many there are: with LEXICON_TOO_SMALL there are more. */
+/* The targets in any text, such as a list, a workflow in YAML, or a page in Markdown: the ranges of the words that are
+   a name of a machine and a system, of any tool or as a triple, or are with a name that is suggested; and of all items
+   of a list. They are written into an array of so many elements, which may be null if that is 0, and in *count is how
+   many there are: with LEXICON_TOO_SMALL there are more. */
 LEXICON_CHECKED LEXICON_NONNULL(5)
 enum lexicon_status lexicon_targets(const char *text, size_t text_size, struct lexicon_change *parts, size_t most, size_t *count);
 
-/* The name of the dialect that may have been meant, where lexicon_read gives LEXICON_UNKNOWN_NAME: linux/amd64 for linux/amd46 in
-   LEXICON_DIALECT_GO. Null if there is none, and otherwise. Only names that are read are suggested. */
+/* The name of the dialect that may have been meant, where lexicon_read gives LEXICON_UNKNOWN_NAME: linux/amd64 for
+   linux/amd46 in LEXICON_DIALECT_GO. Null if there is none, and otherwise. Only names that are read are suggested. */
 const char *lexicon_name_suggestion(uint32_t dialect, const char *name, size_t name_size);
 
 /* Why a string is refused, from the string and the error that parsing or reading it gave, in one line:
 
        Unrecognized operating system: linx
 
-   lexicon_error_text writes three lines, without a line feed at the end. What isn't printable ASCII is escaped, as \u{1b}, and
-   bytes that are no character are \u{fffd}:
+   lexicon_error_text writes three lines, without a line feed at the end. What isn't printable ASCII is escaped, as
+   \u{1b}, and bytes that are no character are \u{fffd}:
 
        Unrecognized operating system: linx
          x86_64-pc-linx
                    ^^^^ did you mean `linux`?
 
-   If the buffer is too small, the status is LEXICON_TOO_SMALL, and the first characters of it are written. An error that
-   isn't one of this string gives LEXICON_NO_SUCH_VALUE, and so does that of LEXICON_NO_SUCH_DIALECT, and none. */
+   If the buffer is too small, the status is LEXICON_TOO_SMALL, and the first characters of it are written. An error
+   that isn't one of this string gives LEXICON_NO_SUCH_VALUE, and so does that of LEXICON_NO_SUCH_DIALECT, and none. */
 enum lexicon_status lexicon_error_line(const char *text, size_t text_size, const struct lexicon_error *error, char *out,
                                        size_t out_size, size_t *length);
 enum lexicon_status lexicon_error_text(const char *text, size_t text_size, const struct lexicon_error *error, char *out,
                                        size_t out_size, size_t *length);
 
-/* What may have been meant by the refused part, of the expected field or a later one: linux for linx, windows-gnu for mingw32. A
-   version stays if the system may have it: macosx14 for macos14. If there is none, the status is LEXICON_NO_SUGGESTION. A buffer of
-   LEXICON_MAX_GROWTH + 1 bytes more than the part has room. */
+/* What may have been meant by the refused part, of the expected field or a later one: linux for linx, windows-gnu for
+   mingw32. A version stays if the system may have it: macosx14 for macos14. If there is none, the status is
+   LEXICON_NO_SUGGESTION. A buffer of LEXICON_MAX_GROWTH + 1 bytes more than the part has room. */
 LEXICON_CHECKED
 enum lexicon_status lexicon_suggestion(const char *text, size_t text_size, const struct lexicon_error *error, char *out,
                                        size_t out_size, size_t *length);
@@ -748,25 +763,26 @@ enum lexicon_status lexicon_suggestion(const char *text, size_t text_size, const
 LEXICON_CHECKED LEXICON_NONNULL(1)
 enum lexicon_status lexicon_vendor_suggestion(const struct lexicon_triple *triple, char *out, size_t out_size, size_t *length);
 
-/* The number of the value that a string names in one field, outside any triple. An alias gives the number of its value, a
-   custom vendor LEXICON_VENDOR_CUSTOM, and a version is parsed and dropped. If the string names no value of the field, the
-   status is the number of the field plus 1. Otherwise it is LEXICON_OK, LEXICON_NOT_UTF8, LEXICON_NO_SUCH_FIELD or
-   LEXICON_TOO_LARGE. */
+/* The number of the value that a string names in one field, outside any triple. An alias gives the number of its value,
+   a custom vendor LEXICON_VENDOR_CUSTOM, and a version is parsed and dropped. If the string names no value of the
+   field, the status is the number of the field plus 1. Otherwise it is LEXICON_OK, LEXICON_NOT_UTF8,
+   LEXICON_NO_SUCH_FIELD or LEXICON_TOO_LARGE. */
 LEXICON_CHECKED LEXICON_NONNULL(4)
 enum lexicon_status lexicon_number(uint32_t field, const char *text, size_t text_size, uint32_t *number);
 
-/* The name of a value. Null if there is no such field or value, and for LEXICON_VENDOR_CUSTOM. Like all strings that are
-   returned, it has a zero byte at its end, and stays as long as the library is loaded. */
+/* The name of a value. Null if there is no such field or value, and for LEXICON_VENDOR_CUSTOM. Like all strings that
+   are returned, it has a zero byte at its end, and stays as long as the library is loaded. */
 const char *lexicon_name(uint32_t field, uint32_t number);
 
 /* The version of the library, and the commit that it was built from if that is known: "0.5.0 (3f1877d0c1e2)". */
 const char *lexicon_version(void);
 
-/* The target that the library was built for, as rustc names it, which lexicon_parse parses: "x86_64-unknown-linux-gnu". */
+/* The target that the library was built for, as rustc names it, which lexicon_parse parses: "x86_64-unknown-linux-gnu".
+   */
 const char *lexicon_host(void);
 
-/* The name of an enumerator: lexicon_family_name(LEXICON_FAMILY_ARM) is "arm". Null for 0 where that is no answer, and for a number
-   that the enum doesn't have. Those of a field's values are of lexicon_name. */
+/* The name of an enumerator: lexicon_family_name(LEXICON_FAMILY_ARM) is "arm". Null for 0 where that is no answer, and
+   for a number that the enum doesn't have. Those of a field's values are of lexicon_name. */
 #define LEXICON_NAMES(call, ...) \
   static inline const char *call(uint32_t number) { \
     static const char *const names[] = {__VA_ARGS__}; \
@@ -819,7 +835,8 @@ static inline enum lexicon_status lexicon_all_facts(const struct lexicon_triple 
   return lexicon_facts(triple, facts, sizeof *facts);
 }
 
-/* lexicon_parse for strings that people type: a custom vendor is refused too, as in x86_64-linx and x86_64-unknwon-linux. */
+/* lexicon_parse for strings that people type: a custom vendor is refused too, as in x86_64-linx and
+   x86_64-unknwon-linux. */
 LEXICON_CHECKED LEXICON_NONNULL(3)
 static inline enum lexicon_status lexicon_parse_strict(const char *text, size_t text_size, struct lexicon_triple *triple,
                                                        struct lexicon_error *error) {

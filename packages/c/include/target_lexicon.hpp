@@ -1,4 +1,5 @@
-// Target triples for C++17: parsing, printing, queries, and the names of other tools, over target_lexicon.h. Everything is inline.
+// Target triples for C++17: parsing, printing, queries, and the names of other tools, over target_lexicon.h. Everything
+// is inline.
 //
 //     lexicon::ParseError error;
 //     if (auto triple = lexicon::Triple::parse("x86_64-unknown-linux-gnu", &error)) {
@@ -7,10 +8,10 @@
 //       std::cerr << error << '\n';
 //     }
 //
-// A Triple is a value: it owns the name of a custom vendor, can be copied, compared, printed and hashed. Each is one of the
-// library's triples: what would make another, such as a number that is no enumerator, gives std::nullopt. So does a query without
-// an answer. Nothing here throws an exception of its own. The names are in an inline namespace of this version, so that libraries of
-// one program may be compiled with headers of different versions.
+// A Triple is a value: it owns the name of a custom vendor, can be copied, compared, printed and hashed. Each is one of
+// the library's triples: what would make another, such as a number that is no enumerator, gives std::nullopt. So does a
+// query without an answer. Nothing here throws an exception of its own. The names are in an inline namespace of this
+// version, so that libraries of one program may be compiled with headers of different versions.
 //
 // SPDX-License-Identifier: Apache-2.0 WITH LLVM-exception
 #ifndef TARGET_LEXICON_VERIFIED_HPP
@@ -247,8 +248,8 @@ template <class Call> std::string written(Call call) {
 
 }  // namespace detail
 
-// The name of a value, such as "x86_64"; empty for Vendor::Custom, whose name is Triple::vendor_name. Here and below, that of a
-// number that is no enumerator is empty.
+// The name of a value, such as "x86_64"; empty for Vendor::Custom, whose name is Triple::vendor_name. Here and below,
+// that of a number that is no enumerator is empty.
 template <class Value, class = decltype(detail::FieldOf<Value>::field)> constexpr std::string_view name(Value value) {
   auto number = static_cast<std::size_t>(value);
   return number < std::size(detail::FieldOf<Value>::names) ? detail::FieldOf<Value>::names[number] : std::string_view();
@@ -310,8 +311,8 @@ struct Version {
 
 // Why a string is refused, or a name isn't translated.
 struct ParseError {
-  // From LEXICON_UNRECOGNIZED_ARCHITECTURE to LEXICON_NOT_UTF8; of a dialect's name LEXICON_UNKNOWN_NAME or ..WITHOUT_TRIPLE; of one
-  // that is read and not written LEXICON_TRIPLE_WITHOUT_NAME or LEXICON_NEEDS_C_LIBRARY.
+  // From LEXICON_UNRECOGNIZED_ARCHITECTURE to LEXICON_NOT_UTF8; of a dialect's name LEXICON_UNKNOWN_NAME or
+  // ..WITHOUT_TRIPLE; of one that is read and not written LEXICON_TRIPLE_WITHOUT_NAME or LEXICON_NEEDS_C_LIBRARY.
   lexicon_status status = LEXICON_OK;
   std::size_t start = 0, end = 0;  // the refused part, in bytes
   std::string part;
@@ -328,7 +329,8 @@ struct ParseError {
   friend std::ostream& operator<<(std::ostream& out, const ParseError& it) { return out << it.text; }
 };
 
-// A part of a string that `Triple::read` reads as other names. A version that is dropped is one: freebsd13.2 is freebsd.
+// A part of a string that `Triple::read` reads as other names. A version that is dropped is one: freebsd13.2 is
+// freebsd.
 struct Change {
   std::size_t start = 0, end = 0;  // the part, in bytes
   std::string part;
@@ -354,8 +356,8 @@ class Triple {
   // The unknown triple.
   Triple() = default;
 
-  // The triple of these values. The binary format is the implied one unless it is given. If a value is no enumerator, there is
-  // none, and none for Vendor::Custom: then the vendor is given by its name, custom or known.
+  // The triple of these values. The binary format is the implied one unless it is given. If a value is no enumerator,
+  // there is none, and none for Vendor::Custom: then the vendor is given by its name, custom or known.
   static std::optional<Triple> of(Architecture architecture, lexicon::Vendor vendor, OperatingSystem operating_system,
                                   Environment environment = Environment::Unknown,
                                   std::optional<BinaryFormat> binary_format = std::nullopt) {
@@ -374,8 +376,8 @@ class Triple {
     return lexicon_facts(&triple, &facts, 0) == LEXICON_OK ? std::optional<Triple>(Triple(triple)) : std::nullopt;
   }
 
-  // The triple with another value in one field, if that is one. A binary format that the fields imply becomes the one that the new
-  // fields imply; another one stays. A new operating system has no version, unless it is given.
+  // The triple with another value in one field, if that is one. A binary format that the fields imply becomes the one
+  // that the new fields imply; another one stays. A new operating system has no version, unless it is given.
   std::optional<Triple> with_architecture(Architecture value) const {
     return changed([&](lexicon_triple& it) { it.architecture = static_cast<std::uint16_t>(value); });
   }
@@ -416,8 +418,8 @@ class Triple {
   // What `parse` gives, and from where each field comes.
   static std::optional<Explanation> explain(std::string_view text, ParseError* error = nullptr);
 
-  // The triple of a string that is spelled like one, as clang takes it after -target; and that of a name of another tool, such as what
-  // `cc -dumpmachine` prints, of Dialect::Gnu. If there is none, `error` says why.
+  // The triple of a string that is spelled like one, as clang takes it after -target; and that of a name of another
+  // tool, such as what `cc -dumpmachine` prints, of Dialect::Gnu. If there is none, `error` says why.
   static std::optional<Triple> read(std::string_view text, ParseError* error = nullptr) {
     return read_in(LEXICON_DIALECT_NONE, text, error);
   }
@@ -431,7 +433,8 @@ class Triple {
     return lexicon_stated_versions(text.data(), text.size(), &versions, nullptr) == LEXICON_OK ? std::make_optional(versions) : std::nullopt;
   }
 
-  // What a string means to each dialect that has it as a name, and as one that is spelled like a triple, as `lexicon_meaning` says.
+  // What a string means to each dialect that has it as a name, and as one that is spelled like a triple, as
+  // `lexicon_meaning` says.
   static std::vector<Meaning> meanings(std::string_view text);
 
   // The name in a dialect, if there is one. If there is none, `reason` says why, and what would help.
@@ -447,15 +450,16 @@ class Triple {
   // The triple with the usual environment of a C library, if it is of Linux and states none; else this one.
   Triple completed(LinuxLibc libc) const { return variant(lexicon_complete, static_cast<std::uint32_t>(libc)).value_or(*this); }
 
-  // The triple with the variant of its architecture whose pointers have so many bits, or that has a byte order, if there is one: with
-  // 32 bits i686-pc-windows-msvc for x86_64-pc-windows-msvc. With other pointers the environment is the usual one of the same C library.
+  // The triple with the variant of its architecture whose pointers have so many bits, or that has a byte order, if
+  // there is one: with 32 bits i686-pc-windows-msvc for x86_64-pc-windows-msvc. With other pointers the environment is
+  // the usual one of the same C library.
   std::optional<Triple> with_pointer_width(unsigned bits) const { return variant(lexicon_set_pointer_width, bits); }
   std::optional<Triple> with_endianness(Endianness value) const {
     return variant(lexicon_set_endianness, static_cast<std::uint32_t>(value));
   }
 
-  // The name in the dialect `to` of what a name of the dialect `from` means, with a C library of Linux if one is said. Without
-  // `from`, the string is spelled like a triple. If there is none, `error` says why.
+  // The name in the dialect `to` of what a name of the dialect `from` means, with a C library of Linux if one is said.
+  // Without `from`, the string is spelled like a triple. If there is none, `error` says why.
   static std::optional<std::string> translate(std::string_view name, std::optional<Dialect> from, Dialect to,
                                               std::optional<LinuxLibc> libc = std::nullopt, ParseError* error = nullptr) {
     std::uint32_t dialect = from ? static_cast<std::uint32_t>(*from) : std::uint32_t(LEXICON_DIALECT_NONE);
@@ -533,8 +537,8 @@ class Triple {
   // The string that LLVM and clang take for the target: arm64-apple-macosx for aarch64-apple-darwin.
   std::string llvm_target() const { return text(lexicon_llvm_target); }
 
-  // What clang passes to the linker: the dynamic linker that programs name, and the emulation after -m. And what ends the name of a
-  // program, as rustc has it.
+  // What clang passes to the linker: the dynamic linker that programs name, and the emulation after -m. And what ends
+  // the name of a program, as rustc has it.
   std::optional<std::string> dynamic_linker() const { return text_if_any(lexicon_dynamic_linker); }
   std::optional<std::string> linker_emulation() const { return text_if_any(lexicon_linker_emulation); }
   std::string program_suffix() const { return text(lexicon_program_suffix); }
@@ -801,7 +805,8 @@ inline std::vector<Target> targets_in(std::string_view text) {
   return found;
 }
 
-// The canonical form of each line of a string, with a line feed after it; of a line that is refused, only the line feed.
+// The canonical form of each line of a string, with a line feed after it; of a line that is refused, only the line
+// feed.
 inline std::string settle_lines(std::string_view text) {
   std::size_t lines = 1 + static_cast<std::size_t>(std::count(text.begin(), text.end(), '\n')), length = 0;
   std::string settled(text.size() + lines * LEXICON_MAX_GROWTH + 1, '\0');

@@ -1,6 +1,6 @@
-/* A cross driver: for each target that its arguments name, as clang takes it after -target, the linker of LLVM's lld that links for it
-   and its options, the sizes of C's types, and the versions that are stated. A refused target is shown with a caret under the
-   refused part.
+/* A cross driver: for each target that its arguments name, as clang takes it after -target, the linker of LLVM's lld
+   that links for it and its options, the sizes of C's types, and the versions that are stated. A refused target is
+   shown with a caret under the refused part.
 
    With P the folder where the library is installed, and PKG_CONFIG_PATH=$P/lib/pkgconfig:
    cc driver.c $(pkg-config --cflags --libs target-lexicon) -Wl,-rpath,$P/lib -o driver

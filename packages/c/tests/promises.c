@@ -1,6 +1,6 @@
-/* Makes all calls with arbitrary bytes and arbitrary structs, and checks what the header promises: for libFuzzer, or, with
-   -DLINES, with each line of the input. Each string, struct and buffer ends where a page ends that may not be touched, so that
-   the library is watched too, which has no sanitizer. */
+/* Makes all calls with arbitrary bytes and arbitrary structs, and checks what the header promises: for libFuzzer, or,
+   with -DLINES, with each line of the input. Each string, struct and buffer ends where a page ends that may not be
+   touched, so that the library is watched too, which has no sanitizer. */
 #define _DEFAULT_SOURCE
 #include <stdint.h>
 #include <stdio.h>
@@ -406,7 +406,8 @@ static void try_parsed(const char *text, size_t size, const struct lexicon_tripl
   try_triple(triple);
 }
 
-/* The changes of a text are parts of it, from its start to its end. One that parses without a custom vendor has none. */
+/* The changes of a text are parts of it, from its start to its end. One that parses without a custom vendor has none.
+   */
 static void try_changes(const char *text, size_t size, uint32_t parsed, const struct lexicon_triple *triple) {
   struct lexicon_change change;
   uint32_t status;
@@ -437,8 +438,8 @@ static void try_targets(const char *text, size_t size, uint32_t parsed) {
     CHECK(last <= parts[at].start && parts[at].start <= parts[at].end && parts[at].end <= size);
 }
 
-/* The meanings of a text are that of the triple that it parses as, then those that the dialects read, in their order, a name of several machines once
-   for each, and otherwise at the end at most one without a dialect. */
+/* The meanings of a text are that of the triple that it parses as, then those that the dialects read, in their order, a
+   name of several machines once for each, and otherwise at the end at most one without a dialect. */
 static void try_meanings(const char *text, size_t size, uint32_t parsed) {
   struct lexicon_triple triple, read;
   uint32_t dialect, last = 0, status;
@@ -464,7 +465,8 @@ static void try_meanings(const char *text, size_t size, uint32_t parsed) {
   CHECK(is_unchanged(&triple, sizeof triple) && is_unchanged(&dialect, sizeof dialect) && (parsed == LEXICON_NOT_UTF8) == (status == LEXICON_NOT_UTF8));
 }
 
-/* A text as a name of each dialect, and of none, where parsing it gave this status and, if that is LEXICON_OK, this triple. */
+/* A text as a name of each dialect, and of none, where parsing it gave this status and, if that is LEXICON_OK, this
+   triple. */
 static void try_read(const char *text, size_t size, uint32_t parsed, const struct lexicon_triple *same) {
   for (uint32_t dialect = LEXICON_DIALECT_NONE; dialect <= LAST_DIALECT + 1; dialect++) {
     struct lexicon_triple triple;

@@ -1,4 +1,5 @@
-// The page: shows the targets and names of the text field in the table. `build` puts target-lexicon.js, the module, entries.mjs and this file into one script.
+// The page: shows the targets and names of the text field in the table. `build` puts target-lexicon.js, the module,
+// entries.mjs and this file into one script.
 import { DIALECTS, FIELDS, WRITTEN } from "../src/names.js";
 import { ParseError, Triple, load, meanings, targetsIn, translate } from "../src/target-lexicon.js";
 import { factsEntry, namesAndReasons, namesAtLevel, namesEntry, versionOf } from "./entries.mjs";
@@ -7,13 +8,15 @@ import { found } from "./search.mjs";
 const LABELS = {
   architecture: "Architecture", vendor: "Vendor", operatingSystem: "System", environment: "Environment", binaryFormat: "Format",
 };
-// The tools as they write themselves, where that isn't the dialect's name with a capital. A string that is only spelled like a triple is LLVM's.
+// The tools as they write themselves, where that isn't the dialect's name with a capital. A string that is only spelled
+// like a triple is LLVM's.
 const TOOLS = { oci: "containers", gnu: "GNU", rust: "rustc", uname: "uname", rpm: "RPM", apk: "apk", pacman: "pacman", dotnet: ".NET", conda: "conda",
   spelling: "LLVM", triple: "a triple" };
 const toolName = (tool) => TOOLS[tool] ?? tool[0].toUpperCase() + tool.slice(1);
 // The linkers of an object format.
 const LINKERS = { elf: "ld, ld.lld, mold", macho: "ld64, ld64.lld", coff: "link.exe, lld-link", wasm: "wasm-ld", xcoff: "AIX's ld" };
-// The targets of which there are chips, with the word for one and for more. Those of a kind that is a mistake come first.
+// The targets of which there are chips, with the word for one and for more. Those of a kind that is a mistake come
+// first.
 const KINDS = { all: ["target", "targets"], refused: ["refused"], suspicious: ["suspicious"], duplicate: ["duplicate", "duplicates"] };
 const ORDER = ["refused", "suspicious", "other"];
 const LONGEST_LINK = 32000;
@@ -180,7 +183,10 @@ function readIn(text, dialect) {
   }
 }
 
-/** What a name means that is a triple with a custom vendor. GNU drops each vendor, so it counts only where LLVM knows the name too. */
+/**
+ * What a name means that is a triple with a custom vendor. GNU drops each vendor, so it counts only where LLVM knows
+ * the name too.
+ */
 function meaningsOfCustom(text, { found, withoutTriple }) {
   const others = found.filter(({ tools }) => tools.some((it) => it !== "gnu" && it !== "triple")), { triple } = readIn(text);
   return { found: triple && !triple.hasCustomVendor ? [{ triple: triple.settle(), tools: ["spelling"] }, ...others] : others, withoutTriple };
@@ -190,10 +196,15 @@ function meaningsOfCustom(text, { found, withoutTriple }) {
 const isSame = (one, own) => one.canonical === own.canonical || !own.hasCustomVendor && one.architecture === own.architecture
   && one.operatingSystem === own.operatingSystem && one.environment === own.environment && one.facts().objectFormat === own.facts().objectFormat;
 
-/** Whether a string is a name of rustc's. Then it means itself, if it is a triple, and has one reason, if it is none. */
+/**
+ * Whether a string is a name of rustc's. Then it means itself, if it is a triple, and has one reason, if it is none.
+ */
 const isOfRustc = ({ found, withoutTriple }) => "rust" in withoutTriple || found.some(({ tools }) => tools.includes("rust"));
 
-/** What tools mean by a string, except by the meaning `own` that its row shows: a line for each, or the reason why no triple has the name. */
+/**
+ * What tools mean by a string, except by the meaning `own` that its row shows: a line for each, or the reason why no
+ * triple has the name.
+ */
 function* otherMeanings(meant, text, own) {
   const isRustc = isOfRustc(meant), { rust, ...without } = meant.withoutTriple;
   for (const { triple, tools } of meant.found) {
@@ -299,7 +310,10 @@ function markDouble(row, first) {
 
 const rowsInSight = () => [...table.querySelectorAll("tbody > tr")].filter((row) => row.getClientRects().length > 0);
 
-/** Replaces the target in the text field, and shows it. The focus goes to the next mistake, or if there is none to the row of the target. */
+/**
+ * Replaces the target in the text field, and shows it. The focus goes to the next mistake, or if there is none to the
+ * row of the target.
+ */
 async function replaceTarget(text, fixed) {
   const item = targetsIn(field.value).find((it) => it.text === text);
   if (!item) return;

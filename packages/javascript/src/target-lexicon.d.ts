@@ -1,4 +1,5 @@
-// The types of target-lexicon.js, and what each call does. `build` puts names.d.ts, the types of the names, before this file.
+// The types of target-lexicon.js, and what each call does. `build` puts names.d.ts, the types of the names, before this
+// file.
 //
 // SPDX-License-Identifier: Apache-2.0 WITH LLVM-exception
 
@@ -16,7 +17,10 @@ export interface Values {
   binaryFormat: BinaryFormat;
 }
 
-/** The version of an operating system. As an argument it has a `major`, and what else is left out is 0: `{ major: 17, minor: 1 }`. */
+/**
+ * The version of an operating system. As an argument it has a `major`, and what else is left out is 0: `{ major: 17,
+ * minor: 1 }`.
+ */
 export interface Version {
   readonly major: number;
   readonly minor: number;
@@ -56,7 +60,10 @@ export type Explanation = {
   suggestion: string | null;
 } & ({ triple: Triple; error: null } | { triple: null; error: ParseError });
 
-/** A part of a string that `Triple.read` reads as other names, with dashes between them. The range is in units of UTF-16. */
+/**
+ * A part of a string that `Triple.read` reads as other names, with dashes between them. The range is in units of
+ * UTF-16.
+ */
 export interface Change {
   part: string;
   start: number;
@@ -64,7 +71,10 @@ export interface Change {
   names: string;
 }
 
-/** Why a string is refused, or a name isn't translated, and where: the refused part is text.slice(start, end), in units of UTF-16. */
+/**
+ * Why a string is refused, or a name isn't translated, and where: the refused part is text.slice(start, end), in units
+ * of UTF-16.
+ */
 export class ParseError extends Error {
   private constructor();
   /** What was expected; null where the part follows the binary format, and for a name in a dialect. */
@@ -73,7 +83,10 @@ export class ParseError extends Error {
   readonly part: string;
   readonly start: number;
   readonly end: number;
-  /** The known name that the part may mean; of an unknown name in a dialect, the nearest of its names. It is looked for when it is read. */
+  /**
+   * The known name that the part may mean; of an unknown name in a dialect, the nearest of its names. It is looked for
+   * when it is read.
+   */
   readonly suggestion: string | null;
   /** Why a name of a dialect means no triple, or isn't translated, and what would help; null for any other string. */
   readonly reason: string | null;
@@ -136,11 +149,16 @@ export class Triple {
    * API level. `manylinux_2_17_x86_64` has the version `{ major: 2, minor: 17 }`.
    */
   nameIn(dialect: Dialect, version?: GivenVersion): string | null;
-  /** Why `nameIn` has no name for these arguments, and what would help: `it depends on the C library: say glibc or musl`. Null if it has one. */
+  /**
+   * Why `nameIn` has no name for these arguments, and what would help: `it depends on the C library: say glibc or
+   * musl`. Null if it has one.
+   */
   reasonWithoutName(dialect: Dialect, version?: GivenVersion): string | null;
   /** The names in all dialects, with null for those that have none. */
   names(): Record<(typeof DIALECTS)[number], string | null>;
-  /** The triple with the usual environment of a C library, if it is of Linux and states none; any other one as it is. */
+  /**
+   * The triple with the usual environment of a C library, if it is of Linux and states none; any other one as it is.
+   */
   complete(libc: LinuxLibc): Triple;
   /** The canonical form: two canonical triples with the same printed string are equal, so the string is a key. */
   settle(): Triple;
@@ -170,7 +188,10 @@ export class Triple {
  */
 export function translate(name: string, from: Dialect | null, to: Dialect, libc?: LinuxLibc | null): string;
 
-/** What a name means: each triple, with those that mean it, and the reason of each dialect that has the name for no triple. */
+/**
+ * What a name means: each triple, with those that mean it, and the reason of each dialect that has the name for no
+ * triple.
+ */
 export interface Meanings {
   /**
    * `triple` is a string that parses, and `spelling` one that is spelled like a triple, as `Triple.read` reads it. `level` is that of the machine,
@@ -180,7 +201,10 @@ export interface Meanings {
   readonly withoutTriple: Readonly<Partial<Record<(typeof DIALECTS)[number], string>>>;
 }
 
-/** What a name of any tool means, in canonical form; a string that nobody knows has no meaning. `triple.names()` has the other tools' names. */
+/**
+ * What a name of any tool means, in canonical form; a string that nobody knows has no meaning. `triple.names()` has the
+ * other tools' names.
+ */
 export function meanings(text: string): Meanings;
 
 /**

@@ -1,6 +1,6 @@
-// Target triples for JavaScript, over the module target-lexicon.wasm. Not proved: this file moves strings and numbers in and out of
-// the module's memory, and gives the numbers their names. Every answer is the module's, except for `host`. target-lexicon.d.ts says
-// what each call does. `build` puts names.js, the lists of names, before this file.
+// Target triples for JavaScript, over the module target-lexicon.wasm. Not proved: this file moves strings and numbers
+// in and out of the module's memory, and gives the numbers their names. Every answer is the module's, except for
+// `host`. target-lexicon.d.ts says what each call does. `build` puts names.js, the lists of names, before this file.
 //
 // SPDX-License-Identifier: Apache-2.0 WITH LLVM-exception
 
@@ -9,9 +9,9 @@ const REFUSED = UNRECOGNIZED_FIELD; // the last status of a refused string
 const CUSTOM = 255; // the number of every vendor that has none of its own
 const ORIGINS = ["not given", "given", "implied", "alias"]; // where a value comes from, by the numbers
 
-// Where the structs of target_lexicon.h are, after the module's own data, with pointers and sizes of 32 bits. Strings and buffers
-// follow them. In a triple the numbers are at 0 (16 bits), 2, 3, 4, 5, 6, 7, 8 (8 bits each) and 10 (16 bits); the string of a
-// custom vendor and its size are at 12 and 16.
+// Where the structs of target_lexicon.h are, after the module's own data, with pointers and sizes of 32 bits. Strings
+// and buffers follow them. In a triple the numbers are at 0 (16 bits), 2, 3, 4, 5, 6, 7, 8 (8 bits each) and 10 (16
+// bits); the string of a custom vendor and its size are at 12 and 16.
 const FIRST = 0, SECOND = 20, LENGTH = 40, ANSWER = 44, ERROR = 48, FACTS = 64, VENDOR = 12, SOURCE_SIZE = 12;
 const SOURCE_TABLE = FACTS + ((FACTS_SIZE + 3) & ~3), TEXTS = SOURCE_TABLE + FIELDS.length * SOURCE_SIZE;
 const RANGE = ERROR + 4; // that of an error, or of a change
@@ -101,7 +101,10 @@ class Instance {
     return decoder.decode(bytes.subarray(start, start + size));
   }
 
-  /** Calls with a buffer of enough size, after `used` bytes of strings, for the string that the module writes; null if it has none. */
+  /**
+   * Calls with a buffer of enough size, after `used` bytes of strings, for the string that the module writes; null if
+   * it has none.
+   */
   written(name, used, ...values) {
     for (let room = used + ROOM; ; room = this.number(LENGTH) + 1) {
       this.hold(used + room);
@@ -221,7 +224,10 @@ function stringOf(value) {
   return value;
 }
 
-/** The question whether one of these names was meant by a word: it is in capitals, goes on, or has its letters in another order. */
+/**
+ * The question whether one of these names was meant by a word: it is in capitals, goes on, or has its letters in
+ * another order.
+ */
 function meant(word, names) {
   const lower = String(word).toLowerCase(), sorted = (it) => [...it].sort().join("");
   const name = names.find((it) => lower.startsWith(it)) ?? names.find((it) => sorted(it) === sorted(lower));
@@ -248,7 +254,10 @@ const LARGEST = Object.freeze({ major: 65535, minor: 255, patch: 255 });
 /** What a value is, for the message that refuses it. */
 const kindOf = (value) => (value === null || value === undefined ? `${value}` : Array.isArray(value) ? "an array" : typeof value === "object" ? "an object" : `a ${typeof value}`);
 
-/** A version as every call takes it, `{ major, minor, patch }`: its numbers, of which the last two are 0 if they are left out. */
+/**
+ * A version as every call takes it, `{ major, minor, patch }`: its numbers, of which the last two are 0 if they are
+ * left out.
+ */
 function fullVersion(value) {
   if (kindOf(value) !== "an object") throw new TypeError(`a version is an object such as { major: 17, minor: 2 }, not ${kindOf(value)}`);
   for (const part of Object.keys(value)) if (!Object.hasOwn(LARGEST, part)) throw new TypeError(`a version has no ${part}`);
@@ -304,7 +313,10 @@ export class ParseError extends Error {
     Error.captureStackTrace((this.#thrown = {}), ParseError);
   }
 
-  /** What Node shows of an error that nobody catches: the report, and where it was thrown. It is made when somebody asks. */
+  /**
+   * What Node shows of an error that nobody catches: the report, and where it was thrown. It is made when somebody
+   * asks.
+   */
   get stack() {
     if (!this.#thrown) return super.stack;
     const { stack } = this.#thrown;
@@ -330,7 +342,10 @@ export class ParseError extends Error {
     return { name, message, field, text, part, start, end, suggestion, reason, needsLibc };
   }
 
-  /** By which calls a refused string is read that other tools have as a name, or why no triple means it; null if nobody has it. */
+  /**
+   * By which calls a refused string is read that other tools have as a name, or why no triple means it; null if nobody
+   * has it.
+   */
   #note() {
     if (this.#dialect || this.start > 0 || this.#status > REFUSED) return null; // what begins with an architecture has a suggestion
     const { meanings: found, withoutTriple: reasons } = meanings(this.text), tools = found.flatMap((it) => it.tools), calls = [];
@@ -611,7 +626,10 @@ export function targetsIn(text) {
   return found;
 }
 
-/** The question whether another name of a field was meant. A suggestion for a system may have a version, which is no part of its name. */
+/**
+ * The question whether another name of a field was meant. A suggestion for a system may have a version, which is no
+ * part of its name.
+ */
 function nearest(it, field, name) {
   const given = it.text(name), suggestion = it.written("suggestion", given[1], ...given, it.error(field + 1, 0, given[1]));
   return suggestion === null ? "" : `; did you mean ${it.names[field][numberOf(FIELDS[field], suggestion)]}?`;
@@ -629,7 +647,10 @@ export function namesOf(field) {
   return names;
 }
 
-/** The number of the value that a name or an alias is; that of custom vendors for any other vendor, and null for no value. */
+/**
+ * The number of the value that a name or an alias is; that of custom vendors for any other vendor, and null for no
+ * value.
+ */
 function numberOf(field, text) {
   const it = instance(), index = FIELDS.indexOf(field), known = it.numbers[index].get(text);
   if (known !== undefined) return known;
@@ -649,7 +670,10 @@ function namedByNode(name) {
   }
 }
 
-/** The triple of a platform and an architecture of which Node has no builds, so that the dialect has no name for both: what each means. */
+/**
+ * The triple of a platform and an architecture of which Node has no builds, so that the dialect has no name for both:
+ * what each means.
+ */
 function ofTwoWords(platform, arch) {
   const { vendor, operatingSystem, environment } = namedByNode(`${platform}-x64`) ?? {};
   return Triple.of({ architecture: namedByNode(`linux-${arch}`)?.architecture, vendor, operatingSystem, environment });

@@ -17,9 +17,11 @@ from selenium.webdriver.support.ui import WebDriverWait
 
 FLAGS = ["--headless=new", "--disable-gpu", "--hide-scrollbars"]
 # As root the browser runs as `nobody`: whoever reaches the port of chromedriver runs programs as the browser's user.
-AS_NOBODY = ["setpriv", "--reuid=65534", "--regid=65534", "--clear-groups", "--no-new-privs"] if os.geteuid() == 0 else []
+AS_NOBODY = ["setpriv", "--reuid=65534", "--regid=65534", "--clear-groups",
+             "--no-new-privs"] if os.geteuid() == 0 else []
 # Chromium's sandbox needs such namespaces, which a container may refuse.
-HAS_NAMESPACES = subprocess.run([*AS_NOBODY, "unshare", "--user", "--pid", "--net", "true"], capture_output=True).returncode == 0
+HAS_NAMESPACES = subprocess.run([*AS_NOBODY, "unshare", "--user", "--pid", "--net", "true"],
+                                capture_output=True).returncode == 0
 if not HAS_NAMESPACES:
     print("left out: the sandbox of Chromium: this machine has no namespaces for users", flush=True)
 

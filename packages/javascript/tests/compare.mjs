@@ -1,4 +1,5 @@
-// Compares target-lexicon.js with what the command `target-lexicon` writes with --json, and its answers with one another. It runs in Node and in a browser.
+// Compares target-lexicon.js with what the command `target-lexicon` writes with --json, and its answers with one
+// another. It runs in Node and in a browser.
 import { byteRange, errorEntry, factsEntry, namesEntry, snakeCase, versionOf } from "../page/entries.mjs";
 
 function explained({ FIELDS, Triple }, text) {
@@ -33,7 +34,8 @@ function translated({ ParseError, translate }, text, from, to, libc) {
   }
 }
 
-// By the words after which the command wrote: what target-lexicon.js answers to a text, of which the command's answer has each key.
+// By the words after which the command wrote: what target-lexicon.js answers to a text, of which the command's answer
+// has each key.
 const CALLS = { facts: factsEntry, explain: explained, read, cfg, translate: translated,
   what: (lexicon, text, libc) => namesEntry(lexicon, text, lexicon.WRITTEN, libc ? [libc] : []) };
 

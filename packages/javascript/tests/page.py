@@ -57,7 +57,8 @@ def delete(page, start, end):
 
 
 def typed(page, text, status=None):
-    """Replaces what is in the text field, by the keyboard. Lines are pasted: how many of typed lines are shown at once depends on the machine."""
+    """Replaces what is in the text field, by the keyboard. Lines are pasted: how many of typed lines are shown at once
+    depends on the machine."""
     page.run("document.getElementById('targets').focus()")
     page.control("a")
     page.keys(Keys.DELETE)
@@ -67,18 +68,21 @@ def typed(page, text, status=None):
     else:
         page.keys(text)
     if text:
-        page.until(f"{STATUS}.startsWith({json.dumps(status or f'{len([it for it in text.splitlines() if it.strip()]):,} target')})")
+        page.until(
+            f"{STATUS}.startsWith({json.dumps(status or f'{len([it for it in text.splitlines() if it.strip()]):,} target')})")
 
 
 def choose(page, **values):
     for name, value in values.items():
-        page.run(f"(document.getElementById('{name}').value = '{value}', document.getElementById('{name}').dispatchEvent(new Event('change')))")
+        page.run(
+            f"(document.getElementById('{name}').value = '{value}', document.getElementById('{name}').dispatchEvent(new Event('change')))")
         page.until("!document.querySelector('table[aria-busy]')")
 
 
 def unfolded(page):
     """The details of each target, when those that are unfolded are laid out."""
-    page.until("[...document.querySelectorAll('td.names:not([hidden])')].every((it) => it.checkVisibility({ contentVisibilityAuto: true })"
+    page.until(
+        "[...document.querySelectorAll('td.names:not([hidden])')].every((it) => it.checkVisibility({ contentVisibilityAuto: true })"
                " || it.getBoundingClientRect().top > innerHeight)")
     return page.run(DETAILS)
 
@@ -127,17 +131,23 @@ def forbids_what_it_does_not_need(page):
 
 
 def shows_fields(page):
-    typed(page, "arm64-linux-gnu\n\n  armv7a-nuttx-eabi \nclever-unknown-unknown-none\naarch64-apple-ios17.1\naarch64-unknown-linux-gnu-elf\narmv6k-nintendo-3ds\nx86_64-unknown-uefi\narmeb")
+    typed(
+        page, "arm64-linux-gnu\n\n  armv7a-nuttx-eabi \nclever-unknown-unknown-none\naarch64-apple-ios17.1\naarch64-unknown-linux-gnu-elf\narmv6k-nintendo-3ds\nx86_64-unknown-uefi\narmeb")
     same(page.run(STATUS), "8 targets: 8 parsed, 0 refused, 1 duplicate.")
     rows = page.run(CELLS)
-    same(rows[0], ["arm64-linux-gnu canonical: aarch64-unknown-linux-gnu", "aarch64 alias arm64", "unknown", "linux", "gnu", "elf implied",
+    same(rows[0], ["arm64-linux-gnu canonical: aarch64-unknown-linux-gnu", "aarch64 alias arm64", "unknown", "linux",
+                   "gnu", "elf implied",
                    "64 bits little-endian", "names", ""])
     same(rows[1][2:4], ["nuttx custom", "unknown"])
     same(rows[2][0], "clever-unknown-unknown-none canonical: clever-unknown-none-elf")
-    same([rows[3][0], rows[3][3]], ["aarch64-apple-ios17.1 canonical: aarch64-apple-ios17.1.0", "ios17.1.0 alias ios17.1"])
-    same([rows[4][0], rows[4][5]], ["aarch64-unknown-linux-gnu-elf canonical: aarch64-unknown-linux-gnu the same target as arm64-linux-gnu", "elf"])
+    same([rows[3][0], rows[3][3]], ["aarch64-apple-ios17.1 canonical: aarch64-apple-ios17.1.0",
+                                    "ios17.1.0 alias ios17.1"])
+    same([rows[4][0], rows[4][5]],
+         ["aarch64-unknown-linux-gnu-elf canonical: aarch64-unknown-linux-gnu the same target as arm64-linux-gnu",
+          "elf"])
     same(rows[5][1:6], [f"{it} from the whole" for it in ("armv6k", "nintendo", "horizon", "newlib", "elf")])
-    same([rows[6][0], rows[6][5], rows[7][6]], ["x86_64-unknown-uefi is canonical", "elf implied objects coff", "32 bits big-endian"])
+    same([rows[6][0], rows[6][5], rows[7][6]], ["x86_64-unknown-uefi is canonical", "elf implied objects coff",
+                                                "32 bits big-endian"])
     delete(page, 0, 16)
     page.until(f"{STATUS} === '7 targets: 7 parsed, 0 refused.'")
     same(page.run(CELLS)[3][0], "aarch64-unknown-linux-gnu-elf canonical: aarch64-unknown-linux-gnu")
@@ -147,13 +157,16 @@ def escapes_and_shortens(page):
     """All but printable ASCII is shown escaped, and a long part moves nothing."""
     hostile = "\u200b\u3164\u115f\ufe0f\U000e0100e\u0301\u00e9"
     vendor = "a" * 3000
-    typed(page, f"x86_64-pc-\u202ebar\nx86_64-{vendor}-linux\nx86_64-linux-{hostile}{vendor}\nx86_64-pc-linux-\u2066gnu\nx86_64-pc-<b>")
+    typed(
+        page, f"x86_64-pc-\u202ebar\nx86_64-{vendor}-linux\nx86_64-linux-{hostile}{vendor}\nx86_64-pc-linux-\u2066gnu\nx86_64-pc-<b>")
     same(page.run(STATUS), "5 targets: 1 parsed, 4 refused.")
-    text = page.run("document.querySelector('table').textContent + [...document.querySelectorAll('[aria-label]')].map((it) => it.ariaLabel).join()")
+    text = page.run(
+        "document.querySelector('table').textContent + [...document.querySelectorAll('[aria-label]')].map((it) => it.ariaLabel).join()")
     for hidden in "\u202e", "\u2066", *set(hostile) - {"e"}, "a" * 61:
         assert hidden not in text, f"the table has {hidden!r}"
     rows = page.run(CELLS)
-    same(rows[0], ["x86_64-pc-\\u{202e}bar", "Unrecognized operating system: \\u{202e}barBefore it: architecture x86_64, vendor pc"])
+    same(rows[0], ["x86_64-pc-\\u{202e}bar",
+                   "Unrecognized operating system: \\u{202e}barBefore it: architecture x86_64, vendor pc"])
     same([rows[4][2], page.run("document.querySelector('tbody b')")], [f"{'a' * 36}\u2026{'a' * 24} custom", None])
     assert "aaa\u2026aaa" in rows[4][0], rows[4][0]
     tallest = page.run(f"Math.max(...{ROWS}.map((row) => row.getBoundingClientRect().height))")
@@ -161,17 +174,23 @@ def escapes_and_shortens(page):
 
 
 LISTS = [
-    "- arm64-linux-gnu\n- \"x86_64-pc-linx\"\n- avr", "[\"arm64-linux-gnu\", 'x86_64-pc-linx', avr]", "arm64-linux-gnu,x86_64-pc-linx,avr",
-    "# what is built\narm64-linux-gnu # m1\n  # x86_64-linux\nx86_64-pc-linx\t# no\navr", "targets: [\"arm64-linux-gnu\", \"x86_64-pc-linx\", \"avr\"]",
-    "include:\n  - target: arm64-linux-gnu\n  - target: 'x86_64-pc-linx' # soon\n  -\n    rust-target: avr", "- { target: arm64-linux-gnu }\n- {target: x86_64-pc-linx}\n- {\"target\": \"avr\"}",
-    "{\n  \"targets\": [\n    \"arm64-linux-gnu\",\n    \"x86_64-pc-linx\",\n    \"avr\"\n  ]\n}\n", "platforms:\n- arm64-linux-gnu\n- x86_64-pc-linx\n- avr",
+    "- arm64-linux-gnu\n- \"x86_64-pc-linx\"\n- avr", "[\"arm64-linux-gnu\", 'x86_64-pc-linx', avr]",
+    "arm64-linux-gnu,x86_64-pc-linx,avr",
+    "# what is built\narm64-linux-gnu # m1\n  # x86_64-linux\nx86_64-pc-linx\t# no\navr",
+    "targets: [\"arm64-linux-gnu\", \"x86_64-pc-linx\", \"avr\"]",
+    "include:\n  - target: arm64-linux-gnu\n  - target: 'x86_64-pc-linx' # soon\n  -\n    rust-target: avr",
+    "- { target: arm64-linux-gnu }\n- {target: x86_64-pc-linx}\n- {\"target\": \"avr\"}",
+    "{\n  \"targets\": [\n    \"arm64-linux-gnu\",\n    \"x86_64-pc-linx\",\n    \"avr\"\n  ]\n}\n",
+    "platforms:\n- arm64-linux-gnu\n- x86_64-pc-linx\n- avr",
     "[{\"triple\":\"arm64-linux-gnu\"},{\"triple\":\"x86_64-pc-linx\"},{\"triple\":\"avr\"}]",
 ]
 # Texts with other words, which aren't targets; and names that have a colon.
 TEXTS = [("matrix:\n  os: [ubuntu-latest, macos-14]\n  target:\n    - avr\n    - arm64\nrunner: x", ["avr", "arm64"]),
-         ("{\n  \"os\": [\n    \"linux\",\n    \"windows\"\n  ],\n  \"targets\": [\"avr\"]\n}", ["avr"]), ("libc6:i386\navr", ["libc6:i386", "avr"]),
+         ("{\n  \"os\": [\n    \"linux\",\n    \"windows\"\n  ],\n  \"targets\": [\"avr\"]\n}", ["avr"]),
+         ("libc6:i386\navr", ["libc6:i386", "avr"]),
          ("\u00e9 `wasm32-wasip1`: rustup target add avr-none", ["wasm32-wasip1", "avr-none"]),
-         ("| Target |\n|---|\n| arm64-linux-gnu |", ["arm64-linux-gnu"]), ("avr-none (installed)\narm64-linux", ["avr-none", "arm64-linux"])]
+         ("| Target |\n|---|\n| arm64-linux-gnu |", ["arm64-linux-gnu"]),
+         ("avr-none (installed)\narm64-linux", ["avr-none", "arm64-linux"])]
 
 
 def takes_lists(page):
@@ -191,15 +210,19 @@ def refuses_and_suggests(page):
     typed(page, "x86_64-pc-windws-msvc\nx86_64-pc-\u4e2d\u6587\nx86_64-linux-gnu--\nlinux/amd46\nx86_64-linx-gnu")
     same(page.run(STATUS), "5 targets: 1 parsed, 4 refused, 1 suspicious.")
     rows = page.run(CELLS)
-    same(rows[0], ["x86_64-pc-windws-msvc", "Unrecognized operating system: windwsDid you mean windows?Before it: architecture x86_64, vendor pc"])
-    same(page.run(ROWS + ".map((row) => row.querySelector('strong')?.textContent ?? '')"), ["windws", "\\u{4e2d}\\u{6587}", "(empty)", "linux/amd46", ""])
-    same(page.run("[...document.querySelectorAll('.offer')].map((it) => it.textContent)"), ["windows", "linux/amd64", "linux"])
+    same(rows[0], ["x86_64-pc-windws-msvc",
+                   "Unrecognized operating system: windwsDid you mean windows?Before it: architecture x86_64, vendor pc"])
+    same(page.run(ROWS + ".map((row) => row.querySelector('strong')?.textContent ?? '')"),
+         ["windws", "\\u{4e2d}\\u{6587}", "(empty)", "linux/amd46", ""])
+    same(page.run("[...document.querySelectorAll('.offer')].map((it) => it.textContent)"),
+         ["windows", "linux/amd64", "linux"])
     same(rows[3][1], "Unrecognized architecture: linux/amd46Did you mean linux/amd64 of Go and containers?")
     same(rows[4][0], "x86_64- linx -gnu Did you mean linux ? canonical: x86_64-linx-unknown-gnu-elf")
     same(page.run("[...document.querySelectorAll('tbody .odd')].map((it) => it.textContent)"), ["linx", "linx"])
     press(page, "tbody .offer")
     page.until(f"{STATUS} === '5 targets: 2 parsed, 3 refused, 1 suspicious.'")
-    same([page.run(f"{TEXT}.split('\\n')[0]"), page.run(FOCUSED)], ["x86_64-pc-windows-msvc", "x86_64-pc-\\u{4e2d}\\u{6587}"])
+    same([page.run(f"{TEXT}.split('\\n')[0]"), page.run(FOCUSED)],
+         ["x86_64-pc-windows-msvc", "x86_64-pc-\\u{4e2d}\\u{6587}"])
     press(page, ".suspicious .offer")
     page.until(f"{STATUS} === '5 targets: 2 parsed, 3 refused.'")
     same(page.run(FOCUSED), "x86_64-linux-gnu")
@@ -208,34 +231,43 @@ def refuses_and_suggests(page):
 def mistakes_come_first(page):
     """In the order of the targets, also when one is mended; each kind can be shown only."""
     lines = [f"x86_64-vendor{it}-linux" for it in range(250)]
-    for place, line in (3, "x86_64-aple-darwin"), (120, "x86_64-pc-linx"), (121, "x86_64-vendor3-linux"), (240, "amd65"), (241, "x86_64-linx-gnu"):
+    for place, line in (3, "x86_64-aple-darwin"), (120, "x86_64-pc-linx"), (121, "x86_64-vendor3-linux"), (
+        240, "amd65"), (241, "x86_64-linx-gnu"):
         lines.insert(place, line)
     typed(page, "\n".join(lines))
     same(page.run(STATUS), "255 targets: 253 parsed, 2 refused, 2 suspicious, 1 duplicate.")
     first = ["x86_64-pc-linx", "amd65", "x86_64-aple-darwin", "x86_64-linx-gnu"]
     rest = [it for it in lines if it not in first]
     same(page.run(TARGETS), first + rest)
-    same(page.run(CHIPS), [["255 targets", "true"], ["2 refused", "false"], ["2 suspicious", "false"], ["1 duplicate", "false"]])
+    same(page.run(CHIPS), [["255 targets", "true"], ["2 refused", "false"], ["2 suspicious", "false"],
+                           ["1 duplicate", "false"]])
     for number, wanted in (1, first[:2]), (2, first[2:]), (3, ["x86_64-vendor3-linux"]), (0, first + rest):
         press(page, "#chips button", number)
-        same([page.run(IN_SIGHT), [it[1] for it in page.run(CHIPS)]], [wanted, [str(it == number).lower() for it in range(4)]])
+        same([page.run(IN_SIGHT), [it[1] for it in page.run(CHIPS)]],
+             [wanted, [str(it == number).lower() for it in range(4)]])
     page.run("scrollTo(0, 3000)")
-    bar, head = page.run("['.bar', 'thead'].map((it) => document.querySelector(it).getBoundingClientRect()).map((it) => [it.top, it.bottom].map(Math.round))")
+    bar, head = page.run(
+        "['.bar', 'thead'].map((it) => document.querySelector(it).getBoundingClientRect()).map((it) => [it.top, it.bottom].map(Math.round))")
     same([bar[0], head[0]], [0, bar[1]])
     press(page, "#chips button", 1)
     press(page, ".refused .offer")
     page.until(f"{STATUS}.includes('254 parsed, 1 refused')")
     same([page.run(FOCUSED), page.run(IN_SIGHT)], ["amd65", ["amd65"]])
     typed(page, "arm64\narm64\navr")
-    same(page.run(CHIPS), [["3 targets", "true"], ["0 refused", "false"], ["0 suspicious", "false"], ["1 duplicate", "false"]])
-    same([page.run(IN_SIGHT), page.run("[...document.querySelectorAll('#chips button')].map((it) => it.disabled)")], [["arm64", "arm64", "avr"], [False, True, True, False]])
+    same(page.run(CHIPS), [["3 targets", "true"], ["0 refused", "false"], ["0 suspicious", "false"],
+                           ["1 duplicate", "false"]])
+    same([page.run(IN_SIGHT), page.run("[...document.querySelectorAll('#chips button')].map((it) => it.disabled)")],
+         [["arm64", "arm64", "avr"], [False, True, True, False]])
 
 
 def is_cleared(page):
     typed(page, "arm64")
     press(page, "#clear")
-    page.until(f"{STATUS} === 'No targets. Paste some above, or names of any tool: one a line, or any text that has some, such as a workflow.'")
-    same(page.run(f"[{TEXT}, document.activeElement.id, document.getElementById('chips').hidden, document.getElementById('table').hidden]"), ["", "targets", True, True])
+    page.until(
+        f"{STATUS} === 'No targets. Paste some above, or names of any tool: one a line, or any text that has some, such as a workflow.'")
+    same(
+        page.run(
+        f"[{TEXT}, document.activeElement.id, document.getElementById('chips').hidden, document.getElementById('table').hidden]"), ["", "targets", True, True])
     page.driver.refresh()
     page.until(f"{STATUS}.startsWith('No targets. Paste')")
     same(page.run(TEXT), "")
@@ -249,7 +281,9 @@ def goes_back(page):
     page.until(f"{STATUS}.startsWith('2 targets: 1 parsed, 1 named')")
     press(page, "#clear")
     page.until(f"{STATUS}.startsWith('No targets. Paste')")
-    for text, linux in ("linux/arm64\nx86_64-pc-windows-msvc", "musl"), ("linux/arm64\nx86_64-pc-windws-msvc", "musl"), ("linux/arm64\nx86_64-pc-windws-msvc", ""):
+    for text, linux in ("linux/arm64\nx86_64-pc-windows-msvc",
+                        "musl"), ("linux/arm64\nx86_64-pc-windws-msvc",
+                                  "musl"), ("linux/arm64\nx86_64-pc-windws-msvc", ""):
         page.run("history.back()")
         page.until(f"{TEXT} === {json.dumps(text)} && {STATUS}.startsWith('2 targets')")
         same(page.run("document.getElementById('linux').value"), linux)
@@ -258,10 +292,15 @@ def goes_back(page):
 
 
 # Words, and targets that are found by them; the first one is the first that is shown.
-SEARCHES = {"macos": ["aarch64-apple-darwin", "x86_64-apple-darwin"], "android": ["i686-linux-android", "aarch64-linux-android"], "wasm": ["wasm32-wasip1"], "apple m1": ["aarch64-apple-darwin"],
-            "raspberry pi": ["aarch64-unknown-linux-gnu", "armv7-unknown-linux-gnueabihf"], "Windows ARM64": ["aarch64-pc-windows-msvc"], "linux/amd64": ["x86_64-unknown-linux-gnu"],
-            "windows 32 bit": ["i686-pc-windows-msvc"], "docker arm": ["aarch64-unknown-linux-musl"], "aws graviton": ["aarch64-unknown-linux-gnu"],
-            "iphone": ["aarch64-apple-ios"], "alpine": ["x86_64-unknown-linux-musl"], "win32-x64": ["x86_64-pc-windows-msvc"]}
+SEARCHES = {"macos": ["aarch64-apple-darwin", "x86_64-apple-darwin"],
+            "android": ["i686-linux-android", "aarch64-linux-android"], "wasm": ["wasm32-wasip1"],
+            "apple m1": ["aarch64-apple-darwin"],
+            "raspberry pi": ["aarch64-unknown-linux-gnu", "armv7-unknown-linux-gnueabihf"],
+            "Windows ARM64": ["aarch64-pc-windows-msvc"], "linux/amd64": ["x86_64-unknown-linux-gnu"],
+            "windows 32 bit": ["i686-pc-windows-msvc"], "docker arm": ["aarch64-unknown-linux-musl"],
+            "aws graviton": ["aarch64-unknown-linux-gnu"],
+            "iphone": ["aarch64-apple-ios"], "alpine": ["x86_64-unknown-linux-musl"],
+            "win32-x64": ["x86_64-pc-windows-msvc"]}
 
 
 def is_searched(page):
@@ -273,9 +312,11 @@ def is_searched(page):
         page.keys(words)
         offered = page.run(offers)
         assert set(wanted) <= set(offered), f"{words}: {offered}"
-    page.run("(document.getElementById('search').value = 'no such thing', document.getElementById('search').dispatchEvent(new Event('input')))")
+    page.run(
+        "(document.getElementById('search').value = 'no such thing', document.getElementById('search').dispatchEvent(new Event('input')))")
     same(page.run("document.getElementById('found').textContent"), "no target has all these words")
-    page.run("(document.getElementById('search').value = 'apple m1', document.getElementById('search').dispatchEvent(new Event('input')))")
+    page.run(
+        "(document.getElementById('search').value = 'apple m1', document.getElementById('search').dispatchEvent(new Event('input')))")
     typed(page, "avr")
     press(page, "#found button")
     page.until(f"{STATUS}.startsWith('2 targets: 2 parsed')")
@@ -308,18 +349,22 @@ def links_to_pages(page):
             same(answer.read()[:len(begin)], begin)
     for link in links[2:]:
         page.driver.get(link)
-        same(page.run("[document.querySelectorAll('h1').length, document.querySelectorAll('table').length > 0, /^#|\\[.*\\]\\(|^\\|-/m.test(document.body.innerText)]"), [1, True, False])
+        same(
+            page.run(
+            "[document.querySelectorAll('h1').length, document.querySelectorAll('table').length > 0, /^#|\\[.*\\]\\(|^\\|-/m.test(document.body.innerText)]"), [1, True, False])
         for width in 390, 1280:
             is_no_wider(page, width)
         targets = page.run("[...document.querySelectorAll('a')].map((it) => it.href)")
         for target in {it.partition("#")[0] for it in targets if "://127." in it}:
             urllib.request.urlopen(target).close()
-        same([it for it in targets if it.startswith(f"{link}#") and page.run(f"document.getElementById({json.dumps(it.partition('#')[2])}) === null")], [])
+        same([it for it in targets if it.startswith(f"{link}#")
+              and page.run(f"document.getElementById({json.dumps(it.partition('#')[2])}) === null")], [])
 
 
 # Names of tools; of each its key with glibc and MSVC, who has the name, a tool's name, and a line below the row.
 NAMES = {
-    "armhf": ("armv7-unknown-linux-gnueabihf", "Debian", "rustc armv7-unknown-linux-gnueabihf", "In apk it is armv6-unknown-linux-musleabihf."),
+    "armhf": ("armv7-unknown-linux-gnueabihf", "Debian", "rustc armv7-unknown-linux-gnueabihf",
+              "In apk it is armv6-unknown-linux-musleabihf."),
     "windows/arm64": ("aarch64-pc-windows-msvc", "Go and containers", "rustc aarch64-pc-windows-msvc", None),
     "linux/arm/v6": ("armv6-unknown-linux-gnueabihf", "containers", "RPM armv6hl", None),
     "x86_64-w64-mingw32": ("x86_64-pc-windows-gnu", "GNU and LLVM", "Go windows/amd64", None),
@@ -329,7 +374,8 @@ NAMES = {
 
 
 def says_what_names_mean(page):
-    """What they mean with a chosen C library and ABI, and what another tool calls them. On a phone too it is in sight."""
+    """What they mean with a chosen C library and ABI, and what another tool calls them. On a phone too it is in
+    sight."""
     choose(page, linux="glibc", windows="msvc")
     for width in 1280, 390:
         page.size(width, 900)
@@ -340,8 +386,10 @@ def says_what_names_mean(page):
             page.run(f"{row}.querySelector({'.fold' if width == 390 else '.elsewhere button'!r}).click()")
             page.run(f"{row}.scrollIntoView()")
             head, details = page.run(f"{row}.firstChild.innerText"), unfolded(page)[number]
-            assert head.startswith(f"{name}\na name of {tools}\ncanonical: {key}"), f"at {width} pixels {name} has {head!r}"
-            assert answer in details and any(it.startswith("linker") for it in details), f"at {width} pixels {name} has no {answer}: {details}"
+            assert head.startswith(
+                f"{name}\na name of {tools}\ncanonical: {key}"), f"at {width} pixels {name} has {head!r}"
+            assert answer in details and any(it.startswith("linker")
+                                             for it in details), f"at {width} pixels {name} has no {answer}: {details}"
             same(page.run(OTHERS)[number], other)
         is_no_wider(page, width)
 
@@ -349,14 +397,18 @@ def says_what_names_mean(page):
 def says_what_a_driver_asks(page):
     typed(page, "thumbv7m-none-eabi\ni686-linux-gnu")
     thumb, linux = unfolded(page)
-    assert {"Arm version 7", "Arm profile M", "floating point soft", "object format elf", "linker ld, ld.lld, mold", "LLVM target thumbv7m-none-eabi"} <= set(thumb), f"{thumb}"
-    assert {"LLVM target i686-unknown-linux-gnu", "Debian's multiarch tuple i386-linux-gnu", "C library glibc", "long double 12, aligned to 4"} <= set(linux), f"{linux}"
-    assert not any(it.startswith(("Arm", "floating point")) for it in linux) and not any(it.startswith("Debian's") for it in thumb), f"{linux}, {thumb}"
+    assert {"Arm version 7", "Arm profile M", "floating point soft", "object format elf", "linker ld, ld.lld, mold",
+            "LLVM target thumbv7m-none-eabi"} <= set(thumb), f"{thumb}"
+    assert {"LLVM target i686-unknown-linux-gnu", "Debian's multiarch tuple i386-linux-gnu", "C library glibc",
+            "long double 12, aligned to 4"} <= set(linux), f"{linux}"
+    assert not any(it.startswith(("Arm", "floating point"))
+                   for it in linux) and not any(it.startswith("Debian's") for it in thumb), f"{linux}, {thumb}"
 
 
 def says_why_there_is_no_name(page):
     typed(page, "linux/arm64\nx86_64-pc-windows\njs/wasm")
-    same(page.run(CELLS)[0], ["js/wasm", "In Go and containers no triple means it: a module for Go's own JavaScript; rustc's nearest target is wasm32-unknown-unknown."])
+    same(page.run(CELLS)[0],
+         ["js/wasm", "In Go and containers no triple means it: a module for Go's own JavaScript; rustc's nearest target is wasm32-unknown-unknown."])
     linux, windows = unfolded(page)
     assert "None in Debian, GNU, rustc, RPM, apk, pacman, .NET and conda:  it depends on the C library: say glibc or musl." in linux, f"{linux}"
     assert any(re.match("None in .*rustc.*say msvc, mingw or gnullvm", it) for it in windows), f"{windows}"
@@ -370,7 +422,8 @@ def says_what_other_tools_mean(page):
     typed(page, "aarch64-macos\narm-unknown-linux-gnueabihf\ni686-w64-windows-gnu\namd64")
     same(page.run(STATUS), "4 targets: 3 parsed, 1 named by tools, 0 refused, 2 suspicious.")
     same(page.run(OTHERS), [
-        "In LLVM it is aarch64-unknown-macosx.\n\nIn Zig it is aarch64-apple-darwin.", "In LLVM it is i686-pc-windows-gnu.", None,
+        "In LLVM it is aarch64-unknown-macosx.\n\nIn Zig it is aarch64-apple-darwin.",
+        "In LLVM it is i686-pc-windows-gnu.", None,
         "In Go no triple means it: a machine without a system.\n\nIn containers no triple means it: half of a platform: containerd adds that of the host."])
     press(page, "tbody .offer", 1)
     page.until(f"{STATUS} === '4 targets: 3 parsed, 1 named by tools, 0 refused, 1 suspicious.'")
@@ -380,56 +433,74 @@ def says_what_other_tools_mean(page):
 def takes_targets_of_rustc(page):
     """None is suspicious or has a suggestion, and each that is refused has one sentence of reason."""
     with open(TABLE, newline="", encoding="utf-8") as table:
-        targets = "\n".join(it["name"] for it in csv.DictReader(table) if it["tool"] == "rust" and it["asked"] == "true")
+        targets = "\n".join(it["name"] for it in csv.DictReader(table) if it["tool"] == "rust"
+                            and it["asked"] == "true")
     typed(page, targets)
     shown = page.run(ROWS + ".map((row) => [row.target, row.className, row.querySelectorAll('.offer').length,"
                      " [...row.querySelectorAll('.refused p, .others p')].map((it) => it.textContent)])")
     same(len(shown), len(targets.split()))
     same([it for it in shown if "suspicious" in it[1] or it[2]], [])
     refused = [it for it in shown if it[1] == "refused"]
-    same([it for it in refused if len(it[3]) != 1 or not re.fullmatch(r"A target of rustc that has no triple here: its \w+ is no known name\.", it[3][0])], [])
+    same([it for it in refused if len(it[3]) != 1
+          or not re.fullmatch(r"A target of rustc that has no triple here: its \w+ is no known name\.", it[3][0])], [])
     same([it for it in shown if it not in refused and (len(it[3]) > 1 or any("it is" in line for line in it[3]))], [])
     return f"{len(shown)} targets, of which {len(refused)} are refused"
 
 
 def is_folded(page):
-    """The details of more than three targets are folded until each is opened, on a phone the cards too. Fewer are unfolded, also those that are left of a list."""
+    """The details of more than three targets are folded until each is opened, on a phone the cards too. Fewer are
+    unfolded, also those that are left of a list."""
     shown = ROWS + ".map((row) => [...row.cells].filter((it) => it.getClientRects().length > 0).length)"
     open_names = "[...document.querySelectorAll('.elsewhere button')].map((it) => it.getAttribute('aria-expanded') === 'true')"
-    for width, few, folded, one in (400, [2, 10, 10], [2, 1, 1, 1], [2, 10, 1, 1]), (1280, [2, 10, 10], [2, 9, 9, 9], [2, 10, 9, 9]):
+    for width, few, folded, one in (400, [2, 10, 10], [2, 1, 1, 1],
+                                    [2, 10, 1, 1]), (1280, [2, 10, 10], [2, 9, 9, 9], [2, 10, 9, 9]):
         page.size(width, 900)
         typed(page, "wasm32-wasi\narm64\nx86_64-foo-bar")
         same(page.run(shown), few)
         typed(page, "wasm32-wasi\narm64\nx86_64-linux\nx86_64-foo-bar")
         same([page.run(shown), page.run(open_names)], [folded, [False] * 3])
         press(page, ".fold" if width == 400 else ".elsewhere button")
-        same([page.run(shown), page.run(open_names), unfolded(page)[0][:1]], [one, [True, False, False], ["GNU wasm32-wasi"]])
-        same(page.run("[...document.querySelectorAll('.fold')].map((it) => it.getAttribute('aria-expanded'))"), [str(width == 400).lower(), "false", "false"])
+        same([page.run(shown), page.run(open_names), unfolded(page)[0][:1]],
+             [one, [True, False, False], ["GNU wasm32-wasi"]])
+        same(page.run("[...document.querySelectorAll('.fold')].map((it) => it.getAttribute('aria-expanded'))"),
+             [str(width == 400).lower(), "false", "false"])
         typed(page, "wasm32-wasi\narm64\nx86_64-linux\navr")
         delete(page, 11, 99)
         page.until(f"{STATUS}.startsWith('1 target:')")
         same([page.run(shown), page.run(open_names)], [[10], [True]])
     # The button is on the line of the target.
-    same(page.run(f"[1, 7].map((cell) => Math.round({ROWS}[0].cells[cell].getBoundingClientRect().top)).filter((top, at, all) => top !== all[0])"), [])
+    same(
+        page.run(
+        f"[1, 7].map((cell) => Math.round({ROWS}[0].cells[cell].getBoundingClientRect().top)).filter((top, at, all) => top !== all[0])"), [])
 
 
 def fits_each_width(page):
-    """It never scrolls sideways, each control is at least 24 pixels wide and high, and where the table has its least width, the longest names are on one line."""
+    """It never scrolls sideways, each control is at least 24 pixels wide and high, and where the table has its least
+    width, the longest names are on one line."""
     typed(page, "linux/arm64\nx86_64-" + "z" * 300 + "-linux\nx86_64-pc-windws-msvc\namd64\n" + "y" * 300)
     for width in 320, 390, 800, 959, 960, 1100, 1280, 1600:
         is_no_wider(page, width)
-        same(page.run("[...document.querySelectorAll('main *')].filter((it) => it.getBoundingClientRect().right > innerWidth + 1 && !it.closest('thead, textarea')).length"), 0)
-        same(page.run("[...document.querySelectorAll('button, select, textarea, a')].filter((it) => it.getClientRects().length > 0).map((it) => [it.innerText, it.getBoundingClientRect()])"
+        same(
+            page.run(
+            "[...document.querySelectorAll('main *')].filter((it) => it.getBoundingClientRect().right > innerWidth + 1 && !it.closest('thead, textarea')).length"), 0)
+        same(
+            page.run(
+            "[...document.querySelectorAll('button, select, textarea, a')].filter((it) => it.getClientRects().length > 0).map((it) => [it.innerText, it.getBoundingClientRect()])"
                       ".filter(([, it]) => it.width < 24 || it.height < 24).map(([text, it]) => `${text} ${it.width} ${it.height}`)"), [])
     typed(page, "loongarch64-unknown-none-softfloat\nx86_64-pc-windows-msvc\nwasm32-wasi\narm64-apple-macosx14.10.1")
     page.size(960, 900)
     same(page.run("getComputedStyle(document.querySelector('tbody tr')).display"), "grid")
     same(page.run(f"[...document.querySelectorAll('.target, small code')].map({LINES})"), [1] * 7)
-    same(page.run(ROWS + f".flatMap((row) => [...row.cells].slice(1, 7).map((it) => {LINES}(it.querySelector('code, span') ?? it.firstChild.firstChild)))"), [1] * 24)
-    same(page.run("[...document.querySelectorAll('thead th')].filter((it) => it.scrollWidth > it.clientWidth).length"), 0)
+    same(
+        page.run(
+        ROWS + f".flatMap((row) => [...row.cells].slice(1, 7).map((it) => {LINES}(it.querySelector('code, span') ?? it.firstChild.firstChild)))"), [1] * 24)
+    same(page.run("[...document.querySelectorAll('thead th')].filter((it) => it.scrollWidth > it.clientWidth).length"),
+         0)
     page.size(400, 900)
     same(page.run(f"[...document.querySelectorAll('.target')].map({LINES})"), [1] * 4)
-    same(page.run("[getComputedStyle(document.querySelector('tbody tr')).display, getComputedStyle(document.querySelector('td[data-label]'), '::before').content]"), ["block", '"Architecture" / ""'])
+    same(
+        page.run(
+        "[getComputedStyle(document.querySelector('tbody tr')).display, getComputedStyle(document.querySelector('td[data-label]'), '::before').content]"), ["block", '"Architecture" / ""'])
 
 
 def complete_roles(page):
@@ -447,22 +518,28 @@ def is_accessible(page):
         page.size(width, 900)
         typed(page, "x86_64-unknown-linux-gnu\nx86_64-pc-windws-msvc")
         roles = complete_roles(page)
-        for wanted in [("heading", "Names of targets"), ("textbox", "Targets, or names of any tool"), ("button", "Copy names"), ("button", "Copy facts"), ("button", "Copy link"), ("button", "Clear"),
+        for wanted in [("heading", "Names of targets"), ("textbox", "Targets, or names of any tool"),
+                       ("button", "Copy names"), ("button", "Copy facts"), ("button", "Copy link"), ("button", "Clear"),
                        ("combobox", "Linux C library"), ("combobox", "Windows ABI"),
                        ("group", "Which targets are shown"), ("button", "2 targets"), ("button", "1 refused"),
                        ("table", "What each target is"), ("columnheader", "Pointers"),
                        ("button", "windows: replace x86_64-pc-windws-msvc by x86_64-pc-windows-msvc")]:
             assert wanted in roles, f"at {width} pixels there is no {wanted}"
-        assert [name.split()[0] for role, name in roles if role == "rowheader"] == ["x86_64-pc-windws-msvc", "x86_64-unknown-linux-gnu"], f"at {width} pixels the rows have other headers: {roles}"
+        assert [name.split()[0] for role, name in roles
+                if role == "rowheader"] == ["x86_64-pc-windws-msvc",
+                                            "x86_64-unknown-linux-gnu"], f"at {width} pixels the rows have other headers: {roles}"
         same([[role for role, _ in roles].count("columnheader"), "status" in [role for role, _ in roles]], [8, True])
     page.run("document.getElementById('targets').focus()")
     reached = []
     for _ in range(11):
         page.keys(Keys.TAB)
         reached.append(page.run("document.activeElement.id || document.activeElement.textContent"))
-    same(reached, ["linux", "windows", "search", "copy_names", "copy_facts", "copy_link", "clear", "2 targets", "1 refused", "windows", "names"])
+    same(reached, ["linux", "windows", "search", "copy_names", "copy_facts", "copy_link", "clear", "2 targets",
+                   "1 refused", "windows", "names"])
     # The border of the text field has a contrast of 6 to 1.
-    same(page.run("[getComputedStyle(document.getElementById('targets')).borderTopColor, getComputedStyle(document.body).backgroundColor]"), ["rgb(90, 98, 108)", "rgb(255, 255, 255)"])
+    same(
+        page.run(
+        "[getComputedStyle(document.getElementById('targets')).borderTopColor, getComputedStyle(document.body).backgroundColor]"), ["rgb(90, 98, 108)", "rgb(255, 255, 255)"])
 
 
 def has_a_link(page):
@@ -493,7 +570,8 @@ def opens_a_link(url):
     """What can't be decoded of it is said, until something is edited."""
     for link, text, status, notice in (
             (f"{url}//example.invalid/..//#avr", "avr", "1 target: 1 parsed, 0 refused.", ""),
-            (f"{url}/#wasm32-wasi,x86_64-pc%3Blinux", "wasm32-wasi\nx86_64-pc;linux", "2 targets: 1 parsed, 1 refused.", ""),
+            (f"{url}/#wasm32-wasi,x86_64-pc%3Blinux", "wasm32-wasi\nx86_64-pc;linux", "2 targets: 1 parsed, 1 refused.",
+             ""),
             (f"{url}/#wasm32-wasi,x86_64-%E4-linux,avr,%", "wasm32-wasi\navr", "2 targets: 2 parsed, 0 refused.",
              "A target of the link can't be read: x86_64-%E4-linux. A target of the link can't be read: %.")):
         with Page(link) as page:
@@ -518,7 +596,8 @@ def takes_time_in_proportion(page):
 
 
 def copies_what_the_command_writes(command, page):
-    """The answers of `target-lexicon facts` and `what` with --json, without notes. tests/compare.mjs compares more of them."""
+    """The answers of `target-lexicon facts` and `what` with --json, without notes. tests/compare.mjs compares more of
+    them."""
     targets = ["arm64-apple-ios17.1", "x86_64-pc-linx", "x86_64-\u4e2d\u6587-linux", "linux/arm", *NAMES]
     typed(page, "\n".join(targets))
     choose(page, linux="glibc")
@@ -527,7 +606,8 @@ def copies_what_the_command_writes(command, page):
         page.until(f"{STATUS} === 'Copied 10 targets as JSON.'")
         copied = json.loads(page.run("navigator.clipboard.readText()"))
         page.run("document.getElementById('status').textContent = ''")
-        wanted = json.loads(subprocess.run([command, *words, "--json", *targets], capture_output=True, check=False).stdout)
+        wanted = json.loads(subprocess.run([command, *words, "--json", *targets], capture_output=True,
+                                           check=False).stdout)
         for answer in [*wanted, *(it for answer in wanted for it in answer.get("meanings", []))]:
             answer.pop("note", None)
         same([{key: it[key] for key in other if key in it} for it, other in zip(wanted, copied, strict=True)], copied)
@@ -545,7 +625,8 @@ WATCH = """(() => {
 
 
 def stays_responsive(page):
-    """It makes rows in slices, with a chance for input after each. How long that takes depends on what else the machine does."""
+    """It makes rows in slices, with a chance for input after each. How long that takes depends on what else the machine
+    does."""
     lines = [f"x86_64-vendor{it}-linux-gnu" if it % 4 else f"x86_64-vendor{it}-linx" for it in range(10000)]
     page.run(WATCH)
     typed(page, "\n".join(lines))
@@ -572,17 +653,23 @@ def opens_from_a_folder(folder):
     """Without a server the page works too."""
     with Page(f"file://{folder}/index.html?linux=musl#linux/arm64,armhf") as page:
         loaded(page)
-        same([page.run(STATUS), page.run(CELLS)[0][4]], ["2 targets: 0 parsed, 2 named by tools, 0 refused.", "musl chosen"])
+        same([page.run(STATUS), page.run(CELLS)[0][4]],
+             ["2 targets: 0 parsed, 2 named by tools, 0 refused.", "musl chosen"])
         page.run("document.getElementById('clear').click()")
         page.until(f"{STATUS}.startsWith('No targets.')")
         same(page.errors(), [])
 
 
 def page_tests(url, folder, command):
-    """The name of each test of the page at a URL, which is in a folder, and the test; `command` is the command `target-lexicon`."""
-    for test in (begins_with_targets, forbids_what_it_does_not_need, shows_fields, escapes_and_shortens, takes_lists, refuses_and_suggests, mistakes_come_first, is_cleared, goes_back, is_searched, copies_a_name, says_that_a_name_is_of_several_machines,
-                 links_to_pages, says_what_names_mean, says_what_a_driver_asks, says_why_there_is_no_name, says_what_other_tools_mean, takes_targets_of_rustc, is_folded,
-                 fits_each_width, is_accessible, has_a_link, takes_time_in_proportion, functools.partial(copies_what_the_command_writes, command), stays_responsive):
+    """The name of each test of the page at a URL, which is in a folder, and the test; `command` is the command
+    `target-lexicon`."""
+    for test in (begins_with_targets, forbids_what_it_does_not_need, shows_fields, escapes_and_shortens, takes_lists,
+                 refuses_and_suggests, mistakes_come_first, is_cleared, goes_back, is_searched, copies_a_name,
+                 says_that_a_name_is_of_several_machines,
+                 links_to_pages, says_what_names_mean, says_what_a_driver_asks, says_why_there_is_no_name,
+                 says_what_other_tools_mean, takes_targets_of_rustc, is_folded,
+                 fits_each_width, is_accessible, has_a_link, takes_time_in_proportion,
+                 functools.partial(copies_what_the_command_writes, command), stays_responsive):
         yield getattr(test, "func", test).__name__.replace("_", " "), functools.partial(opened, f"{url}/", test)
     yield "opens a link", functools.partial(opens_a_link, url)
     yield "says that it needs scripts", functools.partial(says_that_it_needs_scripts, url)

@@ -48,7 +48,8 @@ class Lines(unittest.TestCase):
     @unittest.skipUnless(lists.PROGRAM, "PROGRAM isn't given")
     def test_beside_the_program(self):
         for mode in "show", "settle", "print":
-            ran = subprocess.run([lists.PROGRAM, mode], input="".join(f"{it}\n" for it in self.lines).encode(), capture_output=True, check=True)
+            ran = subprocess.run([lists.PROGRAM, mode], input="".join(f"{it}\n" for it in self.lines).encode(),
+                                 capture_output=True, check=True)
             expected = ran.stdout.decode().split("\n")[:-1]
             self.assertEqual(len(expected), LINES)
             differ = [(line, it) for line, it in zip(self.lines, expected) if answer(mode, line) != it]
@@ -65,14 +66,16 @@ class Lines(unittest.TestCase):
             settled, is_equal = it.settle(), _library.c_bool()
             self.assertEqual((settled.settle(), Triple(it.canonical)), (settled, settled))
             _library.check(_library.equal(it._struct, last._struct, is_equal))
-            self.assertEqual((it == last, it.same_target(last), it.same_target(settled)), (is_equal.value, settled == last.settle(), True))
+            self.assertEqual((it == last, it.same_target(last), it.same_target(settled)),
+                             (is_equal.value, settled == last.settle(), True))
             last = it
 
     def test_columns(self):
         keys = [self.triples[it].canonical if it in self.triples else None for it in self.lines]
         self.assertTrue(target_lexicon.settle_all(iter(self.lines * 2)) == keys * 2)
         for line, facts in zip(self.lines, target_lexicon.facts_all(self.lines)):
-            self.assertEqual(facts._asdict(), self.triples[line].to_dict() if line in self.triples else dict.fromkeys(facts._fields))
+            self.assertEqual(facts._asdict(), self.triples[line].to_dict() if line in self.triples
+                             else dict.fromkeys(facts._fields))
 
 
 class Columns(unittest.TestCase):
@@ -95,10 +98,12 @@ class Columns(unittest.TestCase):
                     column = [*["x86_64"] * before, value]
                     with self.assertRaises(TypeError) as caught:
                         call(column)
-                    self.assertEqual(str(caught.exception), f"a target must be a str, not {type(value).__name__}: index {before} has {value!r}")
+                    self.assertEqual(str(caught.exception),
+                                     f"a target must be a str, not {type(value).__name__}: index {before} has {value!r}")
                     self.assertTrue(call(column, errors="coerce") == call([*column[:-1], None]))
             for wrong in "ignore", None, "":
-                self.assertRaisesRegex(ValueError, f"^errors must be 'raise' or 'coerce', not {wrong!r}$", call, ["avr"], wrong)
+                self.assertRaisesRegex(ValueError, f"^errors must be 'raise' or 'coerce', not {wrong!r}$", call,
+                                       ["avr"], wrong)
             for errors in "raise", "coerce":
                 self.assertRaisesRegex(TypeError, "not one str", call, "x86_64-linux", errors)
 
@@ -106,12 +111,14 @@ class Columns(unittest.TestCase):
         """More different targets than are answered at once, and than are remembered."""
         targets = [f"arm64-apple-ios{number % 250}.{number // 250 % 250}.{number // 62500}" for number in range(70000)]
         expected = [f"aarch64{it[5:]}" for it in targets]
-        self.assertTrue(target_lexicon.settle_all(targets + targets[::-1] + ["avr-\n"]) == expected + expected[::-1] + [None])
+        self.assertTrue(target_lexicon.settle_all(targets + targets[::-1] + ["avr-\n"]) == expected + expected[::-1]
+                        + [None])
         self.assertTrue([it.canonical for it in target_lexicon.facts_all(targets[:5000])] == expected[:5000])
 
 
 class Threads(unittest.TestCase):
-    """Each call has memory of its own. With one struct or buffer for all calls, these fail: threads are switched within calls."""
+    """Each call has memory of its own. With one struct or buffer for all calls, these fail: threads are switched within
+    calls."""
 
     def setUp(self):
         self.addCleanup(sys.setswitchinterval, sys.getswitchinterval())
@@ -130,14 +137,16 @@ class Threads(unittest.TestCase):
         self.assertTrue(self.run_at_once(work, orders) == list(map(work, orders)))
 
     def test_each_column_has_its_own_memory(self):
-        columns = [[f"x86_64-apple-ios{number}.{line % 250}.{line // 250}" for line in range(2000)] for number in range(8)]
+        columns = [[f"x86_64-apple-ios{number}.{line % 250}.{line // 250}" for line in range(2000)]
+                   for number in range(8)]
         for call in Columns.CALLS:
             self.assertTrue(self.run_at_once(call, columns) == list(map(call, columns)))
 
     def test_a_triple_is_asked_by_all_at_once(self):
         for number in range(50):
             it = Triple(f"x86_64-vendor{number}-linux")
-            answers = self.run_at_once(lambda it: (answer("show", str(it)), str(it.vendor), it.canonical, hash(it)), [it] * 4)
+            answers = self.run_at_once(lambda it: (answer("show", str(it)), str(it.vendor), it.canonical, hash(it)),
+                                       [it] * 4)
             self.assertEqual(set(answers), {(answers[0][0], f"vendor{number}", str(it), hash(it))})
 
 

@@ -42,22 +42,28 @@ class Table(unittest.TestCase):
             if row.triple is None:
                 with self.assertRaises(ParseError) as caught:
                     Triple.read(row.name, row.tool)
-                self.assertEqual(str(caught.exception), f"{WITHOUT}{row.name}\n  {row.name}\n  {'^' * len(row.name)} {row.reason}")
+                self.assertEqual(str(caught.exception),
+                                 f"{WITHOUT}{row.name}\n  {row.name}\n  {'^' * len(row.name)} {row.reason}")
             for name in row.other_names:
                 triple = Triple.read(name.replace("*", "13", 1).replace("*", "2"), row.tool)
-                self.assertEqual(triple if "*" not in name else triple.replace(version=Triple(row.triple).version), Triple(row.triple), row)
+                self.assertEqual(triple if "*" not in name else triple.replace(version=Triple(row.triple).version),
+                                 Triple(row.triple), row)
             self.assertTrue(row.written or not row.other_names)
-            for name, count in ("read", row.read), ("written", row.written), ("other", len(row.other_names)), ("without", row.triple is None):
+            for name, count in ("read", row.read), ("written", row.written), ("other", len(row.other_names)), (
+                "without", row.triple is None):
                 counts[name] += count
             if row.read:
-                self.assertIn((row.tool, Triple(row.triple), None), [it[:3] for it in target_lexicon.meanings(row.name)])
+                self.assertIn((row.tool, Triple(row.triple), None),
+                              [it[:3] for it in target_lexicon.meanings(row.name)])
         self.assertTrue(all(it > 100 for it in counts.values()), counts)
 
     def test_rows_that_state_a_version(self):
         """The name of such a triple with a version is one of the rows that state it."""
-        table = [it for it in lists.other_tools()["names"] if it["states_version_of"] and it["triple"] and it["name"].count("*") == 2]
+        table = [it for it in lists.other_tools()["names"] if it["states_version_of"] and it["triple"]
+                 and it["name"].count("*") == 2]
         for row in table:
-            version = (next((number for word, number in (("glibc", 2), ("musl", 1)) if word in row["states_version_of"]), 13), 5)
+            version = (next((number for word, number in (("glibc", 2), ("musl", 1))
+                             if word in row["states_version_of"]), 13), 5)
             same = [it["name"] for it in table if (it["tool"], it["triple"]) == (row["tool"], row["triple"])]
             name = Triple(row["triple"].replace("*", "")).name_in(row["tool"], version)
             self.assertIn(name, [it.replace("*", str(version[0]), 1).replace("*", "5") for it in same])
@@ -69,7 +75,8 @@ class Table(unittest.TestCase):
             name = row["part"].rstrip("!")  # which says that the architecture states hard floats
             self.assertRaises(ParseError, Triple, f"{name}-unknown-linux-gnu")
             if name == row["part"]:
-                self.assertEqual(Triple.read(f"{name}-unknown-linux-gnu"), Triple(f"{row['read_as']}-unknown-linux-gnu"))
+                self.assertEqual(Triple.read(f"{name}-unknown-linux-gnu"),
+                                 Triple(f"{row['read_as']}-unknown-linux-gnu"))
         self.assertGreater(len(rows), 20)
 
 
@@ -81,8 +88,10 @@ class Names(unittest.TestCase):
 
     def test_read(self):
         vendor = "a" * 500
-        for arguments, text in ((("x86_64-w64-mingw32",), "x86_64-pc-windows-gnu"), (("amd64-acme-freebsd14", None), "x86_64-acme-freebsd"),
-                                ((f"amd64-{vendor}-freebsd13",), f"x86_64-{vendor}-freebsd"), (("linux/arm64", "docker"), "aarch64-unknown-linux"),
+        for arguments, text in ((("x86_64-w64-mingw32",), "x86_64-pc-windows-gnu"),
+                                (("amd64-acme-freebsd14", None), "x86_64-acme-freebsd"),
+                                ((f"amd64-{vendor}-freebsd13",), f"x86_64-{vendor}-freebsd"),
+                                (("linux/arm64", "docker"), "aarch64-unknown-linux"),
                                 (("@swc/core-linux-x64-gnu", "npm"), "x86_64-unknown-linux-gnu")):
             self.assertEqual(str(Triple.read(*arguments)), text)
 
@@ -103,14 +112,17 @@ class Names(unittest.TestCase):
 
     def test_written(self):
         for text, arguments, name in (("aarch64-linux-musl", ("npm",), "linux-arm64-musl"),
-                                      (f"x86_64-{'a' * 500}-linux-gnu", (Dialect.DEBIAN,), "amd64"), ("avr", ("go",), None),
+                                      (f"x86_64-{'a' * 500}-linux-gnu", (Dialect.DEBIAN,), "amd64"),
+                                      ("avr", ("go",), None),
                                       (f"x86_64-{'a' * 500}", (Dialect.GNU,), None),
                                       ("x86_64-linux-gnu", ("python", (2, 17)), "manylinux_2_17_x86_64"),
                                       ("armv7-linux-musleabihf", ("python", [1, 2]), "musllinux_1_2_armv7l"),
                                       ("aarch64-linux-android", ("python", (24,)), "android_24_arm64_v8a"),
-                                      ("x86_64-linux", ("python", (2, 17)), None), ("aarch64-apple-darwin", ("python", (2, 17)), None)):
+                                      ("x86_64-linux", ("python", (2, 17)), None),
+                                      ("aarch64-apple-darwin", ("python", (2, 17)), None)):
             triple = Triple(text)
-            self.assertEqual((triple.name_in(*arguments), triple.reason_without_name(*arguments) is None), (name, name is not None), text)
+            self.assertEqual((triple.name_in(*arguments), triple.reason_without_name(*arguments) is None),
+                             (name, name is not None), text)
         self.assertRegex(Triple("aarch64-apple-darwin").reason_without_name("python", (2, 17)), "macOS 10.x or later$")
         self.assertRegex(Triple("x86_64-pc-windows").reason_without_name("rust"), "say msvc, mingw or gnullvm$")
         for wrong in ((2, 17, 1), (), (1, 2, 3, 4), (2, 256), (-1,), (65536,)):
@@ -138,12 +150,14 @@ class Names(unittest.TestCase):
                                          "No name in the other dialect: avr-none: the tool has no name for this machine on any system", False)):
             with self.assertRaises(target_lexicon.TranslationError) as caught:
                 target_lexicon.translate(*words)
-            for error in caught.exception, pickle.loads(pickle.dumps(caught.exception)), copy.deepcopy(caught.exception):
+            for error in caught.exception, pickle.loads(pickle.dumps(caught.exception)), copy.deepcopy(
+                caught.exception):
                 self.assertEqual((str(error), error.text, error.source, error.target, error.needs_libc,
                                   line.endswith(f": {error.reason}")), (line, *words, needs_libc, True))
                 # It is what any refused name raises, about the whole of it.
                 self.assertIsInstance(error, ParseError)
-                self.assertEqual((error.line, error.part, error.start, error.end, error.field, error.dialect, error.suggestion),
+                self.assertEqual((error.line, error.part, error.start, error.end, error.field, error.dialect,
+                                  error.suggestion),
                                  (line, words[0], 0, len(words[0]), None, words[1], None))
         for name in "linux/\udcff", "js/wasm", "linux/amd46":
             with self.assertRaises(ParseError) as caught:
@@ -157,13 +171,16 @@ class Names(unittest.TestCase):
         self.assertEqual(meant(vendor)[0], (None, vendor))
         for nobody in "", "foo/bar", "\0", "linux/\u00e9", "x" * 100_000:
             self.assertEqual(meant(nobody), [])
-        self.assertEqual([[it.level for it in target_lexicon.meanings(name)] for name in ("linux/amd64/v3", "linux/amd64")], [["v3"], [None, None]])
+        self.assertEqual([[it.level for it in target_lexicon.meanings(name)]
+                          for name in ("linux/amd64/v3", "linux/amd64")], [["v3"], [None, None]])
 
     def test_changes(self):
-        for text, changes in (("amd64-unknown-freebsd13.2", [(0, 5, "amd64", "x86_64"), (14, 25, "freebsd13.2", "freebsd")]), ("", []),
+        for text, changes in (("amd64-unknown-freebsd13.2",
+                               [(0, 5, "amd64", "x86_64"), (14, 25, "freebsd13.2", "freebsd")]), ("", []),
                               ("x86_64-unknown-linux-gnu", []),
                               ("amd64-\u00e9-macos13", [(0, 5, "amd64", "x86_64"), (8, 15, "macos13", "macosx13")]),
-                              (f"arm64-apple-macos{'0' * 500}", [(12, 517, f"macos{'0' * 500}", f"macosx{'0' * 500}")])):
+                              (f"arm64-apple-macos{'0' * 500}",
+                               [(12, 517, f"macos{'0' * 500}", f"macosx{'0' * 500}")])):
             self.assertEqual(target_lexicon.changes(text), changes)
         self.assertRaises(ParseError, target_lexicon.changes, "amd64-\udcff")
 
@@ -171,7 +188,8 @@ class Names(unittest.TestCase):
         text = "\u00e9 `avr-none`: \U0001f600 \udcff x86_64-linxu, foo"
         self.assertEqual([(it, text[it.start:it.end] == it.text) for it in target_lexicon.targets_in(text)],
                          [(("avr-none", 3, 11), True), (("x86_64-linxu", 18, 30), True)])
-        self.assertEqual((target_lexicon.targets_in(""), len(target_lexicon.targets_in("- avr\n" * 50_000))), ([], 50_000))
+        self.assertEqual((target_lexicon.targets_in(""), len(target_lexicon.targets_in("- avr\n" * 50_000))),
+                         ([], 50_000))
         for wrong in None, b"avr", 1, ["avr"]:
             self.assertRaisesRegex(TypeError, "the text must be a str, not ", target_lexicon.targets_in, wrong)
 
@@ -181,10 +199,12 @@ class Names(unittest.TestCase):
                     lambda it: target_lexicon.translate("x", it, "go"),
                     lambda it: target_lexicon.translate("x", "go", it), lambda it: ParseError("x", dialect=it)]
         libcs = [linux.complete, lambda it: target_lexicon.translate("amd64", "debian", "go", it)]
-        for calls, what, names, wrong in ((dialects, "dialect", Dialect, ("Go", "", "none", "g\u00f6", target_lexicon.Architecture.ARM)),
+        for calls, what, names, wrong in ((dialects, "dialect", Dialect,
+                                           ("Go", "", "none", "g\u00f6", target_lexicon.Architecture.ARM)),
                                           (libcs, "C library", LinuxLibc, ("gnu", "", "Glibc"))):
             for call, value in itertools.product(calls, wrong):
-                with self.assertRaisesRegex(ValueError, f"the {what} must be one of {', '.join(names)}, not ") as caught:
+                with self.assertRaisesRegex(
+                    ValueError, f"the {what} must be one of {', '.join(names)}, not ") as caught:
                     call(value)
                 self.assertNotIsInstance(caught.exception, ParseError)
             for call, value in itertools.product(calls, (1, b"go", Dialect)):
@@ -197,5 +217,6 @@ class Names(unittest.TestCase):
 
     def test_messages_escape_what_a_terminal_may_obey(self):
         hostile = "\x1b]0;a\u0301\u3164\x07"
-        for call in Dialect, target_lexicon.Vendor, CustomVendor, lambda it: target_lexicon.translate(f"@{it}/linux-x64", "node", "debian"):
+        for call in Dialect, target_lexicon.Vendor, CustomVendor, lambda it: target_lexicon.translate(
+            f"@{it}/linux-x64", "node", "debian"):
             self.assertRaisesRegex(ValueError, r"\A[ -~\n]*\\x1b[ -~\n]*\Z", call, hostile)

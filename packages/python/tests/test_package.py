@@ -1,4 +1,5 @@
-"""What was built and installed: the files, how the library is found, the command's answers, the samples of the page, and the types."""
+"""What was built and installed: the files, how the library is found, the command's answers, the samples of the page,
+and the types."""
 import doctest
 import email
 import filecmp
@@ -40,7 +41,8 @@ BUILD = ["--no-deps", "--no-build-isolation", "--no-index", "--no-cache-dir"]
 # Pythons that have other packages: Debian's with pandas; the one on the path, which may have pydantic.
 DEBIAN_PYTHON, PATH_PYTHON = "/usr/bin/python3", shutil.which("python3") or sys.executable
 # Where Rust's programs have what they need.
-HOMES = {name: value for name, value in os.environ.items() if name in ("HOME", "RUSTUP_HOME", "RUSTUP_TOOLCHAIN", "CARGO_HOME")}
+HOMES = {name: value for name, value in os.environ.items()
+         if name in ("HOME", "RUSTUP_HOME", "RUSTUP_TOOLCHAIN", "CARGO_HOME")}
 
 
 def built(suffix):
@@ -87,18 +89,21 @@ class Built(Folder):
             names = [os.path.basename(it) for it in wheel.namelist() if it.startswith("target_lexicon/")]
         self.assertEqual(sorted(it for it in os.listdir(package) if it != "__pycache__"), sorted(names))
         tables = ["names.json", "names.csv", "names.schema.json", "targets.csv"]
-        self.assertEqual(filecmp.cmpfiles(package, os.path.join(lists.ROOT, "packages/names"), tables, shallow=False), (tables, [], []))
+        self.assertEqual(filecmp.cmpfiles(package, os.path.join(lists.ROOT, "packages/names"), tables, shallow=False),
+                         (tables, [], []))
         self.assertEqual(lists.other_tools()["version"], target_lexicon.__version__)
 
     def test_wheel_says_what_it_is(self):
         name = os.path.basename(built(".whl"))
-        self.assertRegex(name, rf"^target_lexicon-{target_lexicon.__version__}-py3-none-(linux|manylinux_2_\d+)_{platform.machine()}\.whl$")
+        self.assertRegex(
+            name, rf"^target_lexicon-{target_lexicon.__version__}-py3-none-(linux|manylinux_2_\d+)_{platform.machine()}\.whl$")
         with zipfile.ZipFile(built(".whl")) as wheel:
             said, metadata = (email.message_from_bytes(wheel.read(f"{INFO}/{it}")) for it in ("WHEEL", "METADATA"))
             self.assertIn(b"LLVM Exceptions to the Apache 2.0 License", wheel.read(f"{INFO}/licenses/LICENSE"))
             self.assertIn(b"Copyright", wheel.read(f"{INFO}/licenses/COPYRIGHT"))
         self.assertEqual((said["Root-Is-Purelib"], said["Tag"]), ("false", name[:-4].split("-", 2)[2]))
-        self.assertEqual((metadata["License-Expression"] or metadata["License"], metadata["Requires-Dist"]), ("Apache-2.0 WITH LLVM-exception", None))
+        self.assertEqual((metadata["License-Expression"] or metadata["License"], metadata["Requires-Dist"]),
+                         ("Apache-2.0 WITH LLVM-exception", None))
 
     def test_built_again_it_is_the_same(self):
         """To the byte, for a time."""
@@ -117,18 +122,22 @@ class Built(Folder):
         command = [BASE_PYTHON, *PIP, "wheel", *BUILD, "-w", self.folder, source]
         for variables, said in (({"PATH": self.folder}, r"isn't built: cargo doesn't run(?s:.*)Install Rust"),
                                 ({"CARGO": shutil.which("false")}, "isn't built: cargo ended with status 1"),
-                                ({"TARGET_LEXICON_LIBRARY": os.path.join(source, "pyproject.toml")}, "isn't a shared library for Linux")):
+                                ({"TARGET_LEXICON_LIBRARY": os.path.join(source, "pyproject.toml")},
+                                 "isn't a shared library for Linux")):
             ran = run(*command, **variables)
             self.assertRegex(ran.stdout + ran.stderr, said)
             self.assertNotEqual(ran.returncode, 0)
         self.passes(*command, TARGET_LEXICON_LIBRARY="system")
-        with zipfile.ZipFile(os.path.join(self.folder, f"target_lexicon-{target_lexicon.__version__}-py3-none-any.whl")) as wheel:
+        with zipfile.ZipFile(os.path.join(self.folder,
+                                          f"target_lexicon-{target_lexicon.__version__}-py3-none-any.whl")) as wheel:
             self.assertFalse([it for it in wheel.namelist() if NAME in it])
         self.passes(*command, TARGET_LEXICON_LIBRARY=lists.LIBRARY)
-        self.assertTrue(filecmp.cmp(os.path.join(self.folder, os.path.basename(built(".whl"))), built(".whl"), shallow=False))
+        self.assertTrue(filecmp.cmp(os.path.join(self.folder, os.path.basename(built(".whl"))), built(".whl"),
+                                    shallow=False))
         variables = {**{it: os.environ[it] for it in os.environ if it.startswith("LEXICON_TEST_")},
                      "LEXICON_TEST_ROOT": os.path.join(source, "native")}
-        self.passes(sys.executable, "-c", "import test_triples, test_values, test_lines; test_lines.lists.generated_lines(400)",
+        self.passes(sys.executable, "-c",
+                    "import test_triples, test_values, test_lines; test_lines.lists.generated_lines(400)",
                     PYTHONPATH=os.path.join(source, "tests"), **variables)
 
     @unittest.skipUnless(shutil.which("cargo") and shutil.which("git"), "no cargo and git")
@@ -136,7 +145,8 @@ class Built(Folder):
         """From git, of an sdist, of a wheel, and of sources that stay where they are; each has a library of its own."""
         top = os.path.join(self.folder, "top")
         for part in "packages/python", "packages/c", "packages/rust", "packages/names":
-            shutil.copytree(os.path.join(lists.ROOT, part), os.path.join(top, part), ignore=shutil.ignore_patterns("target", "__pycache__", NAME))
+            shutil.copytree(os.path.join(lists.ROOT, part), os.path.join(top, part),
+                            ignore=shutil.ignore_patterns("target", "__pycache__", NAME))
         for name in "Cargo.toml", "Cargo.lock", "LICENSE", "COPYRIGHT":
             shutil.copy(os.path.join(lists.ROOT, name), top)
         for words in ["init", "--quiet"], ["add", "."], ["commit", "--quiet", "-m", "sources"]:
@@ -148,7 +158,8 @@ class Built(Folder):
         venv.create(environment, system_site_packages=True, with_pip=True)
         python = os.path.join(environment, "bin", "python")
         for words, variables, home in (
-            ([f"git+file://{top}#subdirectory=packages/python"], HOMES, environment), ([built(".tar.gz")], HOMES, environment),
+            ([f"git+file://{top}#subdirectory=packages/python"], HOMES, environment),
+            ([built(".tar.gz")], HOMES, environment),
             ([wheel], {"PATH": self.folder}, environment), (["-e", sources], HOMES, sources),
         ):
             self.passes(python, *PIP, "install", *BUILD, "--force-reinstall", *words, **variables)
@@ -158,20 +169,26 @@ class Built(Folder):
 
 class Platforms(Folder):
     def test_tags(self):
-        """The tag of the platforms that a library is for, by the strings in it: versions of the C library, and names of libraries."""
-        rows = {"libc.so.6 GLIBC_2.2.5": "manylinux_2_17", "GLIBC_2.9 libm.so.6 GLIBC_2.34 libtarget_lexicon.so.0.5": "manylinux_2_34",
-                "GLIBC_2.38 GLIBC_2.4 GLIBC_2.18": "manylinux_2_38", "GLIBC_3.1": "manylinux_3_1", "GLIBC_2.17 GLIBC_PRIVATE": "linux",
+        """The tag of the platforms that a library is for, by the strings in it: versions of the C library, and names of
+        libraries."""
+        rows = {"libc.so.6 GLIBC_2.2.5": "manylinux_2_17",
+                "GLIBC_2.9 libm.so.6 GLIBC_2.34 libtarget_lexicon.so.0.5": "manylinux_2_34",
+                "GLIBC_2.38 GLIBC_2.4 GLIBC_2.18": "manylinux_2_38", "GLIBC_3.1": "manylinux_3_1",
+                "GLIBC_2.17 GLIBC_PRIVATE": "linux",
                 "libc.so.6 libother.so": "linux", "libc.so.7": "linux", "libc.musl-x86_64.so.1": "linux"}
         program = "import hatch_build, sys\nfor it in sys.argv[1:]: print(hatch_build.linux_platform(bytes.fromhex(it)))"
         for machine, name in (62, "_x86_64"), (183, "_aarch64"), (40, None):
             begin = b"\x7fELF\x02\x01".ljust(18, b"\0") + machine.to_bytes(2, "little")
             files = [begin + f" {strings} ".replace(" ", "\0").encode() for strings in rows]
-            self.assertEqual(self.passes(BASE_PYTHON, "-c", program, *(it.hex() for it in files), PYTHONPATH=lists.PACKAGE).split(),
+            self.assertEqual(self.passes(BASE_PYTHON, "-c", program, *(it.hex() for it in files),
+                                         PYTHONPATH=lists.PACKAGE).split(),
                              [f"{tag}{name}" if name else "None" for tag in rows.values()])
 
     @unittest.skipUnless(shutil.which("readelf"), "no readelf")
     def test_of_the_wheel(self):
-        versions = [tuple(map(int, it)) for it in re.findall(r"Name: GLIBC_(\d+)\.(\d+)", run("readelf", "--version-info", lists.LIBRARY).stdout)]
+        versions = [tuple(map(int, it))
+                    for it in re.findall(r"Name: GLIBC_(\d+)\.(\d+)",
+                                         run("readelf", "--version-info", lists.LIBRARY).stdout)]
         self.assertTrue(versions)
         self.assertRegex(built(".whl"), rf"-manylinux_%d_%d_{platform.machine()}\.whl$" % max([(2, 17), *versions]))
 
@@ -180,7 +197,8 @@ class FindsTheLibrary(Folder):
     def test_the_package_the_variable_the_loader(self):
         """In this order, and errors that say what is wrong."""
         package = os.path.join(self.folder, "target_lexicon")
-        shutil.copytree(os.path.dirname(target_lexicon.__file__), package, ignore=shutil.ignore_patterns(NAME, "__pycache__"))
+        shutil.copytree(os.path.dirname(target_lexicon.__file__), package,
+                        ignore=shutil.ignore_patterns(NAME, "__pycache__"))
 
         def prints(**variables):
             ran = run(sys.executable, "-c", PRINTS, PYTHONPATH=self.folder, **variables)
@@ -199,33 +217,45 @@ class FindsTheLibrary(Folder):
         self.assertEqual(prints(LD_LIBRARY_PATH=self.folder), f"aarch64-unknown-linux {NAME}\n")
         for file, old, new, said in (("_values.py", '    XCOFF = "xcoff"\n', '    XCOFF = "xcoff"\n    ELF2 = "elf2"\n',
                                       "has other names than this package"),
-                                     ("_library.py", '("_reason", c_char_p)]', '("_reason", c_char_p), ("more", c_char_p)]', "is of another build than this package"),
-                                     ("_library.py", '("end", c_size_t), ("_reason", c_char_p)]', '("end", c_size_t)]', "is of another build than this package"),
-                                     ("_library.py", f'VERSION = "{CALLS}.', 'VERSION = "9.9.', r"isn't libtarget_lexicon 9\.9: its version is")):
+                                     ("_library.py", '("_reason", c_char_p)]',
+                                      '("_reason", c_char_p), ("more", c_char_p)]',
+                                      "is of another build than this package"),
+                                     ("_library.py", '("end", c_size_t), ("_reason", c_char_p)]', '("end", c_size_t)]',
+                                      "is of another build than this package"),
+                                     ("_library.py", f'VERSION = "{CALLS}.', 'VERSION = "9.9.',
+                                      r"isn't libtarget_lexicon 9\.9: its version is")):
             path = pathlib.Path(package, file)
             text = path.read_text(encoding="utf-8")
             for changed, expected in (text.replace(old, new), said), (text, "^aarch64-unknown-linux "):
                 path.write_text(changed, encoding="utf-8")
                 self.assertRegex(prints(TARGET_LEXICON_LIBRARY=library), expected)
         shutil.copy(lists.LIBRARY, os.path.join(package, NAME))
-        self.assertEqual(prints(TARGET_LEXICON_LIBRARY="/nowhere"), f"aarch64-unknown-linux {os.path.join(package, NAME)}\n")
+        self.assertEqual(prints(TARGET_LEXICON_LIBRARY="/nowhere"),
+                         f"aarch64-unknown-linux {os.path.join(package, NAME)}\n")
 
 
 class Command(unittest.TestCase):
     @unittest.skipUnless(COMMAND, "the command target-lexicon isn't beside PROGRAM")
     def test_answers_are_those_of_the_command(self):
         """Facts, canonical strings, and names of other tools, or that there are none."""
-        targets = ["arm64-apple-ios17.1", "avr", "x86_64-aple-linux", "x86_64-unknown-uefi", "armv6k-nintendo-3ds", "thumbv7m-none-eabi",
+        targets = ["arm64-apple-ios17.1", "avr", "x86_64-aple-linux", "x86_64-unknown-uefi", "armv6k-nintendo-3ds",
+                   "thumbv7m-none-eabi",
                    "x86_64-w64-windows-gnu", "x86_64-pc-linx", "x86_64-\u00e9\U0001f600-x", "", "x86_64-linux-elf-gnu",
                    "x86_64-w64-mingw32", "i686-linux-gnu"]
-        names = ["linux/arm64", "amd64", "linux-x64-musl", "js/wasm", "linux/amd46", "x86_64-linux-gnu", "", "x86_64-w64-mingw32", "gnu-\u00e9"]
+        names = ["linux/arm64", "amd64", "linux-x64-musl", "js/wasm", "linux/amd46", "x86_64-linux-gnu", "",
+                 "x86_64-w64-mingw32", "gnu-\u00e9"]
 
         def canonical(call):
             return lambda it: {"canonical": call(it).canonical}
-        calls = {"facts": lambda it: Triple(it).to_dict(), "settle": canonical(Triple), "settle --libc musl": canonical(lambda it: Triple(it).complete("musl")),
-                 "settle --from llvm": canonical(Triple.read), **{f"settle --from {tool}": canonical(lambda it, tool=tool: Triple.read(it, tool)) for tool in _dialects.READ},
-                 "translate --from oci --to rust --libc musl": lambda it: {"name": target_lexicon.translate(it, "oci", "rust", "musl")},
-                 **{f"translate --to {tool}": lambda it, tool=tool: {"name": Triple(it).name_in(tool)} for tool in _dialects.WRITTEN}}
+        calls = {"facts": lambda it: Triple(it).to_dict(), "settle": canonical(Triple),
+                 "settle --libc musl": canonical(lambda it: Triple(it).complete("musl")),
+                 "settle --from llvm": canonical(Triple.read),
+                 **{f"settle --from {tool}": canonical(lambda it, tool=tool: Triple.read(it, tool))
+                    for tool in _dialects.READ},
+                 "translate --from oci --to rust --libc musl": lambda it: {
+            "name": target_lexicon.translate(it, "oci", "rust", "musl")},
+                 **{f"translate --to {tool}": lambda it, tool=tool: {"name": Triple(it).name_in(tool)}
+                    for tool in _dialects.WRITTEN}}
         for words, call in calls.items():
             given = names if "--from" in words and "llvm" not in words else targets
             ran = run(COMMAND, *words.split(), "-0", "--json", input="".join(f"{it}\0" for it in given))
@@ -235,7 +265,8 @@ class Command(unittest.TestCase):
                 except ParseError as error:
                     own = {"start": len(error.text[:error.start].encode()), "part": error.part}
                 self.assertEqual({name: answer.get(name) for name in own}, own, (words, target))
-                self.assertIs("error" in answer, "part" in own or None in own.values() and words.startswith("translate"))
+                self.assertIs("error" in answer, "part" in own or None in own.values()
+                              and words.startswith("translate"))
 
 
 class Samples(Folder):
@@ -248,14 +279,17 @@ class Samples(Folder):
     @unittest.skipUnless(has(PATH_PYTHON, "import pydantic; assert int(pydantic.VERSION.split('.')[0]) == 2"),
                          "pydantic 2 isn't there; Debian 12 doesn't have it")
     def test_models(self):
-        self.assertEqual(self.passes(PATH_PYTHON, os.path.join(HERE, "with_pydantic.py"), PYTHONPATH=PACKAGES), "all well\n")
+        self.assertEqual(self.passes(PATH_PYTHON, os.path.join(HERE, "with_pydantic.py"), PYTHONPATH=PACKAGES),
+                         "all well\n")
 
     @unittest.skipUnless(has(DEBIAN_PYTHON, "import pandas"), "no pandas")
     def test_columns_of_pandas(self):
-        program = ("import pandas, target_lexicon; it = pandas.Series(['arm64-linux', None, float('nan'), pandas.NA, 'linx'], dtype=object)\n"
+        program = (
+            "import pandas, target_lexicon; it = pandas.Series(['arm64-linux', None, float('nan'), pandas.NA, 'linx'], dtype=object)\n"
                    "frame = pandas.DataFrame(target_lexicon.facts_all(it)).convert_dtypes()\n"
                    "print(target_lexicon.settle_all(it), len(frame.dropna(how='all')), frame.pointer_width.dtype, frame.is_unix.dtype, frame.loc[0, 'pointer_width'])")
-        self.assertEqual(self.passes(DEBIAN_PYTHON, "-c", program, PYTHONPATH=PACKAGES), "['aarch64-unknown-linux', None, None, None, None] 1 Int64 boolean 64\n")
+        self.assertEqual(self.passes(DEBIAN_PYTHON, "-c", program, PYTHONPATH=PACKAGES),
+                         "['aarch64-unknown-linux', None, None, None, None] 1 Int64 boolean 64\n")
 
     def test_what_few_programs_need_is_not_imported(self):
         """Modules that would make the import take longer."""
@@ -265,7 +299,8 @@ class Samples(Folder):
 
     def test_doc_strings(self):
         count, runner = 0, doctest.DocTestRunner()
-        for module in [target_lexicon, *(importlib.import_module(f"target_lexicon.{it.name}") for it in pkgutil.iter_modules(target_lexicon.__path__))]:
+        for module in [target_lexicon, *(importlib.import_module(f"target_lexicon.{it.name}")
+                                         for it in pkgutil.iter_modules(target_lexicon.__path__))]:
             for test in doctest.DocTestFinder(exclude_empty=True).find(module, globs=vars(target_lexicon).copy()):
                 results = runner.run(test)
                 self.assertEqual(results.failed, 0)
@@ -273,7 +308,8 @@ class Samples(Folder):
         self.assertGreater(count, 15)
 
     def test_help(self):
-        """Each public class and call has some, without private types, quotes of quotes, references, or what enumerations have of `str`."""
+        """Each public class and call has some, without private types, quotes of quotes, references, or what
+        enumerations have of `str`."""
         self.assertLess(len(pydoc.plain(pydoc.render_doc(target_lexicon)).splitlines()), 4000)
         self.assertLessEqual({"ARM", "parse"}, {*dir(target_lexicon.Architecture)})
         self.assertNotIn("casefold", dir(target_lexicon.Architecture))
@@ -295,18 +331,22 @@ class OtherTools(Folder):
     def test_pypy(self):
         """PyPy moves the objects that aren't of ctypes, so a pointer into one of them would be seen."""
         given = {name: value for name, value in os.environ.items() if name.startswith("LEXICON_TEST_")}
-        ran = run("pypy3", "-m", "unittest", "test_triples.Values", "test_values", "test_names.Names", "test_lines.Threads",
+        ran = run("pypy3", "-m", "unittest", "test_triples.Values", "test_values", "test_names.Names",
+                  "test_lines.Threads",
                   PYTHONPATH=f"{PACKAGES}:{HERE}", **given)
         self.assertRegex(ran.stderr, r"Ran [23]\d tests in (?s:.*)\nOK")
 
     @unittest.skipUnless(shutil.which("mypy"), "no mypy")
     def test_mypy(self):
-        mypy = ["mypy", "--strict", "--no-error-summary", "--cache-dir", self.folder, "--python-executable", sys.executable]
+        mypy = ["mypy", "--strict", "--no-error-summary", "--cache-dir", self.folder, "--python-executable",
+                sys.executable]
         if run(*mypy, "-c", "x = 1").returncode != 0:
             self.skipTest("this mypy can't ask this Python for its folders")
         ran = run(*mypy, "-c", "from target_lexicon import Dialect, Triple\n" + "\n".join(
-            f"Triple.read('x', {it})" for it in ("'podman'", "'yarn'", "str()", "'go'", "Dialect.GO", "Dialect(str())")))
-        self.assertEqual((ran.stdout.count("error: "), ran.stdout.count("expected \"Union[Dialect, Literal[")), (3, 3), ran.stdout)
+            f"Triple.read('x', {it})" for it in ("'podman'", "'yarn'", "str()", "'go'", "Dialect.GO",
+                                                 "Dialect(str())")))
+        self.assertEqual((ran.stdout.count("error: "), ran.stdout.count("expected \"Union[Dialect, Literal[")), (3, 3),
+                         ran.stdout)
         for checked in ["-p", "target_lexicon"], [os.path.join(HERE, "typed_sample.py")]:
             ran = run(*mypy, "--python-version", "3.9", *checked)
             self.assertEqual((ran.stdout + ran.stderr, ran.returncode), ("", 0))

@@ -1,4 +1,5 @@
-"""Triples as values: fields, facts, equality, order, copies, other forms, explanations, refusals, and wrong arguments."""
+"""Triples as values: fields, facts, equality, order, copies, other forms, explanations, refusals, and wrong
+arguments."""
 import contextlib
 import copy
 import ctypes
@@ -16,7 +17,8 @@ from target_lexicon import Architecture, CustomVendor, Environment, OperatingSys
 
 LONG = f"x86_64-{'a' * 500}-linux"  # longer than the first buffer
 TEXTS = ["unknown", "x86_64-unknown-linux-gnu", "arm64-apple-macosx13.2", "arm64-apple-macosx", "arm64-apple-macosx0",
-         "x86_64-acme-linux", "x86_64-acmf-linux", "armv6k-nintendo-horizon-gnu", "armv6k-nintendo-3ds", "riscv32imc-esp-espidf-elf", "clever-unknown-unknown-none",
+         "x86_64-acme-linux", "x86_64-acmf-linux", "armv6k-nintendo-horizon-gnu", "armv6k-nintendo-3ds",
+         "riscv32imc-esp-espidf-elf", "clever-unknown-unknown-none",
          "x86_64-darwin65535.255.255", LONG]
 
 class Refused(unittest.TestCase):
@@ -28,17 +30,21 @@ class Refused(unittest.TestCase):
 
 class Values(Refused):
     def test_facts(self):
-        """In a dictionary, by their names, and in a column. tests/test_package.py compares them with those of the command in Rust."""
+        """In a dictionary, by their names, and in a column. tests/test_package.py compares them with those of the
+        command in Rust."""
         for text in *TEXTS, "thumbv7em-none-eabihf", "x86_64-pc-windows-msvc", "avr-acme-unknown-macho", "i386-unknown-openbsd", "m68k-linux-gnu":
             triple = Triple(text)
             answers = triple.to_dict()
-            self.assertEqual((answers["version"], answers["printed"]), (triple.version and "%d.%d.%d" % triple.version, str(triple)))
+            self.assertEqual((answers["version"], answers["printed"]),
+                             (triple.version and "%d.%d.%d" % triple.version, str(triple)))
             for name in [it for it in answers if it not in ("version", "printed")]:
                 answer = getattr(triple, name)
-                self.assertEqual(answers[name], answer if isinstance(answer, (bool, int, type(None))) else str(answer), name)
+                self.assertEqual(answers[name], answer if isinstance(answer, (bool, int, type(None))) else str(answer),
+                                 name)
             self.assertEqual([it._asdict() for it in target_lexicon.facts_all([text])], [answers])
             self.assertEqual((json.loads(json.dumps(answers)), Triple.from_dict(answers)), (answers, triple))
-        self.assertEqual((Triple(LONG).llvm_target, Triple(LONG).multiarch_tuple, len(Triple(LONG).rustc_cfg["target_vendor"])), (LONG, None, 500))
+        self.assertEqual((Triple(LONG).llvm_target, Triple(LONG).multiarch_tuple,
+                          len(Triple(LONG).rustc_cfg["target_vendor"])), (LONG, None, 500))
         self.assertEqual(Triple("arm64-apple-ios17.1").version, (17, 1, 0))
 
     def test_host(self):
@@ -46,15 +52,23 @@ class Values(Refused):
         self.assertEqual((host.pointer_width, host.endianness, host.operating_system),
                          (8 * struct.calcsize("P"), sys.byteorder, platform.system().lower()))
         for system, machine, built_for, libc, bits, text in (
-            ("Linux", "x86_64", "x86_64-linux-gnu", "", 64, "x86_64-unknown-linux-gnu"), ("Linux", "x86_64", "linux-x86_64", "musl", 32, "i686-unknown-linux-musl"),
-            ("Linux", "aarch64", "arm-linux-gnueabihf", "glibc", 32, "armv7-unknown-linux-gnueabihf"), ("Darwin", "arm64", "", "", 64, "aarch64-apple-darwin"),
-            ("Linux", "armv6l", "", "glibc", 32, "armv6-unknown-linux-gnueabihf"), ("Windows", "AMD64", "", "", 64, "x86_64-pc-windows-msvc"),
-            ("Windows", "ARM64", "mingw_aarch64", "", 64, "aarch64-pc-windows-gnu"), ("SunOS", "sun4v", "", "", 64, "sparc64-sun-solaris"),
-            ("Linux", "mips64", "mips64el-linux-musl", "", 64, "mips64el-unknown-linux-musl"), ("CYGWIN_NT-10.0", "x86_64", "", "", 64, "x86_64-pc-cygwin"),
-            ("Linux", "x86_64", "x86_64-linux-gnu x86_64-linux-musl", "", 64, "x86_64-unknown-linux-musl"), ("Linux", "sparc64", "", "", 64, "sparc64-unknown-linux"),
-            ("iOS", "arm64", "ios-13.0-arm64-iphonesimulator", "", 64, "aarch64-apple-ios-sim"), ("BeOS", "vax", "", "", 64, "unknown-unknown-unknown"),
+            ("Linux", "x86_64", "x86_64-linux-gnu", "", 64, "x86_64-unknown-linux-gnu"),
+            ("Linux", "x86_64", "linux-x86_64", "musl", 32, "i686-unknown-linux-musl"),
+            ("Linux", "aarch64", "arm-linux-gnueabihf", "glibc", 32, "armv7-unknown-linux-gnueabihf"),
+            ("Darwin", "arm64", "", "", 64, "aarch64-apple-darwin"),
+            ("Linux", "armv6l", "", "glibc", 32, "armv6-unknown-linux-gnueabihf"),
+            ("Windows", "AMD64", "", "", 64, "x86_64-pc-windows-msvc"),
+            ("Windows", "ARM64", "mingw_aarch64", "", 64, "aarch64-pc-windows-gnu"),
+            ("SunOS", "sun4v", "", "", 64, "sparc64-sun-solaris"),
+            ("Linux", "mips64", "mips64el-linux-musl", "", 64, "mips64el-unknown-linux-musl"),
+            ("CYGWIN_NT-10.0", "x86_64", "", "", 64, "x86_64-pc-cygwin"),
+            ("Linux", "x86_64", "x86_64-linux-gnu x86_64-linux-musl", "", 64, "x86_64-unknown-linux-musl"),
+            ("Linux", "sparc64", "", "", 64, "sparc64-unknown-linux"),
+            ("iOS", "arm64", "ios-13.0-arm64-iphonesimulator", "", 64, "aarch64-apple-ios-sim"),
+            ("BeOS", "vax", "", "", 64, "unknown-unknown-unknown"),
         ):
-            said = {"platform.system": system, "platform.machine": machine, "platform.libc_ver": (libc, ""), "struct.calcsize": bits // 8,
+            said = {"platform.system": system, "platform.machine": machine, "platform.libc_ver": (libc, ""),
+                    "struct.calcsize": bits // 8,
                     "sysconfig.get_config_var": None, "sysconfig.get_platform": built_for}
             with contextlib.ExitStack() as stack:
                 for name, value in said.items():
@@ -65,7 +79,8 @@ class Values(Refused):
         triples = sorted(map(Triple, TEXTS))
         self.assertEqual([str(it) for it in triples], sorted(str(Triple(it)) for it in TEXTS))
         for (number, one), (place, other) in itertools.product(enumerate(triples), enumerate(triples)):
-            self.assertEqual((one == other, one != other, hash(one) == hash(other)), (number == place, number != place, number == place))
+            self.assertEqual((one == other, one != other, hash(one) == hash(other)),
+                             (number == place, number != place, number == place))
             self.assertEqual((one < other, one <= other, one > other, one >= other),
                              (number < place, number <= place, number > place, number >= place))
         self.assertEqual(hash(Triple("x86_64-acme-linux")), hash(Triple("x86_64-acme-linux-unknown-elf")))
@@ -78,11 +93,13 @@ class Values(Refused):
             self.assertIs(copy.deepcopy([triple])[0], triple)
             pickled = [pickle.loads(pickle.dumps(triple, it)) for it in range(pickle.HIGHEST_PROTOCOL + 1)]
             for again in *pickled, eval(repr(triple), vars(target_lexicon)):
-                self.assertEqual((again, str(again), again.vendor, again.version), (triple, str(triple), triple.vendor, triple.version))
+                self.assertEqual((again, str(again), again.vendor, again.version),
+                                 (triple, str(triple), triple.vendor, triple.version))
         for value in CustomVendor("acme"), target_lexicon.explain("x86_64-linux"), target_lexicon.Keep.KEEP:
             self.assertEqual((pickle.loads(pickle.dumps(value)), copy.deepcopy(value)), (value, value))
         triple = Triple("x86_64-acme-linux")
-        self.assertEqual(f"{triple!r}|{triple:20}|{triple.vendor:>6}", "Triple('x86_64-acme-linux')|x86_64-acme-linux   |  acme")
+        self.assertEqual(f"{triple!r}|{triple:20}|{triple.vendor:>6}",
+                         "Triple('x86_64-acme-linux')|x86_64-acme-linux   |  acme")
         self.assertEqual(json.dumps({"targets": [triple]}, default=str), '{"targets": ["x86_64-acme-linux"]}')
         self.assertEqual([str(getattr(Triple("arm64-apple-ios17"), it)) for it in Triple.__match_args__],
                          ["aarch64", "apple", "ios", "unknown", "macho", "(17, 0, 0)"])
@@ -97,16 +114,22 @@ class Values(Refused):
 
     def test_a_triple_owns_what_it_points_to(self):
         it = Triple("x86_64-acme-linux-gnu")
-        for triple in (it, it.settle(), it.replace(environment=Environment.MUSL), it.replace(vendor=CustomVendor("acme")), it.complete("musl"),
-                       it.explain().triple, pickle.loads(pickle.dumps(it)), Triple("armv7-acme-horizon-newlib").settle()):
+        for triple in (it, it.settle(), it.replace(environment=Environment.MUSL),
+                       it.replace(vendor=CustomVendor("acme")), it.complete("musl"),
+                       it.explain().triple, pickle.loads(pickle.dumps(it)),
+                       Triple("armv7-acme-horizon-newlib").settle()):
             begin, of = ctypes.addressof(triple._owner), triple._struct
-            self.assertTrue(begin <= of.custom_vendor <= of.custom_vendor + of.custom_vendor_size <= begin + len(triple._owner))
-        vendors = [Triple(f"x86_64-vendor{number}-linux").replace(environment=Environment.GNU).settle() for number in range(5000)]
-        self.assertTrue(all((str(it), it.vendor) == (f"x86_64-vendor{number}-linux-gnu", f"vendor{number}") for number, it in enumerate(vendors)))
+            self.assertTrue(begin <= of.custom_vendor <= of.custom_vendor + of.custom_vendor_size <= begin
+                            + len(triple._owner))
+        vendors = [Triple(f"x86_64-vendor{number}-linux").replace(environment=Environment.GNU).settle()
+                   for number in range(5000)]
+        self.assertTrue(all((str(it), it.vendor) == (f"x86_64-vendor{number}-linux-gnu", f"vendor{number}")
+                            for number, it in enumerate(vendors)))
 
     def test_canonical_forms(self):
         for text, canonical, comes_back in (("x86_64-linux-elf", "x86_64-unknown-linux", True),
-                                            ("armv7-nintendo-horizon-newlib", "armv7-nintendo-horizon", False), (LONG, LONG, True)):
+                                            ("armv7-nintendo-horizon-newlib", "armv7-nintendo-horizon", False),
+                                            (LONG, LONG, True)):
             triple, settled = Triple(text), Triple(canonical)
             self.assertEqual((triple.settle(), triple.canonical, triple.comes_back()), (settled, canonical, comes_back))
             self.assertEqual((triple.same_target(settled), triple.same_target(Triple("avr"))), (True, False))
@@ -123,9 +146,11 @@ class Values(Refused):
             (mac, {"vendor": CustomVendor("acme")}, "aarch64-acme-macosx13.2.0"),
             (macho, {"operating_system": OperatingSystem.WINDOWS}, "aarch64-unknown-windows-macho"),
             (macho, {"binary_format": None}, "aarch64-unknown-linux"),
-            (linux, {"architecture": "arm64"}, "aarch64-unknown-linux-gnu"), (linux, {"vendor": "acme"}, "x86_64-acme-linux-gnu"),
+            (linux, {"architecture": "arm64"}, "aarch64-unknown-linux-gnu"),
+            (linux, {"vendor": "acme"}, "x86_64-acme-linux-gnu"),
             (linux, {"vendor": "pc"}, "x86_64-pc-linux-gnu"),
-            (linux, {"operating_system": "windows"}, "x86_64-unknown-windows-gnu"), (linux, {"environment": "musl"}, "x86_64-unknown-linux-musl"),
+            (linux, {"operating_system": "windows"}, "x86_64-unknown-windows-gnu"),
+            (linux, {"environment": "musl"}, "x86_64-unknown-linux-musl"),
             (linux, {"binary_format": "coff"}, "x86_64-unknown-linux-gnu-coff"),
             (mac, {"version": (65535, 255, 255)}, "aarch64-apple-macosx65535.255.255"),
         ):
@@ -134,7 +159,8 @@ class Values(Refused):
         if sys.version_info >= (3, 13):
             self.assertEqual(str(copy.replace(linux, environment=Environment.MUSL)), "x86_64-unknown-linux-musl")
         self.assertEqual((Triple.from_fields(), Triple.from_dict({})), (Triple("unknown"), Triple("unknown")))
-        self.assertEqual(Triple.from_dict({"operating_system": OperatingSystem.IOS, "vendor": "acme", "version": [17]}), Triple("unknown-acme-ios17"))
+        self.assertEqual(Triple.from_dict({"operating_system": OperatingSystem.IOS, "vendor": "acme", "version": [17]}),
+                         Triple("unknown-acme-ios17"))
 
     def test_wrong_fields(self):
         linux, darwin = Triple("x86_64-unknown-linux-gnu"), Triple("x86_64-apple-darwin")
@@ -145,21 +171,26 @@ class Values(Refused):
         for name, value, meant in (("environment", "mulsl", "musl"), ("operating_system", "widnows", "windows"),
                                    ("architecture", "amd64", "x86_64"), ("binary_format", "pe", None)):
             hint = f"; did you mean {meant!r}\\?" if meant else ""
-            self.assertRaisesRegex(ValueError, f"^no {name} has the name {value!r}{hint}$", linux.replace, **{name: value})
+            self.assertRaisesRegex(ValueError, f"^no {name} has the name {value!r}{hint}$", linux.replace,
+                                   **{name: value})
         self.assertRaises(ParseError, linux.replace, vendor="No")
         self.assertRaisesRegex(ValueError, "the operating system linux has no version", linux.replace, version=(1,))
         for version in (), (1, 2, 3, 4), (-1,), (65536,), (1, 256), (1, 2, 256), (2 ** 70,):
             self.assertRaises(ValueError, darwin.replace, version=version)
         for version in "13", b"13", 13, {13}, iter([13]), {"major": 13}:
             for call in (lambda it: darwin.replace(version=it), lambda it: darwin.name_in("python", it)):
-                self.assertRaisesRegex(TypeError, rf"^a version must be a tuple of numbers such as \(17, 2\), not {type(version).__name__}$", call, version)
+                self.assertRaisesRegex(
+                    TypeError, rf"^a version must be a tuple of numbers such as \(17, 2\), not {type(version).__name__}$", call, version)
         for number in 1.5, "13", None:
-            self.assertRaisesRegex(TypeError, f"^the numbers of a version must be int, not {type(number).__name__}$", darwin.replace,
+            self.assertRaisesRegex(TypeError, f"^the numbers of a version must be int, not {type(number).__name__}$",
+                                   darwin.replace,
                                    version=(number,))
-        for values in ({"cpu": "arm"}, {"architecture": "arm65"}, {"operating_system": "ios17"}, {"vendor": "ACME"}, {"binary_format": "pe"},
+        for values in ({"cpu": "arm"}, {"architecture": "arm65"}, {"operating_system": "ios17"}, {"vendor": "ACME"},
+                       {"binary_format": "pe"},
                        {"operating_system": "linux", "version": "1"}, {"operating_system": "ios", "version": "x"}):
             self.assertRaises(ValueError, Triple.from_dict, values)
-        for call in (Triple, lambda: Triple("x86_64", "linux"), lambda: linux.replace(cpu=1), lambda: linux.__replace__(cpu=1),
+        for call in (Triple, lambda: Triple("x86_64", "linux"), lambda: linux.replace(cpu=1),
+                     lambda: linux.__replace__(cpu=1),
                      lambda: linux.same_target("x86_64"),
                      lambda: Triple.from_dict({"architecture": None})):
             self.assertRaises(TypeError, call)
@@ -169,9 +200,12 @@ class Values(Refused):
         self.assertEqual([(name, *source, source.end) for name, source in it.sources], [
             ("architecture", "aarch64", Origin.ALIAS, "arm64", 0, 5), ("vendor", "aple", Origin.GIVEN, "aple", 6, 10),
             ("operating_system", "ios", Origin.ALIAS, "ios17.2", 11, 18),
-            ("environment", "unknown", Origin.NOT_GIVEN, None, None, None), ("binary_format", "macho", Origin.IMPLIED, None, None, None)])
-        self.assertEqual((it.triple, it.suggestion, it.note), (Triple(it.text), "apple", "`aple` is a custom vendor; did you mean `apple`?"))
-        self.assertEqual({source[2:4] for _, source in target_lexicon.explain("armv6k-nintendo-3ds").sources}, {("armv6k-nintendo-3ds", 0)})
+            ("environment", "unknown", Origin.NOT_GIVEN, None, None, None),
+            ("binary_format", "macho", Origin.IMPLIED, None, None, None)])
+        self.assertEqual((it.triple, it.suggestion, it.note),
+                         (Triple(it.text), "apple", "`aple` is a custom vendor; did you mean `apple`?"))
+        self.assertEqual({source[2:4] for _, source in target_lexicon.explain("armv6k-nintendo-3ds").sources},
+                         {("armv6k-nintendo-3ds", 0)})
         self.assertEqual(target_lexicon.explain("x86_64-acme-linux").note, "`acme` is a custom vendor")
         linux = target_lexicon.explain("x86_64-linux-elf")
         self.assertEqual((linux.binary_format[2:], linux.suggestion, linux.note), (("elf", 13), None, None))
@@ -197,7 +231,8 @@ class Refusals(Refused):
     def test_parts(self):
         """Positions are those of the `str`, and the line has the whole part as it is."""
         for text, field, part, start, line in (
-            ("x86_64-pc-linux-gn\u00fc\U0001f600-x", "environment", "gn\u00fc\U0001f600", 16, "Unrecognized environment: gn\u00fc\U0001f600"),
+            ("x86_64-pc-linux-gn\u00fc\U0001f600-x", "environment", "gn\u00fc\U0001f600", 16,
+             "Unrecognized environment: gn\u00fc\U0001f600"),
             ("x86_64-unknown-linux\0-gnu", "operating_system", "linux\0", 15, "Unrecognized operating system: linux\0"),
             ("a" * 100, "architecture", "a" * 100, 0, f"Unrecognized architecture: {'a' * 100}"),
             ("x86_64-linux-elf-gnu", None, "gnu", 17, "Unrecognized field: gnu"),
@@ -212,7 +247,8 @@ class Refusals(Refused):
     def test_names_of_other_tools(self):
         """A message says which call reads the string, and that call does; or why none does."""
         note = "\n  note: it is a name of another tool: use "
-        for text, calls in (("linux/amd64", ["Triple.read(text, 'go')", "Triple.read(text, 'oci')"]), ("amd64-pc-freebsd13.2", ["Triple.read(text)"]),
+        for text, calls in (("linux/amd64", ["Triple.read(text, 'go')", "Triple.read(text, 'oci')"]),
+                            ("amd64-pc-freebsd13.2", ["Triple.read(text)"]),
                             ("win_amd64", ["Triple.read(text, 'python')"])):
             for call in Triple, target_lexicon.explain, Architecture.parse:
                 error = self.refusal(call, text)
@@ -221,21 +257,29 @@ class Refusals(Refused):
                 self.assertIsInstance(eval(call, {"Triple": Triple, "text": text}), Triple)
         self.assertRegex(str(self.refusal(Triple, "js/wasm")),
                          r"\n  note: it is a name of go without a triple: a module for Go's own JavaScript; .*$")
-        self.assertRegex(str(self.refusal(Triple, "macosx_11_0_universal2")), r"\n  note: it is a name of python without a triple: several machines$")
+        self.assertRegex(str(self.refusal(Triple, "macosx_11_0_universal2")),
+                         r"\n  note: it is a name of python without a triple: several machines$")
         for error in self.refusal(Triple, "linux/amd46"), self.refusal(Triple.read, "linux/amd64", "debian"):
             self.assertNotIn("note:", str(error))
 
     def test_errors_are_values(self):
-        errors = {ParseError("x86_64-foo-bar", "operating_system", 11): "Unrecognized operating system: bar\n  x86_64-foo-bar\n             ^^^",
-                  ParseError("x86_64-foo-bar", start=7, part="foo"): "Unrecognized field: foo\n  x86_64-foo-bar\n         ^^^",
-                  ParseError("linux/amd46", dialect="go"): "Unknown name: linux/amd46\n  linux/amd46\n  ^^^^^^^^^^^ did you mean `linux/amd64`?",
+        errors = {ParseError("x86_64-foo-bar", "operating_system",
+                             11): "Unrecognized operating system: bar\n  x86_64-foo-bar\n             ^^^",
+                  ParseError("x86_64-foo-bar", start=7,
+                             part="foo"): "Unrecognized field: foo\n  x86_64-foo-bar\n         ^^^",
+                  ParseError("linux/amd46",
+                             dialect="go"): "Unknown name: linux/amd46\n  linux/amd46\n  ^^^^^^^^^^^ did you mean `linux/amd64`?",
                   ParseError("\udcff"): "Lone surrogate: \\udcff\n  \\udcff\n  ^^^^^^"}
         caught = [self.refusal(Triple, "x86_64-foo-bar"), self.refusal(Triple.read, "js/wasm", "go")]
         for error, message in [*errors.items(), *((it, str(it)) for it in caught)]:
-            for again in error, pickle.loads(pickle.dumps(error)), copy.deepcopy(error), eval(repr(error), vars(target_lexicon)):
-                self.assertEqual((str(again), again.args, again.reason, again.line), (message, error.args, error.reason, error.line))
-        self.assertEqual((repr(caught[1]), caught[1].dialect), ("ParseError('js/wasm', None, 0, 'js/wasm', 'go')", "go"))
-        for arguments in ("x", "cpu"), ("x", None, 2, "x"), ("x", None, -1), ("x", None, 0, "y"), ("x", None, 0, "x", "podman"):
+            for again in error, pickle.loads(pickle.dumps(error)), copy.deepcopy(error), eval(
+                repr(error), vars(target_lexicon)):
+                self.assertEqual((str(again), again.args, again.reason, again.line),
+                                 (message, error.args, error.reason, error.line))
+        self.assertEqual((repr(caught[1]), caught[1].dialect),
+                         ("ParseError('js/wasm', None, 0, 'js/wasm', 'go')", "go"))
+        for arguments in ("x", "cpu"), ("x", None, 2, "x"), ("x", None, -1), ("x", None, 0,
+                                                                              "y"), ("x", None, 0, "x", "podman"):
             self.assertRaises(ValueError, ParseError, *arguments)
         self.assertRaises(TypeError, ParseError, b"x")
 
@@ -251,21 +295,25 @@ class Refusals(Refused):
         """No method of it is asked."""
         def asked(*_):
             raise AssertionError("the text of a subclass was asked")
-        Text = type("Text", (str,), dict.fromkeys(("encode", "startswith", "__contains__", "__eq__", "__hash__", "__str__", "__len__",
+        Text = type("Text", (str,), dict.fromkeys(("encode", "startswith", "__contains__", "__eq__", "__hash__",
+                                                   "__str__", "__len__",
                                                    "__getitem__", "__iter__"), asked))
         self.assertEqual(Triple(Text("x86_64-linux")), Triple("x86_64-linux"))
         self.assertRaises(ParseError, Triple, Text("x86_64-\u00e9"))
         self.assertEqual(target_lexicon.translate(Text("linux/arm64"), "oci", "go"), "linux/arm64")
         texts = [Text("x86_64-linux\n"), Text("arm64-linux"), Text("avr\nx"), "avr"]
         keys = [None, "aarch64-unknown-linux", None, "avr-unknown-unknown"]
-        self.assertEqual((target_lexicon.settle_all(texts), [it.canonical for it in target_lexicon.facts_all(texts)]), (keys, keys))
+        self.assertEqual((target_lexicon.settle_all(texts), [it.canonical for it in target_lexicon.facts_all(texts)]),
+                         (keys, keys))
 
     def test_huge_texts(self):
         size = 20_000_000
         for text in "a" * size, "-" * size, "x86_64-" + "\u00e9" * size, "x86_64-pc-linux-" + "x-" * (size // 2):
-            for error in self.refusal(Triple, text), self.refusal(Triple.read, text), self.refusal(Triple.read, text, "go"):
+            for error in self.refusal(Triple, text), self.refusal(Triple.read, text), self.refusal(
+                Triple.read, text, "go"):
                 self.assertLess(len(str(error)), 1000)
                 self.assertTrue(text[error.start:error.end] == error.part)
         text = f"x86_64-{'a' * size}-linux"
         self.assertTrue(str(Triple(text)) == text)  # without a difference of the strings, which would take hours
-        self.assertEqual((len(Triple(text).settle().vendor), len(target_lexicon.explain(text).vendor.part)), (size, size))
+        self.assertEqual((len(Triple(text).settle().vendor), len(target_lexicon.explain(text).vendor.part)),
+                         (size, size))

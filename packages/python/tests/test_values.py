@@ -7,9 +7,11 @@ import target_lexicon
 import lists
 from target_lexicon import CustomVendor, OperatingSystem, Origin, ParseError, Triple, Vendor, _library
 
-# The enumerations by the beginnings of their constants in C. Those of fields and the family have no number for no answer.
+# The enumerations by the beginnings of their constants in C. Those of fields and the family have no number for no
+# answer.
 FIELDS = ("ARCHITECTURE", "VENDOR", "OPERATING_SYSTEM", "ENVIRONMENT", "BINARY_FORMAT")
-OTHERS = ("ENDIANNESS", "CALLING_CONVENTION", "DATA_MODEL", "C_LIBRARY", "FLOAT_ABI", "ARM_PROFILE", "SIGNEDNESS", "DIALECT", "LINUX_LIBC")
+OTHERS = ("ENDIANNESS", "CALLING_CONVENTION", "DATA_MODEL", "C_LIBRARY", "FLOAT_ABI", "ARM_PROFILE", "SIGNEDNESS",
+          "DIALECT", "LINUX_LIBC")
 ENUMERATIONS = {it: getattr(target_lexicon, it.title().replace("_", "")) for it in (*FIELDS, "FAMILY", *OTHERS)}
 
 
@@ -20,14 +22,16 @@ class Values(unittest.TestCase):
             numbers.update((it.name, it.number + (prefix in OTHERS)) for it in of)
             self.assertEqual(numbers, lists.header_numbers(prefix))
         self.assertEqual({it.name: it.number for it in Origin}, lists.header_numbers("ORIGIN"))
-        self.assertIn(f"#define LEXICON_MAX_GROWTH {_library.MAX_GROWTH}\n", lists.read("packages/c/include/target_lexicon.h"))
+        self.assertIn(f"#define LEXICON_MAX_GROWTH {_library.MAX_GROWTH}\n",
+                      lists.read("packages/c/include/target_lexicon.h"))
 
     def test_names_are_those_of_the_library(self):
         before = ["x86_64", "pc", "linux", "gnu"]
         for field, prefix in enumerate(FIELDS):
             of = ENUMERATIONS[prefix]
             for number, member in enumerate(of):
-                self.assertEqual((_library.name(field, number), _library.number(field, member.value.encode())), (member.value, (0, number)))
+                self.assertEqual((_library.name(field, number), _library.number(field, member.value.encode())),
+                                 (member.value, (0, number)))
                 self.assertIs(of.parse(member.value), member)
                 self.assertIs(of(member.value), member)
                 self.assertIs(getattr(Triple("-".join([*before[:field], member])), prefix.lower()), member)
@@ -35,14 +39,16 @@ class Values(unittest.TestCase):
             self.assertIsNone(_library.name(field, len(of)))
 
     def test_parse(self):
-        self.assertEqual((target_lexicon.Architecture.parse("arm64"), OperatingSystem.parse("darwin23.6")), ("aarch64", OperatingSystem.DARWIN))
+        self.assertEqual((target_lexicon.Architecture.parse("arm64"), OperatingSystem.parse("darwin23.6")),
+                         ("aarch64", OperatingSystem.DARWIN))
         self.assertEqual(Vendor.parse("acme"), CustomVendor("acme"))
         for prefix in FIELDS:
             of = ENUMERATIONS[prefix]
             for text in "", "Acme", "x86-64", "\0":
                 with self.assertRaises(ParseError) as caught:
                     of.parse(text)
-                self.assertEqual((caught.exception.field, caught.exception.part, caught.exception.start), (prefix.lower(), text, 0))
+                self.assertEqual((caught.exception.field, caught.exception.part, caught.exception.start),
+                                 (prefix.lower(), text, 0))
             for value in None, 3, b"gnu", of:
                 self.assertRaises(TypeError, of.parse, value)
 
@@ -50,8 +56,10 @@ class Values(unittest.TestCase):
         """As those of StrEnum are."""
         for of in *ENUMERATIONS.values(), Origin:
             for it in of:
-                self.assertEqual((it, hash(it), f"{it}", f"{it:>20}", type(str(it))), (it.value, hash(it.value), it.value, f"{it.value:>20}", str))
-                self.assertEqual((json.dumps({it: [it]}), repr(it)), (json.dumps({it.value: [it.value]}), f"{of.__name__}.{it.name}"))
+                self.assertEqual((it, hash(it), f"{it}", f"{it:>20}", type(str(it))),
+                                 (it.value, hash(it.value), it.value, f"{it.value:>20}", str))
+                self.assertEqual((json.dumps({it: [it]}), repr(it)),
+                                 (json.dumps({it.value: [it.value]}), f"{of.__name__}.{it.name}"))
                 self.assertIs(pickle.loads(pickle.dumps(it)), it)
         self.assertEqual(sorted({Vendor.PC, CustomVendor("acme")}), ["acme", "pc"])
 
@@ -59,7 +67,8 @@ class Values(unittest.TestCase):
         vendor = Triple("x86_64-acme-linux").vendor
         self.assertEqual((vendor, vendor.text, vendor.value, vendor.number, repr(vendor)),
                          (CustomVendor("acme"), "acme", "acme", 255, "CustomVendor('acme')"))
-        self.assertEqual((hash(vendor), json.dumps({vendor: vendor}), type(str(vendor))), (hash("acme"), '{"acme": "acme"}', str))
+        self.assertEqual((hash(vendor), json.dumps({vendor: vendor}), type(str(vendor))),
+                         (hash("acme"), '{"acme": "acme"}', str))
         self.assertNotIsInstance(vendor, Vendor)
         for name in "text", "other":
             self.assertRaises(AttributeError, setattr, vendor, name, None)

@@ -2,7 +2,8 @@
 from typing import Dict, List, Optional, Tuple, Union
 
 import target_lexicon
-from target_lexicon import (Architecture, CLibrary, CustomVendor, Dialect, DialectName, Endianness, Errors, LinuxLibc, LinuxLibcName, ParseError, Triple,
+from target_lexicon import (Architecture, CLibrary, CustomVendor, Dialect, DialectName, Endianness, Errors, LinuxLibc,
+                            LinuxLibcName, ParseError, Triple,
                             Vendor, Version)
 
 triple = Triple("x86_64-linux")

@@ -11,7 +11,8 @@ class Release(BaseModel):
     sizes: Dict[Triple, Architecture] = {}
 
 
-triple, strings = Triple("arm64-linux"), {"target": "aarch64-unknown-linux", "vendor": "acme", "sizes": {"aarch64-unknown-linux": "arm"}}
+triple, strings = Triple("arm64-linux"), {"target": "aarch64-unknown-linux", "vendor": "acme",
+                                          "sizes": {"aarch64-unknown-linux": "arm"}}
 release = Release(target=triple, vendor="acme", sizes={"arm64-linux": "arm"})
 assert (release.target, type(release.vendor), release.sizes) == (triple, CustomVendor, {triple: Architecture.ARM})
 assert Release(target="avr", vendor="pc").vendor is Vendor.PC
@@ -19,7 +20,8 @@ assert (release.model_dump(mode="json"), release.model_copy(deep=True)) == (stri
 assert Release.model_validate_json(release.model_dump_json()) == Release(**strings) == release
 for mode in "validation", "serialization":
     assert Release.model_json_schema(mode=mode)["properties"]["target"]["type"] == "string"
-for given, types in (({"target": "x86_64-pc-linx"}, ["value_error"]), ({"target": b"avr"}, ["string_type"]), ({"target": None}, ["string_type"]),
+for given, types in (({"target": "x86_64-pc-linx"}, ["value_error"]), ({"target": b"avr"}, ["string_type"]),
+                     ({"target": None}, ["string_type"]),
                      ({"target": "avr", "vendor": "ACME"}, ["enum", "value_error"])):
     try:
         raise AssertionError(Release(**given))

@@ -1,10 +1,11 @@
-"""Makes each allocation of the package's calls fail in turn. Each call must then raise a MemoryError or give its usual answer.
+"""Makes each allocation of the package's calls fail in turn. Each call must then raise a MemoryError or give its usual
+answer.
 
 It runs with checks/failing_allocator.c in LD_PRELOAD and PYTHONMALLOC=malloc. It writes each other outcome to standard
 error, and last the number of trials. The allocator writes to standard output.
 
-From 3.10 on, CPython itself may end any function that raises with a SystemError, if there is no memory. So that of a call whose
-string is refused is let pass there.
+From 3.10 on, CPython itself may end any function that raises with a SystemError, if there is no memory. So that of a
+call whose string is refused is let pass there.
 """
 import copy
 import ctypes
@@ -20,7 +21,8 @@ MOST = 2000
 fail_allocation = ctypes.CDLL(None).fail_allocation
 fail_allocation.argtypes, fail_allocation.restype = [ctypes.c_ulong], ctypes.c_ulong
 
-LINUX, CUSTOM, OTHER = Triple("x86_64-unknown-linux-gnu"), Triple("x86_64-acme-linux"), Triple("armv6k-nintendo-horizon-gnu")
+LINUX, CUSTOM, OTHER = Triple("x86_64-unknown-linux-gnu"), Triple("x86_64-acme-linux"), Triple(
+    "armv6k-nintendo-horizon-gnu")
 PICKLES = list(map(pickle.dumps, (LINUX, CUSTOM)))
 LONG = f"x86_64-{'a' * 500}-linux"
 COLUMN = ["arm64-linux-gnu", "x86_64-acme-linux", "x86_64-pc-linx", "avr"]
@@ -45,16 +47,20 @@ CALLS = {
     "print": lambda: list(map(str, fresh())),
     "print a long one": lambda: str(Triple(LONG)),
     "show": lambda: [repr(LINUX), repr(OTHER), f"{CUSTOM:>30}", repr(CUSTOM.vendor)],
-    "compare": lambda: [fresh()[0] == fresh()[0], fresh()[0] < fresh()[1], fresh()[0] >= fresh()[1], hash(fresh()[1]) == hash(fresh()[1])],
+    "compare": lambda: [fresh()[0] == fresh()[0], fresh()[0] < fresh()[1], fresh()[0] >= fresh()[1],
+                        hash(fresh()[1]) == hash(fresh()[1])],
     "facts": lambda: [(it.endianness, it.pointer_width, it.data_model, it.family, it.object_format) for it in fresh()],
     "all facts": lambda: [it.to_dict() for it in fresh()],
-    "canonical": lambda: [LINUX.canonical, CUSTOM.settle(), OTHER.settle(), OTHER.comes_back(), LINUX.same_target(OTHER)],
+    "canonical": lambda: [LINUX.canonical, CUSTOM.settle(), OTHER.settle(), OTHER.comes_back(),
+                          LINUX.same_target(OTHER)],
     "from fields": lambda: Triple.from_fields(Architecture.X86_64, Vendor.APPLE, OperatingSystem.IOS, version=(17, 1)),
     "replace": lambda: [LINUX.replace(environment=Environment.MUSL), LINUX.replace(vendor=CustomVendor("acme"))],
-    "explain": lambda: [str(target_lexicon.explain("arm64-aple-ios17.2")), target_lexicon.explain("x86_64-linux").sources],
+    "explain": lambda: [str(target_lexicon.explain("arm64-aple-ios17.2")),
+                        target_lexicon.explain("x86_64-linux").sources],
     "read": lambda: [Triple.read("linux/arm64", "oci"), Triple.read("x86_64-w64-mingw32")],
     "name": lambda: [LINUX.name_in("go"), OTHER.name_in(target_lexicon.Dialect.OCI)],
-    "translate": lambda: [target_lexicon.translate("linux/arm64", "oci", "debian", "glibc"), LINUX.complete("musl"), CUSTOM.complete("glibc")],
+    "translate": lambda: [target_lexicon.translate("linux/arm64", "oci", "debian", "glibc"), LINUX.complete("musl"),
+                          CUSTOM.complete("glibc")],
     "changes": lambda: target_lexicon.changes("amd64-unknown-freebsd13.2"),
     "values": lambda: [Architecture.parse("arm64"), Vendor.parse("acme"), CustomVendor("acme")],
     "copy": lambda: [*map(pickle.loads, PICKLES), copy.deepcopy(OTHER)],
@@ -89,7 +95,8 @@ def main():
     gc.disable()
     trials = 0
     for name, call in CALLS.items():
-        accepted = (MemoryError, SystemError) if name.startswith("refusal") and sys.version_info >= (3, 10) else MemoryError
+        accepted = (MemoryError, SystemError) if name.startswith("refusal") and sys.version_info >= (
+            3, 10) else MemoryError
         usual = [call() for _ in range(3)][-1]
         for number in range(1, MOST):
             outcome, got_there = tried(call, number)

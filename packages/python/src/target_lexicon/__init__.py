@@ -6,8 +6,9 @@
 wasm32-wasi 32 wasm
 
 `Triple` has the fields, the facts and the printed string of a triple. `explain` says which part of a string gave which
-field. `Triple.read` and `Triple.name_in` know the names of other tools, `translate` leads from one to another, and `meanings` says
-whose name a string is. `settle_all` and `facts_all` answer for a column of targets, and `targets_in` finds those in a text.
+field. `Triple.read` and `Triple.name_in` know the names of other tools, `translate` leads from one to another, and
+`meanings` says whose name a string is. `settle_all` and `facts_all` answer for a column of targets, and `targets_in`
+finds those in a text.
 """
 from ._columns import Errors, facts_all, settle_all
 from ._errors import ParseError

@@ -36,9 +36,9 @@ def settle_all(targets: Iterable[Optional[str]], errors: Errors = "raise") -> Li
     >>> settle_all(["arm64-linux-gnu", "aarch64-unknown-linux-gnu", "x86_64-pc-linx"])
     ['aarch64-unknown-linux-gnu', 'aarch64-unknown-linux-gnu', None]
 
-    A missing cell of a column, which is None, NaN or `pandas.NA`, is as a target that is refused. Anything else but a `str` raises a
-    TypeError that has it and its index; with `errors="coerce"`, as in pandas, it is as a missing cell. A single `str` instead of an
-    iterable is a TypeError.
+    A missing cell of a column, which is None, NaN or `pandas.NA`, is as a target that is refused. Anything else but a
+    `str` raises a TypeError that has it and its index; with `errors="coerce"`, as in pandas, it is as a missing cell. A
+    single `str` instead of an iterable is a TypeError.
     """
     return _each(targets, errors, _canonical_texts)
 
@@ -75,12 +75,13 @@ def _each(targets: Iterable[Any], errors: Errors, answers_of: Callable[[Sequence
 
 
 def _plain(target: Any, index: int, errors: Errors) -> str:
-    """The target as a `str`, so that no subclass says how it is compared, hashed or searched. A missing cell is the empty string,
-    which is refused. Anything else is a TypeError, or the same.
+    """The target as a `str`, so that no subclass says how it is compared, hashed or searched. A missing cell is the
+    empty string, which is refused. Anything else is a TypeError, or the same.
     """
     if isinstance(target, str):
         return str.__str__(target)
-    if errors == "coerce" or target is None or isinstance(target, float) and target != target or type(target).__name__ == "NAType":
+    if errors == "coerce" or target is None or isinstance(target, float) and target != target or type(
+        target).__name__ == "NAType":
         return ""
     raise TypeError(f"a target must be a str, not {type(target).__name__}: index {index} has {reprlib.repr(target)}")
 
@@ -111,7 +112,8 @@ _NUMBERS = struct.Struct(f"@HBBBBBBBHPN{len(FACTS)}B")
 
 # Calls whose arguments are values of `ctypes`, which takes half the time.
 _parse, _facts, _print, _llvm_target, _multiarch_tuple = map(
-    _library.undeclared, ("lexicon_parse", "lexicon_facts", "lexicon_print", "lexicon_llvm_target", "lexicon_multiarch_tuple"))
+    _library.undeclared, ("lexicon_parse", "lexicon_facts", "lexicon_print", "lexicon_llvm_target",
+                          "lexicon_multiarch_tuple"))
 
 
 def _facts_of_texts(targets: Sequence[str]) -> List[Facts]:
@@ -127,7 +129,8 @@ def _facts_of_texts(targets: Sequence[str]) -> List[Facts]:
             continue
         utf8 = str.encode(text)
         size.value = len(utf8)
-        status = _parse(utf8, size, to_triple, to_error) or _facts(to_triple, to_facts, facts_size) or _print(to_triple, to_out, room, None)
+        status = _parse(utf8, size, to_triple, to_error) or _facts(to_triple, to_facts,
+                                                                   facts_size) or _print(to_triple, to_out, room, None)
         if triple.custom_vendor is not None:
             answers.append(facts_of(Triple(text)))
             continue
@@ -135,8 +138,10 @@ def _facts_of_texts(targets: Sequence[str]) -> List[Facts]:
         printed = out.value.decode()
         _library.check(_llvm_target(to_triple, to_out, room, None))
         llvm_target = out.value.decode()
-        multiarch_tuple = None if _multiarch_tuple(to_triple, to_out, room, None) == _names.TRIPLE_WITHOUT_NAME else out.value.decode()
-        answers.append(_facts_from(_NUMBERS.unpack_from(answered), None, llvm_target, multiarch_tuple, printed, canonical))
+        multiarch_tuple = None if _multiarch_tuple(to_triple, to_out, room,
+                                                   None) == _names.TRIPLE_WITHOUT_NAME else out.value.decode()
+        answers.append(_facts_from(_NUMBERS.unpack_from(answered), None, llvm_target, multiarch_tuple, printed,
+                                   canonical))
     return answers
 
 
@@ -147,7 +152,8 @@ def facts_of(it: Triple) -> Facts:
 
 
 def _facts_from(numbers: Tuple[Any, ...], vendor: Optional[str], *strings: Optional[str]) -> Facts:
-    """All answers, from the numbers and the strings, of which those that end the answers are last. Only a custom vendor must be given."""
+    """All answers, from the numbers and the strings, of which those that end the answers are last. Only a custom vendor
+    must be given."""
     architecture, known, system, environment, form, has_version, minor, patch, major, _, _, *facts = numbers
     return Facts._make((
         _ARCHITECTURES[architecture], vendor or _VENDORS[known], _SYSTEMS[system],

@@ -33,10 +33,10 @@ class ParseError(ValueError):
 
     `part` is the refused part, from `start` to `end` of the whole `text`. `field` is what was expected there, such as
     `operating_system`. It is None for a part after the binary format, where no field is left, for a lone surrogate, and
-    for a name in a dialect. `dialect` is the name of that dialect; otherwise it is None. `suggestion` is the name that may
-    have been meant, in a dialect the nearest of its names, or None. `reason` says why no triple means the same as a name
-    that a dialect has; otherwise it is None. `line` is the first line of the message with the whole part, and nothing
-    escaped.
+    for a name in a dialect. `dialect` is the name of that dialect; otherwise it is None. `suggestion` is the name that
+    may have been meant, in a dialect the nearest of its names, or None. `reason` says why no triple means the same as a
+    name that a dialect has; otherwise it is None. `line` is the first line of the message with the whole part, and
+    nothing escaped.
 
     One that is made, such as for a test, is like one that is caught. The part goes to the end, unless it is given:
 
@@ -79,7 +79,8 @@ class ParseError(ValueError):
         """The name that may have been meant by the part, or None if there is none."""
         if self._number:
             return _library.name_suggestion(self._number, self.text.encode())
-        before, part, after = (it.encode(errors="replace") for it in (self.text[:self.start], self.part, self.text[self.end:]))
+        before, part, after = (it.encode(errors="replace")
+                               for it in (self.text[:self.start], self.part, self.text[self.end:]))
         return _library.suggestion(self._status, before + part + after, len(before), len(before + part))
 
     @property
@@ -114,7 +115,8 @@ class ParseError(ValueError):
                 + (f"\n  note: {note}" if note else ""))
 
     def _note(self) -> Optional[str]:
-        """That other tools have the string as a name, and by which calls it is read, or why no triple means it. None if nobody has it."""
+        """That other tools have the string as a name, and by which calls it is read, or why no triple means it. None if
+        nobody has it."""
         if self.dialect is not None or self.start > 0:  # what begins with an architecture has a suggestion
             return None
         utf8 = self.text.encode(errors="replace")
@@ -143,7 +145,8 @@ def range_in(utf8: bytes, start: int, end: int) -> Tuple[int, str]:
     return len(utf8[:start].decode()), utf8[start:end].decode()
 
 
-def refusal(text: str, utf8: bytes, error: _library.ErrorStruct, dialect: Union[Dialect, DialectName, None] = None) -> ParseError:
+def refusal(text: str, utf8: bytes, error: _library.ErrorStruct,
+            dialect: Union[Dialect, DialectName, None] = None) -> ParseError:
     """The error that the library wrote of a string, which is a name in the dialect, if there is one."""
     status = error.status
     if status not in _REFUSALS[dialect is not None]:

@@ -19,7 +19,8 @@ class Origin(NamedValue):
     GIVEN = "given"
     #: The binary format that the other fields imply.
     IMPLIED = "implied"
-    #: A part of the string that is another spelling. A special string such as `armv6k-nintendo-3ds` is one part, of all fields.
+    #: A part of the string that is another spelling. A special string such as `armv6k-nintendo-3ds` is one part, of all
+    #fields.
     ALIAS = "alias"
 
 
@@ -28,7 +29,8 @@ _ORIGINS = tuple(Origin)
 
 
 class Source(NamedTuple):
-    """Where the value of one field comes from. `part` is the part of the string from `start` to `end`; all three may be None."""
+    """Where the value of one field comes from. `part` is the part of the string from `start` to `end`; all three may be
+    None."""
 
     value: str
     origin: Origin
@@ -80,14 +82,16 @@ class Explanation(NamedTuple):
                   for name, source in self.sources}
         width = max(len(value) for value in values.values() if len(value) <= 40)
         custom = {"vendor": "custom, "} if self.triple.has_custom_vendor else {}
-        lines = [f"  {name:16}  {values[name]:{width}}  {custom.get(name, '')}{source}" for name, source in self.sources]
+        lines = [f"  {name:16}  {values[name]:{width}}  {custom.get(name, '')}{source}"
+                 for name, source in self.sources]
         if self.note:
             lines.append(f"  {'note':16}  {self.note}")
         return "\n".join([self.text, *lines])
 
 
 def explain(text: str) -> Explanation:
-    """The triple of a string, and from which part each of its fields comes. A string that is refused raises a `ParseError`.
+    """The triple of a string, and from which part each of its fields comes. A string that is refused raises a
+    `ParseError`.
 
     >>> print(explain("armv7a-nuttx-eabi"))
     armv7a-nuttx-eabi

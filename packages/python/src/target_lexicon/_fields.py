@@ -43,7 +43,8 @@ class VendorValue(NamedValue):
         (Vendor.PC, CustomVendor('acme'))
         """
         number = _number_of(_VENDOR, text)
-        vendor: Union[KnownVendor, CustomVendor] = CustomVendor._of(text) if number == _library.CUSTOM_VENDOR else members(cls)[number]
+        vendor: Union[KnownVendor, CustomVendor] = CustomVendor._of(
+            text) if number == _library.CUSTOM_VENDOR else members(cls)[number]
         return vendor
 
 
@@ -60,8 +61,8 @@ def _number_of(field: int, text: str) -> int:
 class CustomVendor(Immutable, str):
     """A vendor that has no name of its own in the library: a string that parses as a vendor, and as nothing else.
 
-    It is a `str`, as known vendors are, and equal to its string. A string that is no vendor raises a ParseError, a known vendor
-    a ValueError. `case CustomVendor(text):` of a `match` gives the string.
+    It is a `str`, as known vendors are, and equal to its string. A string that is no vendor raises a ParseError, a
+    known vendor a ValueError. `case CustomVendor(text):` of a `match` gives the string.
 
     >>> Triple("x86_64-acme-linux").vendor == CustomVendor("acme") == "acme"
     True

@@ -9,7 +9,8 @@ from ._values import Architecture, Environment, OperatingSystem
 
 # Names of machines that aren't architectures of the library, and of 64-bit ones with a 32-bit interpreter.
 _MACHINES = {
-    "amd64": "x86_64", "x64": "x86_64", "i86pc": "x86_64", "x86": "i686", "armv7l": "armv7", "armv6l": "armv6", "armv8l": "armv7",
+    "amd64": "x86_64", "x64": "x86_64", "i86pc": "x86_64", "x86": "i686", "armv7l": "armv7", "armv6l": "armv6",
+    "armv8l": "armv7",
     "ppc": "powerpc", "ppc64": "powerpc64", "ppc64le": "powerpc64le", "power macintosh": "powerpc", "arm64": "aarch64",
     "riscv64": "riscv64gc", "riscv32": "riscv32gc", "sun4u": "sparc64", "sun4v": "sparc64",
 }
@@ -22,14 +23,17 @@ _OF_BIG_ENDIAN = {"aarch64": "aarch64_be", "arm": "armeb"}
 
 # The words of `platform.system()` that aren't operating systems of the library in another case; and vendors by system.
 _SYSTEMS = {"sunos": "solaris", "gnu": "hurd", "ipados": "ios", "android": "linux", "msys": "cygwin"}
-_VENDORS = {"darwin": "apple", "ios": "apple", "tvos": "apple", "watchos": "apple", "visionos": "apple", "windows": "pc", "cygwin": "pc",
+_VENDORS = {"darwin": "apple", "ios": "apple", "tvos": "apple", "watchos": "apple", "visionos": "apple",
+            "windows": "pc", "cygwin": "pc",
             "solaris": "pc", "aix": "ibm"}
 
 
 def fields() -> Tuple[str, str, str, str]:
-    """The names of the architecture, the vendor, the system and the environment. What is not known of the machine is unknown."""
+    """The names of the architecture, the vendor, the system and the environment. What is not known of the machine is
+    unknown."""
     # Older versions of Python say that Android is Linux.
-    system = "android" if hasattr(sys, "getandroidapilevel") else (platform.system() or sys.platform).lower().partition("_")[0]
+    system = "android" if hasattr(sys, "getandroidapilevel") else (platform.system()
+                                                                   or sys.platform).lower().partition("_")[0]
     machine, is_32_bit = platform.machine().lower(), struct.calcsize("P") == 4
     environment = _environment(system, is_32_bit and machine.startswith(("arm", "aarch64")))
     architecture, name = _MACHINES.get(machine, machine), _SYSTEMS.get(system, system)
@@ -37,7 +41,8 @@ def fields() -> Tuple[str, str, str, str]:
         architecture = _OF_32_BITS.get(architecture, architecture)
     architecture = (_OF_LITTLE_ENDIAN if sys.byteorder == "little" else _OF_BIG_ENDIAN).get(architecture, architecture)
     vendor = "sun" if name == "solaris" and architecture.startswith("sparc") else _VENDORS.get(name, "unknown")
-    return (architecture if architecture in {*Architecture} else "unknown", vendor, name if name in {*OperatingSystem} else "unknown", environment)
+    return (architecture if architecture in {*Architecture} else "unknown", vendor,
+            name if name in {*OperatingSystem} else "unknown", environment)
 
 
 def _environment(system: str, is_arm: bool) -> str:

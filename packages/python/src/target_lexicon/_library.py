@@ -1,8 +1,8 @@
 """The calls of the library for C, and its structs.
 
-A struct is memory that its Python object owns. Each call gets structs and buffers of its own, so that threads may call at
-once, also where no lock of the interpreter keeps them apart. The calls are made without releasing that lock, where that can
-be said: each of them takes less time than that would.
+A struct is memory that its Python object owns. Each call gets structs and buffers of its own, so that threads may call
+at once, also where no lock of the interpreter keeps them apart. The calls are made without releasing that lock, where
+that can be said: each of them takes less time than that would.
 """
 from __future__ import annotations
 
@@ -14,7 +14,8 @@ from ctypes import POINTER, Structure, c_bool, c_char, c_char_p, c_size_t, c_uin
 from typing import TYPE_CHECKING, Any, Callable, Iterator, List, Optional, Sequence, Tuple
 
 from ._names import (
-    FACT_NAMES, FIELDS, NAME_WITHOUT_TRIPLE, NEEDS_C_LIBRARY, NO_SUCH_CHANGE, NO_SUCH_MEANING, NO_SUGGESTION, OK, TOO_SMALL, TRIPLE_WITHOUT_NAME,
+    FACT_NAMES, FIELDS, NAME_WITHOUT_TRIPLE, NEEDS_C_LIBRARY, NO_SUCH_CHANGE, NO_SUCH_MEANING, NO_SUGGESTION, OK,
+    TOO_SMALL, TRIPLE_WITHOUT_NAME,
 )
 
 #: The version of this package.
@@ -52,7 +53,8 @@ class TripleStruct(Struct):
 
     _fields_ = [
         ("architecture", c_uint16), ("vendor", c_uint8), ("operating_system", c_uint8), ("environment", c_uint8),
-        ("binary_format", c_uint8), ("has_version", c_uint8), ("minor", c_uint8), ("patch", c_uint8), ("major", c_uint16),
+        ("binary_format", c_uint8), ("has_version", c_uint8), ("minor", c_uint8), ("patch", c_uint8),
+        ("major", c_uint16),
         ("custom_vendor", c_void_p), ("custom_vendor_size", c_size_t),
     ]
 
@@ -105,7 +107,8 @@ def _candidates() -> Iterator[str]:
         yield os.environ["TARGET_LEXICON_LIBRARY"]
     else:
         # Not by `ctypes.util.find_library`, which runs the compilers that it finds on the path.
-        yield {"darwin": f"libtarget_lexicon.{_CALLS_VERSION}.dylib", "win32": "target_lexicon.dll"}.get(sys.platform, _NAME)
+        yield {"darwin": f"libtarget_lexicon.{_CALLS_VERSION}.dylib",
+               "win32": "target_lexicon.dll"}.get(sys.platform, _NAME)
 
 
 def _load() -> Tuple[str, ctypes.CDLL]:
@@ -136,7 +139,8 @@ def _declare(name: str, *arguments: Any, result: Any = c_uint32) -> Callable[...
 
 
 def _or_memory_error(call: Callable[..., Any]) -> Callable[..., Any]:
-    """The call. All its arguments are of its types, so that `ctypes` only fails to convert one if there is no memory."""
+    """The call. All its arguments are of its types, so that `ctypes` only fails to convert one if there is no
+    memory."""
     def checked(*values: Any) -> Any:
         try:
             return call(*values)
@@ -156,7 +160,8 @@ def _returning(name: str, *arguments: Any) -> Callable[..., Optional[str]]:
 
 
 def _writing(name: str, *arguments: Any) -> Callable[..., Any]:
-    """A call that writes a string into a buffer, which follows these arguments. It returns the string, which has no zero byte, or None if there is none."""
+    """A call that writes a string into a buffer, which follows these arguments. It returns the string, which has no
+    zero byte, or None if there is none."""
     call = _declare(name, *arguments, c_void_p, c_size_t, _SIZE)
 
     def written(*values: Any) -> Optional[str]:
@@ -200,7 +205,8 @@ _NAMED = c_void_p, c_size_t, _SIZE, POINTER(c_char_p)
 _write = _declare("lexicon_write", c_uint32, _TRIPLE, *_NAMED)
 _write_versioned = _declare("lexicon_write_versioned", c_uint32, _TRIPLE, c_uint32, c_uint32, *_NAMED)
 complete = _declare("lexicon_complete", _TRIPLE, c_uint32)
-_translate = _declare("lexicon_translate", c_uint32, c_char_p, c_size_t, c_uint32, c_uint32, c_void_p, c_size_t, _SIZE, _ERROR)
+_translate = _declare("lexicon_translate", c_uint32, c_char_p, c_size_t, c_uint32, c_uint32, c_void_p, c_size_t, _SIZE,
+                      _ERROR)
 _change = _writing("lexicon_changes", c_char_p, c_size_t, c_size_t, POINTER(ChangeStruct))
 _meaning = _declare("lexicon_meaning", c_char_p, c_size_t, c_size_t, POINTER(c_uint32), _TRIPLE, POINTER(c_char_p))
 _targets = _declare("lexicon_targets", c_char_p, c_size_t, POINTER(ChangeStruct), c_size_t, _SIZE)
@@ -229,7 +235,8 @@ def _writes_whole_errors() -> bool:
 
 
 if not _writes_whole_errors():
-    raise ImportError(f"{LIBRARY_PATH} is of another build than this package, whose errors have another size: build both of one commit")
+    raise ImportError(
+        f"{LIBRARY_PATH} is of another build than this package, whose errors have another size: build both of one commit")
 
 
 class LibraryError(RuntimeError):
@@ -262,7 +269,8 @@ def reason(dialect: int, text: bytes) -> Optional[str]:
     return error.reason
 
 
-def write(dialect: int, triple: TripleStruct, version: Optional[Tuple[int, int]] = None) -> Tuple[Optional[str], Optional[str]]:
+def write(dialect: int, triple: TripleStruct, version: Optional[Tuple[int, int]] = None) -> Tuple[
+    Optional[str], Optional[str]]:
     """The name of a triple in a dialect, which has at most 36 bytes; or else why there is none, and what would help."""
     out, why = TextBuffer(), c_char_p()
     call = _write if version is None else _write_versioned
@@ -275,14 +283,16 @@ def write(dialect: int, triple: TripleStruct, version: Optional[Tuple[int, int]]
 
 
 def translate(text: bytes, from_dialect: int, libc: int, to_dialect: int) -> Tuple[int, str, Optional[str]]:
-    """The status, and the name in another dialect, which has at most 36 bytes, if the status is 0; or else why there is none."""
+    """The status, and the name in another dialect, which has at most 36 bytes, if the status is 0; or else why there is
+    none."""
     out, error = TextBuffer(), ErrorStruct()
-    return _translate(from_dialect, text, len(text), libc, to_dialect, out, FIRST_SIZE, None, error), out.value.decode(), error.reason
+    return _translate(from_dialect, text, len(text), libc, to_dialect, out, FIRST_SIZE, None,
+                      error), out.value.decode(), error.reason
 
 
 def meanings(text: ctypes.Array[c_char]) -> Iterator[Tuple[int, Optional[TripleStruct], Optional[str]]]:
-    """The number of each dialect that has a text as a name, or 0 for one that is spelled like a triple; what it means, which is within the text, and
-    the level of its machine; or else no triple, and why."""
+    """The number of each dialect that has a text as a name, or 0 for one that is spelled like a triple; what it means,
+    which is within the text, and the level of its machine; or else no triple, and why."""
     for number in itertools.count():
         dialect, triple, note = c_uint32(), TripleStruct(), c_char_p()
         status = _meaning(text, len(text), number, dialect, triple, note)

@@ -18,7 +18,8 @@ class NamedType(enum.EnumMeta):
 
 
 class NamedValue(str, enum.Enum, metaclass=NamedType):
-    """A value that has a name and a number. It is its name: a `str` that is equal to the name, and sorted and written as the name."""
+    """A value that has a name and a number. It is its name: a `str` that is equal to the name, and sorted and written
+    as the name."""
 
     #: The number of the value in the library for C.
     number: int
@@ -67,15 +68,19 @@ class Immutable:
 
     @classmethod
     def __get_pydantic_core_schema__(cls, source: Any, handler: Any) -> Any:
-        """For pydantic 2: a value is taken as it is, and a string is what the class makes of it. In JSON it is a string."""
+        """For pydantic 2: a value is taken as it is, and a string is what the class makes of it. In JSON it is a
+        string."""
         schema = import_module("pydantic_core").core_schema
-        from_string = schema.chain_schema([schema.str_schema(strict=True), schema.no_info_plain_validator_function(cls)])
+        from_string = schema.chain_schema([schema.str_schema(strict=True),
+                                           schema.no_info_plain_validator_function(cls)])
         return schema.no_info_wrap_validator_function(
-            lambda value, read: value if type(value) is cls else read(value), from_string, serialization=schema.to_string_ser_schema())
+            lambda value, read: value if type(value) is cls else read(value), from_string,
+            serialization=schema.to_string_ser_schema())
 
 
 def shown(text: str) -> str:
-    """The string as a message shows it: every character that isn't printable ASCII is escaped, so that columns are characters."""
+    """The string as a message shows it: every character that isn't printable ASCII is escaped, so that columns are
+    characters."""
     text = str.__str__(text)
     if text.isascii() and text.isprintable():
         return text

@@ -1,4 +1,5 @@
-"""From the name of one tool to that of another, what a name means to each, what is read as other names, and the targets in a text."""
+"""From the name of one tool to that of another, what a name means to each, what is read as other names, and the targets
+in a text."""
 import ctypes
 from typing import List, NamedTuple, Optional, Tuple, Union
 
@@ -14,14 +15,16 @@ _SHOWN = 60
 
 
 class TranslationError(ParseError):
-    """What a name means has no name in another dialect. It is a `ParseError`, so that one clause catches all that `translate` refuses.
+    """What a name means has no name in another dialect. It is a `ParseError`, so that one clause catches all that
+    `translate` refuses.
 
     >>> translate("linux/arm64", "oci", "debian")
     Traceback (most recent call last):
-    target_lexicon.TranslationError: No name in the other dialect: linux/arm64: it depends on the C library: say glibc or musl
+    target_lexicon.TranslationError: No name in the other dialect: linux/arm64: it depends on the C library: say glibc
+    or musl
 
-    `reason` says why, and what would help, and `needs_libc` whether that is `libc`. `text` is the name that is read, `source` and `target`
-    are the dialects. The other members are those of a `ParseError` about the whole name.
+    `reason` says why, and what would help, and `needs_libc` whether that is `libc`. `text` is the name that is read,
+    `source` and `target` are the dialects. The other members are those of a `ParseError` about the whole name.
     """
 
     # The name by which tracebacks and callers know it.
@@ -57,9 +60,10 @@ def translate(
     >>> translate("linux/arm64/v8", "oci", "rust", "glibc"), translate("arm64", Dialect.DEBIAN, Dialect.OCI)
     ('aarch64-unknown-linux-gnu', 'linux/arm64')
 
-    Where `source` is None, the string is spelled like a triple. Names of Debian, GNU and rustc state the C library of Linux, and those of
-    Go, container images and Python don't: from one of the latter to one of the former, say `libc`. A name that isn't read raises a
-    `ParseError`, as `Triple.read` does. What has no name in `target`, or only with a C library, raises one that is a `TranslationError`.
+    Where `source` is None, the string is spelled like a triple. Names of Debian, GNU and rustc state the C library of
+    Linux, and those of Go, container images and Python don't: from one of the latter to one of the former, say `libc`.
+    A name that isn't read raises a `ParseError`, as `Triple.read` does. What has no name in `target`, or only with a C
+    library, raises one that is a `TranslationError`.
     """
     from_number = NO_DIALECT if source is None else dialect_number(source)
     numbers = from_number, 0 if libc is None else libc_number(libc), dialect_number(target)
@@ -74,19 +78,22 @@ def translate(
 
 
 class Meaning(NamedTuple):
-    """What a string means to a tool that has it as a name; or, without a dialect, as one that is spelled like a triple."""
+    """What a string means to a tool that has it as a name; or, without a dialect, as one that is spelled like a
+    triple."""
 
     dialect: Optional[Dialect]
     #: The canonical triple, or None if no triple means the same.
     triple: Optional[Triple]
     #: Why no triple means the same, or None.
     reason: Optional[str]
-    #: The level of the machine that the name says and the triple can't state, such as ``v3`` of ``linux/amd64/v3``, or None. `translate` keeps it.
+    #: The level of the machine that the name says and the triple can't state, such as ``v3`` of ``linux/amd64/v3``, or
+    #None. `translate` keeps it.
     level: Optional[str] = None
 
 
 def meanings(text: str) -> List[Meaning]:
-    """What a name means to each dialect that has it, and then as a string that is spelled like a triple, if it is no single word that one has.
+    """What a name means to each dialect that has it, and then as a string that is spelled like a triple, if it is no
+    single word that one has.
 
     >>> [(str(it.dialect), str(it.triple)) for it in meanings("armhf")]
     [('debian', 'armv7-unknown-linux-gnueabihf'), ('apk', 'armv6-unknown-linux-musleabihf')]
@@ -98,12 +105,14 @@ def meanings(text: str) -> List[Meaning]:
     utf8 = encoded(text, "the name of a target")
     owner = ctypes.create_string_buffer(utf8, len(utf8))
     dialects: Tuple[Optional[Dialect], ...] = (None, *Dialect)
-    return [Meaning(dialects[number], None, note) if struct is None else Meaning(dialects[number], _triple_of(struct, owner), None, note)
+    return [Meaning(dialects[number], None, note) if struct is None
+            else Meaning(dialects[number], _triple_of(struct, owner), None, note)
             for number, struct, note in _library.meanings(owner)]
 
 
 class Change(NamedTuple):
-    """A part of a string that `Triple.read` reads as other names: `text[start:end]`, and the names, with dashes between them."""
+    """A part of a string that `Triple.read` reads as other names: `text[start:end]`, and the names, with dashes between
+    them."""
 
     start: int
     end: int
@@ -136,13 +145,14 @@ class Target(NamedTuple):
 
 
 def targets_in(text: str) -> List[Target]:
-    """The targets in any text, such as a list, a workflow in YAML, or a page in Markdown, as the command finds them in a file.
+    """The targets in any text, such as a list, a workflow in YAML, or a page in Markdown, as the command finds them in
+    a file.
 
     >>> targets_in("run: rustup target add `aarch64-apple-darwn`  # for Macs")
     [Target(text='aarch64-apple-darwn', start=24, end=43)]
 
-    They are the words that are a name of a machine and a system, of any tool or as a triple, or are with a name that is suggested; and
-    all items of a list.
+    They are the words that are a name of a machine and a system, of any tool or as a triple, or are with a name that is
+    suggested; and all items of a list.
     """
     if not isinstance(text, str):
         raise TypeError(f"the text must be a str, not {type(text).__name__}")

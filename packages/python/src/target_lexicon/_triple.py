@@ -35,7 +35,8 @@ for _field, _values in enumerate((_ARCHITECTURES, _VENDORS, _SYSTEMS, _ENVIRONME
     _library.check_names(_field, [str(it) for it in _values])
 
 _LARGEST_VERSION = (65535, 255, 255)
-# The numbers of a struct, without its pointer and its size; and the same ones as bytes in their order, except those of the version.
+# The numbers of a struct, without its pointer and its size; and the same ones as bytes in their order, except those of
+# the version.
 _numbers_of: Callable[[_library.TripleStruct], Tuple[int, ...]] = Struct("@H7BH").unpack_from
 _ordered_bytes: Callable[..., bytes] = Struct(">H7BH").pack
 
@@ -61,13 +62,13 @@ class Triple(FactsOfTriple, Immutable):
     >>> str(triple), triple.architecture, triple.version, triple.pointer_width
     ('aarch64-apple-macosx13.2.0', Architecture.AARCH64, (13, 2, 0), 64)
 
-    A string that is refused raises a `ParseError`, anything but a `str` or a triple a `TypeError`. A triple is immutable and
-    hashable. Triples are equal by the values of their fields, and ordered by their printed strings, then by the fields;
-    in strings, ios17 comes before ios9. No class derives from this one.
+    A string that is refused raises a `ParseError`, anything but a `str` or a triple a `TypeError`. A triple is
+    immutable and hashable. Triples are equal by the values of their fields, and ordered by their printed strings, then
+    by the fields; in strings, ios17 comes before ios9. No class derives from this one.
     """
 
-    # The struct of C, and the memory that a custom vendor is in; then what is kept once somebody has asked: the facts, the printed
-    # string, the string whose order is that of triples, and the hash, which isn't set before.
+    # The struct of C, and the memory that a custom vendor is in; then what is kept once somebody has asked: the facts,
+    # the printed string, the string whose order is that of triples, and the hash, which isn't set before.
     __slots__ = ("_struct", "_owner", "_facts", "_printed", "_order_of_triple", "_hash", "__weakref__")
     _struct: _library.TripleStruct
     _owner: Optional[ctypes.Array[ctypes.c_char]]
@@ -110,9 +111,9 @@ class Triple(FactsOfTriple, Immutable):
         >>> Triple.read("x86_64-w64-mingw32"), Triple.read("amd64-unknown-freebsd13.2")
         (Triple('x86_64-pc-windows-gnu'), Triple('x86_64-unknown-freebsd'))
 
-        What a name doesn't state is unknown. A name that the dialect doesn't have raises a `ParseError`, whose `suggestion`
-        is the nearest one. So does a name that no triple means; its `reason` says why. A dialect that there isn't raises
-        another ValueError.
+        What a name doesn't state is unknown. A name that the dialect doesn't have raises a `ParseError`, whose
+        `suggestion` is the nearest one. So does a name that no triple means; its `reason` says why. A dialect that
+        there isn't raises another ValueError.
         """
         number = NO_DIALECT if dialect is None else dialect_number(dialect)
         utf8 = encoded(text, "the name of a target")
@@ -132,12 +133,14 @@ class Triple(FactsOfTriple, Immutable):
         binary_format: Union[BinaryFormat, str, None] = None,
         version: Optional[Sequence[int]] = None,
     ) -> Triple:
-        """The triple with these fields, as members or by their names. The binary format None is the one that the other fields imply.
+        """The triple with these fields, as members or by their names. The binary format None is the one that the other
+        fields imply.
 
         >>> Triple.from_fields(Architecture.X86_64, operating_system=OperatingSystem.DARWIN, version=[23, 6])
         Triple('x86_64-unknown-darwin23.6.0')
 
-        A version is a tuple or list of one to three numbers. A system that has no version raises a ValueError if there is one.
+        A version is a tuple or list of one to three numbers. A system that has no version raises a ValueError if there
+        is one.
         """
         if not isinstance(vendor, (Vendor, CustomVendor)):
             if not isinstance(vendor, str) or isinstance(vendor, NamedValue):
@@ -162,7 +165,8 @@ class Triple(FactsOfTriple, Immutable):
             struct.has_version = 1
             struct.major, struct.minor, struct.patch = full
         is_implied = binary_format is None
-        struct.binary_format = facts.implied_format if is_implied else _number(binary_format, BinaryFormat, "binary_format")
+        struct.binary_format = facts.implied_format if is_implied else _number(
+            binary_format, BinaryFormat, "binary_format")
         return _triple_of(struct, owner)
 
     @classmethod
@@ -172,9 +176,9 @@ class Triple(FactsOfTriple, Immutable):
         >>> Triple.from_dict({"architecture": "x86_64", "operating_system": "ios", "version": "17.1"})
         Triple('x86_64-unknown-ios17.1.0')
 
-        The fields are names, and the version is as it is printed; what is left out is as in `from_fields`. The other answers
-        of `to_dict` follow from the fields, and aren't looked at. Any other key raises a ValueError, as a name does that the
-        field doesn't have.
+        The fields are names, and the version is as it is printed; what is left out is as in `from_fields`. The other
+        answers of `to_dict` follow from the fields, and aren't looked at. Any other key raises a ValueError, as a name
+        does that the field doesn't have.
         """
         unknown = [it for it in values if it not in Facts._fields]
         if unknown:
@@ -182,7 +186,8 @@ class Triple(FactsOfTriple, Immutable):
         architecture, vendor, system, environment = (values.get(it, "unknown") for it in FIELDS[:4])
         form, version = values.get("binary_format"), values.get("version")
         return cls.from_fields(
-            architecture, vendor, system, environment, form, [int(it) for it in version.split(".")] if isinstance(version, str) else version,
+            architecture, vendor, system, environment, form,
+            [int(it) for it in version.split(".")] if isinstance(version, str) else version,
         )
 
     @classmethod
@@ -236,7 +241,8 @@ class Triple(FactsOfTriple, Immutable):
 
     @property
     def llvm_target(self) -> str:
-        """The string that LLVM and clang take for the target: rustc's `llvm-target` for each of its targets that parses.
+        """The string that LLVM and clang take for the target: rustc's `llvm-target` for each of its targets that
+        parses.
 
         >>> Triple("aarch64-apple-darwin").llvm_target, Triple("riscv64gc-unknown-linux-gnu").llvm_target
         ('arm64-apple-macosx', 'riscv64-unknown-linux-gnu')
@@ -245,7 +251,8 @@ class Triple(FactsOfTriple, Immutable):
 
     @property
     def multiarch_tuple(self) -> Optional[str]:
-        """Debian's multiarch tuple, as `dpkg-architecture -qDEB_HOST_MULTIARCH` prints it. None if Debian has no architecture for the triple.
+        """Debian's multiarch tuple, as `dpkg-architecture -qDEB_HOST_MULTIARCH` prints it. None if Debian has no
+        architecture for the triple.
 
         >>> Triple("i686-unknown-linux-gnu").multiarch_tuple, Triple("x86_64-unknown-linux").multiarch_tuple
         ('i386-linux-gnu', None)
@@ -260,7 +267,8 @@ class Triple(FactsOfTriple, Immutable):
         >>> cfg["target_os"], cfg["target_family"], "unix" in cfg, "windows" in cfg
         ('emscripten', 'unix,wasm', True, False)
 
-        Of several families there is a comma between them, and an option without a value, such as `unix`, is an empty string.
+        Of several families there is a comma between them, and an option without a value, such as `unix`, is an empty
+        string.
         """
         found: Dict[str, str] = {}
         for line in _library.rustc_cfg(self._struct).splitlines():
@@ -294,12 +302,14 @@ class Triple(FactsOfTriple, Immutable):
         >>> triple.name_in("python", version=(2, 17)), Triple("aarch64-apple-darwin").name_in("python", (11, 0))
         ('manylinux_2_17_aarch64', 'macosx_11_0_arm64')
 
-        The vendor doesn't matter, nor what the dialect doesn't name. A version, of one or two numbers, is that of glibc, musl,
-        macOS or Android's API level, which names of Python state; with it, names without one are not written.
+        The vendor doesn't matter, nor what the dialect doesn't name. A version, of one or two numbers, is that of
+        glibc, musl, macOS or Android's API level, which names of Python state; with it, names without one are not
+        written.
         """
         return _library.write(dialect_number(dialect), self._struct, _stated_version(version))[0]
 
-    def reason_without_name(self, dialect: Union[Dialect, DialectName], version: Optional[Sequence[int]] = None) -> Optional[str]:
+    def reason_without_name(self, dialect: Union[Dialect, DialectName],
+                            version: Optional[Sequence[int]] = None) -> Optional[str]:
         """Why `name_in` has no name for these arguments, and what would help. None if it has one.
 
         >>> triple = Triple("aarch64-unknown-linux")
@@ -311,10 +321,12 @@ class Triple(FactsOfTriple, Immutable):
         return _library.write(dialect_number(dialect), self._struct, _stated_version(version))[1]
 
     def complete(self, libc: Union[LinuxLibc, LinuxLibcName]) -> Triple:
-        """The triple with the usual environment of a C library, if it is of Linux and states none; any other one as it is.
+        """The triple with the usual environment of a C library, if it is of Linux and states none; any other one as it
+        is.
 
-        >>> Triple.read("linux/arm/v7", "oci").complete("glibc"), Triple("aarch64-unknown-linux").complete(LinuxLibc.MUSL)
-        (Triple('armv7-unknown-linux-gnueabihf'), Triple('aarch64-unknown-linux-musl'))
+        >>> Triple.read("linux/arm/v7", "oci").complete("glibc"),
+        Triple("aarch64-unknown-linux").complete(LinuxLibc.MUSL) (Triple('armv7-unknown-linux-gnueabihf'),
+        Triple('aarch64-unknown-linux-musl'))
         """
         return self._changed(_library.complete, libc_number(libc))
 
@@ -362,9 +374,9 @@ class Triple(FactsOfTriple, Immutable):
         """The triple with other values in the fields that are given.
 
         A binary format that the fields imply becomes the one that the new ones imply; another one stays, unless it is
-        given. None is the implied one. A new operating system has no version, unless that is given. An environment is one
-        value, so `MUSL` instead of `GNUEABIHF` loses the hard floats; `MUSLEABIHF` keeps them. A field is a member or its name, an architecture
-        an alias too, such as `arm64`.
+        given. None is the implied one. A new operating system has no version, unless that is given. An environment is
+        one value, so `MUSL` instead of `GNUEABIHF` loses the hard floats; `MUSLEABIHF` keeps them. A field is a member
+        or its name, an architecture an alias too, such as `arm64`.
 
         >>> linux = Triple("x86_64-unknown-linux-gnu")
         >>> linux.replace(environment=Environment.MUSL), linux.replace(environment="musl")
@@ -407,13 +419,16 @@ class Triple(FactsOfTriple, Immutable):
         return facts
 
     def _vendor_text(self) -> bytes:
-        """The string of the custom vendor, which is within `_owner`, or is the library's own if a name of another tool means it."""
+        """The string of the custom vendor, which is within `_owner`, or is the library's own if a name of another tool
+        means it."""
         struct = self._struct
         # `ctypes.string_at` would be an ArgumentError if there is no memory.
-        return b"" if self._owner is None else (ctypes.c_char * struct.custom_vendor_size).from_address(struct.custom_vendor or 0).raw
+        return b"" if self._owner is None else (ctypes.c_char * struct.custom_vendor_size).from_address(
+            struct.custom_vendor or 0).raw
 
     def _ordered(self) -> str:
-        """What triples are ordered by, which is kept: the printed string, which has no zero byte, then the numbers of the fields.
+        """What triples are ordered by, which is kept: the printed string, which has no zero byte, then the numbers of
+        the fields.
 
         Where both are equal, so are versions and custom vendors, which are printed.
         """
@@ -437,7 +452,8 @@ class Triple(FactsOfTriple, Immutable):
     def __eq__(self, other: object) -> bool:
         if not isinstance(other, Triple):
             return NotImplemented
-        return self is other or _numbers_of(self._struct) == _numbers_of(other._struct) and self._vendor_text() == other._vendor_text()
+        return self is other or _numbers_of(self._struct) == _numbers_of(other._struct) and self._vendor_text(
+            ) == other._vendor_text()
 
     def __hash__(self) -> int:
         try:
@@ -456,7 +472,8 @@ class Triple(FactsOfTriple, Immutable):
         return one < two
 
     def __reduce__(self) -> Tuple[Any, ...]:
-        return Triple.from_fields, (self.architecture, self.vendor, self.operating_system, self.environment, self.binary_format, self.version)
+        return Triple.from_fields, (self.architecture, self.vendor, self.operating_system, self.environment,
+                                    self.binary_format, self.version)
 
 
 def _triple_of(struct: _library.TripleStruct, owner: Optional[ctypes.Array[ctypes.c_char]]) -> Triple:
