@@ -10,18 +10,25 @@ extern "C" {
     fn write(file: i32, bytes: *const u8, count: usize) -> isize;
 }
 
-const UNASKED: i32 = -3;
-const NONE: i32 = -2;
+const UNASKED: i32 = -2;
 const ALL: i32 = -1;
 static CHOSEN: AtomicI32 = AtomicI32::new(UNASKED);
 static FILE: AtomicI32 = AtomicI32::new(0);
 static IS_REACHED: [AtomicBool; 16384] = { const NO: AtomicBool = AtomicBool::new(false); [NO; 16384] };
 
+/// Whether the program is the mutant with this number, of which the first is 1.
+#[inline(always)]
 pub fn on(number: i32) -> bool {
-    let mut chosen = CHOSEN.load(Relaxed);
+    let chosen = CHOSEN.load(Relaxed);
+    chosen == number || chosen < 0 && note(number, chosen)
+}
+
+#[cold]
+#[inline(never)]
+fn note(number: i32, mut chosen: i32) -> bool {
     if chosen == UNASKED {
         let word = unsafe { getenv("MUTANT\0".as_ptr()) };
-        chosen = if word.is_null() { NONE } else if unsafe { *word } == b'a' { ALL } else { unsafe { atoi(word) } };
+        chosen = if word.is_null() { 0 } else if unsafe { *word } == b'a' { ALL } else { unsafe { atoi(word) } };
         if chosen == ALL {
             // to write, at the end of what is there, or of a new file
             FILE.store(unsafe { open(getenv("REACHED\0".as_ptr()), 1 | 0o2000 | 0o100, 0o644) }, Relaxed);

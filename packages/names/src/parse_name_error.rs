@@ -64,10 +64,8 @@ impl UnknownWord {
             let mut letters = name.bytes();
             name.len() == word.len() && letters.all(|it| count(name, it) == count(&word, it))
         };
-        let begins = names.clone().filter(|name| word.starts_with(name));
-        begins
-            .max_by_key(|name| name.len())
-            .or_else(|| names.clone().find(|name| has_its_letters(name)))
+        let begins = names.clone().find(|name| word.starts_with(name));
+        begins.or_else(|| names.clone().find(|name| has_its_letters(name)))
     }
 }
 

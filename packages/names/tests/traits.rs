@@ -1,7 +1,9 @@
 //! The traits of names, dialects and errors.
 use std::collections::{BTreeSet, HashSet};
 use target_lexicon::{Triple, TripleRef};
-use target_names::{CLibrary, Dialect, FloatAbi, Name, ParseNameError, Suggest as _, UnknownWord};
+use target_names::{
+    stated_versions, CLibrary, Dialect, Evidence, FloatAbi, Name, ParseNameError, StatedVersion, Suggest as _, UnknownWord,
+};
 
 #[test]
 fn names_have_the_width_that_is_asked_for() {
@@ -46,7 +48,7 @@ fn a_name_is_compared_like_a_string() {
     let names = Dialect::ALL.iter().filter_map(|it| it.write(triple));
     let names: Vec<Name> = names.collect();
     let mut written = names.iter();
-    assert!(written.any(|it| *it == "linux/amd64" && *it == *"linux/amd64"));
+    assert!(written.any(|it| *it == "linux/amd64" && *it == *"linux/amd64" && *it != "LINUX/AMD64"));
     let texts: BTreeSet<&str> = names.iter().map(|it| it.as_ref()).collect();
     let hashed: HashSet<_> = names.iter().collect();
     assert_eq!(hashed.len(), texts.len());
@@ -74,6 +76,7 @@ fn a_word_that_is_no_dialect_is_named() {
     assert_eq!(of("docker").unwrap(), Dialect::Oci);
     let error = of("golang").unwrap_err().downcast::<UnknownWord>().unwrap();
     assert_eq!((error.word(), error.suggestion()), ("golang", Some("go")));
+    assert!([" go", "go ", "Go", ""].into_iter().all(|it| of(it).is_err()));
     let none = of("\u{202e}x").unwrap_err().to_string();
     assert!(none.starts_with("Unknown dialect: \\u{202e}x; it is one of debian go oci "));
     for dialect in Dialect::ALL {
@@ -81,5 +84,33 @@ fn a_word_that_is_no_dialect_is_named() {
         assert_eq!(name.parse(), Ok(*dialect));
         let error = name.to_uppercase().parse::<Dialect>().unwrap_err();
         assert_eq!(error.suggestion(), Some(name));
+    }
+}
+
+#[test]
+fn stated_versions_are_whole() {
+    let shown = |it: Option<StatedVersion>| it.map(|it| (it.major, it.minor, it.patch));
+    for (text, system, environment) in [
+        ("aarch64-apple-ios17.2.1", Some((17, 2, 1)), None),
+        ("x86_64-unknown-freebsd14.", Some((14, 0, 0)), None),
+        ("x86_64-unknown-netbsd9.3.1.4", Some((9, 3, 1)), None),
+        ("x86_64-unknown-netbsd4294967295", Some((u32::MAX, 0, 0)), None),
+        ("x86_64-unknown-netbsd4294967296", None, None),
+        ("x86_64-pc-windows-msvc19.33.31629", None, Some((19, 33, 31629))),
+        ("x86_64-unknown-freebsd13.2-musl1.2", Some((13, 2, 0)), Some((1, 2, 0))),
+        ("x86_64-linux-gnu", None, None),
+    ] {
+        let found = stated_versions(text).unwrap();
+        let found = (shown(found.operating_system), shown(found.environment));
+        assert_eq!(found, (system, environment), "{text}");
+    }
+}
+
+#[test]
+fn words_at_the_end_of_a_long_text_say_what_they_say() {
+    for length in [15, 16, 64, 255, 256, 1024, 65536] {
+        let text = format!("{}-linux-x86_64", "q".repeat(length));
+        let triple = Evidence::of(&text).triple().unwrap();
+        assert_eq!(triple.to_string(), "x86_64-unknown-linux", "{length}");
     }
 }
