@@ -114,10 +114,11 @@ WRITES(read_error) {
 /* The meaning with a number, whose dialect is the second one, and whose note has the length of the third. */
 WRITES(meaning) {
   struct lexicon_triple made;
-  const char *note = NULL;
+  const char unwritten[] = "", *note = unwritten;
   uint32_t dialect = it->numbers[1];
   enum lexicon_status status = lexicon_meaning(it->text, it->size, it->numbers[0], &dialect, &made, &note);
-  EXPECT(dialect == it->numbers[1] && (status == LEXICON_TOO_LARGE || (note ? strlen(note) : 0) == it->numbers[2]));
+  bool is_written = status == LEXICON_OK || status == LEXICON_NAME_WITHOUT_TRIPLE;
+  EXPECT(dialect == it->numbers[1] && is_written == (note != unwritten) && (!is_written || (note ? strlen(note) : 0) == it->numbers[2]));
   EXPECT(lexicon_meaning(it->text, it->size, it->numbers[0], &dialect, &made, NULL) == status);
   return status == LEXICON_OK ? lexicon_print(&made, out, size, length) : status;
 }
@@ -363,6 +364,7 @@ static const struct row { writes *call; const char *text; uint32_t numbers[3]; e
   {translated, "linux/amd64/v3", {OCI, GLIBC, DEBIAN}, LEXICON_OK, "amd64v3"},
   {translated, "linux/amd64/v3", {OCI, GLIBC, RUST}, LEXICON_TRIPLE_WITHOUT_NAME, NULL},
   {translated, "x86_64-w64-mingw32", {0, 0, NODE}, LEXICON_OK, "win32-x64-gnu"},
+  {translated, "x86_64-unknown-linux", {0, GLIBC, DEBIAN}, LEXICON_OK, "amd64"},
   {translated, "linux/amd64", {OCI, 0, DEBIAN}, LEXICON_NEEDS_C_LIBRARY, NULL},
   {translated, "windows/amd64", {OCI, GLIBC, DEBIAN}, LEXICON_TRIPLE_WITHOUT_NAME, NULL},
   {translated, "js/wasm", {GO, 0, OCI}, LEXICON_NAME_WITHOUT_TRIPLE, NULL},

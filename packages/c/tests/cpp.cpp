@@ -177,7 +177,7 @@ static void try_ownership() {
   EXPECT(Triple::parse(copy.printed()) == copy && taken == moved);  // what was moved from is a triple, whichever it is
   copy = taken;
   EXPECT(copy.printed() == "x86_64-acme-linux" && moved.settle().vendor_name() == "acme" && copy != parsed("x86_64-acmf-linux"));
-  std::string vendor(300, 'v');
+  std::string vendor(70000, 'v');
   EXPECT(parsed("avr-" + vendor + "-linux").printed() == "avr-" + vendor + "-linux");
 }
 
