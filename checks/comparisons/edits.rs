@@ -10,21 +10,11 @@ use target_names::{Dialect, FloatAbi, NameError, Suggest as _, TargetInfo};
 const CONTINUED: usize = 197;
 const ASKED: usize = 31;
 
-type Said = (
-    String,
-    Option<PointerWidth>,
-    Option<Endianness>,
-    Option<FloatAbi>,
-);
+type Said = (String, Option<PointerWidth>, Option<Endianness>, Option<FloatAbi>);
 
 fn said(triple: &TripleRef) -> Said {
     let (width, order) = (triple.pointer_width().ok(), triple.endianness().ok());
-    (
-        triple.rustc_cfg().target_arch.to_string(),
-        width,
-        order,
-        triple.float_abi(),
-    )
+    (triple.rustc_cfg().target_arch.to_string(), width, order, triple.float_abi())
 }
 
 /// Calls for each edit of one letter.
@@ -46,15 +36,10 @@ fn edits(name: &[char], letters: &BTreeSet<char>, each: &mut impl FnMut(Vec<char
 /// The machine and byte order that a word of a string names: an architecture, or one of these other names of architectures.
 fn machine_in(words: &HashMap<&str, Said>, text: &str) -> Option<(String, Option<Endianness>)> {
     let is_separator = |c: char| "-/ .".contains(c);
-    let mut parts = text
-        .split(is_separator)
-        .chain(text.split(|c| is_separator(c) || c == '_'));
+    let mut parts = text.split(is_separator).chain(text.split(|c| is_separator(c) || c == '_'));
     let known = |word: &str| {
         let architecture = word.parse::<Architecture>().ok()?;
-        let triple = TripleRef {
-            architecture,
-            ..TripleRef::unknown()
-        };
+        let triple = TripleRef { architecture, ..TripleRef::unknown() };
         (architecture != Architecture::Unknown).then(|| said(&triple))
     };
     let named = parts.find_map(|word| words.get(word).cloned().or_else(|| known(word)));
@@ -62,13 +47,7 @@ fn machine_in(words: &HashMap<&str, Said>, text: &str) -> Option<(String, Option
 }
 
 /// What is suggested for a string, of which this name with this meaning is near, and whether it is wrong.
-fn suggested(
-    words: &HashMap<&str, Said>,
-    kind: &str,
-    name: &str,
-    text: &str,
-    means: &Said,
-) -> Option<(String, bool)> {
+fn suggested(words: &HashMap<&str, Said>, kind: &str, name: &str, text: &str, means: &Said) -> Option<(String, bool)> {
     let is_wrong = |triple: &TripleRef| {
         let says = said(triple);
         let states = machine_in(words, text)
@@ -90,8 +69,7 @@ fn suggested(
             let meant = refusal.suggestion_in(text)?.to_string();
             let whole = format!("{}{meant}{}", &text[..range.start], &text[range.end..]);
             // What another edit made of another part is no matter of this one.
-            let is_edited_elsewhere =
-                !name.starts_with(&text[..range.start]) || !name.ends_with(&text[range.end..]);
+            let is_edited_elsewhere = !name.starts_with(&text[..range.start]) || !name.ends_with(&text[range.end..]);
             let is_wrong = match TripleRef::from_str(&whole) {
                 Ok(triple) => !is_edited_elsewhere && is_wrong(&triple),
                 Err(later) => later.range().start <= range.start,
@@ -125,8 +103,7 @@ pub fn check(input: &str) {
             let mut ask = |edited: &[char]| {
                 let text: String = edited.iter().collect();
                 asked += 1;
-                let Some((suggested, is_wrong)) = suggested(&words, kind, name, &text, means)
-                else {
+                let Some((suggested, is_wrong)) = suggested(&words, kind, name, &text, means) else {
                     return;
                 };
                 right += u64::from(suggested == *name);

@@ -2,8 +2,6 @@
 extern crate upstream as target_lexicon;
 mod lines;
 
-use std::fmt::Write;
-
 fn main() -> std::io::Result<()> {
-    lines::answer(|output, triple| write!(output, "{triple}").expect("memory"), |_| None)
+    lines::answer(|_| None)
 }

@@ -10,7 +10,6 @@ mod lines;
 mod linkers;
 
 use serde_json::Value;
-use std::fmt::Write as _;
 use std::io::{self, Read};
 use std::process::ExitCode;
 use target_lexicon::{DeploymentTarget, Endianness, PointerWidth, TripleExt, TripleRef};
@@ -46,16 +45,9 @@ fn each(show: fn(&TripleRef) -> String, end: &str) -> io::Result<()> {
 /// The C library, how floating-point arguments are passed, and the size and alignment of `long double` and `wchar_t`; `-`
 /// where there is no answer. Then how the target is linked, its string for LLVM, those of its variants, and versions.
 fn driver(triple: &TripleRef) -> String {
-    let layout = |it: Option<TypeLayout>| {
-        it.map_or("- -".to_string(), |it| {
-            format!("{} {}", it.size, it.alignment)
-        })
-    };
-    let string =
-        |it: Option<TripleRef>| it.map_or("-".to_string(), |it| it.llvm_target().to_string());
-    let version = |it: Option<DeploymentTarget>| {
-        it.map_or("-".to_string(), |it| format!("{}.{}", it.major, it.minor))
-    };
+    let layout = |it: Option<TypeLayout>| it.map_or("- -".to_string(), |it| format!("{} {}", it.size, it.alignment));
+    let string = |it: Option<TripleRef>| it.map_or("-".to_string(), |it| it.llvm_target().to_string());
+    let version = |it: Option<DeploymentTarget>| it.map_or("-".to_string(), |it| format!("{}.{}", it.major, it.minor));
     format!(
         "{} {} {} {} {} program{} {} {} {} {} {} {} {}\n",
         triple.c_library().map_or("-", CLibrary::name),
@@ -89,10 +81,7 @@ fn main() -> io::Result<ExitCode> {
         Some("cfg") => each(|triple| triple.rustc_cfg().to_string(), "\n")?,
         Some("driver") => each(driver, "")?,
         Some("edits") => edits::check(&io::read_to_string(io::stdin())?),
-        _ => lines::answer(
-            |output, triple| write!(output, "{triple}").expect("memory"),
-            |triple| triple.settle().ok(),
-        )?,
+        _ => lines::answer(|triple| triple.settle().ok())?,
     }
     Ok(ExitCode::SUCCESS)
 }

@@ -45,4 +45,4 @@ def generated_lines(count):
     import target_lines
 
     known = read("checks/known_triples.txt").split()
-    return known + target_lines.lines(target_lines.table_names(), count - len(known), 1)
+    return known + target_lines.lines(target_lines.table_names(), count - len(known))
