@@ -35,7 +35,8 @@ fn note(number: i32, mut chosen: i32) -> bool {
         }
         CHOSEN.store(chosen, Relaxed);
     }
-    if chosen == ALL && !IS_REACHED[number as usize].swap(true, Relaxed) {
+    let is_reached = &IS_REACHED[number as usize];
+    if chosen == ALL && !is_reached.load(Relaxed) && !is_reached.swap(true, Relaxed) {
         let digits: [u8; 6] = [10000, 1000, 100, 10, 1, 0].map(|it| if it == 0 { b'\n' } else { b'0' + (number / it % 10) as u8 });
         unsafe { write(FILE.load(Relaxed), digits.as_ptr(), digits.len()) };
     }
