@@ -1,0 +1,196 @@
+//! How many triples have each answer, of each architecture, system and environment; and what is said of 1,000 texts, of
+//! which the sums of answers are counted. `checks/compare` asks rustc, clang and LLVM of their targets, and other tests
+//! have what is right of some texts: here a rule that changes any other answer changes a line of answers.txt.
+use std::collections::BTreeMap;
+use target_lexicon::{
+    Architecture, Endianness, Environment, Field, OperatingSystem, PointerWidth, Refusal, TripleRef, VendorRef,
+};
+use target_names::{
+    changes, known_names, meanings, read, stated_versions, suggestions, targets_in, vendor_suggestion, Change, Dialect,
+    Evidence, Meaning, Suggest as _, TargetInfo, TypeLayout, Word, WordIs,
+};
+
+/// Vendors that say something of a target: some of rustc's, and those that are systems.
+const VENDORS: &str =
+    "unknown apple pc uwp fortanix win7 openwrt unikraft esp32 wali mti nuttx rtems wasip3 acme sony wrs";
+const VERSIONED: &str =
+    "macosx10.7 darwin3 darwin4 darwin19.6 darwin20 darwin24 darwin25 ios17.2.1 visionos1.2 xros2.1";
+
+/// Each architecture with each system and each environment, and of the vendors one after the other.
+fn triples() -> Vec<TripleRef<'static>> {
+    let vendors: Vec<_> = VENDORS.split(' ').map(|it| VendorRef::from_str(it).unwrap()).collect();
+    let systems = known_names(Field::OperatingSystem).iter().copied().chain(VERSIONED.split(' '));
+    let systems: Vec<OperatingSystem> = systems.map(|it| it.parse().unwrap()).collect();
+    let names = known_names(Field::Environment).iter();
+    let environments: Vec<Environment> = names.map(|it| it.parse().unwrap()).collect();
+    let mut found = Vec::new();
+    for name in known_names(Field::Architecture) {
+        let architecture: Architecture = name.parse().unwrap();
+        for &operating_system in &systems {
+            for &environment in &environments {
+                let vendor = vendors[found.len() % vendors.len()];
+                let unknown = TripleRef::unknown();
+                let mut triple = TripleRef { architecture, vendor, operating_system, environment, ..unknown };
+                triple.binary_format = triple.default_binary_format();
+                found.push(triple);
+            }
+        }
+    }
+    found
+}
+
+fn shown(it: Option<impl ToString>) -> String {
+    it.map_or("none".into(), |it| it.to_string())
+}
+
+fn layout(it: Option<TypeLayout>) -> String {
+    shown(it.map(|it| format!("{}:{}", it.size, it.alignment)))
+}
+
+/// One of eight numbers for a text, where there are too many texts.
+fn sum(it: Option<impl ToString>) -> String {
+    let sum = shown(it).bytes().fold(0_u32, |sum, it| (sum ^ u32::from(it)).wrapping_mul(16_777_619));
+    (sum >> 29).to_string()
+}
+
+fn answers(it: TripleRef<'_>) -> [(&'static str, String); 29] {
+    let cfg = it.rustc_cfg();
+    let sizes = it.type_sizes().map(|it| [it.short, it.int, it.long, it.long_long, it.float, it.double]);
+    [
+        ("c_library", shown(it.c_library())),
+        ("float_abi", shown(it.float_abi())),
+        ("char_signedness", shown(it.char_signedness())),
+        ("object_format", it.object_format().to_string()),
+        ("is_unix", it.is_unix().to_string()),
+        ("has_emulated_tls", it.has_emulated_tls().to_string()),
+        ("has_comdat", it.has_comdat().to_string()),
+        ("program_suffix", it.program_suffix().to_string()),
+        ("dynamic_linker", shown(it.dynamic_linker())),
+        ("linker_emulation", shown(it.linker_emulation())),
+        ("arm_version", shown(it.arm_version())),
+        ("arm_profile", shown(it.arm_profile())),
+        ("long_double_layout", layout(it.long_double_layout())),
+        ("wchar_layout", layout(it.wchar_layout())),
+        ("type_sizes", shown(sizes.map(|it| it.map(|it| it.to_string()).concat()))),
+        ("macos_version", shown(it.macos_version().map(|it| format!("{}.{}", it.major, it.minor)))),
+        ("minimum_os_version", shown(it.minimum_os_version().map(|it| format!("{}.{}", it.major, it.minor)))),
+        ("with_pointer_width(U32)", sum(it.with_pointer_width(PointerWidth::U32))),
+        ("with_pointer_width(U64)", sum(it.with_pointer_width(PointerWidth::U64))),
+        ("with_endianness(Little)", sum(it.with_endianness(Endianness::Little))),
+        ("with_endianness(Big)", sum(it.with_endianness(Endianness::Big))),
+        ("multiarch_tuple", shown(it.multiarch_tuple())),
+        ("llvm_target", sum(Some(it.llvm_target()))),
+        ("rustc_cfg", sum(Some(cfg))),
+        ("target_arch", cfg.target_arch.into()),
+        ("target_os", cfg.target_os.into()),
+        ("target_env", cfg.target_env.into()),
+        ("target_abi", cfg.target_abi.into()),
+        ("target_vendor", cfg.target_vendor.into()),
+    ]
+}
+
+/// One in two names in use and of releases: with an edit, in other letters, with other signs, or with others around it.
+fn texts() -> Vec<String> {
+    let in_use = include_str!("names_in_use.tsv").lines().filter_map(|row| row.split('\t').nth(1));
+    let others = [include_str!("names_of_releases.tsv"), include_str!("fresh_names.tsv")];
+    let others = others.iter().flat_map(|file| file.lines().filter_map(|row| row.split('\t').nth(1)));
+    let mut found = Vec::new();
+    for (number, name) in in_use.chain(others.flat_map(|it| it.split(' '))).enumerate().step_by(2) {
+        let letters: Vec<char> = name.chars().collect();
+        let (before, after) = letters.split_at(number % letters.len());
+        let edited = [&after[1..], &[&after[..1], after].concat(), &[]].map(|rest| [before, rest].concat());
+        let edited = edited.into_iter().map(String::from_iter);
+        let signs = [name.into(), name.to_uppercase(), name.replace('-', "_"), name.replace(['_', '/'], "-")];
+        let around = [format!("{name}13.2"), format!("@a/{name}-gcc-12.exe"), format!("a-1.2-{name}.tar.gz")];
+        let text = format!("target: [{name}, 'x-{name}'] # {name}\nrun: build --target={name}/a");
+        let all: Vec<String> = edited.chain(signs).chain(around).chain([text]).collect();
+        found.extend([&all[number % 11], &all[number / 2 % 10]].map(String::clone));
+    }
+    found
+}
+
+fn joined(all: impl Iterator<Item = String>) -> Option<String> {
+    Some(all.collect::<Vec<_>>().join(" "))
+}
+
+/// What is said of a text, also by one of the dialects that have it, if one has, and in another dialect.
+fn of_text(number: usize, text: &str) -> [(&'static str, String); 12] {
+    let has_it = |it: &&Dialect| it.read_loosely(text).is_ok();
+    let all = || Dialect::ALL.iter().copied();
+    let dialect = Dialect::ALL.iter().filter(has_it).nth(number % 2).copied().or(all().nth(number % 15)).unwrap();
+    let to = all().nth(number / 2 % 15).unwrap();
+    let library = "none glibc musl msvc mingw gnullvm".split(' ').nth(number / 2 % 6).and_then(|it| it.parse().ok());
+    let found = read(text);
+    let change = |it: Change| format!("{:?}{}{:?}", it.part.range(), it.names, it.dropped_version().map(|it| it.text));
+    let of_refusal = |why: Refusal| format!("{why}{:?}{}", why.range(), shown(why.suggestion_in(text)));
+    let of_dialect = |it: &Dialect| it.read_loosely(text).map_or_else(|why| why.to_string(), |it| it.to_string());
+    let refused = dialect.parse(text).err().map(|it| format!("{it}{}{}", shown(it.mistake()), shown(it.suggestion())));
+    let is = |it: Word| match it.is() {
+        WordIs::Name(of) => format!("{}{}{of}", it.start(), it.text()),
+        WordIs::Misspelled(meant) => format!("{}{}{meant}", it.start(), it.text()),
+        WordIs::Unknown => format!("{}{}!", it.start(), it.text()),
+    };
+    let meaning = |it: Meaning| {
+        let triple = it.triple.map_or_else(|why| why.to_string(), |it| it.to_string());
+        format!("{}{triple}{}", it.of, shown(it.level))
+    };
+    let written = dialect.read_loosely(text).or(found).map(|it| {
+        let versions =
+            [(2, 17), (1, 2), (11, 0), (21, 0)].map(|(major, minor)| shown(dialect.write_versioned(it, major, minor)));
+        versions.concat() + &to.write_with(it, library).map_or_else(|why| format!("{why:?}"), |it| it.to_string())
+    });
+    [
+        ("read", sum(Some(found.map_or_else(of_refusal, |it| it.to_string())))),
+        ("changes", sum(joined(changes(text).map(change)))),
+        ("stated_versions", sum(stated_versions(text).ok().map(|it| format!("{it:?}")))),
+        ("vendor_suggestion", sum(TripleRef::from_str(text).ok().map(|it| shown(vendor_suggestion(it))))),
+        ("evidence", sum(Some(format!("{}{}", Evidence::of(text), shown(Evidence::of(text).triple()))))),
+        ("meanings", sum(joined(meanings(text).map(meaning)))),
+        ("suggestions", sum(joined(suggestions(text).map(|it| format!("{}{}", it.0, it.1))))),
+        ("read_loosely", sum(joined(Dialect::ALL.iter().map(of_dialect)))),
+        ("parse", sum(refused)),
+        ("write", sum(written.ok())),
+        (
+            "translate",
+            sum(Some(dialect.translate(text, library, to).map_or_else(|why| why.to_string(), |it| it.to_string()))),
+        ),
+        ("targets_in", sum(joined(targets_in(text).map(is)))),
+    ]
+}
+
+/// A line for each fact: its answers, and how many times each is given.
+fn counted<const N: usize>(all: impl Iterator<Item = [(&'static str, String); N]>) -> Vec<String> {
+    let mut counts = Vec::<(&str, BTreeMap<String, usize>)>::new();
+    for answers in all {
+        for (at, (fact, answer)) in answers.into_iter().enumerate() {
+            if counts.len() == at {
+                counts.push((fact, BTreeMap::new()));
+            }
+            *counts[at].1.entry(answer).or_default() += 1;
+        }
+    }
+    let line = |(fact, counts): (&str, BTreeMap<String, usize>)| {
+        let answers = counts.iter().map(|(answer, count)| format!(" {answer}={count}"));
+        fact.to_string() + &answers.collect::<String>()
+    };
+    counts.into_iter().map(line).collect()
+}
+
+/// Compares lines with those of answers.txt for the same facts.
+fn compare(found: Vec<String>) {
+    let all = include_str!("answers.txt").replace("\n  ", " ");
+    for line in found {
+        let fact = line.split_inclusive(' ').next().unwrap();
+        assert_eq!(Some(&line[..]), all.lines().find(|it| it.starts_with(fact)));
+    }
+}
+
+#[test]
+fn each_answer_is_that_of_as_many_triples() {
+    compare(counted(triples().into_iter().map(answers)));
+}
+
+#[test]
+fn what_is_said_of_texts_is_what_was_said() {
+    compare(counted(texts().iter().enumerate().map(|(number, text)| of_text(number, text))));
+}
