@@ -123,6 +123,19 @@ fn each_output_is_written_whole(rt: HostRuntime) {
     }
 }
 
+/// An output of many buffers is written by one write too.
+#[test]
+fn a_large_output_is_written_whole(rt: HostRuntime) {
+    let alloc = rt.alloc();
+    let Ok(input) = "avr-pc-none\n".repeat(alloc, 30_000) else {
+        panic!(rt; "out of memory");
+    };
+    let reader = Faulty::sound(alloc, input.as_bytes());
+    let writer = Faulty::sound(alloc, b"");
+    let found = run_trace(alloc, Mode::Print, reader, writer, input.as_str());
+    assert!(rt; found == Some((Ok(()), 45, 1, 1, 360_000)));
+}
+
 /// An input without an output is read to its end, and nothing is written.
 #[test]
 fn a_refused_input_is_read_whole(rt: HostRuntime) {
