@@ -134,12 +134,15 @@ impl TripleRef<'_> {
             OperatingSystem::Windows => Ok(CDataModel::LLP64),
             _ => match self.architecture {
                 Architecture::Wasm64 => Ok(CDataModel::LP64),
-                _ => match self.default_calling_convention()? {
-                    CallingConvention::SystemV | CallingConvention::AppleAarch64 => {
-                        Ok(CDataModel::LP64)
+                _ => {
+                    let convention = self.default_calling_convention()?;
+                    match convention {
+                        CallingConvention::SystemV | CallingConvention::AppleAarch64 => {
+                            Ok(CDataModel::LP64)
+                        }
+                        _ => Err(()),
                     }
-                    _ => Err(()),
-                },
+                }
             },
         }
     }
@@ -153,10 +156,13 @@ impl TripleRef<'_> {
             OperatingSystem::Windows => Ok(CDataModel::ILP32),
             _ => match self.architecture {
                 Architecture::Wasm32 => Ok(CDataModel::ILP32),
-                _ => match self.default_calling_convention()? {
-                    CallingConvention::SystemV => Ok(CDataModel::ILP32),
-                    _ => Err(()),
-                },
+                _ => {
+                    let convention = self.default_calling_convention()?;
+                    match convention {
+                        CallingConvention::SystemV => Ok(CDataModel::ILP32),
+                        _ => Err(()),
+                    }
+                }
             },
         }
     }

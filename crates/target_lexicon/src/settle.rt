@@ -166,7 +166,8 @@ impl<'a> TripleRef<'a> {
                 self.operating_system = OperatingSystem::None_;
                 self.environment = Environment::Unknown;
             }
-            Some(RoundTripException::VendorIsNotPlain) | None => {}
+            Some(RoundTripException::VendorIsNotPlain) => {}
+            None => {}
         }
         self
     }

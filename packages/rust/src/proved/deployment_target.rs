@@ -32,33 +32,36 @@ impl DeploymentTarget {
     /// The version that the string parses as, if any: one to three pieces between dots, each an optional plus and
     /// digits.
     pub(crate) fn from_text(text: &str) -> Option<DeploymentTarget> {
-        let (major, rest) = first_piece(text);
-        let Ok(major) = major.parse::<u16>() else {
+        let (major, after_major) = first_piece(text);
+        let major = major.parse::<u16>();
+        let Ok(major) = major else {
             return None;
         };
-        let Some(rest) = rest else {
+        let Some(rest) = after_major else {
             return Some(DeploymentTarget {
                 major,
                 minor: 0,
                 patch: 0,
             });
         };
-        let (minor, rest) = first_piece(rest);
-        let Ok(minor) = minor.parse::<u8>() else {
+        let (minor, after_minor) = first_piece(rest);
+        let minor = minor.parse::<u8>();
+        let Ok(minor) = minor else {
             return None;
         };
-        let Some(rest) = rest else {
+        let Some(rest) = after_minor else {
             return Some(DeploymentTarget {
                 major,
                 minor,
                 patch: 0,
             });
         };
-        let (patch, rest) = first_piece(rest);
-        let Ok(patch) = patch.parse::<u8>() else {
+        let (patch, after_patch) = first_piece(rest);
+        let patch = patch.parse::<u8>();
+        let Ok(patch) = patch else {
             return None;
         };
-        match rest {
+        match after_patch {
             Some(_) => None,
             None => Some(DeploymentTarget {
                 major,
@@ -79,10 +82,10 @@ fn first_piece(text: &str) -> (&str, Option<&str>) {
 
 /// A version in decimal, `major.minor.patch`, written into a buffer that has room for the longest.
 pub fn version_text(version: DeploymentTarget, buffer: &mut [u8; MAX_VERSION_LENGTH]) -> &str {
-    let end = put_decimal(buffer, 0, usize::from(version.major));
-    let end = put_dotted(buffer, end, version.minor);
-    let end = put_dotted(buffer, end, version.patch);
-    let text = &buffer[..end];
+    let major_end = put_decimal(buffer, 0, usize::from(version.major));
+    let minor_end = put_dotted(buffer, major_end, version.minor);
+    let patch_end = put_dotted(buffer, minor_end, version.patch);
+    let text = &buffer[..patch_end];
     match from_utf8(text) {
         Ok(text) => text,
         // Digits and dots are UTF-8.

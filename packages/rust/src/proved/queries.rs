@@ -114,15 +114,18 @@ impl TripleRef<'_> {
             OperatingSystem::Windows => Ok(CDataModel::LLP64),
             _ => match self.architecture {
                 Architecture::Wasm64 => Ok(CDataModel::LP64),
-                _ => match match self.known_default_calling_convention() {
-                    Ok(it) => it,
-                    Err(error) => return Err(error),
-                } {
-                    CallingConvention::SystemV | CallingConvention::AppleAarch64 => {
-                        Ok(CDataModel::LP64)
+                _ => {
+                    let convention = match self.known_default_calling_convention() {
+                        Ok(it) => it,
+                        Err(error) => return Err(error),
+                    };
+                    match convention {
+                        CallingConvention::SystemV | CallingConvention::AppleAarch64 => {
+                            Ok(CDataModel::LP64)
+                        }
+                        _ => Err(()),
                     }
-                    _ => Err(()),
-                },
+                }
             },
         }
     }
@@ -134,13 +137,16 @@ impl TripleRef<'_> {
             OperatingSystem::Windows => Ok(CDataModel::ILP32),
             _ => match self.architecture {
                 Architecture::Wasm32 => Ok(CDataModel::ILP32),
-                _ => match match self.known_default_calling_convention() {
-                    Ok(it) => it,
-                    Err(error) => return Err(error),
-                } {
-                    CallingConvention::SystemV => Ok(CDataModel::ILP32),
-                    _ => Err(()),
-                },
+                _ => {
+                    let convention = match self.known_default_calling_convention() {
+                        Ok(it) => it,
+                        Err(error) => return Err(error),
+                    };
+                    match convention {
+                        CallingConvention::SystemV => Ok(CDataModel::ILP32),
+                        _ => Err(()),
+                    }
+                }
             },
         }
     }

@@ -19,36 +19,36 @@ version-put : (v : DeploymentTarget) (major : ℕ) {old first second now : List 
     → Puts (dot ∷ decimal v.minor) first i second j → Puts (dot ∷ decimal v.patch) second j now k → Puts (version_name v) old 0 now k
 version-put v major is p q r = puts_then (rw is at p) (puts_then q r)
 
-pub put_decimal-end-requires : goal.put_decimal-end-requires
-put_decimal-end-requires c =
+pub put_decimal-major_end-requires : goal.put_decimal-major_end-requires
+put_decimal-major_end-requires c =
     let range : IsVersionInRange c.args.version = search rules in
     omega (arith, ap (λ n. length (decimal n)) c.from.ensures, length-version c.args.version, version-short c.args.version range)
 
-pub put_dotted-end-requires : goal.put_dotted-end-requires
-put_dotted-end-requires c =
+pub put_dotted-minor_end-requires : goal.put_dotted-minor_end-requires
+put_dotted-minor_end-requires c =
     let range : IsVersionInRange c.args.version = search rules in
-    let put = c.put_decimal-end.ensures in
+    let put = c.put_decimal-major_end.ensures in
     omega (arith, ap (λ n. length (decimal n)) c.from.ensures, put.end_is, put.same_length, length-version c.args.version, version-short c.args.version range)
 
-pub put_dotted-end-requires-2 : goal.put_dotted-end-requires-2
-put_dotted-end-requires-2 c =
+pub put_dotted-patch_end-requires : goal.put_dotted-patch_end-requires
+put_dotted-patch_end-requires c =
     let range : IsVersionInRange c.args.version = search rules in
-    let put = puts_then c.put_decimal-end.ensures c.put_dotted-end.ensures in
+    let put = puts_then c.put_decimal-major_end.ensures c.put_dotted-minor_end.ensures in
     omega (arith, ap (λ n. length (decimal n)) c.from.ensures, put.end_is, put.same_length, length-version c.args.version, version-short c.args.version range)
 
 pub shared_ref_as_front-text : goal.shared_ref_as_front-text
 shared_ref_as_front-text c =
     let range : IsVersionInRange c.args.version = search rules in
-    let put = version-put c.args.version _ c.from.ensures c.put_decimal-end.ensures c.put_dotted-end.ensures c.put_dotted-end-2.ensures in
+    let put = version-put c.args.version _ c.from.ensures c.put_decimal-major_end.ensures c.put_dotted-minor_end.ensures c.put_dotted-patch_end.ensures in
     omega (arith, put.end_is, version-short c.args.version range)
 
 pub unreachable-requires : goal.unreachable-requires
 unreachable-requires c =
     let range : IsVersionInRange c.args.version = search rules in
-    let put = version-put c.args.version _ c.from.ensures c.put_decimal-end.ensures c.put_dotted-end.ensures c.put_dotted-end-2.ensures in
+    let put = version-put c.args.version _ c.from.ensures c.put_decimal-major_end.ensures c.put_dotted-minor_end.ensures c.put_dotted-patch_end.ensures in
     c.in-Err.ensures.cases.0 (rw (put_taken put) (version-utf8 c.args.version range))
 
 pub returns-clause-text : goal.returns-clause-text
 returns-clause-text c =
-    let put = version-put c.args.version _ c.from.ensures c.put_decimal-end.ensures c.put_dotted-end.ensures c.put_dotted-end-2.ensures in
+    let put = version-put c.args.version _ c.from.ensures c.put_decimal-major_end.ensures c.put_dotted-minor_end.ensures c.put_dotted-patch_end.ensures in
     c.in-Ok.ensures.cases.0 ∙ put_taken put

@@ -5,44 +5,44 @@ use Rattle.lexicon_fields.proofs.deployment_target.DeploymentTarget.from_text.Go
 
 pub returns-in_default : goal.returns-in_default
 returns-in_default c =
-    let missing = number_read 16 65535 c.first_piece.result.0.now _ _ refl c.parse.ensures.value.0 c.in_default.is in
+    let missing = number_read 16 65535 c.first_piece.result.0.now _ _ refl c.parse-major.ensures.value.0 c.in_default.is in
     sym (no_major _ _ _ c.first_piece.ensures missing)
 
-pub returns-in_default-rest : goal.returns-in_default-rest
-returns-in_default-rest c =
-    let major = number_read 16 65535 c.first_piece.result.0.now _ _ refl c.parse.ensures.value.0 c.in-Ok.is in
-    sym (one_piece _ _ _ (pieces-last _ _ _ c.first_piece.ensures c.in_default-rest.is) major)
+pub returns-in_default-after_major : goal.returns-in_default-after_major
+returns-in_default-after_major c =
+    let major = number_read 16 65535 c.first_piece.result.0.now _ _ refl c.parse-major.ensures.value.0 c.in-Ok.is in
+    sym (one_piece _ _ _ (pieces-last _ _ _ c.first_piece.ensures c.in_default-after_major.is) major)
 
-pub returns-in_default-parse : goal.returns-in_default-parse
-returns-in_default-parse c =
-    let missing = number_read 8 255 c.first_piece-2.result.0.now _ _ refl c.parse-2.ensures.value.0 c.in_default-parse.is in
+pub returns-in_default-minor : goal.returns-in_default-minor
+returns-in_default-minor c =
+    let missing = number_read 8 255 c.first_piece-2.result.0.now _ _ refl c.parse-minor.ensures.value.0 c.in_default-minor.is in
     let pieces = pieces-more _ _ _ _ _ c.first_piece.ensures c.in-Some.is c.first_piece-2.ensures in
     sym (no_minor _ _ _ _ pieces missing)
 
-pub returns-in_default-rest-2 : goal.returns-in_default-rest-2
-returns-in_default-rest-2 c =
-    let major = number_read 16 65535 c.first_piece.result.0.now _ _ refl c.parse.ensures.value.0 c.in-Ok.is in
-    let minor = number_read 8 255 c.first_piece-2.result.0.now _ _ refl c.parse-2.ensures.value.0 c.in-Ok-parse.is in
-    let pieces = pieces-more _ _ _ _ _ c.first_piece.ensures c.in-Some.is (pieces-last _ _ _ c.first_piece-2.ensures c.in_default-rest-2.is) in
+pub returns-in_default-after_minor : goal.returns-in_default-after_minor
+returns-in_default-after_minor c =
+    let major = number_read 16 65535 c.first_piece.result.0.now _ _ refl c.parse-major.ensures.value.0 c.in-Ok.is in
+    let minor = number_read 8 255 c.first_piece-2.result.0.now _ _ refl c.parse-minor.ensures.value.0 c.in-Ok-minor.is in
+    let pieces = pieces-more _ _ _ _ _ c.first_piece.ensures c.in-Some.is (pieces-last _ _ _ c.first_piece-2.ensures c.in_default-after_minor.is) in
     sym (two_pieces _ _ _ _ _ pieces major minor)
 
-pub returns-in_default-parse-2 : goal.returns-in_default-parse-2
-returns-in_default-parse-2 c =
-    let missing = number_read 8 255 c.first_piece-3.result.0.now _ _ refl c.parse-3.ensures.value.0 c.in_default-parse-2.is in
-    let pieces = pieces-more _ _ _ _ _ c.first_piece.ensures c.in-Some.is (pieces-more _ _ _ _ _ c.first_piece-2.ensures c.in-Some-rest.is c.first_piece-3.ensures) in
+pub returns-in_default-patch : goal.returns-in_default-patch
+returns-in_default-patch c =
+    let missing = number_read 8 255 c.first_piece-3.result.0.now _ _ refl c.parse-patch.ensures.value.0 c.in_default-patch.is in
+    let pieces = pieces-more _ _ _ _ _ c.first_piece.ensures c.in-Some.is (pieces-more _ _ _ _ _ c.first_piece-2.ensures c.in-Some-after_minor.is c.first_piece-3.ensures) in
     sym (no_patch _ _ _ _ _ pieces missing)
 
-pub returns-in-Some-rest-2 : goal.returns-in-Some-rest-2
-returns-in-Some-rest-2 c =
-    let third = pieces-more _ _ _ _ _ c.first_piece-3.ensures c.in-Some-rest-2.is refl in
-    let pieces = pieces-more _ _ _ _ _ c.first_piece.ensures c.in-Some.is (pieces-more _ _ _ _ _ c.first_piece-2.ensures c.in-Some-rest.is third) in
-    sym (too_many_pieces _ _ _ _ _ pieces (pieces_of-some c.in-Some-rest-2.field-0.now))
+pub returns-in-Some-after_patch : goal.returns-in-Some-after_patch
+returns-in-Some-after_patch c =
+    let third = pieces-more _ _ _ _ _ c.first_piece-3.ensures c.in-Some-after_patch.is refl in
+    let pieces = pieces-more _ _ _ _ _ c.first_piece.ensures c.in-Some.is (pieces-more _ _ _ _ _ c.first_piece-2.ensures c.in-Some-after_minor.is third) in
+    sym (too_many_pieces _ _ _ _ _ pieces (pieces_of-some c.in-Some-after_patch.field-0.now))
 
 pub returns-in-None : goal.returns-in-None
 returns-in-None c =
-    let major = number_read 16 65535 c.first_piece.result.0.now _ _ refl c.parse.ensures.value.0 c.in-Ok.is in
-    let minor = number_read 8 255 c.first_piece-2.result.0.now _ _ refl c.parse-2.ensures.value.0 c.in-Ok-parse.is in
-    let patch = number_read 8 255 c.first_piece-3.result.0.now _ _ refl c.parse-3.ensures.value.0 c.in-Ok-parse-2.is in
+    let major = number_read 16 65535 c.first_piece.result.0.now _ _ refl c.parse-major.ensures.value.0 c.in-Ok.is in
+    let minor = number_read 8 255 c.first_piece-2.result.0.now _ _ refl c.parse-minor.ensures.value.0 c.in-Ok-minor.is in
+    let patch = number_read 8 255 c.first_piece-3.result.0.now _ _ refl c.parse-patch.ensures.value.0 c.in-Ok-patch.is in
     let third = pieces-last _ _ _ c.first_piece-3.ensures c.in-None.is in
-    let pieces = pieces-more _ _ _ _ _ c.first_piece.ensures c.in-Some.is (pieces-more _ _ _ _ _ c.first_piece-2.ensures c.in-Some-rest.is third) in
+    let pieces = pieces-more _ _ _ _ _ c.first_piece.ensures c.in-Some.is (pieces-more _ _ _ _ _ c.first_piece-2.ensures c.in-Some-after_minor.is third) in
     sym (three_pieces _ _ _ _ _ _ _ pieces major minor patch)

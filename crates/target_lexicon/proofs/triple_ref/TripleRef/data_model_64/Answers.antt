@@ -5,18 +5,17 @@ use Rattle.target_lexicon.proofs.triple_ref.TripleRef.data_model_64.Goals as goa
 pub returns-in-Wasm64 : goal.returns-in-Wasm64
 returns-in-Wasm64 c = wasm_64-is _ _ c.in_default.not-Windows c.in-Wasm64.is
 
-pub returns-in_err-default_calling_convention-in_default-architecture :
-    goal.returns-in_err-default_calling_convention-in_default-architecture
-returns-in_err-default_calling_convention-in_default-architecture c =
-    let none = convention_64-is _ _ None c.in_default.not-Windows c.in_default-architecture.not-Wasm64 c.in_err-default_calling_convention-in_default-architecture.ensures in
+pub returns-in_err-convention-in_default-architecture : goal.returns-in_err-convention-in_default-architecture
+returns-in_err-convention-in_default-architecture c =
+    let none = convention_64-is _ _ None c.in_default.not-Windows c.in_default-architecture.not-Wasm64 c.in_err-convention-in_default-architecture.ensures in
     search (rules, none)
 
 pub returns-in-SystemV : goal.returns-in-SystemV
 returns-in-SystemV c =
-    let found = convention_64-is _ _ _ c.in_default.not-Windows c.in_default-architecture.not-Wasm64 c.in_ok-default_calling_convention-in_default-architecture.ensures in
+    let found = convention_64-is _ _ _ c.in_default.not-Windows c.in_default-architecture.not-Wasm64 c.in_ok-convention-in_default-architecture.ensures in
     elim c.in-SystemV.is [ inl is ↦ rw is at found | inr is ↦ rw is at found ]
 
-pub returns-in_default-2 : goal.returns-in_default-2
-returns-in_default-2 c =
-    convention_64-is _ _ _ c.in_default.not-Windows c.in_default-architecture.not-Wasm64 c.in_ok-default_calling_convention-in_default-architecture.ensures
-    ∙ no_convention_64 _ c.in_default-2.not-SystemV c.in_default-2.not-AppleAarch64
+pub returns-in_default-convention : goal.returns-in_default-convention
+returns-in_default-convention c =
+    convention_64-is _ _ _ c.in_default.not-Windows c.in_default-architecture.not-Wasm64 c.in_ok-convention-in_default-architecture.ensures
+    ∙ no_convention_64 _ c.in_default-convention.not-SystemV c.in_default-convention.not-AppleAarch64

@@ -19,10 +19,10 @@ pub returns-in-Some-ShowsOnlyNone-clause-step : goal.returns-in-Some-ShowsOnlyNo
 unfolding normal_step
 returns-in-Some-ShowsOnlyNone-clause-step c = search rules
 
-pub returns-clause-step : goal.returns-clause-step
+pub returns-in-Some-VendorIsNotPlain-clause-step : goal.returns-in-Some-VendorIsNotPlain-clause-step
 unfolding normal_step
-returns-clause-step c = search rules
+returns-in-Some-VendorIsNotPlain-clause-step c = search rules
 
-pub returns-2-clause-step : goal.returns-2-clause-step
+pub returns-in-None-clause-step : goal.returns-in-None-clause-step
 unfolding normal_step
-returns-2-clause-step c = search rules
+returns-in-None-clause-step c = search rules
