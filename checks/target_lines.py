@@ -16,7 +16,8 @@ sys.path.append(f"{ROOT}/tools/names")
 from names_table import FIELDS, table_of
 
 # The names by their fields, systems that may have a version, all names and texts that are none, and known triples.
-Names = collections.namedtuple("Names", "architectures vendors systems environments formats versioned each foreign known")
+Names = collections.namedtuple(
+    "Names", "architectures vendors systems environments formats versioned each foreign known")
 
 VENDOR_CHARACTERS = string.ascii_lowercase + string.digits + "_."
 
@@ -26,7 +27,8 @@ VERSION_PARTS = """0 1 2 9 10 13 99 100 199 200 249 250 254 255 256 260 299 300 
     65535 65536 65540 65599 65600 66000 70000 99999 100000 4294967296 18446744073709551616 00 007 000255 0000256
     00065535 +0 +7 +255 +65535 + ++1 a 1a a1 0x1 1e1 1_0 \u0663 \uff11""".split() + ["", " 1", "1 "]
 
-UNUSUAL_TEXTS = ["", "-", "--", "\r", "\t", "\0", "\x0b", "\x1b[0m", "\x7f", " ", "\xa0", ".", "_", "+", "\\", '"', "\u00e9",
+UNUSUAL_TEXTS = ["", "-", "--", "\r", "\t", "\0", "\x0b", "\x1b[0m", "\x7f", " ", "\xa0", ".", "_", "+", "\\", '"',
+                 "\u00e9",
                  "e\u0301", "\u0131", "\u017f", "\u4e2d\u6587", "\u0438", "\u200b", "\u2010", "\u2028", "\ufeff",
                  "\uff41", "\U0001f600", "x" * 300, "-" * 40, "3ds"]
 
@@ -72,8 +74,11 @@ def line(rng, names):
     """A line of one of several kinds."""
     one, kind = rng.choice, rng.randrange(10)
     if kind < 4:  # fields in their order, with some left out
-        vendor, word = one(names.vendors), one(string.ascii_lowercase) + "".join(rng.choices(VENDOR_CHARACTERS, k=rng.randrange(9)))
-        columns = names.architectures, ["", "", "unknown", vendor, word], ["", *names.systems], ["", *names.environments], ["", "", "", one(names.formats)]
+        vendor, word = one(names.vendors), one(string.ascii_lowercase) + "".join(
+            rng.choices(VENDOR_CHARACTERS, k=rng.randrange(9)))
+        columns = names.architectures, ["", "", "unknown", vendor,
+                                        word], ["", *names.systems], ["", *names.environments], [
+            "", "", "", one(names.formats)]
         return "-".join(filter(None, map(one, columns)))
     if kind < 6:  # parts of any field, in any order
         parts = [*names.each, *names.foreign, *["", "unknown", "none", "acme"] * 9]
@@ -82,7 +87,8 @@ def line(rng, names):
         once = changed_text(rng, one(names.known))
         return one([once, changed_text(rng, once)])
     if kind < 9:  # a system with a version, at or around a limit
-        head, system = one(["aarch64-apple-", "x86_64-", "arm64-unknown-"]), one([one(names.versioned), one(names.systems)])
+        head, system = one(["aarch64-apple-", "x86_64-",
+                            "arm64-unknown-"]), one([one(names.versioned), one(names.systems)])
         version = ".".join(one(["23", part]) for part in rng.choices(VERSION_PARTS, k=rng.randrange(5)))
         return head + system + version + one(["", "-sim", "-macho", "-macabi-elf", "-x"])
     parts = rng.choices(UNUSUAL_TEXTS * 3 + names.each, k=one([1, 2, 3, 4, 5, 8, 30]))

@@ -434,7 +434,8 @@ class Body:
     def test(self, p, code, type):
         if p[0] == "or":
             return "(" + " || ".join(self.test(it, code, type) for it in p[1]) + ")"
-        nodes = [Node(None, "path", [it]) if it.isidentifier() and it.isupper() else Node(None, "lit", it) for it in p[1:]]
+        nodes = [Node(None, "path", [it]) if it.isidentifier() and it.isupper() else Node(None, "lit", it)
+                 for it in p[1:]]
         value = [self.pure(it, {}) for it in nodes]
         if p[0] == "range":
             return f"(({value[0]} <=? {code}) && ({code} <=? {value[1]}))"

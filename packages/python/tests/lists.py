@@ -6,7 +6,8 @@ import os
 import re
 import sys
 
-#: The repository or what an sdist has of it, the shared library, and the folder with the wheel and the sdist; and the program `triples`, or None.
+#: The repository or what an sdist has of it, the shared library, and the folder with the wheel and the sdist; and the
+#program `triples`, or None.
 ROOT, LIBRARY, BUILT = (os.environ[f"LEXICON_TEST_{it}"] for it in ("ROOT", "LIBRARY", "BUILT"))
 PROGRAM = os.environ.get("LEXICON_TEST_PROGRAM") or None
 #: The folder of the package, which an sdist has at its top.
@@ -36,7 +37,9 @@ def names():
 
 def header_numbers(prefix):
     """The enumerators of the header that begin so: for each the number."""
-    return {name: int(number) for name, number in re.findall(rf"LEXICON_{prefix}_(\w+) = (\d+)", read("packages/c/include/target_lexicon.h"))}
+    return {name: int(number)
+            for name, number in re.findall(rf"LEXICON_{prefix}_(\w+) = (\d+)",
+                                           read("packages/c/include/target_lexicon.h"))}
 
 
 def generated_lines(count):
