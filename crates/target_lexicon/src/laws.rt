@@ -210,8 +210,8 @@ pub fn second_step_changes_one()
     ensures { OneStepSettles }
 {}
 
-/// The canonical form of a triple with a plain vendor comes back, and no other canonical triple has its string. So the
-/// string serves as a key.
+/// The canonical form of a triple with a plain vendor comes back, and no other canonical form of such a triple has its
+/// string. So the string serves as a key.
 pub fn canonical_strings_are_keys()
     ensures { CanonicalStringsAreKeys }
 {
