@@ -20,8 +20,7 @@ class TranslationError(ParseError):
 
     >>> translate("linux/arm64", "oci", "debian")
     Traceback (most recent call last):
-    target_lexicon.TranslationError: No name in the other dialect: linux/arm64: it depends on the C library: say glibc
-    or musl
+    target_lexicon.TranslationError: No name in the other dialect: linux/arm64: it depends on the C library: say glibc or musl
 
     `reason` says why, and what would help, and `needs_libc` whether that is `libc`. `text` is the name that is read,
     `source` and `target` are the dialects. The other members are those of a `ParseError` about the whole name.
