@@ -60,7 +60,7 @@ class Page:
         """The value of an expression, which may be a promise."""
         return self.driver.execute_script(f"return {script}")
 
-    def until(self, script, seconds=60):
+    def until(self, script, seconds=300):
         WebDriverWait(self.driver, seconds, 0.05).until(lambda _: self.run(script), f"it never came: {script}")
 
     def requests(self):
