@@ -324,9 +324,10 @@ class Triple(FactsOfTriple, Immutable):
         """The triple with the usual environment of a C library, if it is of Linux and states none; any other one as it
         is.
 
-        >>> Triple.read("linux/arm/v7", "oci").complete("glibc"),
-        Triple("aarch64-unknown-linux").complete(LinuxLibc.MUSL) (Triple('armv7-unknown-linux-gnueabihf'),
-        Triple('aarch64-unknown-linux-musl'))
+        >>> Triple.read("linux/arm/v7", "oci").complete("glibc")
+        Triple('armv7-unknown-linux-gnueabihf')
+        >>> Triple("aarch64-unknown-linux").complete(LinuxLibc.MUSL)
+        Triple('aarch64-unknown-linux-musl')
         """
         return self._changed(_library.complete, libc_number(libc))
 
