@@ -6,13 +6,13 @@ ghost use Rattle.lexicon_fields.specs.Names.{MatchesLookup};
 ghost use Rattle.lexicon_fields.specs.Architecture.{architecture_name, architecture_of};
 ghost use Rattle.lexicon_fields.specs.ArchitectureQueries as queries;
 
-mod aarch64;
-mod arm;
-mod clever;
-mod mips;
-mod riscv;
-mod x86_32;
-mod z80;
+mod aarch64; // In Rust: #[inline].
+mod arm; // In Rust: #[inline].
+mod clever; // In Rust: #[inline].
+mod mips; // In Rust: #[inline].
+mod riscv; // In Rust: #[inline].
+mod x86_32; // In Rust: #[inline].
+mod z80; // In Rust: #[inline].
 
 use crate::endianness::Endianness;
 use crate::pointer_width::PointerWidth;

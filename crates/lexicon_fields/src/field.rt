@@ -11,6 +11,7 @@
 /// assert_eq!(rt; refusal.expected, Some(Field::OperatingSystem));
 /// ```
 #[derive(Clone, Copy, Debug, PartialEq, Eq)]
+// In Rust: #[derive(Hash)].
 pub enum Field {
     /// The instruction set.
     Architecture,

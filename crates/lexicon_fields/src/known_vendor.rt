@@ -60,6 +60,7 @@ impl KnownVendor {
     ///
     /// assert_eq!(rt; KnownVendor::Pc.to_vendor(), Vendor::Pc);
     /// ```
+    #[must_use]
     pub const fn to_vendor(self) -> Vendor
         ensures { vendor_value result ≡ Known self }
     {
@@ -91,6 +92,7 @@ impl KnownVendor {
     /// ```
     /// assert_eq!(rt; target_lexicon::KnownVendor::Pc.name(), "pc");
     /// ```
+    #[must_use]
     pub const fn name(self) -> &'static str
         ensures { result.now ≡ known_vendor_name self }
     {

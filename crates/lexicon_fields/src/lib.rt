@@ -8,7 +8,7 @@
 //! `table` has all names in one sorted list, where each `from_str` looks first, and `steps` counts its comparisons.
 //! `laws` has what holds of all values.
 //!
-//! A comment `In Rust` or `Not in Rust` before an item is for `tools/erase`, which makes a Rust crate of this source.
+//! A comment that begins with `In Rust` or `Not in Rust` is for `tools/erase`, which makes a Rust crate of this source.
 #![tactic(auto)]
 
 mod architecture;
@@ -19,10 +19,10 @@ mod endianness;
 mod environment;
 mod field;
 mod known_vendor;
-pub mod laws;
+pub mod laws; // Not in Rust.
 mod operating_system;
 mod pointer_width;
-mod steps;
+mod steps; // Not in Rust.
 mod table;
 mod vendor;
 mod vendor_ref;
@@ -42,6 +42,8 @@ pub use known_vendor::KnownVendor;
 pub use operating_system::OperatingSystem;
 pub use pointer_width::PointerWidth;
 pub use steps::Steps;
-pub use table::{FixedRow, ROW_COUNT, fixed_row, row_order};
+pub use table::fixed_row;
+// Not in Rust.
+pub use table::{FixedRow, ROW_COUNT, row_order};
 pub use vendor::{CustomVendor, Vendor, VendorError};
 pub use vendor_ref::VendorRef;

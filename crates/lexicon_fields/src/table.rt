@@ -17,6 +17,7 @@ use crate::environment::Environment;
 use crate::known_vendor::KnownVendor;
 use crate::operating_system::OperatingSystem;
 use crate::steps::Steps;
+// In Rust: #[allow(unused_imports)], use crate::compat::Chunks as _.
 use std::cmp::Ordering;
 
 /// The number of rows.
@@ -55,8 +56,6 @@ enum Meaning {
 type Row = (&'static str, Meaning);
 
 /// The row of the string, or `None` if the string is neither a fixed name nor the alias `arm64`: a binary search.
-/// `steps` ticks exactly as often as that compares a row with the string: at least once, and at most eight times. No
-/// clause excludes a comparison without a tick: that only [`row_order`] compares can be read in the code.
 #[inline(always)]
 pub fn fixed_row(text: &str, steps: &mut Steps) -> Option<FixedRow>
     ensures row { MatchOption result (spec.has_row text.now ≡ false) (IsRowOf text.now) }
@@ -130,7 +129,7 @@ fn row_of(text: &str, steps: &mut Steps) -> Option<&'static Row>
     None
 }
 
-/// The order by bytes of the string of row `i`, counted from 0, relative to `text`. `steps` ticks once.
+/// The order by bytes of the string of row `i`, counted from 0, relative to `text`.
 #[inline(always)]
 pub fn row_order(i: usize, text: &str, steps: &mut Steps) -> Ordering
     requires { i < spec.row_count }

@@ -10,6 +10,7 @@ ghost use Rattle.lexicon_fields.specs.Vendor.{IsVendorErrorOf};
 
 use crate::vendor_ref::VendorRef;
 use std::alloc::{AllocError, Global};
+// In Rust: #[cfg(feature = "alloc")], use alloc::{boxed::Box, string::String}.
 use std::fmt;
 use std::hash::{Hash, Hasher};
 
@@ -22,9 +23,11 @@ use std::hash::{Hash, Hasher};
 ///
 /// assert_ne!(rt; Vendor::Custom(CustomVendor::Static("pc")), Vendor::Pc);
 /// ```
+// In Rust: #[cfg_attr(not(feature = "alloc"), non_exhaustive)].
 #[derive(Debug, Drop)]
 pub enum CustomVendor {
     /// An owned string.
+    // In Rust: #[cfg(feature = "alloc")].
     Owned(Box<String>),
     /// A static string.
     Static(&'static str),
@@ -42,6 +45,7 @@ impl CustomVendor {
         ensures { result.now ≡ spec.custom_string self.now }
     {
         match self {
+            // In Rust: #[cfg(feature = "alloc")].
             CustomVendor::Owned(text) => text.as_str(),
             CustomVendor::Static(text) => text,
         }

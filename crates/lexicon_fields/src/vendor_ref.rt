@@ -21,6 +21,7 @@ use std::fmt;
 ///
 /// assert_eq!(rt; VendorRef::from_str("acme"), Ok(VendorRef::Custom("acme")));
 /// ```
+// In Rust instead: #[derive(Clone, Copy, Debug, PartialEq, Eq)]
 #[derive(Clone, Copy, Debug, PartialEq, Eq, Hash)]
 pub enum VendorRef<'a> {
     /// A vendor that has a fixed name.
@@ -65,6 +66,7 @@ impl<'a> VendorRef<'a> {
     /// ```
     /// assert_eq!(rt; target_lexicon::VendorRef::Custom("acme").as_str(), "acme");
     /// ```
+    #[must_use]
     pub const fn as_str(&self) -> &'a str
         ensures { result.now ≡ spec.vendor_name (ref_value self.now) }
     {
@@ -84,6 +86,7 @@ impl<'a> VendorRef<'a> {
     /// assert!(rt; VendorRef::Custom("acme").is_plain());
     /// assert!(rt; !VendorRef::Custom("linux").is_plain());
     /// ```
+    #[must_use]
     pub fn is_plain(&self) -> bool
         ensures { result ≡ spec.is_plain (ref_value self.now) }
     {
@@ -107,6 +110,7 @@ impl<'a> VendorRef<'a> {
     /// assert!(rt; VendorRef::Custom("acme").is_custom());
     /// assert!(rt; !VendorRef::from_str("apple").unwrap().is_custom());
     /// ```
+    #[must_use]
     pub const fn is_custom(&self) -> bool
         ensures { result ≡ spec.is_custom (ref_value self.now) }
     {

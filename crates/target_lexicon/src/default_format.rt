@@ -37,6 +37,7 @@ impl TripleRef<'_> {
     /// let triple = TripleRef::from_str("x86_64-unknown-linux-gnu-coff").unwrap();
     /// assert_eq!(rt; triple.default_binary_format(), BinaryFormat::Elf);
     /// ```
+    #[must_use]
     pub const fn default_binary_format(&self) -> BinaryFormat
         ensures { result ≡ spec.default_binary_format (values_of_ref self.now) }
     {

@@ -262,6 +262,7 @@ impl<'a> TripleRef<'a> {
         matches!(
             (self.environment, self.binary_format),
             (Environment::Unknown, BinaryFormat::Unknown)
+        // In Rust instead: ) && !cfg!(feature = "upstream_printing") && self.binary_format != self.default_binary_format()
         ) && self.binary_format != self.default_binary_format()
     }
 }

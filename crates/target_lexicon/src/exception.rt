@@ -24,6 +24,7 @@ use lexicon_fields::{
 /// ```
 // In Rust: #[non_exhaustive].
 #[derive(Clone, Copy, Debug, PartialEq, Eq)]
+// In Rust: #[derive(Hash)].
 pub enum RoundTripException {
     /// The first three fields are those of a special string, such as `armv6k-nintendo-3ds`, which is printed, and environment and
     /// format aren't `Newlib` and `Elf`.
@@ -62,6 +63,7 @@ impl TripleRef<'_> {
     /// let triple = TripleRef::from_str("armv7-nintendo-horizon-newlib").unwrap();
     /// assert_eq!(rt; triple.round_trip_exception(), Some(RoundTripException::HidesNewlib));
     /// ```
+    #[must_use]
     #[tactic(auto, unfolding(crate::specs::Exceptions::exception))]
     pub fn round_trip_exception(&self) -> Option<RoundTripException>
         ensures { result ≡ spec.exception (values_of_ref self.now) }

@@ -16,6 +16,7 @@ use std::ops::Range;
 /// assert_eq!(rt; &text[part.range()], part.text);
 /// ```
 #[derive(Clone, Copy, Debug, PartialEq, Eq)]
+// In Rust: #[derive(Hash)].
 pub struct TextPart<'a> {
     /// The bytes of the part.
     pub text: &'a str,
@@ -36,6 +37,7 @@ impl TextPart<'_> {
     ///
     /// assert_eq!(rt; TextPart { text: "foo", start: 13 }.range(), 13..16);
     /// ```
+    #[must_use]
     pub const fn range(&self) -> Range<usize>
         ensures start { result.start ≡ self.now.start }
         ensures end { part_end (part_value self.now) < 2 ^ 64
@@ -56,6 +58,7 @@ impl TextPart<'_> {
 /// assert_eq!(rt; explanation.sources.environment, Source::NotGiven);
 /// ```
 #[derive(Clone, Copy, Debug, PartialEq, Eq)]
+// In Rust: #[derive(Hash)].
 pub enum Source<'a> {
     /// From this part of the string. A special string is one part, which gives all five fields.
     Part(TextPart<'a>),
@@ -79,6 +82,7 @@ pub enum Source<'a> {
 /// ```
 // In Rust: #[non_exhaustive].
 #[derive(Clone, Copy, Debug, PartialEq, Eq)]
+// In Rust: #[derive(Hash)].
 pub struct Sources<'a> {
     /// Never `NotGiven` if the string parses: each string has an architecture.
     pub architecture: Source<'a>,
@@ -105,6 +109,7 @@ pub struct Sources<'a> {
 /// ```
 // In Rust: #[non_exhaustive].
 #[derive(Clone, Copy, Debug, PartialEq, Eq)]
+// In Rust: #[derive(Hash)].
 pub struct Explanation<'a> {
     /// The triple that the string parses as, or why it is refused.
     pub triple: Result<TripleRef<'a>, Refusal<'a>>,

@@ -9,7 +9,7 @@
 //! To parse, `parse` gives each part of a string to a `reading`, which looks it up and fills a field. `explanation` has
 //! the types of what was found, `default_format` the implied format, and `refusal` why a string is refused.
 //!
-//! A comment `In Rust` or `Not in Rust` before an item is for `tools/erase`, which makes a Rust crate of this source.
+//! A comment that begins with `In Rust` or `Not in Rust` is for `tools/erase`, which makes a Rust crate of this source.
 #![tactic(auto)]
 
 mod calling_convention;
@@ -19,18 +19,18 @@ mod defaults;
 mod display;
 mod exception;
 mod explanation;
-mod host;
-mod json;
-mod json_error;
-pub mod laws;
-mod list_error;
-mod macros;
+mod host; // Not in Rust.
+mod json; // Not in Rust.
+mod json_error; // Not in Rust.
+pub mod laws; // Not in Rust.
+mod list_error; // Not in Rust.
+mod macros; // Not in Rust.
 mod parse;
-mod parse_error;
-mod queries;
+mod parse_error; // Not in Rust.
+mod queries; // In Rust: #[inline].
 mod reading;
 mod refusal;
-mod round_trip;
+mod round_trip; // Not in Rust.
 mod settle;
 mod settles_as;
 mod special;
@@ -54,8 +54,11 @@ pub use lexicon_fields::{
     row_order, version_text,
 };
 pub use list_error::ListError;
-pub use parse::{explain, first_part};
+pub use parse::explain;
+// Not in Rust.
+pub use parse::first_part;
 pub use parse_error::ParseError;
+// Not in Rust.
 pub use reading::Reading;
 pub use refusal::{Refusal, refusal_prefix};
 pub use round_trip::round;

@@ -114,7 +114,7 @@ impl TripleRef<'_> {
     /// # Errors
     ///
     /// `()` if no model is known.
-    // In Rust: pub(crate), known_data_model.
+    // In Rust: pub(crate), const, known_data_model.
     pub fn data_model(&self) -> Result<CDataModel, ()>
         ensures { MatchesLookup (spec.data_model (values_of_ref self.now)) result }
     {
@@ -126,6 +126,7 @@ impl TripleRef<'_> {
     }
 
     /// The data model for pointers of 64 bits.
+    // In Rust: const.
     fn data_model_64(&self) -> Result<CDataModel, ()>
         ensures { MatchesLookup
             (spec.model_64 self.now.architecture self.now.operating_system) result }
@@ -148,6 +149,7 @@ impl TripleRef<'_> {
     }
 
     /// The data model for pointers of 32 bits.
+    // In Rust: const.
     fn data_model_32(&self) -> Result<CDataModel, ()>
         ensures { MatchesLookup
             (spec.model_32 self.now.architecture self.now.operating_system) result }
@@ -170,6 +172,7 @@ impl TripleRef<'_> {
 
 impl Triple {
     /// The same triple with an unknown vendor, at which no query looks.
+    // In Rust: pub(crate).
     const fn without_vendor(&self) -> TripleRef<'static>
         ensures { values_of_ref result ≡ values self.now.architecture (Known Unknown)
             self.now.operating_system self.now.environment self.now.binary_format }
@@ -269,6 +272,7 @@ impl Triple {
     /// triple.operating_system = OperatingSystem::Windows;
     /// assert_eq!(rt; triple.data_model(), Ok(CDataModel::LLP64));
     /// ```
+    // In Rust: const.
     pub fn data_model(&self) -> Result<CDataModel, ()>
         ensures { MatchesLookup (spec.data_model (values_of self.now)) result }
     {

@@ -28,6 +28,7 @@ use std::ops::Range;
 /// ```
 // In Rust: #[non_exhaustive].
 #[derive(Clone, Copy, Debug, PartialEq, Eq)]
+// In Rust: #[derive(Hash)].
 pub struct Refusal<'a> {
     /// The field that was expected: this one or a later one. After a binary format none was, and it is `None`.
     pub expected: Option<Field>,
@@ -49,6 +50,7 @@ impl Refusal<'_> {
     /// let refusal = TripleRef::from_str("x86_64-unknown-foo").unwrap_err();
     /// assert_eq!(rt; refusal.range(), 15..18);
     /// ```
+    #[must_use]
     pub const fn range(&self) -> Range<usize>
         ensures start { result.start ≡ self.now.part.start }
         ensures end { part_end (part_value self.now.part) < 2 ^ 64

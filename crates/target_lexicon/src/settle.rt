@@ -74,6 +74,7 @@ impl Triple {
     }
 
     /// The normal step.
+    // In Rust: #[inline].
     pub(crate) fn step(mut self) -> Triple
         ensures step { values_of result ≡ spec.normal_step (values_of self) }
         ensures vendor { (result.vendor ≡ self.vendor) ⊎ (result.vendor ≡ Espressif) }
@@ -102,6 +103,8 @@ impl<'a> TripleRef<'a> {
     ///
     /// assert!(rt; !TripleRef::from_str("armv7-nintendo-horizon-newlib").unwrap().comes_back());
     /// ```
+    #[must_use]
+    // In Rust: #[inline], #[cfg(not(feature = "upstream_printing"))].
     pub fn comes_back(&self) -> bool
         ensures { IsTrue result ↔ ComesBack (values_of_ref self.now) }
     {
@@ -141,6 +144,7 @@ impl<'a> TripleRef<'a> {
     }
 
     /// The normal step of any triple. If the vendor is plain, it is the canonical form.
+    #[must_use]
     #[doc(hidden)]
     #[inline(always)]
     pub fn step(mut self) -> TripleRef<'a>
@@ -174,6 +178,7 @@ impl<'a> TripleRef<'a> {
 }
 
 /// The format, with `Elf` for an unknown one.
+// In Rust: #[inline].
 fn elf_if_unknown(binary_format: BinaryFormat) -> BinaryFormat
     ensures { result ≡ spec.elf_if_unknown binary_format }
 {

@@ -32,6 +32,9 @@ impl TripleRef<'_> {
     /// let other = TripleRef::from_str("riscv32imc-esp-espidf-elf").unwrap();
     /// assert!(rt; one != other && one.settles_as(&other));
     /// ```
+    #[must_use]
+    // In Rust: #[inline], #[cfg(not(feature = "upstream_printing"))].
+    // In Rust instead: pub fn settles_as<'t>(&self, other: impl Into<TripleRef<'t>>) -> bool
     pub fn settles_as(&self, other: &TripleRef<'_>) -> bool
         ensures { IsTrue result
             ↔ (canonical_values (values_of_ref self.now)
@@ -39,6 +42,7 @@ impl TripleRef<'_> {
     {
         triple_refs_are_equal_by_value();
         second_step_changes_one();
+        // In Rust instead: self.step() == other.into().step()
         self.step() == other.step()
     }
 }

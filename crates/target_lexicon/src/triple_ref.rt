@@ -47,6 +47,7 @@ impl<'a> TripleRef<'a> {
     ///
     /// assert_eq!(rt; TripleRef::from_str("unknown"), Ok(TripleRef::unknown()));
     /// ```
+    #[must_use]
     pub const fn unknown() -> TripleRef<'a>
         ensures { values_of_ref result ≡ unknown_values }
     {
