@@ -29,6 +29,7 @@ RULES = {
     "operating_system": {
         "format": ("elf", *FORMATS, "by_architecture", "by_environment"),
         "convention": ("none", *CONVENTIONS, "by_architecture"),
+        "model_64": ("by_convention", "LLP64"), "model_32": ("by_convention", "ILP32"),
         "vendor": ("shown", "omitted", "by_architecture", "by_environment")},
     "environment": {
         "width": ("by_architecture", "32"), "format": ("unknown", "elf", *FORMATS[1:]),

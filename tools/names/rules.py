@@ -197,9 +197,11 @@ IN_CODE = {
     "the formats of systems": system_formats,
     "the conventions of systems": system_conventions,
     "what omits an unknown vendor": omitted_vendors,
-    "the environments that show the vendor": one_of("environments", "vendor", "shown", 16),
-    "the architectures that omit an implied format": one_of("machines", "implied", "omitted", 20),
-    "the environments that omit an implied format": one_of("environments", "implied", "omitted", 20),
+    "the environments that show the vendor": lambda of: arm(of.environments("vendor", "shown"), "true"),
+    "the systems with LLP64": one_of("systems", "model_64", "LLP64", 12),
+    "the systems with ILP32": one_of("systems", "model_32", "ILP32", 12),
+    "the architectures that omit an implied format": one_of("machines", "implied", "omitted", 12),
+    "the environments that omit an implied format": one_of("environments", "implied", "omitted", 12),
 }
 
 
@@ -294,6 +296,8 @@ IN_DEFINITIONS = {
     "other_convention": lambda of: of.lines(
         "other_convention a {} = {}", "operating_system", "convention",
         of.conventions | {"by_architecture": "wasm_convention a"}),
+    "has_llp64": rule_lines("has_llp64", "operating_system", "model_64", {"LLP64": "true"}),
+    "has_ilp32": rule_lines("has_ilp32", "operating_system", "model_32", {"ILP32": "true"}),
     "is_bare_arm": lambda of: [f"is_bare_arm {it} = true" for it in of.members("Arm", "vendor", "omitted")],
     "omits_unknown_vendor": vendor_lines,
     "is_hermit_or_linux_kernel": rule_lines("is_hermit_or_linux_kernel", "environment", "vendor", SHOWN),

@@ -1,13 +1,13 @@
 -- The data models of triples.
-use Rattle.std.proofs.Common.{◌≡◌, ◌⊎◌, inl, inr, Option, Some, None, is_none, true≢false, refl, ap, ◌∙◌}
+use Rattle.std.proofs.Common.{◌≡◌, ◌⊎◌, inl, inr, Bool, true, false, cond, Option, Some, None, is_none, true≢false, refl, ap, ◌∙◌}
 use Rattle.std.specs.Prelude.{option_map}
 use Rattle.target_lexicon.specs.{Values.Architecture, Values.OperatingSystem, Values.Values, declared.calling_convention.CallingConvention.CallingConvention, declared.data_model.CDataModel.CDataModel}
 use Rattle.target_lexicon.specs.DataModel.{size_bits, sizes_of}
 use Rattle.target_lexicon.specs.declared.calling_convention.CallingConvention.TheVariants.{SystemV, AppleAarch64}
 use Rattle.target_lexicon.specs.declared.data_model.CDataModel.TheVariants.{ILP32, LLP64, LP64}
-use Rattle.target_lexicon.specs.Queries.{convention_on, convention_model_64, convention_model_32, other_model_64, other_model_32, model_64, model_32, model_of_width, pointer_width, data_model}
+use Rattle.target_lexicon.specs.Queries.{convention_on, convention_model_64, convention_model_32, has_llp64, has_ilp32, other_model_64, other_model_32, model_64, model_32, model_of_width, pointer_width, data_model}
 use Rattle.lexicon_fields.specs.{declared.architecture.Architecture.TheVariants.Wasm32, declared.architecture.Architecture.TheVariants.Wasm64, declared.pointer_width.PointerWidth.PointerWidth}
-use Rattle.lexicon_fields.specs.{declared.operating_system.OperatingSystem.TheVariants.Windows, declared.pointer_width.PointerWidth.TheVariants.U32, declared.pointer_width.PointerWidth.TheVariants.U64}
+use Rattle.lexicon_fields.specs.{declared.pointer_width.PointerWidth.TheVariants.U32, declared.pointer_width.PointerWidth.TheVariants.U64}
 use Rattle.lexicon_fields.specs.PointerWidth.{width_bits}
 
 -- the two models of 64-bit pointers
@@ -17,13 +17,16 @@ by_convention_64 (Some SystemV) m h = cc
 by_convention_64 (Some AppleAarch64) m h = cc
 by_convention_64 _ m h = absurd (true≢false (ap is_none h))
 
-off_windows_64 : (a : Architecture) (c : Option CallingConvention) (m : CDataModel) → other_model_64 a c ≡ Some m → m ≡ LP64
-off_windows_64 Wasm64 c m h = cc
-off_windows_64 _ c m h = by_convention_64 c m h
+off_llp64 : (a : Architecture) (c : Option CallingConvention) (m : CDataModel) → other_model_64 a c ≡ Some m → m ≡ LP64
+off_llp64 Wasm64 c m h = cc
+off_llp64 _ c m h = by_convention_64 c m h
 
 at_64 : (a : Architecture) (s : OperatingSystem) (m : CDataModel) → model_64 a s ≡ Some m → (m ≡ LLP64) ⊎ (m ≡ LP64)
-at_64 a Windows m h = inl cc
-at_64 a s m h = inr (off_windows_64 a (convention_on a s) m h)
+at_64 a s m h = by_system (has_llp64 s) h
+  where
+    by_system : (b : Bool) → cond b (Some LLP64) (other_model_64 a (convention_on a s)) ≡ Some m → (m ≡ LLP64) ⊎ (m ≡ LP64)
+    by_system true is = inl cc
+    by_system false is = inr (off_llp64 a (convention_on a s) m is)
 
 -- the one model of 32-bit pointers
 
@@ -31,13 +34,16 @@ by_convention_32 : (c : Option CallingConvention) (m : CDataModel) → conventio
 by_convention_32 (Some SystemV) m h = cc
 by_convention_32 _ m h = absurd (true≢false (ap is_none h))
 
-off_windows_32 : (a : Architecture) (c : Option CallingConvention) (m : CDataModel) → other_model_32 a c ≡ Some m → m ≡ ILP32
-off_windows_32 Wasm32 c m h = cc
-off_windows_32 _ c m h = by_convention_32 c m h
+off_ilp32 : (a : Architecture) (c : Option CallingConvention) (m : CDataModel) → other_model_32 a c ≡ Some m → m ≡ ILP32
+off_ilp32 Wasm32 c m h = cc
+off_ilp32 _ c m h = by_convention_32 c m h
 
 at_32 : (a : Architecture) (s : OperatingSystem) (m : CDataModel) → model_32 a s ≡ Some m → m ≡ ILP32
-at_32 a Windows m h = cc
-at_32 a s m h = off_windows_32 a (convention_on a s) m h
+at_32 a s m h = by_system (has_ilp32 s) h
+  where
+    by_system : (b : Bool) → cond b (Some ILP32) (other_model_32 a (convention_on a s)) ≡ Some m → m ≡ ILP32
+    by_system true is = cc
+    by_system false is = off_ilp32 a (convention_on a s) m is
 
 -- a model has the pointer width by which it is chosen, and is one of three
 chosen : (w : Option PointerWidth) (a : Architecture) (s : OperatingSystem) (m : CDataModel) → model_of_width w a s ≡ Some m
@@ -54,37 +60,35 @@ pub one_of_three : (t : Values) (m : CDataModel) → data_model t ≡ Some m →
 unfolding data_model
 one_of_three t m h = (chosen (pointer_width t) t.architecture t.operating_system m h).1
 
--- the model on a system other than Windows is that of the convention, except on WebAssembly
+-- the model on another system is that of the convention, except on WebAssembly
 
-off_windows_64-is : (a : Architecture) (s : OperatingSystem) → (s ≡ Windows → ⊥) → model_64 a s ≡ other_model_64 a (convention_on a s)
-off_windows_64-is a Windows n = absurd (n refl)
-off_windows_64-is a _ n = refl
+off_llp64-is : (a : Architecture) (s : OperatingSystem) → has_llp64 s ≡ false → model_64 a s ≡ other_model_64 a (convention_on a s)
+off_llp64-is a s n = rw n refl
 
 off_wasm_64-is : (a : Architecture) (c : Option CallingConvention) → (a ≡ Wasm64 → ⊥) → other_model_64 a c ≡ convention_model_64 c
 off_wasm_64-is Wasm64 c n = absurd (n refl)
 off_wasm_64-is _ c n = refl
 
-pub wasm_64-is : (a : Architecture) (s : OperatingSystem) → (s ≡ Windows → ⊥) → a ≡ Wasm64 → model_64 a s ≡ Some LP64
-wasm_64-is a s n is = off_windows_64-is a s n ∙ ap (λ architecture. other_model_64 architecture (convention_on a s)) is
+pub wasm_64-is : (a : Architecture) (s : OperatingSystem) → has_llp64 s ≡ false → a ≡ Wasm64 → model_64 a s ≡ Some LP64
+wasm_64-is a s n is = off_llp64-is a s n ∙ ap (λ architecture. other_model_64 architecture (convention_on a s)) is
 
-pub convention_64-is : (a : Architecture) (s : OperatingSystem) (c : Option CallingConvention) → (s ≡ Windows → ⊥) → (a ≡ Wasm64 → ⊥) → convention_on a s ≡ c
+pub convention_64-is : (a : Architecture) (s : OperatingSystem) (c : Option CallingConvention) → has_llp64 s ≡ false → (a ≡ Wasm64 → ⊥) → convention_on a s ≡ c
     → model_64 a s ≡ convention_model_64 c
-convention_64-is a s c n p is = off_windows_64-is a s n ∙ off_wasm_64-is a (convention_on a s) p ∙ ap convention_model_64 is
+convention_64-is a s c n p is = off_llp64-is a s n ∙ off_wasm_64-is a (convention_on a s) p ∙ ap convention_model_64 is
 
-off_windows_32-is : (a : Architecture) (s : OperatingSystem) → (s ≡ Windows → ⊥) → model_32 a s ≡ other_model_32 a (convention_on a s)
-off_windows_32-is a Windows n = absurd (n refl)
-off_windows_32-is a _ n = refl
+off_ilp32-is : (a : Architecture) (s : OperatingSystem) → has_ilp32 s ≡ false → model_32 a s ≡ other_model_32 a (convention_on a s)
+off_ilp32-is a s n = rw n refl
 
 off_wasm_32-is : (a : Architecture) (c : Option CallingConvention) → (a ≡ Wasm32 → ⊥) → other_model_32 a c ≡ convention_model_32 c
 off_wasm_32-is Wasm32 c n = absurd (n refl)
 off_wasm_32-is _ c n = refl
 
-pub wasm_32-is : (a : Architecture) (s : OperatingSystem) → (s ≡ Windows → ⊥) → a ≡ Wasm32 → model_32 a s ≡ Some ILP32
-wasm_32-is a s n is = off_windows_32-is a s n ∙ ap (λ architecture. other_model_32 architecture (convention_on a s)) is
+pub wasm_32-is : (a : Architecture) (s : OperatingSystem) → has_ilp32 s ≡ false → a ≡ Wasm32 → model_32 a s ≡ Some ILP32
+wasm_32-is a s n is = off_ilp32-is a s n ∙ ap (λ architecture. other_model_32 architecture (convention_on a s)) is
 
-pub convention_32-is : (a : Architecture) (s : OperatingSystem) (c : Option CallingConvention) → (s ≡ Windows → ⊥) → (a ≡ Wasm32 → ⊥) → convention_on a s ≡ c
+pub convention_32-is : (a : Architecture) (s : OperatingSystem) (c : Option CallingConvention) → has_ilp32 s ≡ false → (a ≡ Wasm32 → ⊥) → convention_on a s ≡ c
     → model_32 a s ≡ convention_model_32 c
-convention_32-is a s c n p is = off_windows_32-is a s n ∙ off_wasm_32-is a (convention_on a s) p ∙ ap convention_model_32 is
+convention_32-is a s c n p is = off_ilp32-is a s n ∙ off_wasm_32-is a (convention_on a s) p ∙ ap convention_model_32 is
 
 -- and other conventions have no model
 pub no_convention_64 : (c : CallingConvention) → (c ≡ SystemV → ⊥) → (c ≡ AppleAarch64 → ⊥) → convention_model_64 (Some c) ≡ None

@@ -79,7 +79,21 @@ abbrev pub convention_model_32 : Option CallingConvention → Option CDataModel
 convention_model_32 (Some SystemV) = Some ILP32
 convention_model_32 _ = None
 
--- the models on a system other than Windows, by the architecture and its calling convention there
+-- the systems whose 64-bit machines have the model `LLP64`, and those whose 32-bit machines have `ILP32`, whatever the
+-- calling convention is
+abbrev pub has_llp64 : OperatingSystem → Bool
+-- written by tools/names/write: has_llp64
+has_llp64 operating_system.Windows = true
+-- end of what is written
+has_llp64 _ = false
+
+abbrev pub has_ilp32 : OperatingSystem → Bool
+-- written by tools/names/write: has_ilp32
+has_ilp32 operating_system.Windows = true
+-- end of what is written
+has_ilp32 _ = false
+
+-- the models on other systems, by the architecture and its calling convention there
 abbrev pub other_model_64 : Architecture → Option CallingConvention → Option CDataModel
 other_model_64 architecture.Wasm64 c = Some LP64
 other_model_64 _ c = convention_model_64 c
@@ -90,13 +104,11 @@ other_model_32 _ c = convention_model_32 c
 
 -- the model of 64-bit pointers
 abbrev pub model_64 : Architecture → OperatingSystem → Option CDataModel
-model_64 a operating_system.Windows = Some LLP64
-model_64 a s = other_model_64 a (convention_on a s)
+model_64 a s = if has_llp64 s then Some LLP64 else other_model_64 a (convention_on a s)
 
 -- the model of 32-bit pointers
 abbrev pub model_32 : Architecture → OperatingSystem → Option CDataModel
-model_32 a operating_system.Windows = Some ILP32
-model_32 a s = other_model_32 a (convention_on a s)
+model_32 a s = if has_ilp32 s then Some ILP32 else other_model_32 a (convention_on a s)
 
 -- the model by the pointer width; pointers of 16 bits have none
 abbrev pub model_of_width : Option PointerWidth → Architecture → OperatingSystem → Option CDataModel

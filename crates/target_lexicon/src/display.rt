@@ -176,7 +176,22 @@ impl<'a> TripleRef<'a> {
         if !matches!(self.vendor, VendorRef::Known(KnownVendor::Unknown)) {
             return true;
         }
-        let omits_unknown = match self.operating_system {
+        match self.environment {
+            // written by tools/names/write: the environments that show the vendor
+            Environment::HermitKernel | Environment::LinuxKernel => true,
+            // end of what is written
+            _ => !self.omits_unknown_vendor(),
+        }
+    }
+
+    /// Whether an unknown vendor is omitted, unless the environment is a kernel's.
+    #[inline(always)]
+    fn omits_unknown_vendor(&self) -> bool
+        ensures { result
+            ≡ spec.omits_unknown_vendor self.now.architecture self.now.operating_system
+            self.now.environment }
+    {
+        match self.operating_system {
             // written by tools/names/write: what omits an unknown vendor
             OperatingSystem::Linux => matches!(
                 self.environment,
@@ -204,14 +219,7 @@ impl<'a> TripleRef<'a> {
             ),
             // end of what is written
             _ => false,
-        };
-        !omits_unknown
-            || matches!(
-                self.environment,
-                // written by tools/names/write: the environments that show the vendor
-                Environment::HermitKernel | Environment::LinuxKernel
-                // end of what is written
-            )
+        }
     }
 
     /// Whether the environment is shown: unless it is unknown, or a `Newlib` that vendor and system imply.
@@ -236,23 +244,38 @@ impl<'a> TripleRef<'a> {
         }
         match self.operating_system {
             OperatingSystem::None_ | OperatingSystem::Unknown => {
-                !matches!(
-                    self.architecture,
-                    // written by tools/names/write: the architectures that omit an implied format
-                    Architecture::ZkAsm
-                        | Architecture::Avr
-                        | Architecture::Wasm32
-                        | Architecture::Wasm64
-                    // end of what is written
-                ) && !matches!(
-                    self.environment,
-                    // written by tools/names/write: the environments that omit an implied format
-                    Environment::Eabi | Environment::Eabihf | Environment::Sgx
-                    // end of what is written
-                ) && self.binary_format != BinaryFormat::Unknown
+                !self.architecture_implies_format()
+                    && !self.environment_implies_format()
+                    && self.binary_format != BinaryFormat::Unknown
             }
             _ => false,
         }
+    }
+
+    /// Whether the architecture omits an implied format, also without a system.
+    #[inline(always)]
+    fn architecture_implies_format(&self) -> bool
+        ensures { result ≡ spec.architecture_implies_format self.now.architecture }
+    {
+        matches!(
+            self.architecture,
+            // written by tools/names/write: the architectures that omit an implied format
+            Architecture::ZkAsm | Architecture::Avr | Architecture::Wasm32 | Architecture::Wasm64
+            // end of what is written
+        )
+    }
+
+    /// Whether the environment omits an implied format, also without a system.
+    #[inline(always)]
+    fn environment_implies_format(&self) -> bool
+        ensures { result ≡ spec.environment_implies_format self.now.environment }
+    {
+        matches!(
+            self.environment,
+            // written by tools/names/write: the environments that omit an implied format
+            Environment::Eabi | Environment::Eabihf | Environment::Sgx
+            // end of what is written
+        )
     }
 
     /// Whether environment and format are both shown as unknown, and the operating system with them.

@@ -125,27 +125,51 @@ impl TripleRef<'_> {
         }
     }
 
+    /// Whether 64-bit machines have the data model LLP64 on the system, whatever its calling convention is.
+    const fn has_llp64(&self) -> bool
+        ensures { result ≡ spec.has_llp64 self.now.operating_system }
+    {
+        matches!(
+            self.operating_system,
+            // written by tools/names/write: the systems with LLP64
+            OperatingSystem::Windows
+            // end of what is written
+        )
+    }
+
     /// The data model for pointers of 64 bits.
     // In Rust: const.
     fn data_model_64(&self) -> Result<CDataModel, ()>
         ensures { MatchesLookup
             (spec.model_64 self.now.architecture self.now.operating_system) result }
     {
-        match self.operating_system {
-            OperatingSystem::Windows => Ok(CDataModel::LLP64),
-            _ => match self.architecture {
-                Architecture::Wasm64 => Ok(CDataModel::LP64),
-                _ => {
-                    let convention = self.default_calling_convention()?;
-                    match convention {
-                        CallingConvention::SystemV | CallingConvention::AppleAarch64 => {
-                            Ok(CDataModel::LP64)
-                        }
-                        _ => Err(()),
-                    }
-                }
-            },
+        if self.has_llp64() {
+            return Ok(CDataModel::LLP64);
         }
+        match self.architecture {
+            Architecture::Wasm64 => Ok(CDataModel::LP64),
+            _ => {
+                let convention = self.default_calling_convention()?;
+                match convention {
+                    CallingConvention::SystemV | CallingConvention::AppleAarch64 => {
+                        Ok(CDataModel::LP64)
+                    }
+                    _ => Err(()),
+                }
+            }
+        }
+    }
+
+    /// Whether 32-bit machines have the data model ILP32 on the system, whatever its calling convention is.
+    const fn has_ilp32(&self) -> bool
+        ensures { result ≡ spec.has_ilp32 self.now.operating_system }
+    {
+        matches!(
+            self.operating_system,
+            // written by tools/names/write: the systems with ILP32
+            OperatingSystem::Windows
+            // end of what is written
+        )
     }
 
     /// The data model for pointers of 32 bits.
@@ -154,18 +178,18 @@ impl TripleRef<'_> {
         ensures { MatchesLookup
             (spec.model_32 self.now.architecture self.now.operating_system) result }
     {
-        match self.operating_system {
-            OperatingSystem::Windows => Ok(CDataModel::ILP32),
-            _ => match self.architecture {
-                Architecture::Wasm32 => Ok(CDataModel::ILP32),
-                _ => {
-                    let convention = self.default_calling_convention()?;
-                    match convention {
-                        CallingConvention::SystemV => Ok(CDataModel::ILP32),
-                        _ => Err(()),
-                    }
+        if self.has_ilp32() {
+            return Ok(CDataModel::ILP32);
+        }
+        match self.architecture {
+            Architecture::Wasm32 => Ok(CDataModel::ILP32),
+            _ => {
+                let convention = self.default_calling_convention()?;
+                match convention {
+                    CallingConvention::SystemV => Ok(CDataModel::ILP32),
+                    _ => Err(()),
                 }
-            },
+            }
         }
     }
 }

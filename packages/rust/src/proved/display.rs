@@ -86,7 +86,16 @@ impl<'a> TripleRef<'a> {
         if !matches!(self.vendor, VendorRef::Known(KnownVendor::Unknown)) {
             return true;
         }
-        let omits_unknown = match self.operating_system {
+        match self.environment {
+            Environment::HermitKernel | Environment::LinuxKernel => true,
+            _ => !self.omits_unknown_vendor(),
+        }
+    }
+
+    /// Whether an unknown vendor is omitted, unless the environment is a kernel's.
+    #[inline(always)]
+    fn omits_unknown_vendor(&self) -> bool {
+        match self.operating_system {
             OperatingSystem::Linux => matches!(
                 self.environment,
                 Environment::Android | Environment::Androideabi | Environment::Kernel
@@ -112,12 +121,7 @@ impl<'a> TripleRef<'a> {
                     )
             ),
             _ => false,
-        };
-        !omits_unknown
-            || matches!(
-                self.environment,
-                Environment::HermitKernel | Environment::LinuxKernel
-            )
+        }
     }
 
     /// Whether the environment is shown: unless it is unknown, or a `Newlib` that vendor and system imply.
@@ -138,19 +142,30 @@ impl<'a> TripleRef<'a> {
         }
         match self.operating_system {
             OperatingSystem::None_ | OperatingSystem::Unknown => {
-                !matches!(
-                    self.architecture,
-                    Architecture::ZkAsm
-                        | Architecture::Avr
-                        | Architecture::Wasm32
-                        | Architecture::Wasm64
-                ) && !matches!(
-                    self.environment,
-                    Environment::Eabi | Environment::Eabihf | Environment::Sgx
-                ) && self.binary_format != BinaryFormat::Unknown
+                !self.architecture_implies_format()
+                    && !self.environment_implies_format()
+                    && self.binary_format != BinaryFormat::Unknown
             }
             _ => false,
         }
+    }
+
+    /// Whether the architecture omits an implied format, also without a system.
+    #[inline(always)]
+    fn architecture_implies_format(&self) -> bool {
+        matches!(
+            self.architecture,
+            Architecture::ZkAsm | Architecture::Avr | Architecture::Wasm32 | Architecture::Wasm64
+        )
+    }
+
+    /// Whether the environment omits an implied format, also without a system.
+    #[inline(always)]
+    fn environment_implies_format(&self) -> bool {
+        matches!(
+            self.environment,
+            Environment::Eabi | Environment::Eabihf | Environment::Sgx
+        )
     }
 
     /// Whether environment and format are both shown as unknown, and the operating system with them.

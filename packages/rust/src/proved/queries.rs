@@ -107,47 +107,59 @@ impl TripleRef<'_> {
         }
     }
 
+    /// Whether 64-bit machines have the data model LLP64 on the system, whatever its calling convention is.
+    #[inline]
+    const fn has_llp64(&self) -> bool {
+        matches!(self.operating_system, OperatingSystem::Windows)
+    }
+
     /// The data model for pointers of 64 bits.
     #[inline]
     const fn data_model_64(&self) -> Result<CDataModel, ()> {
-        match self.operating_system {
-            OperatingSystem::Windows => Ok(CDataModel::LLP64),
-            _ => match self.architecture {
-                Architecture::Wasm64 => Ok(CDataModel::LP64),
-                _ => {
-                    let convention = match self.known_default_calling_convention() {
-                        Ok(it) => it,
-                        Err(error) => return Err(error),
-                    };
-                    match convention {
-                        CallingConvention::SystemV | CallingConvention::AppleAarch64 => {
-                            Ok(CDataModel::LP64)
-                        }
-                        _ => Err(()),
-                    }
-                }
-            },
+        if self.has_llp64() {
+            return Ok(CDataModel::LLP64);
         }
+        match self.architecture {
+            Architecture::Wasm64 => Ok(CDataModel::LP64),
+            _ => {
+                let convention = match self.known_default_calling_convention() {
+                    Ok(it) => it,
+                    Err(error) => return Err(error),
+                };
+                match convention {
+                    CallingConvention::SystemV | CallingConvention::AppleAarch64 => {
+                        Ok(CDataModel::LP64)
+                    }
+                    _ => Err(()),
+                }
+            }
+        }
+    }
+
+    /// Whether 32-bit machines have the data model ILP32 on the system, whatever its calling convention is.
+    #[inline]
+    const fn has_ilp32(&self) -> bool {
+        matches!(self.operating_system, OperatingSystem::Windows)
     }
 
     /// The data model for pointers of 32 bits.
     #[inline]
     const fn data_model_32(&self) -> Result<CDataModel, ()> {
-        match self.operating_system {
-            OperatingSystem::Windows => Ok(CDataModel::ILP32),
-            _ => match self.architecture {
-                Architecture::Wasm32 => Ok(CDataModel::ILP32),
-                _ => {
-                    let convention = match self.known_default_calling_convention() {
-                        Ok(it) => it,
-                        Err(error) => return Err(error),
-                    };
-                    match convention {
-                        CallingConvention::SystemV => Ok(CDataModel::ILP32),
-                        _ => Err(()),
-                    }
+        if self.has_ilp32() {
+            return Ok(CDataModel::ILP32);
+        }
+        match self.architecture {
+            Architecture::Wasm32 => Ok(CDataModel::ILP32),
+            _ => {
+                let convention = match self.known_default_calling_convention() {
+                    Ok(it) => it,
+                    Err(error) => return Err(error),
+                };
+                match convention {
+                    CallingConvention::SystemV => Ok(CDataModel::ILP32),
+                    _ => Err(()),
                 }
-            },
+            }
         }
     }
 }

@@ -6,13 +6,13 @@ pub returns-then-ne : goal.returns-then-ne
 unfolding shows_binary_format
 returns-then-ne c = search rules
 
-pub returns-then-not-matches-2 : goal.returns-then-not-matches-2
+pub returns-then-not-environment_implies_format : goal.returns-then-not-environment_implies_format
 unfolding shows_binary_format implied_format
-returns-then-not-matches-2 c = search rules
+returns-then-not-environment_implies_format c = search rules
 
-pub returns-else-not-matches-2 : goal.returns-else-not-matches-2
+pub returns-else-not-environment_implies_format : goal.returns-else-not-environment_implies_format
 unfolding shows_binary_format implied_format
-returns-else-not-matches-2 c = search rules
+returns-else-not-environment_implies_format c = search rules
 
 pub returns-in_default : goal.returns-in_default
 unfolding shows_binary_format implied_format

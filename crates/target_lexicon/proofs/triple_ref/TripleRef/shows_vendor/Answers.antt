@@ -6,14 +6,10 @@ pub returns-then-not-matches : goal.returns-then-not-matches
 unfolding shows_vendor
 returns-then-not-matches c = search rules
 
-pub returns-then-not-omits_unknown : goal.returns-then-not-omits_unknown
-unfolding shows_vendor
-returns-then-not-omits_unknown c = search rules
-
 pub returns-in-HermitKernel : goal.returns-in-HermitKernel
 unfolding shows_vendor
 returns-in-HermitKernel c = search rules
 
-pub returns-in_default-matches-3 : goal.returns-in_default-matches-3
+pub returns-in_default-environment : goal.returns-in_default-environment
 unfolding shows_vendor
-returns-in_default-matches-3 c = search rules
+returns-in_default-environment c = search rules
