@@ -71,14 +71,16 @@ fn custom(text: String) -> (V, Vendor) {
 const LENGTHS: [usize; 20] = [15, 16, 17, 32, 63, 64, 65, 128, 200, 255, 256, 257, 1023, 1024, 1025, 4096, 10000, 65535, 65536, 65537];
 
 /// Custom vendors, and such that no string parses as: each character that is admitted, and each next to one that is, at the first place,
-/// in the middle and at the end, and after `esp`; the words that parsing knows, as they are, with a letter more, and with one less; and long ones.
+/// in the middle and at the end, and after `esp`; the words that parsing knows, as they are, with a letter more, and with one less; the second
+/// parts of the special strings; and long ones.
 pub fn custom_vendors() -> Vec<String> {
     let admitted = |c: u8| s::is_vendor_character(N(c.into())).yes();
     let near = (0..128).filter(|c| (c - (*c > 0) as u8..=c + 1).any(admitted)).map(char::from);
     let placed = near.flat_map(|c| [format!("{c}q9"), format!("q{c}9"), format!("q9{c}"), format!("esp{c}"), format!("{c}esp"), c.into()]);
     let known = words().into_iter().flat_map(|it| [it.clone() + "q", format!("q{it}"), it.chars().skip(1).collect(), it]);
     let long = [2, 7, 8, 31, 33, 100].into_iter().chain(LENGTHS.into_iter().filter(|it| *it < 2000)).flat_map(|count| ["q", "Q"].map(|it| it.repeat(count)));
-    unique(placed.chain(known).chain(long))
+    let special = s::special_rows().list().iter().map(|row| row.field("text").string().split('-').nth(1).expect("two parts").to_string()).collect::<Vec<_>>();
+    unique(placed.chain(known).chain(special).chain(long))
 }
 
 /// Versions: each digit at each place, each limit and what is next to it, and forms that are none.
@@ -146,13 +148,14 @@ pub fn near_exceptions() -> Fields {
     }
 }
 
-/// Each custom vendor with values of which an exception speaks.
+/// Each custom vendor with values of which an exception speaks: those of the special strings, and Clever.
 pub fn near_vendors() -> Fields {
     let all = fields();
+    let of_rows = |field: &str, more: &str| s::special_rows().list().iter().map(|row| shown(row.field(field))).chain([more.into()]).collect::<Vec<String>>().join(" ");
     Fields {
-        architectures: only(&all.architectures, "Riscv32(Riscv32imc) Clever(Clever)"),
+        architectures: only(&all.architectures, &of_rows("architecture", "Clever(Clever)")),
         vendors: each(all.vendors[all.vendors.len() - 1].clone()),
-        systems: each(only(&all.systems.concat(), "Espidf Unknown")),
+        systems: each(only(&all.systems.concat(), &of_rows("operating_system", "Unknown"))),
         environments: only(&all.environments, "Unknown None"),
         formats: only(&all.formats, "Elf"),
     }
