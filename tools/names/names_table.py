@@ -13,6 +13,8 @@ NAME = re.compile(r"[a-z][a-z0-9_.]*")
 VARIANT = re.compile(r"[A-Z][A-Za-z0-9_]*")
 SPECIAL = re.compile(r"[a-z0-9_.]+(-[a-z0-9_.]+)+")
 LONGEST_SPECIAL = 255
+# The one whose parts parse as a triple with a custom vendor, which the exception `PrintsTheEspIdfString` is about.
+WITH_CUSTOM_VENDOR = "riscv32imc-esp-espidf"
 # How many values of a field the table first had, and a checksum of their names, in the order of their numbers.
 UPSTREAM = {"architecture": (107, "a141708f0cf0b4e1"), "vendor": (15, "35e14047bd8121b2"),
             "operating_system": (40, "03073d1aaf018aed"),
@@ -95,12 +97,31 @@ def special_of(values, earlier, line):
             raise Mistake(
                 f"`{name}` is no {field.replace('_', ' ')} of an earlier line, or it is `unknown`, `none` or has a version")
     row = Special(text, *(of[name] for name, of in zip(names, known)))
-    if not SPECIAL.fullmatch(text) or len(text) > len("-".join(names)) or len(text) > LONGEST_SPECIAL:
-        raise Mistake(
-            f"the string `{text}` isn't made of names and dashes, or is longer than `{'-'.join(names)}` or {LONGEST_SPECIAL} bytes")
+    if not SPECIAL.fullmatch(text):
+        raise Mistake(f"the string `{text}` isn't made of names and dashes")
+    for fault, law in special_faults(row, values):
+        raise Mistake(f"the string `{text}` {fault}, and the law `{law}` has no case for it: see \"A special string\" "
+                      "in CONTRIBUTING.md")
     if text in [it.text for it in earlier] or row[1:] in [it[1:] for it in earlier]:
         raise Mistake(f"the string `{text}`, or its triple, is there twice")
     return row
+
+
+def special_faults(row, values):
+    """What laws don't allow of a special string, with the first of these laws."""
+    names = "-".join(it.name for it in row[1:])
+    if len(row.text) > min(len(names), LONGEST_SPECIAL):
+        yield f"is longer than `{names}` or {LONGEST_SPECIAL} bytes", "printed_strings_grow_at_most"
+    if row.architecture.rules["width"] != "32":
+        yield f"has the architecture `{row.architecture.name}`, whose pointers don't have 32 bits", "queries_kept"
+    if row.operating_system.rules["format"] != "elf":
+        yield f"has the system `{row.operating_system.name}`, which doesn't imply ELF", "round_is_normal_step"
+    known = {field: {it.name for it in values if it.field == field} for field in FIELDS}
+    first, second, *others = row.text.split("-")
+    is_custom = second not in set().union(*known.values()) and re.match("[a-z]", second)
+    others_parse = all(it in set().union(*(known[field] for field in FIELDS[2:])) for it in others)
+    if first in known["architecture"] and is_custom and others_parse and row.text != WITH_CUSTOM_VENDOR:
+        yield f"parses by its parts too, with the custom vendor `{second}`", "exceptions_are_facts_of_fields"
 
 
 def add_value(earlier, line):
