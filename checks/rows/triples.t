@@ -34,70 +34,15 @@ that it writes the same if the last line has no line feed:
   error: Unrecognized field: linux
   $ answers print > printed && triples < lines | cmp - printed
 
-Byte order, pointer width, calling convention and data model follow:
+What the other modes write of a triple, `checks/compare answers` and the tests of the crate say. A matrix has each
+refusal:
 
-  $ cat > lines << 'END'
-  > wasm32-wasip1
-  > wasm32-unknown-wasi
-  > aarch64-apple-ios-gnu_ilp32
-  > s390x-unknown-linux-gnu
-  > x86_64-foo-bar
-  > END
-  $ answers show
-  wasm32-wasip1 little 32 - ILP32
-  wasm32-wasi little 32 WasmBasicCAbi ILP32
-  aarch64-apple-ios-gnu_ilp32 little 32 AppleAarch64 -
-  s390x-unknown-linux-gnu big 64 SystemV LP64
-  error: Unrecognized operating system: bar
-
-The canonical texts:
-
-  $ cat > lines << 'END'
-  > riscv32imc-esp-espidf-unknown
-  > clever-unknown-unknown-none
-  > x86_64-unknown-linux-unknown
-  > x86_64-customvendor-linux
-  > END
-  $ answers settle
-  riscv32imc-esp-espidf
-  clever-unknown-none-elf
+  $ printf 'x86_64-linux\nfoo\nx86_64-unknown-linux-unknown\nx86_64-unknown-linux\nfoo' | triples matrix
   x86_64-unknown-linux
-  x86_64-customvendor-linux
-
-These once each, but each refusal:
-
-  $ cat > lines << 'END'
-  > x86_64-linux-gnu
-  > arm64-apple-ios
-  > foo
-  > x86_64-unknown-linux-gnu
-  > x86_64-b-linux
-  > x86_64-a-linux
-  > x86_64-b-linux
-  > x86_64-c-linux
-  > error: Unrecognized architecture: foo
-  > foo
-  > END
-  $ answers matrix
-  x86_64-unknown-linux-gnu
-  aarch64-apple-ios
   error: Unrecognized architecture: foo
-  x86_64-b-linux
-  x86_64-a-linux
-  x86_64-c-linux
-  error: Unrecognized architecture: error: Unrecognized architecture: foo
   error: Unrecognized architecture: foo
-
-One JSON text:
-
-  $ echo '["arm64-apple-ios","x86_64"]' > lines
-  $ answers json
-  ["aarch64-apple-ios","x86_64-unknown-unknown-elf"]
   $ printf '\n[ ]\n ' | triples json
   []
-  $ printf '["x86_64",]' | triples json
-  fault: Input is not JSON
-  [1]
   $ printf '{}' | triples json
   fault: Input is not a JSON list
   [1]
