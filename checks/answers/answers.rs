@@ -1,16 +1,17 @@
-//! Answers of a crate with upstream's calls, as lines of words with tabs between them. `checks/compare answers` builds it over
-//! upstream's crate, whose answers it keeps, and over the Rust crate of this repository.
+//! Answers of a crate with upstream's calls, as lines of words with tabs between them. `checks/compare answers` builds
+//! it over upstream's crate, whose answers it keeps, and over the Rust crate of this repository.
 //!
 //! Each line of the input is `word` or `string`, a tab and a string. The lines of the output are, for each
 //!
 //! - `word`: what it parses as in each field, as `{:?}` shows it, or `-`;
-//! - `architecture` among the words: byte order, pointer width, whether it is Clever, and of Arm what its own type answers;
+//! - `architecture` among the words: byte order, pointer width, whether it is Clever, and of Arm what its own type
+//!   answers;
 //! - `system`: whether it is like Darwin;
 //! - `model`, `size` and `width`: their sizes;
-//! - `string`: the five values, as `{:?}` shows them, what is printed, the canonical string, byte order, width, convention and model; or the error
-//!   and its line;
-//! - `all`, for each architecture, system and environment: a checksum of the answers of all triples that have it and no other vendor, and of what
-//!   is printed of these with some vendors and each format.
+//! - `string`: the five values, as `{:?}` shows them, what is printed, the canonical string, byte order, width,
+//!   convention and model; or the error and its line;
+//! - `all`, for each architecture, system and environment: a checksum of the answers of all triples that have it and no
+//!   other vendor, and of what is printed of these with some vendors and each format.
 use std::collections::BTreeMap;
 use std::fmt::{Debug, Write};
 use std::io::Read;
@@ -79,7 +80,8 @@ fn answer_string(text: &str) -> String {
     }
 }
 
-/// What is answered of a triple, and printed with each vendor and format. An unknown environment and an unknown format aren't asked together.
+/// What is answered of a triple, and printed with each vendor and format. An unknown environment and an unknown format
+/// aren't asked together.
 fn answer_all(mut triple: Triple, formats: &[BinaryFormat]) -> String {
     let answers = (triple.pointer_width(), triple.default_calling_convention(), triple.data_model(), triple.binary_format);
     let mut line = format!("{answers:?}");

@@ -1,7 +1,7 @@
-//! What is suggested for edits of names: each line of the input is a field, a dialect or `triple`, a name, and the triple that the
-//! name means; or `word`, another name of an architecture, and its triple. Of each name every edit of one letter is asked, and some of two.
-//! A suggestion must have its place, and keep machine, width, byte order and float ABI: those of the name, or of a machine that the
-//! edited name states by its whole word.
+//! What is suggested for edits of names: each line of the input is a field, a dialect or `triple`, a name, and the
+//! triple that the name means; or `word`, another name of an architecture, and its triple. Of each name every edit of
+//! one letter is asked, and some of two. A suggestion must have its place, and keep machine, width, byte order and
+//! float ABI: those of the name, or of a machine that the edited name states by its whole word.
 use std::collections::{BTreeMap, BTreeSet, HashMap};
 use target_lexicon::{Architecture, Endianness, PointerWidth, Triple, TripleExt as _, TripleRef};
 use target_names::{Dialect, FloatAbi, NameError, Suggest as _, TargetInfo};
@@ -33,7 +33,8 @@ fn edits(name: &[char], letters: &BTreeSet<char>, each: &mut impl FnMut(Vec<char
     }
 }
 
-/// The machine and byte order that a word of a string names: an architecture, or one of these other names of architectures.
+/// The machine and byte order that a word of a string names: an architecture, or one of these other names of
+/// architectures.
 fn machine_in(words: &HashMap<&str, Said>, text: &str) -> Option<(String, Option<Endianness>)> {
     let is_separator = |c: char| "-/ .".contains(c);
     let mut parts = text.split(is_separator).chain(text.split(|c| is_separator(c) || c == '_'));

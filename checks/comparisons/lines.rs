@@ -1,5 +1,5 @@
-//! The line modes of the program `triples`, `print`, `show`, `settle` and `matrix`, over one of the crates; and `parse`, which
-//! writes only how many lines parse.
+//! The line modes of the program `triples`, `print`, `show`, `settle` and `matrix`, over one of the crates; and
+//! `parse`, which writes only how many lines parse.
 use std::collections::HashSet;
 use std::fmt::Write as _;
 use std::io::{self, Read, Write as _};
@@ -22,8 +22,8 @@ fn add_answers(output: &mut String, triple: &Triple) {
     }
 }
 
-/// Answers the lines of standard input in the mode that is the first argument, or in mode `print`. `canonical` returns a
-/// triple's canonical form.
+/// Answers the lines of standard input in the mode that is the first argument, or in mode `print`. `canonical` returns
+/// a triple's canonical form.
 pub fn answer(canonical: impl Fn(Triple) -> Option<Triple>) -> io::Result<()> {
     let mode = std::env::args().nth(1).unwrap_or_else(|| "print".to_string());
     let mut input = String::new();

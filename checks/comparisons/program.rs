@@ -1,6 +1,7 @@
 //! The modes of the program `triples` over the Rust crate, for tests that compare with it; the mode `cfg`, which writes
-//! rustc's options for each line, the mode `driver`, which writes what a compiler's driver asks, and the mode `edits`, which asks what
-//! is suggested for edits of names. It is the program `lines` of packages/command, which has what it needs, and isn't installed.
+//! rustc's options for each line, the mode `driver`, which writes what a compiler's driver asks, and the mode `edits`,
+//! which asks what is suggested for edits of names. It is the program `lines` of packages/command, which has what it
+//! needs, and isn't installed.
 #![forbid(unsafe_code)]
 
 mod edits;
@@ -42,8 +43,9 @@ fn each(show: fn(&TripleRef) -> String, end: &str) -> io::Result<()> {
     Ok(())
 }
 
-/// The C library, how floating-point arguments are passed, and the size and alignment of `long double` and `wchar_t`; `-`
-/// where there is no answer. Then how the target is linked, its string for LLVM, those of its variants, and versions.
+/// The C library, how floating-point arguments are passed, and the size and alignment of `long double` and `wchar_t`;
+/// `-` where there is no answer. Then how the target is linked, its string for LLVM, those of its variants, and
+/// versions.
 fn driver(triple: &TripleRef) -> String {
     let layout = |it: Option<TypeLayout>| it.map_or("- -".to_string(), |it| format!("{} {}", it.size, it.alignment));
     let string = |it: Option<TripleRef>| it.map_or("-".to_string(), |it| it.llvm_target().to_string());

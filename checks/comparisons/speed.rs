@@ -1,7 +1,9 @@
-//! The calls whose instructions `checks/compare speed` counts, of upstream's crate, of the Rust crate and of the library for C.
+//! The calls whose instructions `checks/compare speed` counts, of upstream's crate, of the Rust crate and of the
+//! library for C.
 //!
-//! usage: speed WHO WHAT < LINES   WHO is `upstream`, `ours` or `c`. Calls WHAT 200 times with each line, or with the triple that it parses as, and
-//! prints how many calls that were. `none` calls what does nothing: it shows what the program itself takes
+//! usage: speed WHO WHAT < LINES   WHO is `upstream`, `ours` or `c`. Calls WHAT 200 times with each line, or with the
+//! triple that it parses as, and prints how many calls that were. `none` calls what does nothing: it shows what the
+//! program itself takes
 use std::hint::black_box;
 
 fn each<T>(items: &[T], call: fn(&T)) -> usize {
@@ -77,7 +79,8 @@ calls! { upstream }
 mod c {
     use super::{black_box, each, parsed};
 
-    /// struct lexicon_triple and lexicon_error, of which this program reads nothing, and how many bytes the first group of facts has, and all.
+    /// struct lexicon_triple and lexicon_error, of which this program reads nothing, and how many bytes the first group
+    /// of facts has, and all.
     type Triple = [usize; 4];
     type Error = [usize; 4];
     const QUERIES: usize = 13;
@@ -91,7 +94,8 @@ mod c {
         fn lexicon_error_line(text: *const u8, size: usize, error: *const Error, out: *mut u8, out_size: usize, length: *mut usize) -> u32;
     }
 
-    // SAFETY, of each call below: pointers and sizes are those of slices and values here, and a triple's line outlives it.
+    // SAFETY, of each call below: pointers and sizes are those of slices and values here, and a triple's line outlives
+    // it.
 
     fn parse(line: &str) -> Result<Triple, Error> {
         let (mut triple, mut error) = (Triple::default(), Error::default());

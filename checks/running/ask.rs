@@ -83,8 +83,9 @@ fn vendor(word: &str) -> V {
     }
 }
 
-/// The triple of a word. It is what the word reads as; or else the triple that prints so and has a vendor that no string reads as,
-/// which has as few parts as possible. Or the word has the names of the five fields, with commas between them.
+/// The triple of a word. It is what the word reads as; or else the triple that prints so and has a vendor that no
+/// string reads as, which has as few parts as possible. Or the word has the names of the five fields, with commas
+/// between them.
 fn triple(word: &str) -> Result<V, String> {
     if let [a, w, o, e, b] = word.split(',').collect::<Vec<_>>()[..] {
         let of = [value("Architecture", a)?, vendor(w), value("OperatingSystem", o)?, value("Environment", e)?, value("BinaryFormat", b)?];

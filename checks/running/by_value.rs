@@ -1,6 +1,7 @@
-//! Equality, order, hashing and conversions. Two values of the crate are equal if and only if those of the definitions are, and what they feed a hasher
-//! is as `HashInjectiveOn` says. Of orders the definitions have only `version_cmp`, and upstream has none but that of versions: the
-//! others are compared with what the crate's `order.rs` says, over the names that the definitions give.
+//! Equality, order, hashing and conversions. Two values of the crate are equal if and only if those of the definitions
+//! are, and what they feed a hasher is as `HashInjectiveOn` says. Of orders the definitions have only `version_cmp`,
+//! and upstream has none but that of versions: the others are compared with what the crate's `order.rs` says, over the
+//! names that the definitions give.
 use crate::inputs::{self, Fields, Random};
 use crate::report::Report;
 use definitions::spec as s;

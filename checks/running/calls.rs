@@ -1,4 +1,5 @@
-//! Which definition is compared with which call that only this crate has; common.rs has the calls that upstream has too.
+//! Which definition is compared with which call that only this crate has; common.rs has the calls that upstream has
+//! too.
 use crate::common::{self, Shown};
 use crate::report::Report;
 use crate::{answers, inputs};
@@ -151,8 +152,9 @@ fn parse_error(r: &mut Report, string: &str, error: &ParseError) {
     answers! { r, &string, (value(variant)): error_line = error.to_string(); }
 }
 
-/// The error that owns the string. Its refusal is the definition's: the parts up to the refused one are refused, and those before it
-/// aren't. What it shows after the first line, and how it shows characters that can't be seen, is as its documentation says.
+/// The error that owns the string. Its refusal is the definition's: the parts up to the refused one are refused, and
+/// those before it aren't. What it shows after the first line, and how it shows characters that can't be seen, is as
+/// its documentation says.
 fn parse_triple_error(r: &mut Report, string: &str, refusal: V, error: &ParseTripleError) {
     let range = error.range();
     r.same("reading", refusal, &format_args!("{{ expected: {:?}, part: {:?} }}", error.expected(), error.part()), &string);
@@ -242,7 +244,8 @@ fn found(sources: Sources, format: Source) -> V {
     s::source_values(value(sources.architecture), value(sources.vendor), value(sources.operating_system), value(sources.environment), value(format))
 }
 
-/// Where the fields of a string come from is in the relation of the specification, and with two sources swapped it isn't.
+/// Where the fields of a string come from is in the relation of the specification, and with two sources swapped it
+/// isn't.
 pub fn sources(r: &mut Report, string: &str) {
     let x = v(string);
     if let V::C(s::Result__Ok, _) = s::reading(x) {

@@ -1,5 +1,6 @@
-//! The calls that upstream has too: whatever crate is compared has them, with upstream's names and types. Answers are compared as Rust's
-//! `{:?}` shows them, so that no table joins the two sides; where it shows otherwise than the definition, the words are replaced here.
+//! The calls that upstream has too: whatever crate is compared has them, with upstream's names and types. Answers are
+//! compared as Rust's `{:?}` shows them, so that no table joins the two sides; where it shows otherwise than the
+//! definition, the words are replaced here.
 use crate::inputs;
 use crate::report::Report;
 use definitions::spec as s;

@@ -77,7 +77,8 @@ pub fn string(r: &mut Report, strings: &Strings, i: usize) {
     list(r, &elements[0]);
 }
 
-/// A value as a triple. The line of an error is that of the definitions, unless the value is no text: then it is serde's.
+/// A value as a triple. The line of an error is that of the definitions, unless the value is no text: then it is
+/// serde's.
 pub fn value(r: &mut Report, value: &Value) {
     let (x, error) = (data(value), error_of(value));
     let no_text = V::C(s::JsonErrorValue__NotText, &[]);

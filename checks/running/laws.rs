@@ -7,8 +7,8 @@ use definitions::values::{con, forget, keep, some_values, text, with, FORM, N, T
 /// How many cases of a law there are first, which are all tried, how many in all, and one of them.
 type Cases = (usize, usize, Box<dyn Fn(usize) -> Vec<V>>);
 
-/// Those that print as a special string, and all of the values near the exceptions; then as many of all, among them some
-/// near ones with a custom vendor of a known one's name, and with versions that the types of the code don't have.
+/// Those that print as a special string, and all of the values near the exceptions; then as many of all, among them
+/// some near ones with a custom vendor of a known one's name, and with versions that the types of the code don't have.
 fn triples() -> Cases {
     let (near, all) = (inputs::near_exceptions(), inputs::fields());
     let count = near.count();

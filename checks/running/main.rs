@@ -1,6 +1,6 @@
-//! Compares the definitions with a crate: `running PART SHARD OF STEP` takes each OF-th case, from the SHARD-th on, of each STEP-th one.
-//! With the feature `port` the crate is this repository's; without it, one that has upstream's calls only. `running ask DEFINITION WORD..` says
-//! what a definition says.
+//! Compares the definitions with a crate: `running PART SHARD OF STEP` takes each OF-th case, from the SHARD-th on, of
+//! each STEP-th one. With the feature `port` the crate is this repository's; without it, one that has upstream's calls
+//! only. `running ask DEFINITION WORD..` says what a definition says.
 #![allow(non_upper_case_globals)]
 #[cfg(feature = "port")]
 mod ask;

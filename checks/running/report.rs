@@ -20,7 +20,8 @@ pub struct Report {
 }
 
 impl Report {
-    /// The definition's value is what Rust's `{:?}` shows of the answer, except for the names of structs and the order of fields.
+    /// The definition's value is what Rust's `{:?}` shows of the answer, except for the names of structs and the order
+    /// of fields.
     pub fn same(&mut self, what: &'static str, specified: V, answer: &dyn Debug, input: &dyn Debug) {
         self.specified.clear();
         show(&mut self.specified, specified);

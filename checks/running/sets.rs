@@ -1,5 +1,5 @@
-//! What the calls that allocate nothing answer of each line, whatever features the crate has; after a tab what it is printed as, and with `alloc`
-//! also what upstream prints.
+//! What the calls that allocate nothing answer of each line, whatever features the crate has; after a tab what it is
+//! printed as, and with `alloc` also what upstream prints.
 use std::io::BufRead;
 use target_lexicon::{TripleExt as _, TripleRef};
 

@@ -1,6 +1,7 @@
 //! What the generated definitions stand on: values, memory that is given back after each case, numbers and lists.
 //!
-//! There is one thread. A value may be copied freely: it lives until `forget`, or for ever if it was made inside `once` or `keep`.
+//! There is one thread. A value may be copied freely: it lives until `forget`, or for ever if it was made inside `once`
+//! or `keep`.
 #![allow(static_mut_refs)]
 use crate::spec::{Bool__false, Bool__true, Option__None, FOUND, ONCE, REACHED, TAGS, TITLES};
 use std::alloc::Layout;
@@ -183,7 +184,8 @@ impl V {
     }
 }
 
-/// Whether two values are the same. Most lists that are compared differ in length or at their beginning, which takes no call.
+/// Whether two values are the same. Most lists that are compared differ in length or at their beginning, which takes no
+/// call.
 #[inline(always)]
 pub fn eq(a: V, b: V) -> bool {
     match (a, b) {
@@ -277,7 +279,8 @@ pub fn some_refusals() -> V {
     use crate::spec::*;
     once(4, || library::seq(&[refusal_with(con(Option__Some, &[C(Field__Environment, &[])]), text("foo")), refusal_with(C(Option__None, &[]), text("foo"))]))
 }
-/// The values that are tried, and what hashers are fed. Whoever runs a definition that speaks of all of them says which.
+/// The values that are tried, and what hashers are fed. Whoever runs a definition that speaks of all of them says
+/// which.
 pub static mut TRIED: Option<V> = None;
 pub static mut WRITES: Option<V> = None;
 pub fn tried() -> V {
@@ -301,7 +304,8 @@ pub fn field_lists() -> V {
     once(2, || L(filled(32, chosen)))
 }
 
-/// What has no clause in library.txt. Numbers stay below 2^64, where they stop: no definition tells a larger one from that.
+/// What has no clause in library.txt. Numbers stay below 2^64, where they stop: no definition tells a larger one from
+/// that.
 pub mod library {
     use super::*;
 

@@ -1,5 +1,6 @@
-//! Writes the triple of the target that the crate is built for as an expression of Rust, which the crate's own parser finds. It isn't the compiler that parses,
-//! since a constant can't: what older versions of Rust let a `const fn` do isn't enough for the proved source.
+//! Writes the triple of the target that the crate is built for as an expression of Rust, which the crate's own parser
+//! finds. It isn't the compiler that parses, since a constant can't: what older versions of Rust let a `const fn` do
+//! isn't enough for the proved source.
 #![allow(dead_code, unexpected_cfgs, unknown_lints, unused_imports, clippy::all)]
 
 extern crate alloc;
@@ -28,8 +29,8 @@ fn main() {
         println!("cargo:rustc-cfg=core_error");
     }
     let target = env::var("TARGET").expect("cargo sets TARGET");
-    // Only a target that is refused needs another one for `HOST`. A build script's own crates have a target that parses, and
-    // the variable is for the program.
+    // Only a target that is refused needs another one for `HOST`. A build script's own crates have a target that
+    // parses, and the variable is for the program.
     let instead = env::var("TARGET_LEXICON_HOST").unwrap_or_default();
     let host = TripleRef::from_str(&target).unwrap_or_else(|error| {
         if instead.is_empty() {

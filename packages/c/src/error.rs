@@ -6,7 +6,8 @@ use core::ptr::null;
 use target_lexicon::{Field, Refusal};
 use target_names::{NameError, TranslateError, WriteError};
 
-/// `struct lexicon_error`: why a string is refused, the range of the refused part in bytes, and of a name why it isn't translated.
+/// `struct lexicon_error`: why a string is refused, the range of the refused part in bytes, and of a name why it isn't
+/// translated.
 #[repr(C)]
 #[derive(Clone, Copy)]
 pub struct TextError {

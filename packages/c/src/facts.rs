@@ -1,5 +1,5 @@
-//! The facts of a triple, as numbers: where an enum has no answer, 0, and otherwise 1 more than its index. The functions return wide
-//! values, and so are inlined.
+//! The facts of a triple, as numbers: where an enum has no answer, 0, and otherwise 1 more than its index. The
+//! functions return wide values, and so are inlined.
 use crate::fact_groups::{DriverFacts, FormatFacts, QueryFacts};
 use target_lexicon::{CDataModel, TripleRef};
 use target_names::TypeLayout;

@@ -11,7 +11,8 @@ fn between(text: &'static str, start: &str, end: &str) -> &'static str {
     after.split_once(end).expect(end).0
 }
 
-/// The names of the enumerators of an enum, which have the numbers from 0 or from 1 on, as letters and digits in upper case.
+/// The names of the enumerators of an enum, which have the numbers from 0 or from 1 on, as letters and digits in upper
+/// case.
 fn enumerators(listed: &str) -> Vec<String> {
     let uncommented = listed.lines().map(|line| line.split("/*").next().unwrap_or("").split("//").next().unwrap_or(""));
     let pairs: Vec<_> = uncommented.flat_map(|line| line.split(',')).filter_map(|it| it.split_once(" = ")).collect();
@@ -79,7 +80,8 @@ fn the_names_are_those_of_the_enumerators() {
     assert_eq!(of_c("linux_libc"), c_libraries.collect::<Vec<_>>());
 }
 
-/// A call may be given null for a text, a buffer, an array of `parts`, `length`, `error`, `reason` and `note`, and for no other pointer.
+/// A call may be given null for a text, a buffer, an array of `parts`, `length`, `error`, `reason` and `note`, and for
+/// no other pointer.
 #[test]
 fn the_pointers_that_may_not_be_null_are_marked() {
     let (_, prototypes) = HEADER.split_once("#define LEXICON_MAX_GROWTH").expect("the calls");

@@ -1,12 +1,13 @@
-//! The calls of target_lexicon.h. What they answer is the Rust crate's, as numbers; here is what only concerns memory: pointers and sizes
-//! become slices, answers are written where the caller wants them, and texts get a zero byte at the end.
+//! The calls of target_lexicon.h. What they answer is the Rust crate's, as numbers; here is what only concerns memory:
+//! pointers and sizes become slices, answers are written where the caller wants them, and texts get a zero byte at the
+//! end.
 //!
-//! What a call writes, the caller may have left without a value, and so too what target_lexicon.h says is not read. To such memory
-//! no reference is formed: it is read and written by pointers, field by field or whole.
+//! What a call writes, the caller may have left without a value, and so too what target_lexicon.h says is not read. To
+//! such memory no reference is formed: it is read and written by pointers, field by field or whole.
 //!
-//! Each `unsafe` here depends on what target_lexicon.h asks of the caller: that a pointer is valid for what the call reads or
-//! writes, that only one of size 0, `length` and `error` may be null, that what a call writes overlaps no other argument, and
-//! that the text of a custom vendor stays as long as its struct is used. Nothing else is asked.
+//! Each `unsafe` here depends on what target_lexicon.h asks of the caller: that a pointer is valid for what the call
+//! reads or writes, that only one of size 0, `length` and `error` may be null, that what a call writes overlaps no
+//! other argument, and that the text of a custom vendor stays as long as its struct is used. Nothing else is asked.
 #![cfg_attr(not(test), no_std)]
 #![deny(unsafe_op_in_unsafe_fn)]
 #![allow(clippy::missing_safety_doc)] // target_lexicon.h says it
@@ -45,7 +46,8 @@ use text::{shown, write_text, written, Text};
 use triple::{NumberedTriple, TripleNumbers};
 use values::{c_library_at, dialect_at, field_at, name_at, name_of_number, number_in, CUSTOM_VENDOR};
 
-/// `enum lexicon_status`. From 1 to 6 a text is refused, where a value of the first to the fifth field was expected, or none.
+/// `enum lexicon_status`. From 1 to 6 a text is refused, where a value of the first to the fifth field was expected, or
+/// none.
 pub type Status = u32;
 
 const OK: Status = 0;
@@ -194,8 +196,8 @@ unsafe fn text_at<'a>(text: *const u8, size: usize) -> Result<&'a str, TextError
     text_of(unsafe { bytes_at(text, size) }?)
 }
 
-/// The caller's bytes and error, if there is one, for a call that says why a text is refused. A size that is too large comes first, also
-/// that of the buffer.
+/// The caller's bytes and error, if there is one, for a call that says why a text is refused. A size that is too large
+/// comes first, also that of the buffer.
 unsafe fn refused_at<'a>(text: *const u8, size: usize, error: *const TextError, out_size: usize) -> Result<(&'a [u8], TextError), Status> {
     // SAFETY: the arguments of the caller.
     let bytes = unsafe { bytes_at(text, size) }?;
@@ -347,7 +349,8 @@ pub unsafe extern "C" fn lexicon_facts(triple: *const Triple, facts: *mut u8, fa
     }
 }
 
-/// Writes so many bytes of facts of a triple. Each kind is compiled by itself: together, each would save the registers that all need.
+/// Writes so many bytes of facts of a triple. Each kind is compiled by itself: together, each would save the registers
+/// that all need.
 #[inline(never)]
 unsafe fn write_facts<T: for<'a> From<&'a TripleRef<'a>> + AsMut<QueryFacts>>(triple: *const Triple, facts: *mut u8, size: usize) -> Status {
     let asked = match unsafe { Triple::read(triple) } {

@@ -2,7 +2,8 @@
 use crate::zero_ended::{NAMES, REASONS};
 use core::ptr::null;
 
-/// The name with a zero byte after it; null for a string that is no name of a field's value, and none that is read in a dialect.
+/// The name with a zero byte after it; null for a string that is no name of a field's value, and none that is read in a
+/// dialect.
 pub(crate) fn c_name(name: &'static str) -> *const u8 {
     c_text(NAMES, name)
 }

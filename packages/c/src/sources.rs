@@ -2,8 +2,8 @@
 use crate::values::is_name_in;
 use target_lexicon::{Field, Source, Sources};
 
-/// `struct lexicon_source`: where the value of a field comes from. 0 is no part of the string, 1 the part in this range of bytes, 2
-/// the other fields, and 3 the part in this range, which is another spelling than the name of the value.
+/// `struct lexicon_source`: where the value of a field comes from. 0 is no part of the string, 1 the part in this range
+/// of bytes, 2 the other fields, and 3 the part in this range, which is another spelling than the name of the value.
 #[repr(C)]
 #[derive(Clone, Copy, Default)]
 pub struct FieldSource {

@@ -28,8 +28,8 @@ pub(crate) unsafe fn write_text(
         Ok(size) => size,
         Err(status) => return status,
     };
-    // SAFETY: the caller's variable, and the first bytes of the caller's buffer, which has more than `size` bytes where any
-    // is written, and so isn't null.
+    // SAFETY: the caller's variable, and the first bytes of the caller's buffer, which has more than `size` bytes where
+    // any is written, and so isn't null.
     unsafe {
         write_length(length, size);
         if out_size <= size {
@@ -68,8 +68,8 @@ pub(crate) fn shown(value: &impl fmt::Display, out: &mut [u8]) -> usize {
     pieces.length
 }
 
-/// Copies a text of this size into the caller's buffer, which has room for it. One that was too long for the buffer here is
-/// written into the caller's, which has values then. No other byte of it is touched.
+/// Copies a text of this size into the caller's buffer, which has room for it. One that was too long for the buffer
+/// here is written into the caller's, which has values then. No other byte of it is touched.
 #[inline(always)]
 unsafe fn copy_written(out: *mut u8, size: usize, text: &[u8], write: impl FnOnce(&mut [u8])) {
     // SAFETY: the first bytes of the caller's buffer.
@@ -123,7 +123,8 @@ impl Text {
         self.kept == self.length && size <= self.room - self.kept
     }
 
-    /// Adds a piece to the length. Where memory is small, the texts of an error, or lines, may have more bytes than it has.
+    /// Adds a piece to the length. Where memory is small, the texts of an error, or lines, may have more bytes than it
+    /// has.
     fn count(&mut self, size: usize, is_kept: bool) {
         if is_kept {
             self.kept += size;

@@ -1,5 +1,5 @@
-//! Triples as numbers. Functions that return a wide value are inlined where that saves a hundredth of parsing and printing, or of
-//! asking.
+//! Triples as numbers. Functions that return a wide value are inlined where that saves a hundredth of parsing and
+//! printing, or of asking.
 use crate::error::Fault;
 use crate::numbers::{
     architecture_at, architecture_number, binary_format_at, binary_format_number, environment_at, environment_number,
@@ -91,8 +91,8 @@ impl<'a> NumberedTriple<'a> {
     }
 }
 
-/// The custom vendor of a string, if the string parses as one. Few triples have one: where it isn't inlined, the facts of a triple
-/// take 3 % fewer instructions.
+/// The custom vendor of a string, if the string parses as one. Few triples have one: where it isn't inlined, the facts
+/// of a triple take 3 % fewer instructions.
 #[inline(never)]
 fn custom_vendor(bytes: &[u8]) -> Result<VendorRef<'_>, Fault> {
     let vendor = str::from_utf8(bytes).map(VendorRef::Custom);

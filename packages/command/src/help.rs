@@ -114,8 +114,8 @@ fn has_extension(text: &str) -> bool {
     !end.is_empty() && end.bytes().all(|it| it.is_ascii_lowercase())
 }
 
-/// How a name is read that isn't spelled like a triple, if it is one of another tool; or why that tool's name has no triple.
-/// `command` comes before the option.
+/// How a name is read that isn't spelled like a triple, if it is one of another tool; or why that tool's name has no
+/// triple. `command` comes before the option.
 fn dialects_note(command: &str, name: &str) -> Option<String> {
     // GNU's names are spelled like triples.
     let dialects = || Dialect::ALL.iter().filter(|it| **it != Dialect::Gnu);
@@ -137,8 +137,8 @@ fn dialects_note(command: &str, name: &str) -> Option<String> {
     ))
 }
 
-/// The name that the first dialect suggests that suggests one, and what is wrong with the unknown one, as far as it says more. A name after
-/// another is none if all the words together name a triple.
+/// The name that the first dialect suggests that suggests one, and what is wrong with the unknown one, as far as it
+/// says more. A name after another is none if all the words together name a triple.
 fn nearest<'a>(name: &'a str, evidence: &Evidence<'_>) -> Option<(&'static str, Option<Mistake<'a>>)> {
     let of_words = evidence.triple();
     let has_triple = of_words.is_some();

@@ -1,5 +1,5 @@
-//! JSON with the members of objects in the order in which they are given. All characters but ASCII's are escaped, so that
-//! nothing in a target can steer a terminal.
+//! JSON with the members of objects in the order in which they are given. All characters but ASCII's are escaped, so
+//! that nothing in a target can steer a terminal.
 use serde::ser::{Serialize, Serializer};
 use serde_json::ser::{CompactFormatter, Formatter};
 use std::borrow::Cow;

@@ -1,5 +1,5 @@
-//! The command `target-lexicon`. What it says of a target it asks the crates `target-lexicon` and `target-names`; here is how targets are
-//! read, and how answers are laid out. `calls` has a file for each subcommand.
+//! The command `target-lexicon`. What it says of a target it asks the crates `target-lexicon` and `target-names`; here
+//! is how targets are read, and how answers are laid out. `calls` has a file for each subcommand.
 #![deny(unsafe_code)] // except where `streams` looks before the runtime starts
 
 mod arguments;

@@ -32,7 +32,8 @@ fn is_terminal() -> bool {
     return false;
 }
 
-/// Says that standard input is read, where a person would wonder why nothing happens: if it and the messages are of a terminal.
+/// Says that standard input is read, where a person would wonder why nothing happens: if it and the messages are of a
+/// terminal.
 #[allow(clippy::incompatible_msrv)] // as above
 pub fn say_what_is_read() {
     #[cfg(is_terminal)]

@@ -57,7 +57,8 @@ impl Reader {
         }
     }
 
-    /// What a triple parses as. A custom vendor that is neither among those that are meant nor rustc's is refused if that is asked.
+    /// What a triple parses as. A custom vendor that is neither among those that are meant nor rustc's is refused if
+    /// that is asked.
     pub fn parse<'a>(&self, text: &'a str) -> Result<Parsed<'a>, Refusal<'a>> {
         let explanation = TripleRef::explain(text);
         let triple = explanation.triple.map_err(Refusal::of_part)?;

@@ -80,7 +80,8 @@ impl<'a> Refusal<'a> {
         }
     }
 
-    /// A line with bytes that aren't UTF-8. It is shown with U+FFFD for them, of which the first is where it ends to be UTF-8.
+    /// A line with bytes that aren't UTF-8. It is shown with U+FFFD for them, of which the first is where it ends to be
+    /// UTF-8.
     pub fn not_utf8(text: &'a str, start: usize) -> Self {
         let end = start + char::REPLACEMENT_CHARACTER.len_utf8();
         let text = &text[start..end];

@@ -149,8 +149,8 @@ impl<'a> Run<'a> {
         self.outputs.flush()
     }
 
-    /// Of many targets, how many were refused, as the last line of the messages; and whether there may be more, since the run
-    /// ended with the last of `--max-errors`.
+    /// Of many targets, how many were refused, as the last line of the messages; and whether there may be more, since
+    /// the run ended with the last of `--max-errors`.
     fn summarize(&mut self, is_cut: bool) -> Result<(), Fault> {
         let Progress {
             targets, refused, ..

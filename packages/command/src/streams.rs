@@ -1,7 +1,7 @@
 //! The standard streams as a program gets them.
 //!
-//! Rust's runtime opens `/dev/null` for one that is closed, and its own streams take a failure as a success where a descriptor
-//! isn't open for what is done: then nobody gets what was written, and nobody knows.
+//! Rust's runtime opens `/dev/null` for one that is closed, and its own streams take a failure as a success where a
+//! descriptor isn't open for what is done: then nobody gets what was written, and nobody knows.
 
 use std::fs::File;
 use std::io::{self, Read};
@@ -50,7 +50,8 @@ mod system {
         stream(0, io::stdin()).map(of_file)
     }
 
-    /// A standard stream, without a buffer. If it is closed, a write fails, as one to a file that is open for reading does.
+    /// A standard stream, without a buffer. If it is closed, a write fails, as one to a file that is open for reading
+    /// does.
     fn output(descriptor: usize, of: impl AsFd + Write + 'static) -> Box<dyn Write> {
         match stream(descriptor, &of).or_else(|_| File::open("/dev/null")) {
             Ok(file) => Box::new(file),

@@ -43,7 +43,8 @@ fn without_guess(text: &str) -> String {
         .collect()
 }
 
-/// What does now what a word did that was a subcommand before, or what else the user may have meant by one that is none.
+/// What does now what a word did that was a subcommand before, or what else the user may have meant by one that is
+/// none.
 fn target_note(error: &clap::Error) -> String {
     let context = |kind| match error.get(kind) {
         Some(ContextValue::String(text)) => text.as_str(),

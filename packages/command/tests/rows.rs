@@ -1,5 +1,6 @@
-//! The command as its users run it: each page of rows in this folder, a file `.t`, has commands and what they write. Cram tries
-//! them, which is Debian's python3-cram; `cram3 -i --shell=/bin/bash PAGE.t`, with the program on the path, writes what they write now.
+//! The command as its users run it: each page of rows in this folder, a file `.t`, has commands and what they write.
+//! Cram tries them, which is Debian's python3-cram; `cram3 -i --shell=/bin/bash PAGE.t`, with the program on the path,
+//! writes what they write now.
 #![cfg(unix)]
 use std::env;
 use std::path::Path;

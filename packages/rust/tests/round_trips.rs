@@ -38,8 +38,8 @@ fn triples() -> impl Iterator<Item = Triple> {
     all.into_iter()
 }
 
-/// The one triple of which printing and parsing once doesn't give the canonical form, with `upstream_printing`: its string parses as one that
-/// prints a special string.
+/// The one triple of which printing and parsing once doesn't give the canonical form, with `upstream_printing`: its
+/// string parses as one that prints a special string.
 fn is_parsed_twice(triple: &Triple) -> bool {
     cfg!(feature = "upstream_printing") && triple.to_string() == "riscv32imc-esp-espidf-unknown"
 }

@@ -1,4 +1,5 @@
-//! The traits that the layer implements: conversions, `Display`, and the error that owns its string. `checks/specification` tries orders and hashes.
+//! The traits that the layer implements: conversions, `Display`, and the error that owns its string.
+//! `checks/specification` tries orders and hashes.
 use std::collections::hash_map::DefaultHasher;
 use std::collections::HashMap;
 use std::error::Error;

@@ -31,7 +31,8 @@ impl Call for What {
     }
 }
 
-/// What a name means: each triple, with the level of its machine and the tools that mean it; and the reason of each tool that has the name for no triple.
+/// What a name means: each triple, with the level of its machine and the tools that mean it; and the reason of each
+/// tool that has the name for no triple.
 struct Meanings<'a> {
     text: &'a str,
     meanings: Vec<(TripleRef<'a>, Option<&'static str>, Vec<&'static str>)>,
@@ -82,8 +83,9 @@ impl<'a> Meanings<'a> {
         dialects.filter_map(|it| Some(format!("{it}: {}", it.note(self.text)?)))
     }
 
-    /// That the vendor of a meaning is custom, which may be a misspelling, or that it has no system; and the triple that the words of the name
-    /// mean, if to no tool it is of a known vendor and a system. Nothing of a target of rustc, which is meant as it is.
+    /// That the vendor of a meaning is custom, which may be a misspelling, or that it has no system; and the triple
+    /// that the words of the name mean, if to no tool it is of a known vendor and a system. Nothing of a target of
+    /// rustc, which is meant as it is.
     fn note(&self, triple: &TripleRef<'_>) -> Option<String> {
         use OperatingSystem::{None_, Unknown};
         let is_rustc = |tools: &[&str]| tools.contains(&Dialect::Rust.name());
@@ -106,8 +108,8 @@ impl<'a> Meanings<'a> {
 }
 
 impl Answer for Meanings<'_> {
-    /// For each meaning a line with the tools that mean it, a note about its vendor, a line for each tool that has a name for it, and a line
-    /// for each reason why others have none.
+    /// For each meaning a line with the tools that mean it, a note about its vendor, a line for each tool that has a
+    /// name for it, and a line for each reason why others have none.
     fn write(&self, out: &mut dyn Write) -> io::Result<()> {
         writeln!(out, "{}", visible(self.text))?;
         for (triple, level, tools) in &self.meanings {

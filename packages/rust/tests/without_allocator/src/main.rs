@@ -1,4 +1,5 @@
-//! Ends with status 0 if a triple is parsed, asked and printed as it should. rustc builds it only if no crate needs an allocator.
+//! Ends with status 0 if a triple is parsed, asked and printed as it should. rustc builds it only if no crate needs an
+//! allocator.
 #![no_std]
 #![no_main]
 use target_lexicon::{CDataModel, Field, Source, TripleExt, TripleRef, VendorRef, HOST};
