@@ -17,7 +17,8 @@ static const char *linker(const struct lexicon_triple *triple, const struct lexi
     case LEXICON_BINARY_FORMAT_COFF:
       switch ((enum lexicon_operating_system)triple->operating_system) {
         case LEXICON_OPERATING_SYSTEM_CYGWIN: return "ld.lld";
-        case LEXICON_OPERATING_SYSTEM_WINDOWS: return facts->c_library == LEXICON_C_LIBRARY_MINGW ? "ld.lld" : "lld-link";
+        case LEXICON_OPERATING_SYSTEM_WINDOWS:
+          return facts->c_library == LEXICON_C_LIBRARY_MINGW ? "ld.lld" : "lld-link";
         default: return "lld-link";
       }
     case LEXICON_BINARY_FORMAT_MACHO: return "ld64.lld";
@@ -29,7 +30,8 @@ static const char *linker(const struct lexicon_triple *triple, const struct lexi
 }
 
 static void show_version(const char *what, struct lexicon_stated_version version) {
-  if (version.major) printf("  %s  %u.%u.%u\n", what, (unsigned)version.major, (unsigned)version.minor, (unsigned)version.patch);
+  if (version.major)
+    printf("  %s  %u.%u.%u\n", what, (unsigned)version.major, (unsigned)version.minor, (unsigned)version.patch);
 }
 
 static bool show(const char *text) {
@@ -43,15 +45,19 @@ static bool show(const char *text) {
     printf("error: %s\n", out);
     return false;
   }
-  if (lexicon_llvm_target(&triple, out, sizeof out, NULL) != LEXICON_OK || lexicon_all_facts(&triple, &facts) != LEXICON_OK) {
+  if (lexicon_llvm_target(&triple, out, sizeof out, NULL) != LEXICON_OK ||
+      lexicon_all_facts(&triple, &facts) != LEXICON_OK) {
     printf("error: the vendor of %s is too long\n", text);
     return false;
   }
   printf("%s\n  for LLVM %s\n  linker   %s\n", text, out, linker(&triple, &facts));
   if (lexicon_linker_emulation(&triple, out, sizeof out, NULL) == LEXICON_OK) printf("  options  -m %s\n", out);
-  if (lexicon_dynamic_linker(&triple, out, sizeof out, NULL) == LEXICON_OK) printf("  options  -dynamic-linker %s\n", out);
-  if (facts.int_size == 0) printf("  C types  -\n");
-  else printf("  C types  int %u, long %u, pointer %u bytes\n", facts.int_size, facts.long_size, facts.pointer_width / 8u);
+  if (lexicon_dynamic_linker(&triple, out, sizeof out, NULL) == LEXICON_OK)
+    printf("  options  -dynamic-linker %s\n", out);
+  if (facts.int_size == 0)
+    printf("  C types  -\n");
+  else
+    printf("  C types  int %u, long %u, pointer %u bytes\n", facts.int_size, facts.long_size, facts.pointer_width / 8u);
   if (facts.char_signedness) printf("  char     %s\n", lexicon_signedness_name(facts.char_signedness));
   if (lexicon_stated_versions(LEXICON_Z(text), &versions, NULL) == LEXICON_OK) {
     show_version("system ", versions.operating_system);

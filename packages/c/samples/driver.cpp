@@ -1,5 +1,5 @@
-// A part of the driver of driver.c in C++17: for each target that its arguments name, the linker of LLVM's lld that links for it,
-// and the sizes of C's types. A refused target is shown with a caret under the refused part.
+// A part of the driver of driver.c in C++17: for each target that its arguments name, the linker of LLVM's lld that
+// links for it, and the sizes of C's types. A refused target is shown with a caret under the refused part.
 //
 // With P the folder where the library is installed, and PKG_CONFIG_PATH=$P/lib/pkgconfig:
 // c++ -std=c++17 driver.cpp $(pkg-config --cflags --libs target-lexicon) -Wl,-rpath,$P/lib -o driver
@@ -44,8 +44,8 @@ bool show(std::string_view text) {
   }
   std::cout << *triple << "\n  linker   " << linker(*triple) << "\n  C types  ";
   if (triple->int_size())
-    std::cout << "int " << *triple->int_size() << ", long " << *triple->long_size() << ", pointer " << *triple->pointer_width() / 8
-              << " bytes\n";
+    std::cout << "int " << *triple->int_size() << ", long " << *triple->long_size() << ", pointer "
+              << *triple->pointer_width() / 8 << " bytes\n";
   else
     std::cout << "-\n";
   return true;

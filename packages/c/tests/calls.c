@@ -1,4 +1,5 @@
-/* Makes each call of the library, and compares its status and what it writes with what is expected. Valid as C and as C++. */
+/* Makes each call of the library, and compares its status and what it writes with what is expected. Valid as C and as
+   C++. */
 #define LEXICON_H /* the guard of another header */
 #include <stdio.h>
 #include <string.h>
@@ -118,7 +119,8 @@ WRITES(meaning) {
   uint32_t dialect = it->numbers[1];
   enum lexicon_status status = lexicon_meaning(it->text, it->size, it->numbers[0], &dialect, &made, &note);
   bool is_written = status == LEXICON_OK || status == LEXICON_NAME_WITHOUT_TRIPLE;
-  EXPECT(dialect == it->numbers[1] && is_written == (note != unwritten) && (!is_written || (note ? strlen(note) : 0) == it->numbers[2]));
+  EXPECT(dialect == it->numbers[1] && is_written == (note != unwritten) &&
+      (!is_written || (note ? strlen(note) : 0) == it->numbers[2]));
   EXPECT(lexicon_meaning(it->text, it->size, it->numbers[0], &dialect, &made, NULL) == status);
   return status == LEXICON_OK ? lexicon_print(&made, out, size, length) : status;
 }
@@ -128,11 +130,13 @@ WRITES(change) {
   struct lexicon_change part;
   fill(&part, sizeof part);
   enum lexicon_status status = lexicon_changes(it->text, it->size, it->numbers[0], &part, out, size, length);
-  EXPECT(status == LEXICON_OK ? part.start == it->numbers[1] && part.end == it->numbers[2] : is_filled(&part, sizeof part));
+  EXPECT(status == LEXICON_OK ? part.start == it->numbers[1] && part.end == it->numbers[2]
+      : is_filled(&part, sizeof part));
   return status;
 }
 
-/* Where the target with a number is, whose array has room for one more than that; the other numbers are the count and its end. */
+/* Where the target with a number is, whose array has room for one more than that; the other numbers are the count and
+   its end. */
 WRITES(target) {
   struct lexicon_change parts[3];
   size_t found = 77, number = it->numbers[0];
@@ -140,13 +144,16 @@ WRITES(target) {
   enum lexicon_status status = lexicon_targets(it->text, it->size, parts, number + 1, &found);
   EXPECT(is_filled(&parts[number + 1], sizeof parts - (number + 1) * sizeof *parts));
   if (status != LEXICON_OK && status != LEXICON_TOO_SMALL) return status;
-  EXPECT((status == LEXICON_OK) == (found <= number + 1) && found == it->numbers[1] && parts[number].end == it->numbers[2]);
+  EXPECT((status == LEXICON_OK) == (found <= number + 1) && found == it->numbers[1] &&
+      parts[number].end == it->numbers[2]);
   EXPECT(lexicon_targets(it->text, it->size, NULL, 0, &found) == LEXICON_TOO_SMALL && found == it->numbers[1]);
   return copied(it->text + parts[number].start, out, size, length);
 }
 
-static enum lexicon_status translated_with(const struct asked *it, char *out, size_t size, size_t *length, struct lexicon_error *error) {
-  return lexicon_translate(it->numbers[0], it->text, it->size, it->numbers[1], it->numbers[2], out, size, length, error);
+static enum lexicon_status translated_with(const struct asked *it, char *out, size_t size, size_t *length,
+    struct lexicon_error *error) {
+  return lexicon_translate(it->numbers[0], it->text, it->size, it->numbers[1], it->numbers[2], out, size, length,
+      error);
 }
 
 TEXT(translated, translated_with(it, out, size, length, NULL))
@@ -157,12 +164,16 @@ static const char *unread(struct asked it) {
 }
 static const char *unwritten(const struct asked *it, bool is_versioned) {
   const char *why = NULL;
-  enum lexicon_status status = is_versioned ? lexicon_write_versioned(it->numbers[0], &it->triple, it->numbers[1], it->numbers[2], NULL, 0, NULL, &why)
-                                            : lexicon_write(it->numbers[0], &it->triple, NULL, 0, NULL, &why);
+  const uint32_t *n = it->numbers;
+  enum lexicon_status status = is_versioned
+      ? lexicon_write_versioned(n[0], &it->triple, n[1], n[2], NULL, 0, NULL, &why)
+      : lexicon_write(n[0], &it->triple, NULL, 0, NULL, &why);
   EXPECT((why != NULL) == (status == LEXICON_TRIPLE_WITHOUT_NAME || status == LEXICON_NEEDS_C_LIBRARY));
   return why;
 }
-static const char *untranslated(struct asked it) { return translated_with(&it, NULL, 0, NULL, &it.error) == LEXICON_TOO_SMALL ? NULL : it.error.reason; }
+static const char *untranslated(struct asked it) {
+  return translated_with(&it, NULL, 0, NULL, &it.error) == LEXICON_TOO_SMALL ? NULL : it.error.reason;
+}
 STRING(reason, unread(*it))
 STRING(write_reason, unwritten(it, false))
 STRING(versioned_reason, unwritten(it, true))
@@ -174,7 +185,8 @@ WRITES(translate_error) {
   return error_line(&other, out, size, length);
 }
 
-static enum lexicon_status version_by(enum lexicon_status call(const struct lexicon_triple *, struct lexicon_os_version *),
+static enum lexicon_status version_by(enum lexicon_status call(const struct lexicon_triple *,
+    struct lexicon_os_version *),
                                       const struct asked *it, char *out, size_t size, size_t *length) {
   struct lexicon_os_version version = {0, 0, 0};
   char shown[64];
@@ -191,7 +203,8 @@ WRITES(stated_versions) {
   enum lexicon_status status = lexicon_stated_versions(it->text, it->size, &found, NULL);
   if (status != LEXICON_OK) return status;
   struct lexicon_stated_version system = found.operating_system, environment = found.environment;
-  snprintf(shown, sizeof shown, "%u.%u.%u %u.%u.%u", (unsigned)system.major, (unsigned)system.minor, (unsigned)system.patch,
+  snprintf(shown, sizeof shown, "%u.%u.%u %u.%u.%u", (unsigned)system.major, (unsigned)system.minor,
+      (unsigned)system.patch,
            (unsigned)environment.major, (unsigned)environment.minor, (unsigned)environment.patch);
   return copied(shown, out, size, length);
 }
@@ -216,9 +229,11 @@ WRITES(sources) {
   char shown[200] = "";
   enum lexicon_status status = lexicon_explain(it->text, it->size, &made, &of, NULL);
   EXPECT((status == LEXICON_OK || status == it->error.status) && are_same(&made, &it->triple));
-  const struct lexicon_source each[] = {of.architecture, of.vendor, of.operating_system, of.environment, of.binary_format};
+  const struct lexicon_source each[] = {of.architecture, of.vendor, of.operating_system, of.environment,
+      of.binary_format};
   for (size_t i = 0; i < 5; i++)
-    snprintf(shown + strlen(shown), sizeof shown - strlen(shown), "%s %d-%d; ", lexicon_origin_name(each[i].origin), (int)each[i].start, (int)each[i].end);
+    snprintf(shown + strlen(shown), sizeof shown - strlen(shown), "%s %d-%d; ", lexicon_origin_name(each[i].origin),
+        (int)each[i].start, (int)each[i].end);
   return copied(shown, out, size, length);
 }
 
@@ -230,12 +245,17 @@ WRITES(facts) {
   enum lexicon_status status = lexicon_all_facts(&it->triple, &of);
   if (status != LEXICON_OK) return status;
   snprintf(shown, sizeof shown, "%s %d %s %s: %d %d %d %d %d %d%s%s%s; %s %s %s; %s %s%s, %d/%d, %d/%d, v%d %s, %s%s%s",
-           or_none(lexicon_endianness_name(of.endianness)), of.pointer_width, or_none(lexicon_calling_convention_name(of.default_calling_convention)),
-           or_none(lexicon_data_model_name(of.data_model)), of.short_size, of.int_size, of.long_size, of.long_long_size, of.float_size, of.double_size,
+           or_none(lexicon_endianness_name(of.endianness)), of.pointer_width,
+           or_none(lexicon_calling_convention_name(of.default_calling_convention)),
+           or_none(lexicon_data_model_name(of.data_model)), of.short_size, of.int_size, of.long_size, of.long_long_size,
+           of.float_size, of.double_size,
            of.is_thumb ? " thumb" : "", of.is_like_darwin ? " darwin" : "", of.has_custom_vendor ? " custom" : "",
-           lexicon_name(LEXICON_FIELD_BINARY_FORMAT, of.implied_format), lexicon_name(LEXICON_FIELD_BINARY_FORMAT, of.object_format),
-           lexicon_family_name(of.family), or_none(lexicon_c_library_name(of.c_library)), or_none(lexicon_float_abi_name(of.float_abi)),
-           of.is_unix ? " unix" : "", of.long_double_size, of.long_double_alignment, of.wchar_size, of.wchar_alignment, of.arm_version,
+           lexicon_name(LEXICON_FIELD_BINARY_FORMAT, of.implied_format),
+           lexicon_name(LEXICON_FIELD_BINARY_FORMAT, of.object_format),
+           lexicon_family_name(of.family), or_none(lexicon_c_library_name(of.c_library)),
+           or_none(lexicon_float_abi_name(of.float_abi)),
+           of.is_unix ? " unix" : "", of.long_double_size, of.long_double_alignment, of.wchar_size, of.wchar_alignment,
+           of.arm_version,
            or_none(lexicon_arm_profile_name(of.arm_profile)), or_none(lexicon_signedness_name(of.char_signedness)),
            of.has_emulated_tls ? " tls" : "", of.has_comdat ? " comdat" : "");
   return copied(shown, out, size, length);
@@ -246,12 +266,21 @@ WRITES(facts) {
 #define TEN "vvvvvvvvvv"
 #define LONG TEN TEN TEN TEN TEN TEN TEN TEN TEN TEN TEN TEN TEN
 #define SAY_LIBRARY "it depends on the C library: say glibc or musl"
-#define NO_VERSION "no version of its system or C library has these numbers: glibc has 2.x, musl 1.x, and macOS 10.x or later"
-enum { DEBIAN = LEXICON_DIALECT_DEBIAN, GO = LEXICON_DIALECT_GO, OCI = LEXICON_DIALECT_OCI, NODE = LEXICON_DIALECT_NODE, GNU = LEXICON_DIALECT_GNU,
-       PYTHON = LEXICON_DIALECT_PYTHON, RUST = LEXICON_DIALECT_RUST, APK = LEXICON_DIALECT_APK, GLIBC = LEXICON_LINUX_LIBC_GLIBC,
-       MSVC = LEXICON_LINUX_LIBC_MSVC };
+#define NO_VERSION \
+  "no version of its system or C library has these numbers: glibc has 2.x, musl 1.x, and macOS 10.x or later"
+enum {
+  DEBIAN = LEXICON_DIALECT_DEBIAN, GO = LEXICON_DIALECT_GO, OCI = LEXICON_DIALECT_OCI, NODE = LEXICON_DIALECT_NODE,
+  GNU = LEXICON_DIALECT_GNU, PYTHON = LEXICON_DIALECT_PYTHON, RUST = LEXICON_DIALECT_RUST, APK = LEXICON_DIALECT_APK,
+  GLIBC = LEXICON_LINUX_LIBC_GLIBC, MSVC = LEXICON_LINUX_LIBC_MSVC
+};
 
-static const struct row { writes *call; const char *text; uint32_t numbers[3]; enum lexicon_status status; const char *expected; } rows[] = {
+static const struct row {
+  writes *call;
+  const char *text;
+  uint32_t numbers[3];
+  enum lexicon_status status;
+  const char *expected;
+} rows[] = {
   {parsed, "arm64-apple-darwin23.6", {0}, LEXICON_OK, "aarch64-apple-darwin23.6.0"},
   {parsed, "avr-" LONG "-linux", {0}, LEXICON_OK, "avr-" LONG "-linux"},
   {parsed, "x86_64-pc-linx", {0}, LEXICON_UNRECOGNIZED_OPERATING_SYSTEM, NULL},
@@ -262,36 +291,50 @@ static const struct row { writes *call; const char *text; uint32_t numbers[3]; e
   {settled, "riscv32imc-esp-espidf-elf", {0}, LEXICON_OK, "riscv32imc-esp-espidf"},
   {comes_back, "x86_64-unknown-linux-gnu", {0}, LEXICON_OK, "yes"},
   {comes_back, "armv7-nintendo-horizon-newlib", {0}, LEXICON_OK, "no"},
-  {settled_lines, "armv7-nintendo-horizon-newlib-unknown\narm64-linux\nfoo\n\nx86_64-\xff\nx86_64-linux\r\navr-" LONG, {0}, LEXICON_OK,
+  {settled_lines, "armv7-nintendo-horizon-newlib-unknown\narm64-linux\nfoo\n\nx86_64-\xff\nx86_64-linux\r\navr-" LONG,
+      {0}, LEXICON_OK,
    "armv7-nintendo-horizon\naarch64-unknown-linux\n\n\n\n\navr-" LONG "-unknown\n"},
   {sources, "x86_64-linux-gnu", {0}, LEXICON_OK, "given 0-6; not given 0-0; given 7-12; given 13-16; implied 0-0; "},
-  {sources, "arm64-acme-ios17-elf", {0}, LEXICON_OK, "alias 0-5; given 6-10; alias 11-16; not given 0-0; given 17-20; "},
-  {sources, "arm64-apple-ios1-x", {0}, LEXICON_OK, "alias 0-5; given 6-11; alias 12-16; not given 0-0; not given 0-0; "},
+  {sources, "arm64-acme-ios17-elf", {0}, LEXICON_OK,
+      "alias 0-5; given 6-10; alias 11-16; not given 0-0; given 17-20; "},
+  {sources, "arm64-apple-ios1-x", {0}, LEXICON_OK,
+      "alias 0-5; given 6-11; alias 12-16; not given 0-0; not given 0-0; "},
 
   {error_text, "x86_64-", {0}, LEXICON_OK, "Unrecognized vendor: \n  x86_64-\n         ^"},
-  {error_text, "arm64-apple-macos14.2", {0}, LEXICON_OK, "Unrecognized operating system: macos14.2\n  arm64-apple-macos14.2\n"
+  {error_text, "arm64-apple-macos14.2", {0}, LEXICON_OK,
+      "Unrecognized operating system: macos14.2\n  arm64-apple-macos14.2\n"
    "              ^^^^^^^^^ did you mean `macosx14.2`?"},
-  {error_text, "x86_64-linux-gn\xc3\xbc", {0}, LEXICON_OK, "Unrecognized environment: gn\\u{fc}\n  x86_64-linux-gn\\u{fc}\n               ^^^^^^^^"},
-  {error_text, "x86_64-elf-linux", {0}, LEXICON_OK, "Unrecognized field: linux\n  x86_64-elf-linux\n             ^^^^^"},
+  {error_text, "x86_64-linux-gn\xc3\xbc", {0}, LEXICON_OK,
+      "Unrecognized environment: gn\\u{fc}\n  x86_64-linux-gn\\u{fc}\n               ^^^^^^^^"},
+  {error_text, "x86_64-elf-linux", {0}, LEXICON_OK,
+      "Unrecognized field: linux\n  x86_64-elf-linux\n             ^^^^^"},
   {error_text, "x86_64-\xe2\x82", {0}, LEXICON_OK, "Not UTF-8\n  x86_64-\\u{fffd}\\u{fffd}\n         ^^^^^^^^^^^^^^^^"},
   {error_text, "x86_64-\xff-linux", {0}, LEXICON_OK, "Not UTF-8\n  x86_64-\\u{fffd}-linux\n         ^^^^^^^^"},
-  {error_text, "x86_64-\xf0\x9f\x98\x80'", {0}, LEXICON_OK, "Unrecognized vendor: \\u{1f600}'\n  x86_64-\\u{1f600}'\n         ^^^^^^^^^^"},
+  {error_text, "x86_64-\xf0\x9f\x98\x80'", {0}, LEXICON_OK,
+      "Unrecognized vendor: \\u{1f600}'\n  x86_64-\\u{1f600}'\n         ^^^^^^^^^^"},
   {error_line, "x86_64-linux-gn\xc3\xbc", {0}, LEXICON_OK, "Unrecognized environment: gn\xc3\xbc"},
   {suggestion, "x86_64-pc-linx", {0}, LEXICON_OK, "linux"},
   {suggestion, "x86_64-gnu-linux", {0}, LEXICON_NO_SUGGESTION, NULL},
   {vendor_suggestion, "x86_64-iso17.2", {0}, LEXICON_OK, "ios17.2"},
   {vendor_suggestion, "x86_64-pc-linux", {0}, LEXICON_NO_SUGGESTION, NULL},
 
-  {facts, "arm64-apple-ios17.2.1-elf", {0}, LEXICON_OK, "little 64 AppleAarch64 LP64: 2 4 8 8 4 8 darwin; macho elf aarch64; system - unix, 8/8, 4/4, v0 -, signed comdat"},
+  {facts, "arm64-apple-ios17.2.1-elf", {0}, LEXICON_OK,
+   "little 64 AppleAarch64 LP64: 2 4 8 8 4 8 darwin; macho elf aarch64; system - unix, 8/8, 4/4, v0 -, signed comdat"},
   {facts, "thumbv7m-acme-windows-eabi-elf", {0}, LEXICON_OK,
    "little 32 WindowsFastcall ILP32: 2 4 4 8 4 8 thumb custom; coff elf arm; - soft, 0/0, 2/2, v7 M, signed comdat"},
-  {facts, "i686-pc-cygwin", {0}, LEXICON_OK, "little 32 - -: 2 4 4 8 4 8; elf coff x86_32; system - unix, 12/4, 2/2, v0 -, signed tls comdat"},
-  {facts, "s390x-linux", {0}, LEXICON_OK, "big 64 SystemV LP64: 2 4 8 8 4 8; elf elf s390x; - - unix, 16/8, 4/4, v0 -, unsigned comdat"},
-  {facts, "armv7-linux-gnueabihf", {0}, LEXICON_OK, "little 32 SystemV ILP32: 2 4 4 8 4 8; elf elf arm; glibc hard unix, 8/8, 4/4, v7 -, unsigned comdat"},
-  {facts, "x86_64-pc-windows-msvc", {0}, LEXICON_OK, "little 64 WindowsFastcall LLP64: 2 4 4 8 4 8; coff coff x86_64; msvc -, 8/8, 2/2, v0 -, signed comdat"},
-  {facts, "wasm32-wasi", {0}, LEXICON_OK, "little 32 WasmBasicCAbi ILP32: 2 4 4 8 4 8; wasm wasm wasm32; - -, 16/16, 4/4, v0 -, signed comdat"},
+  {facts, "i686-pc-cygwin", {0}, LEXICON_OK,
+      "little 32 - -: 2 4 4 8 4 8; elf coff x86_32; system - unix, 12/4, 2/2, v0 -, signed tls comdat"},
+  {facts, "s390x-linux", {0}, LEXICON_OK,
+      "big 64 SystemV LP64: 2 4 8 8 4 8; elf elf s390x; - - unix, 16/8, 4/4, v0 -, unsigned comdat"},
+  {facts, "armv7-linux-gnueabihf", {0}, LEXICON_OK,
+      "little 32 SystemV ILP32: 2 4 4 8 4 8; elf elf arm; glibc hard unix, 8/8, 4/4, v7 -, unsigned comdat"},
+  {facts, "x86_64-pc-windows-msvc", {0}, LEXICON_OK,
+      "little 64 WindowsFastcall LLP64: 2 4 4 8 4 8; coff coff x86_64; msvc -, 8/8, 2/2, v0 -, signed comdat"},
+  {facts, "wasm32-wasi", {0}, LEXICON_OK,
+      "little 32 WasmBasicCAbi ILP32: 2 4 4 8 4 8; wasm wasm wasm32; - -, 16/16, 4/4, v0 -, signed comdat"},
   {facts, "unknown", {0}, LEXICON_OK, "- 0 - -: 0 0 0 0 0 0; unknown unknown unknown; - -, 0/0, 0/0, v0 -, -"},
-  {rustc_cfg, "avr-" LONG, {0}, LEXICON_OK, "target_abi=\"\"\ntarget_arch=\"avr\"\ntarget_endian=\"little\"\ntarget_env=\"\"\ntarget_os=\"unknown\"\n"
+  {rustc_cfg, "avr-" LONG, {0}, LEXICON_OK,
+      "target_abi=\"\"\ntarget_arch=\"avr\"\ntarget_endian=\"little\"\ntarget_env=\"\"\ntarget_os=\"unknown\"\n"
    "target_pointer_width=\"16\"\ntarget_vendor=\"" LONG "\"\n"},
   {llvm_target, "x86_64-apple-darwin22", {0}, LEXICON_OK, "x86_64-apple-macosx13.0.0"},
   {multiarch_tuple, "i686-pc-linux-gnu", {0}, LEXICON_OK, "i386-linux-gnu"},
@@ -337,7 +380,8 @@ static const struct row { writes *call; const char *text; uint32_t numbers[3]; e
   {read, "armhf", {DEBIAN}, LEXICON_OK, "armv7-unknown-linux-gnueabihf"},
   {read, "@esbuild/linux-x64", {NODE}, LEXICON_OK, "x86_64-unknown-linux"},
   {read, "ios_65535_255_arm64_iphonesimulator", {PYTHON}, LEXICON_OK, "aarch64-apple-ios65535.255.0-sim"},
-  {read_error, "amd64-pc-linx", {0}, LEXICON_OK, "Unrecognized operating system: linx\n  amd64-pc-linx\n           ^^^^ did you mean `linux`?"},
+  {read_error, "amd64-pc-linx", {0}, LEXICON_OK,
+      "Unrecognized operating system: linx\n  amd64-pc-linx\n           ^^^^ did you mean `linux`?"},
   {read_error, "\xff", {GO}, LEXICON_OK, "Not UTF-8\n  \\u{fffd}\n  ^^^^^^^^"},
   {read_error, "linux/amd46", {GO}, LEXICON_OK, "Unknown name: linux/amd46\n  linux/amd46\n  ^^^^^^^^^^^"},
   {read_error, "plan9/386", {GO}, LEXICON_OK, "No triple has this name: plan9/386\n  plan9/386\n  ^^^^^^^^^"},
@@ -393,11 +437,13 @@ static struct asked asked_of(const char *text) {
   it.text = *text ? text : NULL;
   it.size = strlen(text);
   enum lexicon_status status = lexicon_parse(it.text, it.size, &it.triple, &it.error);
-  EXPECT(status == LEXICON_OK ? is_filled(&it.error, sizeof it.error) : is_filled(&it.triple, sizeof it.triple) && it.error.status == (uint32_t)status);
+  EXPECT(status == LEXICON_OK ? is_filled(&it.error, sizeof it.error)
+      : is_filled(&it.triple, sizeof it.triple) && it.error.status == (uint32_t)status);
   return it;
 }
 
-/* Whether what follows the first bytes of the expected string fits in a buffer with them: a line of several, or a character. */
+/* Whether what follows the first bytes of the expected string fits in a buffer with them: a line of several, or a
+   character. */
 static bool fits(const struct row *row, size_t kept, size_t room) {
   const char *rest = row->expected + kept;
   size_t next = row->call == settled_lines ? strcspn(rest, "\n") : 2; /* no character here has more than two bytes */
@@ -426,7 +472,8 @@ static void try_row(const struct row *row) {
     fill(out, sizeof out);
     length = 0;
     EXPECT(row->call(&it, out, room, &length) == LEXICON_TOO_SMALL && length == size);
-    if (row->call != settled_lines && row->call != error_line && row->call != error_text && row->call != read_error && row->call != translate_error) {
+    if (row->call != settled_lines && row->call != error_line && row->call != error_text && row->call != read_error &&
+        row->call != translate_error) {
       EXPECT(is_filled(out, sizeof out));
     } else {
       size_t kept = strlen(out);
@@ -440,30 +487,38 @@ static void try_row(const struct row *row) {
 
 /* Errors that are none of the string, and control characters. */
 static void try_bad_errors(void) {
-  static const struct lexicon_error bad[] = {{0, 0, 1, NULL}, {8, 0, 1, NULL}, {1, 2, 1, NULL}, {1, 0, 9, NULL}, {3, 2, 3, NULL}, {7, 9, 9, NULL}};
+  static const struct lexicon_error bad[] = {{0, 0, 1, NULL}, {8, 0, 1, NULL}, {1, 2, 1, NULL}, {1, 0, 9, NULL},
+      {3, 2, 3, NULL}, {7, 9, 9, NULL}};
   struct asked it = asked_of("a\xc3\xbc");
   char out[128];
   size_t length = 77;
   fill(out, sizeof out);
   for (size_t i = 0; i < sizeof bad / sizeof *bad; i++) {
     it.error = bad[i];
-    EXPECT(error_line(&it, out, 8, &length) == LEXICON_NO_SUCH_VALUE && error_text(&it, out, 8, &length) == LEXICON_NO_SUCH_VALUE);
+    EXPECT(error_line(&it, out, 8, &length) == LEXICON_NO_SUCH_VALUE &&
+        error_text(&it, out, 8, &length) == LEXICON_NO_SUCH_VALUE);
     EXPECT(suggestion(&it, out, 8, &length) == LEXICON_NO_SUGGESTION);
   }
-  EXPECT(lexicon_error_line(it.text, 3, NULL, out, 8, NULL) == LEXICON_NO_SUCH_VALUE && lexicon_error_text(it.text, 3, NULL, out, 8, NULL) == LEXICON_NO_SUCH_VALUE);
-  EXPECT(lexicon_suggestion(it.text, 3, NULL, out, 8, NULL) == LEXICON_NO_SUGGESTION && length == 77 && is_filled(out, sizeof out));
-  EXPECT(lexicon_parse_strict("x86_64-linx", 11, &it.triple, &it.error) == LEXICON_UNRECOGNIZED_VENDOR && it.error.status == LEXICON_UNRECOGNIZED_VENDOR);
+  EXPECT(lexicon_error_line(it.text, 3, NULL, out, 8, NULL) == LEXICON_NO_SUCH_VALUE &&
+      lexicon_error_text(it.text, 3, NULL, out, 8, NULL) == LEXICON_NO_SUCH_VALUE);
+  EXPECT(lexicon_suggestion(it.text, 3, NULL, out, 8, NULL) == LEXICON_NO_SUGGESTION && length == 77 &&
+      is_filled(out, sizeof out));
+  EXPECT(lexicon_parse_strict("x86_64-linx", 11, &it.triple, &it.error) == LEXICON_UNRECOGNIZED_VENDOR &&
+      it.error.status == LEXICON_UNRECOGNIZED_VENDOR);
   EXPECT(it.error.start == 7 && it.error.end == 11);
   it.error.status = LEXICON_UNRECOGNIZED_ARCHITECTURE;
   it.error.start = 0;
   it.error.end = 9;
   EXPECT(lexicon_error_text("\x1b[31m\xe2\x80\xae!", 9, &it.error, out, sizeof out, NULL) == LEXICON_OK);
-  EXPECT(strcmp(out, "Unrecognized architecture: \\u{1b}[31m\\u{202e}!\n  \\u{1b}[31m\\u{202e}!\n  ^^^^^^^^^^^^^^^^^^^") == 0);
+  EXPECT(strcmp(out,
+      "Unrecognized architecture: \\u{1b}[31m\\u{202e}!\n  \\u{1b}[31m\\u{202e}!\n  ^^^^^^^^^^^^^^^^^^^") == 0);
 }
 
-/* Sizes that no memory has, of which one is 4 with a bit more. What is there isn't looked at, and nothing is written. */
+/* Sizes that no memory has, of which one is 4 with a bit more. What is there isn't looked at, and nothing is
+   written. */
 static void try_too_large(void) {
-  static writes *const calls[] = {settled_lines, error_line, error_text, suggestion, parsed, strict, read, meaning, change, translated, stated_versions, number};
+  static writes *const calls[] = {settled_lines, error_line, error_text, suggestion, parsed, strict, read, meaning,
+      change, translated, stated_versions, number};
   static writes *const strings[] = {reason, translate_reason, name_suggestion};
   const size_t sizes[] = {(size_t)PTRDIFF_MAX + 1, (size_t)PTRDIFF_MAX + 5, SIZE_MAX};
   struct asked it = asked_of("x86_64-linux"), other = it;
@@ -476,22 +531,29 @@ static void try_too_large(void) {
     it.size = sizes[i];
     for (uint32_t from = 0; from < 78; from += 77) { /* whatever else is wrong */
       it.numbers[0] = from;
-      for (size_t j = 0; j < sizeof calls / sizeof *calls; j++) EXPECT(calls[j](&it, out, sizeof out, &length) == LEXICON_TOO_LARGE);
-      for (size_t j = 0; j < sizeof strings / sizeof *strings; j++) EXPECT(strings[j](&it, out, sizeof out, &length) == LEXICON_NO_ANSWER);
+      for (size_t j = 0; j < sizeof calls / sizeof *calls; j++)
+        EXPECT(calls[j](&it, out, sizeof out, &length) == LEXICON_TOO_LARGE);
+      for (size_t j = 0; j < sizeof strings / sizeof *strings; j++)
+        EXPECT(strings[j](&it, out, sizeof out, &length) == LEXICON_NO_ANSWER);
     }
-    EXPECT(lexicon_explain(it.text, it.size, &other.triple, &of, &error) == LEXICON_TOO_LARGE && of.architecture.origin == LEXICON_ORIGIN_NOT_GIVEN);
-    EXPECT(error.status == LEXICON_TOO_LARGE && error.start == 0 && error.end == 0 && are_same(&it.triple, &other.triple));
+    EXPECT(lexicon_explain(it.text, it.size, &other.triple, &of, &error) == LEXICON_TOO_LARGE &&
+        of.architecture.origin == LEXICON_ORIGIN_NOT_GIVEN);
+    EXPECT(error.status == LEXICON_TOO_LARGE && error.start == 0 && error.end == 0 &&
+        are_same(&it.triple, &other.triple));
     EXPECT(lexicon_facts(&it.triple, (struct lexicon_triple_facts *)(void *)out, sizes[i]) == LEXICON_TOO_LARGE);
   }
   it.numbers[0] = it.numbers[2] = 77;
-  EXPECT(written(&it, out, SIZE_MAX, &length) == LEXICON_TOO_LARGE && suggestion(&it, out, SIZE_MAX, &length) == LEXICON_TOO_LARGE);
+  EXPECT(written(&it, out, SIZE_MAX, &length) == LEXICON_TOO_LARGE &&
+      suggestion(&it, out, SIZE_MAX, &length) == LEXICON_TOO_LARGE);
   it.size = 12;
-  EXPECT(translated(&it, out, SIZE_MAX, &length) == LEXICON_TOO_LARGE && suggestion(&it, out, SIZE_MAX, &length) == LEXICON_TOO_LARGE);
+  EXPECT(translated(&it, out, SIZE_MAX, &length) == LEXICON_TOO_LARGE &&
+      suggestion(&it, out, SIZE_MAX, &length) == LEXICON_TOO_LARGE);
   EXPECT(lexicon_error_line(it.text, it.size, NULL, out, SIZE_MAX, &length) == LEXICON_TOO_LARGE);
   EXPECT(lexicon_error_text(it.text, it.size, NULL, out, SIZE_MAX, &length) == LEXICON_TOO_LARGE);
   it.triple.environment = 255;
   EXPECT(vendor_suggestion(&it, out, sizeof out, &length) == LEXICON_NO_SUCH_VALUE);
-  EXPECT(print(&it, out, SIZE_MAX, &length) == LEXICON_TOO_LARGE && vendor_suggestion(&it, out, SIZE_MAX, &length) == LEXICON_TOO_LARGE);
+  EXPECT(print(&it, out, SIZE_MAX, &length) == LEXICON_TOO_LARGE &&
+      vendor_suggestion(&it, out, SIZE_MAX, &length) == LEXICON_TOO_LARGE);
   EXPECT(length == 77 && is_filled(out, sizeof out));
 }
 
@@ -500,7 +562,8 @@ static void try_too_large(void) {
 static void try_pairs(void) {
   static const struct { const char *first, *second; bool equal, same; } pairs[] = {
       {"x86_64-linux", "x86_64-unknown-linux", true, true}, {"x86_64-linux", "x86_64-linux-gnu", false, false},
-      {"x86_64-acme-linux", "x86_64-acme-linux-unknown", true, true}, {"x86_64-acme-linux", "x86_64-acmf-linux", false, false},
+      {"x86_64-acme-linux", "x86_64-acme-linux-unknown", true, true},
+      {"x86_64-acme-linux", "x86_64-acmf-linux", false, false},
       {"riscv32imc-esp-espidf", "riscv32imc-espressif-espidf-unknown-elf", false, true}};
   for (size_t i = 0; i < sizeof pairs / sizeof *pairs; i++) {
     struct lexicon_triple first = asked_of(pairs[i].first).triple, second = asked_of(pairs[i].second).triple;
@@ -515,12 +578,14 @@ static void try_struct(void) {
   static const char custom[] = "avr-acme-linux";
   struct asked it = asked_of("arm64-apple-ios17.2.1-macabi");
   EXPECT(it.triple.architecture == LEXICON_ARCHITECTURE_AARCH64 && it.triple.vendor == LEXICON_VENDOR_APPLE);
-  EXPECT(it.triple.operating_system == LEXICON_OPERATING_SYSTEM_IOS && it.triple.environment == LEXICON_ENVIRONMENT_MACABI);
+  EXPECT(it.triple.operating_system == LEXICON_OPERATING_SYSTEM_IOS &&
+      it.triple.environment == LEXICON_ENVIRONMENT_MACABI);
   EXPECT(it.triple.binary_format == LEXICON_BINARY_FORMAT_MACHO && it.triple.has_version == 1);
   EXPECT(it.triple.major == 17 && it.triple.minor == 2 && it.triple.patch == 1);
   EXPECT(it.triple.custom_vendor == NULL && it.triple.custom_vendor_size == 0);
   it = asked_of(custom);
-  EXPECT(it.triple.vendor == LEXICON_VENDOR_CUSTOM && it.triple.custom_vendor == custom + 4 && it.triple.custom_vendor_size == 4);
+  EXPECT(it.triple.vendor == LEXICON_VENDOR_CUSTOM && it.triple.custom_vendor == custom + 4 &&
+      it.triple.custom_vendor_size == 4);
   it = asked_of("armv7-nintendo-horizon-newlib"); /* printed without the environment */
   EXPECT(lexicon_settle(&it.triple) == LEXICON_OK && it.triple.environment == LEXICON_ENVIRONMENT_UNKNOWN);
   memset(&it.triple, 0, sizeof it.triple);
@@ -529,11 +594,15 @@ static void try_struct(void) {
 }
 
 static void try_names(void) {
-  EXPECT(strcmp(lexicon_status_name(LEXICON_NO_SUCH_MEANING), "no such meaning") == 0 && lexicon_status_name(LEXICON_NO_SUCH_MEANING + 1) == NULL);
-  EXPECT(strcmp(lexicon_field_name(LEXICON_FIELD_BINARY_FORMAT), "binary format") == 0 && lexicon_field_name(LEXICON_FIELD_BINARY_FORMAT + 1) == NULL);
-  EXPECT(strcmp(lexicon_origin_name(LEXICON_ORIGIN_ALIAS), "alias") == 0 && lexicon_endianness_name(LEXICON_ENDIANNESS_NONE) == NULL);
+  EXPECT(strcmp(lexicon_status_name(LEXICON_NO_SUCH_MEANING), "no such meaning") == 0 &&
+      lexicon_status_name(LEXICON_NO_SUCH_MEANING + 1) == NULL);
+  EXPECT(strcmp(lexicon_field_name(LEXICON_FIELD_BINARY_FORMAT), "binary format") == 0 &&
+      lexicon_field_name(LEXICON_FIELD_BINARY_FORMAT + 1) == NULL);
+  EXPECT(strcmp(lexicon_origin_name(LEXICON_ORIGIN_ALIAS), "alias") == 0 &&
+      lexicon_endianness_name(LEXICON_ENDIANNESS_NONE) == NULL);
   EXPECT(lexicon_dialect_named("go") == LEXICON_DIALECT_GO && lexicon_dialect_named("podman") == LEXICON_DIALECT_NONE);
-  EXPECT(lexicon_dialect_named("docker") == LEXICON_DIALECT_OCI && lexicon_dialect_named("npm") == LEXICON_DIALECT_NODE);
+  EXPECT(lexicon_dialect_named("docker") == LEXICON_DIALECT_OCI &&
+      lexicon_dialect_named("npm") == LEXICON_DIALECT_NODE);
   EXPECT(strncmp(lexicon_version(), LEXICON_VERSION, strlen(LEXICON_VERSION)) == 0);
   EXPECT(asked_of(lexicon_host()).triple.architecture != LEXICON_ARCHITECTURE_UNKNOWN);
   EXPECT(LEXICON_VERSION_NUMBER >= 5000 && LEXICON_VERSION_NUMBER % 1000 == LEXICON_VERSION_PATCH);

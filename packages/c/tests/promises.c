@@ -119,7 +119,8 @@ static void try_names(const struct lexicon_triple *triple) {
     CHECK(status == LEXICON_OK || error.reason != NULL);
     if (status != LEXICON_OK) continue;
     CHECK(lexicon_write(dialect, &shape, again, sizeof again, NULL, NULL) == LEXICON_OK && strcmp(again, name) == 0);
-    CHECK(lexicon_translate(dialect, name, length, LEXICON_LINUX_LIBC_NONE, dialect, again, sizeof again, NULL, NULL) == LEXICON_OK);
+    CHECK(lexicon_translate(dialect, name, length, LEXICON_LINUX_LIBC_NONE, dialect, again, sizeof again, NULL, NULL) ==
+        LEXICON_OK);
     CHECK(strcmp(again, name) == 0);
   }
 }
@@ -128,24 +129,30 @@ static void try_names(const struct lexicon_triple *triple) {
 static enum lexicon_status go_name(const struct lexicon_triple *triple, char *out, size_t out_size, size_t *length) {
   return lexicon_write(LEXICON_DIALECT_GO, triple, out, out_size, length, NULL);
 }
-static enum lexicon_status versioned_name(const struct lexicon_triple *triple, char *out, size_t out_size, size_t *length) {
+static enum lexicon_status versioned_name(const struct lexicon_triple *triple, char *out, size_t out_size,
+    size_t *length) {
   return lexicon_write_versioned(LEXICON_DIALECT_PYTHON, triple, 2, 17, out, out_size, length, NULL);
 }
 
 /* The calls that write a text, and the status where there is none. */
 static const struct { text_call *call; uint32_t none; } texts[] = {
-    {lexicon_print, LEXICON_OK}, {lexicon_rustc_cfg, LEXICON_OK}, {lexicon_llvm_target, LEXICON_OK}, {lexicon_program_suffix, LEXICON_OK},
-    {go_name, LEXICON_TRIPLE_WITHOUT_NAME}, {versioned_name, LEXICON_TRIPLE_WITHOUT_NAME}, {lexicon_multiarch_tuple, LEXICON_TRIPLE_WITHOUT_NAME},
-    {lexicon_dynamic_linker, LEXICON_NO_ANSWER}, {lexicon_linker_emulation, LEXICON_NO_ANSWER}, {lexicon_vendor_suggestion, LEXICON_NO_SUGGESTION}};
+    {lexicon_print, LEXICON_OK}, {lexicon_rustc_cfg, LEXICON_OK}, {lexicon_llvm_target, LEXICON_OK},
+    {lexicon_program_suffix, LEXICON_OK},
+    {go_name, LEXICON_TRIPLE_WITHOUT_NAME}, {versioned_name, LEXICON_TRIPLE_WITHOUT_NAME},
+    {lexicon_multiarch_tuple, LEXICON_TRIPLE_WITHOUT_NAME},
+    {lexicon_dynamic_linker, LEXICON_NO_ANSWER}, {lexicon_linker_emulation, LEXICON_NO_ANSWER},
+    {lexicon_vendor_suggestion, LEXICON_NO_SUGGESTION}};
 
 /* What is written is ASCII without controls, except line feeds. */
 static void try_texts(const struct lexicon_triple *triple) {
   for (size_t i = 0; i < sizeof texts / sizeof *texts; i++) {
     char *text;
     uint32_t status = written(texts[i].call, triple, 2, &text);
-    CHECK(status == LEXICON_OK || status == texts[i].none || (texts[i].call == versioned_name && status == LEXICON_NEEDS_C_LIBRARY));
+    CHECK(status == LEXICON_OK || status == texts[i].none ||
+        (texts[i].call == versioned_name && status == LEXICON_NEEDS_C_LIBRARY));
     if (status != LEXICON_OK) continue;
-    for (; *text; text++) CHECK((*text >= ' ' && *text <= '~') || (texts[i].call == lexicon_rustc_cfg && *text == '\n'));
+    for (; *text; text++)
+      CHECK((*text >= ' ' && *text <= '~') || (texts[i].call == lexicon_rustc_cfg && *text == '\n'));
   }
 }
 
@@ -154,7 +161,8 @@ static void try_versions(const struct lexicon_triple *triple) {
   struct lexicon_os_version version;
   memset(&version, 0xa5, sizeof version);
   enum lexicon_status status = lexicon_macos_version(triple, &version);
-  CHECK(status == LEXICON_OK ? triple->has_version == 1 : status == LEXICON_NO_ANSWER && is_unchanged(&version, sizeof version));
+  CHECK(status == LEXICON_OK ? triple->has_version == 1
+                             : status == LEXICON_NO_ANSWER && is_unchanged(&version, sizeof version));
   memset(&version, 0xa5, sizeof version);
   status = lexicon_minimum_os_version(triple, &version);
   CHECK(status == LEXICON_OK || (status == LEXICON_NO_ANSWER && is_unchanged(&version, sizeof version)));
@@ -189,13 +197,15 @@ static void try_translations(const char *text, size_t size) {
       memset(name, 0xa5, sizeof name);
       memset(&error, 0xa5, sizeof error);
       uint32_t status = lexicon_translate(from, text, size, libc, to, name, sizeof name, &length, &error);
-      bool has_reason = status == LEXICON_TRIPLE_WITHOUT_NAME || status == LEXICON_NEEDS_C_LIBRARY || status == LEXICON_NAME_WITHOUT_TRIPLE;
+      bool has_reason = status == LEXICON_TRIPLE_WITHOUT_NAME || status == LEXICON_NEEDS_C_LIBRARY ||
+          status == LEXICON_NAME_WITHOUT_TRIPLE;
       bool has_dialects = from <= LAST_DIALECT && to != LEXICON_DIALECT_NONE && to <= LAST_DIALECT;
       CHECK(has_dialects ? (status == LEXICON_NO_SUCH_C_LIBRARY) == (libc == 6) : status == LEXICON_NO_SUCH_DIALECT);
       if (status == LEXICON_OK) {
         CHECK(read == LEXICON_OK && length == strlen(name) && is_unchanged(&error, sizeof error));
       } else {
-        CHECK(length == 77 && is_unchanged(name, sizeof name) && error.status == status && error.start <= error.end && error.end <= size);
+        CHECK(length == 77 && is_unchanged(name, sizeof name) && error.status == status && error.start <= error.end &&
+            error.end <= size);
         CHECK((error.reason != NULL) == has_reason);
         CHECK(status == read || (read == LEXICON_OK && has_reason) || !has_dialects || libc == 6);
       }
@@ -204,7 +214,11 @@ static void try_translations(const char *text, size_t size) {
 }
 
 /* The calls that give a variant, and the fact that becomes the number. */
-static const struct { enum lexicon_status (*call)(struct lexicon_triple *, uint32_t); size_t fact; uint32_t number; } variants[] = {
+static const struct {
+  enum lexicon_status (*call)(struct lexicon_triple *, uint32_t);
+  size_t fact;
+  uint32_t number;
+} variants[] = {
     {lexicon_set_pointer_width, offsetof(struct lexicon_triple_facts, pointer_width), 16},
     {lexicon_set_pointer_width, offsetof(struct lexicon_triple_facts, pointer_width), 32},
     {lexicon_set_pointer_width, offsetof(struct lexicon_triple_facts, pointer_width), 64},
@@ -224,7 +238,8 @@ static void try_triple(const struct lexicon_triple *triple) {
   CHECK(lexicon_parse(text, length, &again, NULL) == LEXICON_OK && are_equal(&again, triple) == comes_back);
   size_t settled_length = printed(&settled, 3, &settled_text);
   CHECK(lexicon_parse(settled_text, settled_length, &again, NULL) == LEXICON_OK && are_equal(&again, &settled));
-  CHECK(lexicon_all_facts(triple, &facts) == LEXICON_OK && facts.has_custom_vendor == (triple->vendor == LEXICON_VENDOR_CUSTOM));
+  CHECK(lexicon_all_facts(triple, &facts) == LEXICON_OK &&
+      facts.has_custom_vendor == (triple->vendor == LEXICON_VENDOR_CUSTOM));
   for (size_t size = 0; size <= sizeof facts + 2; size++) {
     uint8_t *some = (uint8_t *)before_guard(2, size);
     memset(some, 0xa5, size);
@@ -235,7 +250,8 @@ static void try_triple(const struct lexicon_triple *triple) {
   for (uint32_t libc = LEXICON_LINUX_LIBC_GLIBC; libc <= LEXICON_LINUX_LIBC_GNULLVM; libc++) {
     struct lexicon_triple completed = *triple;
     CHECK(lexicon_complete(&completed, libc) == LEXICON_OK && has_zeros(&completed));
-    uint8_t system = libc <= LEXICON_LINUX_LIBC_MUSL ? LEXICON_OPERATING_SYSTEM_LINUX : LEXICON_OPERATING_SYSTEM_WINDOWS;
+    uint8_t system = libc <= LEXICON_LINUX_LIBC_MUSL ? LEXICON_OPERATING_SYSTEM_LINUX
+        : LEXICON_OPERATING_SYSTEM_WINDOWS;
     bool is_open = triple->operating_system == system && triple->environment == LEXICON_ENVIRONMENT_UNKNOWN &&
                    (system != LEXICON_OPERATING_SYSTEM_LINUX || triple->architecture != LEXICON_ARCHITECTURE_ARM);
     CHECK((completed.environment != triple->environment) == is_open);
@@ -243,8 +259,10 @@ static void try_triple(const struct lexicon_triple *triple) {
     CHECK(are_equal(&completed, triple));
   }
   settled = *triple;
-  CHECK(lexicon_complete(&settled, LEXICON_LINUX_LIBC_NONE) == LEXICON_NO_SUCH_C_LIBRARY && lexicon_complete(&settled, 6) == LEXICON_NO_SUCH_C_LIBRARY);
-  CHECK(lexicon_set_pointer_width(&settled, 8) == LEXICON_NO_SUCH_VALUE && lexicon_set_endianness(&settled, 3) == LEXICON_NO_SUCH_VALUE);
+  CHECK(lexicon_complete(&settled, LEXICON_LINUX_LIBC_NONE) == LEXICON_NO_SUCH_C_LIBRARY &&
+      lexicon_complete(&settled, 6) == LEXICON_NO_SUCH_C_LIBRARY);
+  CHECK(lexicon_set_pointer_width(&settled, 8) == LEXICON_NO_SUCH_VALUE &&
+      lexicon_set_endianness(&settled, 3) == LEXICON_NO_SUCH_VALUE);
   CHECK(are_equal(&settled, triple));
   for (size_t i = 0; i < sizeof variants / sizeof *variants; i++) {
     struct lexicon_triple variant = *triple;
@@ -278,7 +296,8 @@ static uint32_t small_number(uint32_t field, uint32_t number) {
 /* The status that each call with the struct must give, by the names and numbers of the library. */
 static uint32_t expected_status(const struct lexicon_triple *it) {
   uint32_t number = 0;
-  static const uint8_t darwin[] = {LEXICON_OPERATING_SYSTEM_DARWIN, LEXICON_OPERATING_SYSTEM_IOS, LEXICON_OPERATING_SYSTEM_MACOSX, LEXICON_OPERATING_SYSTEM_TVOS,
+  static const uint8_t darwin[] = {LEXICON_OPERATING_SYSTEM_DARWIN, LEXICON_OPERATING_SYSTEM_IOS,
+      LEXICON_OPERATING_SYSTEM_MACOSX, LEXICON_OPERATING_SYSTEM_TVOS,
       LEXICON_OPERATING_SYSTEM_VISIONOS, LEXICON_OPERATING_SYSTEM_WATCHOS, LEXICON_OPERATING_SYSTEM_XROS};
   if (!has_name(LEXICON_FIELD_ARCHITECTURE, it->architecture)) return LEXICON_NO_SUCH_VALUE;
   if (it->vendor == LEXICON_VENDOR_CUSTOM) {
@@ -288,13 +307,16 @@ static uint32_t expected_status(const struct lexicon_triple *it) {
     return LEXICON_NO_SUCH_VALUE;
   }
   bool takes_version = memchr(darwin, it->operating_system, sizeof darwin) != NULL;
-  if (!has_name(LEXICON_FIELD_OPERATING_SYSTEM, it->operating_system) || it->has_version > takes_version) return LEXICON_NO_SUCH_VALUE;
-  bool well = has_name(LEXICON_FIELD_ENVIRONMENT, it->environment) && has_name(LEXICON_FIELD_BINARY_FORMAT, it->binary_format);
+  if (!has_name(LEXICON_FIELD_OPERATING_SYSTEM, it->operating_system) || it->has_version > takes_version)
+    return LEXICON_NO_SUCH_VALUE;
+  bool well = has_name(LEXICON_FIELD_ENVIRONMENT, it->environment) &&
+      has_name(LEXICON_FIELD_BINARY_FORMAT, it->binary_format);
   return well ? LEXICON_OK : LEXICON_NO_SUCH_VALUE;
 }
 
 /* All calls give the status, and change nothing. */
-static void try_bad(const struct lexicon_triple *bad, const struct lexicon_triple *other, uint32_t other_status, uint32_t status) {
+static void try_bad(const struct lexicon_triple *bad, const struct lexicon_triple *other, uint32_t other_status,
+    uint32_t status) {
   struct lexicon_triple copy = *bad;
   struct lexicon_triple_facts facts;
   char out[64];
@@ -312,7 +334,8 @@ static void try_bad(const struct lexicon_triple *bad, const struct lexicon_tripl
   CHECK(lexicon_set_endianness(&copy, LEXICON_ENDIANNESS_BIG) == status && memcmp(&copy, bad, sizeof copy) == 0);
   struct lexicon_os_version version;
   memset(&version, 0xa5, sizeof version);
-  CHECK(lexicon_macos_version(bad, &version) == status && lexicon_minimum_os_version(bad, &version) == status && is_unchanged(&version, sizeof version));
+  CHECK(lexicon_macos_version(bad, &version) == status && lexicon_minimum_os_version(bad, &version) == status &&
+      is_unchanged(&version, sizeof version));
   CHECK(lexicon_comes_back(bad, &answer) == status && lexicon_equal(bad, other, &answer) == status && answer);
   CHECK(lexicon_equal(other, bad, &answer) == (other_status ? other_status : status) && answer);
   CHECK(lexicon_same_target(other, bad, &answer) == (other_status ? other_status : status) && answer);
@@ -332,7 +355,8 @@ static struct lexicon_triple *take_triple(struct input *input, int region, int v
     it->has_version %= 3;
   }
   if (how & 2) it->vendor = LEXICON_VENDOR_CUSTOM;
-  if (it->vendor == LEXICON_VENDOR_CUSTOM) it->custom_vendor = take_text(input, vendor_region, how >> 2, &it->custom_vendor_size);
+  if (it->vendor == LEXICON_VENDOR_CUSTOM)
+    it->custom_vendor = take_text(input, vendor_region, how >> 2, &it->custom_vendor_size);
   return it;
 }
 
@@ -367,13 +391,16 @@ static void try_error(const char *text, size_t size, const struct lexicon_error 
   }
   CHECK(status == LEXICON_TOO_SMALL && line <= 56 + error->end - error->start && whole > line);
   char *out = (char *)before_guard(2, whole + 1);
-  CHECK(lexicon_error_text(text, size, error, out, whole + 1, &again) == LEXICON_OK && again == whole && strlen(out) == whole);
+  CHECK(lexicon_error_text(text, size, error, out, whole + 1, &again) == LEXICON_OK && again == whole &&
+      strlen(out) == whole);
   bool of_name = strncmp(out, "Unknown name: ", 14) == 0 || strncmp(out, "No triple has this name: ", 25) == 0 ||
-                 strncmp(out, "No name in the other dialect: ", 30) == 0 || strncmp(out, "The name in the other dialect depends", 37) == 0;
+                 strncmp(out, "No name in the other dialect: ", 30) == 0 ||
+                 strncmp(out, "The name in the other dialect depends", 37) == 0;
   bool has_part = error->status != LEXICON_NOT_UTF8;
   CHECK(of_name || strncmp(out, has_part ? "Unrecognized " : "Not UTF-8", 9) == 0);
   for (const char *it = out; *it; it++) CHECK((*it >= ' ' && *it <= '~') || *it == '\n');
-  const char *part = out + line - (error->end - error->start), *under = strrchr(out, '\n') + 1, *shown = strchr(out, '\n') + 1;
+  const char *part = out + line - (error->end - error->start);
+  const char *under = strrchr(out, '\n') + 1, *shown = strchr(out, '\n') + 1;
   size_t indent = strspn(under, " "), carets = strspn(under + indent, "^"), width = strcspn(part, "\n");
   if (has_part) CHECK(carets == (width ? width : 1) && strncmp(shown + indent, part, width) == 0);
   out = (char *)before_guard(2, whole / 2 + 1);
@@ -391,15 +418,20 @@ static void try_error(const char *text, size_t size, const struct lexicon_error 
 }
 
 static void try_source(const struct lexicon_source *it, size_t size) {
-  if (it->origin == LEXICON_ORIGIN_GIVEN || it->origin == LEXICON_ORIGIN_ALIAS) CHECK(it->start <= it->end && it->end <= size);
-  else CHECK((it->origin == LEXICON_ORIGIN_NOT_GIVEN || it->origin == LEXICON_ORIGIN_IMPLIED) && it->start == 0 && it->end == 0);
+  if (it->origin == LEXICON_ORIGIN_GIVEN || it->origin == LEXICON_ORIGIN_ALIAS)
+    CHECK(it->start <= it->end && it->end <= size);
+  else
+    CHECK((it->origin == LEXICON_ORIGIN_NOT_GIVEN || it->origin == LEXICON_ORIGIN_IMPLIED) && it->start == 0 &&
+        it->end == 0);
 }
 
 /* Of a text that is parsed, both calls write the same triple, which is well and points into the text. */
-static void try_parsed(const char *text, size_t size, const struct lexicon_triple *triple, const struct lexicon_triple *explained) {
+static void try_parsed(const char *text, size_t size, const struct lexicon_triple *triple,
+    const struct lexicon_triple *explained) {
   CHECK(are_equal(triple, explained) && expected_status(triple) == LEXICON_OK);
   bool is_custom = triple->vendor == LEXICON_VENDOR_CUSTOM;
-  CHECK(!is_custom || (triple->custom_vendor >= text && triple->custom_vendor + triple->custom_vendor_size <= text + size));
+  CHECK(!is_custom ||
+      (triple->custom_vendor >= text && triple->custom_vendor + triple->custom_vendor_size <= text + size));
   CHECK(has_zeros(triple) && has_zeros(explained));
   char *out;
   CHECK(printed(triple, 2, &out) <= size + LEXICON_MAX_GROWTH);
@@ -417,7 +449,8 @@ static void try_changes(const char *text, size_t size, uint32_t parsed, const st
     char *names = (char *)before_guard(2, size + 30);
     status = lexicon_changes(text, size, number, &change, names, size + 30, &length);
     if (status != LEXICON_OK) break;
-    CHECK(length > 0 && length == strlen(names) && last <= change.start && change.start <= change.end && change.end <= size);
+    CHECK(length > 0 && length == strlen(names) && last <= change.start && change.start <= change.end &&
+        change.end <= size);
     last = change.end;
   }
   CHECK(status == LEXICON_NO_SUCH_CHANGE || (status == LEXICON_NOT_UTF8 && number == 0));
@@ -458,11 +491,14 @@ static void try_meanings(const char *text, size_t size, uint32_t parsed) {
     is_last = is_own && !(number == 0 && parsed == LEXICON_OK);
     if (!is_own) last = dialect;
     CHECK(said == status || is_of_several || (is_own && parsed == LEXICON_OK));
-    if (status == LEXICON_OK) CHECK(expected_status(&triple) == LEXICON_OK && has_zeros(&triple) && (is_own || is_of_several || are_equal(&triple, &read)));
+    if (status == LEXICON_OK)
+      CHECK(expected_status(&triple) == LEXICON_OK && has_zeros(&triple) &&
+          (is_own || is_of_several || are_equal(&triple, &read)));
     else CHECK(is_unchanged(&triple, sizeof triple) && !is_own);
   }
   CHECK(status == LEXICON_NO_SUCH_MEANING || (status == LEXICON_NOT_UTF8 && number == 0));
-  CHECK(is_unchanged(&triple, sizeof triple) && is_unchanged(&dialect, sizeof dialect) && (parsed == LEXICON_NOT_UTF8) == (status == LEXICON_NOT_UTF8));
+  CHECK(is_unchanged(&triple, sizeof triple) && is_unchanged(&dialect, sizeof dialect) &&
+      (parsed == LEXICON_NOT_UTF8) == (status == LEXICON_NOT_UTF8));
 }
 
 /* A text as a name of each dialect, and of none, where parsing it gave this status and, if that is LEXICON_OK, this
@@ -480,17 +516,20 @@ static void try_read(const char *text, size_t size, uint32_t parsed, const struc
     if (meant != NULL) {
       struct lexicon_triple suggested;
       struct lexicon_error none;
-      CHECK(status == LEXICON_UNKNOWN_NAME && lexicon_read(dialect, meant, strlen(meant), &suggested, &none) == LEXICON_OK);
+      CHECK(status == LEXICON_UNKNOWN_NAME);
+      CHECK(lexicon_read(dialect, meant, strlen(meant), &suggested, &none) == LEXICON_OK);
     }
     if (status == LEXICON_OK) {
       CHECK(is_unchanged(&error, sizeof error) && expected_status(&triple) == LEXICON_OK && has_zeros(&triple));
       bool is_custom = triple.vendor == LEXICON_VENDOR_CUSTOM;
       /* The vendor of a target of rustc is the library's own string. */
       CHECK(!is_custom || dialect == LEXICON_DIALECT_NONE || dialect == LEXICON_DIALECT_RUST);
-      CHECK(!is_custom || dialect != LEXICON_DIALECT_NONE || (triple.custom_vendor >= text && triple.custom_vendor + triple.custom_vendor_size <= text + size));
+      CHECK(!is_custom || dialect != LEXICON_DIALECT_NONE ||
+          (triple.custom_vendor >= text && triple.custom_vendor + triple.custom_vendor_size <= text + size));
       if (dialect != LEXICON_DIALECT_NONE) try_triple(&triple);
     } else {
-      CHECK(is_unchanged(&triple, sizeof triple) && error.status == status && error.start <= error.end && error.end <= size);
+      CHECK(is_unchanged(&triple, sizeof triple) && error.status == status && error.start <= error.end &&
+          error.end <= size);
       try_error(text, size, &error);
     }
     if (dialect != LEXICON_DIALECT_NONE) {
@@ -552,7 +591,8 @@ static void try_text(const char *text, size_t size) {
   CHECK(lexicon_explain(text, size, &explained, &sources, &other) == status && status <= LEXICON_NOT_UTF8);
   struct lexicon_triple alone = triple;
   CHECK(lexicon_parse(text, size, &alone, NULL) == status);
-  const struct lexicon_source *each[] = {&sources.architecture, &sources.vendor, &sources.operating_system, &sources.environment,
+  const struct lexicon_source *each[] = {&sources.architecture, &sources.vendor, &sources.operating_system,
+      &sources.environment,
       &sources.binary_format};
   for (size_t i = 0; i < 5; i++) try_source(each[i], size);
   if (status == LEXICON_OK) {
@@ -582,11 +622,13 @@ static void try_zero_ended(const char *text, size_t size) {
   same[size] = 0;
   if (strlen(same) != size) return;
   uint32_t status = lexicon_parse(text, size, &parsed, &error);
-  CHECK(lexicon_parse(LEXICON_Z(same), &triple, NULL) == status && lexicon_explain(LEXICON_Z(same), &triple, &sources, NULL) == status);
+  CHECK(lexicon_parse(LEXICON_Z(same), &triple, NULL) == status &&
+      lexicon_explain(LEXICON_Z(same), &triple, &sources, NULL) == status);
   const bool is_custom = status == LEXICON_OK && parsed.vendor == LEXICON_VENDOR_CUSTOM;
   memset(&triple, 0xa5, sizeof triple);
   const uint32_t strict = lexicon_parse_strict(LEXICON_Z(same), &triple, &none);
-  CHECK(strict == (is_custom ? LEXICON_UNRECOGNIZED_VENDOR : status) && lexicon_parse_strict(text, size, &parsed, NULL) == strict);
+  CHECK(strict == (is_custom ? LEXICON_UNRECOGNIZED_VENDOR : status) &&
+      lexicon_parse_strict(text, size, &parsed, NULL) == strict);
   CHECK(strict == LEXICON_OK ? are_equal(&triple, &parsed) : is_unchanged(&triple, sizeof triple));
   CHECK(strict == LEXICON_OK || (none.status == strict && none.start <= none.end && none.end <= size));
   CHECK((uint32_t)lexicon_dialect_named(same) <= LAST_DIALECT);
@@ -601,7 +643,8 @@ int LLVMFuzzerTestOneInput(const uint8_t *data, size_t data_size) {
   try_text(text, size);
   try_lines(text, size);
   if (how & 2) try_translations(text, size);
-  struct lexicon_triple of_vendor = {.vendor = LEXICON_VENDOR_CUSTOM, .custom_vendor = text, .custom_vendor_size = size};
+  struct lexicon_triple of_vendor = {.vendor = LEXICON_VENDOR_CUSTOM, .custom_vendor = text,
+      .custom_vendor_size = size};
   try_struct(&of_vendor, &of_vendor);
   try_zero_ended(text, size);
   CHECK(strncmp(lexicon_version(), LEXICON_VERSION, sizeof LEXICON_VERSION - 1) == 0);
@@ -611,7 +654,8 @@ int LLVMFuzzerTestOneInput(const uint8_t *data, size_t data_size) {
   CHECK((status == LEXICON_NO_SUCH_FIELD) == (word % 7 > 4));
   if (status == LEXICON_OK) CHECK(has_name(word % 7, number) || number == LEXICON_VENDOR_CUSTOM);
   has_name(word % 7, how);
-  CHECK((lexicon_status_name(word) == NULL) == (word > LEXICON_NO_SUCH_MEANING) && (lexicon_family_name(word) == NULL) == (word > LEXICON_FAMILY_Z80));
+  CHECK((lexicon_status_name(word) == NULL) == (word > LEXICON_NO_SUCH_MEANING) &&
+      (lexicon_family_name(word) == NULL) == (word > LEXICON_FAMILY_Z80));
   struct lexicon_error error = {word & 15u, how & 15u, word >> 3, NULL};
   try_error(text, size, &error);
   return 0;
