@@ -28,10 +28,10 @@ import time
 import traceback
 
 # Debian's packages of the tools: commands, modules of Debian's Python, and paths.
-MODULES = {it: f"python3-{it}"
-           for it in "hypothesis pip venv hatchling build installer pandas packaging selenium jsonschema markdown".split()} | {"ensurepip": "python3-venv"}
-PACKAGES = {
-    it: it for it in "git clang valgrind cmake meson cbindgen jq pkg-config mypy pypy3 shellcheck pyflakes3 chromium npm esbuild lintian rpm makepkg zsh fish strace".split()} | MODULES | {
+MODULES = {it: f"python3-{it}" for it in """hypothesis pip venv hatchling build installer pandas packaging selenium
+    jsonschema markdown""".split()} | {"ensurepip": "python3-venv"}
+PACKAGES = {it: it for it in """git clang valgrind cmake meson cbindgen jq pkg-config mypy pypy3 shellcheck pyflakes3
+    chromium npm esbuild lintian rpm makepkg zsh fish strace""".split()} | MODULES | {
     "coqc": "coq", "cargo": "cargo-web", "rustc": "rustc-web", "rustfmt": "rustfmt-web",
     "cargo-clippy": "rust-web-clippy", "cc": "gcc", "c++": "g++", "nm": "binutils",
     "bwrap": "bubblewrap", "man": "man-db", "cram3": "python3-cram", "chromedriver": "chromium-driver",
@@ -67,7 +67,8 @@ COMMANDS = "packages/target/release"
 
 # Each step: what it is for, its command, and the tools without which it isn't run.
 FIRST = [
-    ("lists of names and the Rust source are what they are made from; what was reviewed of it, and of the statement, is as it was", "tools/write --check", "rustfmt"),
+    ("lists of names and the Rust source are what they are made from; what was reviewed of it, and of the statement, "
+     "is as it was", "tools/write --check", "rustfmt"),
     ("the published table of names is what its schema says", "checks/names", "jsonschema"),
     ("no script has a warning", "checks/scripts", "shellcheck pyflakes3"),
     ("nothing that another user of the machine plants reaches the gate", "checks/planted", ""),
@@ -76,23 +77,30 @@ PROOFS = ("all proofs, must-fail edits, tests and proved programs", "rt ci", "rt
 # Two rows of steps: those that need nothing which the gate builds, and those that build something, or need what is
 # built before them.
 WITHOUT_PROOF = [[
-    ("the Rust crate, as its users build it: tests, samples of the documentation, public surface, features, a dependent",
+    ("the Rust crate, as its users build it: tests, samples of the documentation, public surface, features, "
+     "a dependent",
      "packages/rust/test", "cargo"),
-    ("the crate of other tools' names: each row, shape and rule, laws over generated strings, samples of the documentation",
+    ("the crate of other tools' names: each row, shape and rule, laws over generated strings, samples of the "
+     "documentation",
      "packages/names/test", "cargo"),
-    ("the definitions run, and say what the Rust crate answers; what they take from the kit's library, written again, is the kit's; without something to compare that fails",
+    ("the definitions run, and say what the Rust crate answers; what they take from the kit's library, written again, "
+     "is the kit's; without something to compare that fails",
      "checks/specification quick && checks/running/test && checks/mutants rust 12", "cargo"),
-    ("Coq proves the laws of the definitions, and of the Rust source, which is the proved source; twelve edits of them, others on each day, are refused at their lemmas; bad input",
+    ("Coq proves the laws of the definitions, and of the Rust source, which is the proved source; twelve edits of "
+     "them, others on each day, are refused at their lemmas; bad input",
      'checks/theorem --keep "$WORK/theorem" && checks/coq/edits "$WORK/theorem" 12 && checks/coq/test', "coqc"),
     ("they, and the table of names, say what upstream's own crate answers",
-     'if [ "$UPSTREAM" ]; then tools/port "$UPSTREAM"; else echo "left out: upstream\'s crate (UPSTREAM isn\'t set)"; fi', "cargo"),
+     'if [ "$UPSTREAM" ]; then tools/port "$UPSTREAM"; '
+     'else echo "left out: upstream\'s crate (UPSTREAM isn\'t set)"; fi',
+     "cargo"),
     ("the command `target-lexicon`: arguments, output and statuses", "packages/command/test", "cargo cram3 jq"),
     ("the library for C, header, packages and samples, as C and C++ users have them", "packages/c/test", "cargo cc"),
     ("Debian's packages are built, and lintian finds no error", 'checks/planted packages/debian/build debian -d',
      "cargo cc dpkg-buildpackage"),
 ], [
     ("the command `target-lexicon`, and a program to compare with, are built for the next steps",
-     f'cd packages/command && cargo build --quiet --locked --release --all-features && cp ../../{COMMANDS}/lines ../../{COMMANDS}/target-lexicon "$BUILT/bin"', "cargo"),
+     "(cd packages/command && cargo build --quiet --locked --release --all-features) && "
+     f'cp {COMMANDS}/lines {COMMANDS}/target-lexicon "$BUILT/bin"', "cargo"),
     ("the library for C is built and installed for the next steps", 'checks/planted packages/c/install "$BUILT"',
      "cargo cc"),
     ("what other tools say of names and targets; suggestions keep the machine",
@@ -111,7 +119,8 @@ WITHOUT_PROOF = [[
 ]]
 LAST = [
     ("links, names, samples, counts and versions of the pages, and the pictures", "checks/pages", "cargo"),
-    ("the program `triples` and the command `target-lexicon`: stored rows, unusual streams, large inputs, samples of the pages", "checks/rows/run", "cargo cram3"),
+    ("the program `triples` and the command `target-lexicon`: stored rows, unusual streams, large inputs, samples "
+     "of the pages", "checks/rows/run", "cargo cram3"),
     ("no message and no output has what isn't printable ASCII of a hostile string; SECURITY's other promises",
      "checks/visible && checks/security", "cargo cc strace"),
     ("each allocation fails in turn", "checks/fail_allocations", "rt cc"),
@@ -145,7 +154,8 @@ def too_old(tool):
 def has(tool):
     """Whether there is a command, a module or a path, or for `wasm32` rustc's `std`."""
     if tool == "wasm32":
-        command = f'ls "$(PATH={WASM}/bin:$PATH rustc --print target-libdir --target wasm32-unknown-unknown)"/libcore-*.rlib'
+        folder = f"$(PATH={WASM}/bin:$PATH rustc --print target-libdir --target wasm32-unknown-unknown)"
+        command = f'ls "{folder}"/libcore-*.rlib'
     elif tool in MODULES:
         command = f"/usr/bin/python3 -I -c 'import {tool}'"
     else:
@@ -212,8 +222,8 @@ def main():
     tools = missing()
     if tools:
         old = "".join(f" ({it})" for tool in tools for it in too_old(tool))
-        failed.append(
-            (f"missing: {' '.join(tools)}{old}. Install these, or name what may be left out, as with --without {tools[0]}", 2))
+        failed.append((f"missing: {' '.join(tools)}{old}. "
+                       f"Install these, or name what may be left out, as with --without {tools[0]}", 2))
         return
     with open("/proc/meminfo", encoding="utf-8") as file:
         memory = next(int(line.split()[1]) // 1000000 for line in file if line.startswith("MemAvailable"))
