@@ -1,5 +1,5 @@
-// Target triples for JavaScript, over the module target-lexicon.wasm. Not proved: this file moves strings and numbers
-// in and out of the module's memory, and gives the numbers their names. Every answer is the module's, except for
+// Target triples for JavaScript, over the module target-lexicon.wasm. Nothing here is proved: this file moves strings and
+// numbers in and out of the module's memory, and gives the numbers their names. Every answer is the module's, except for
 // `host`. target-lexicon.d.ts says what each call does. `build` puts names.js, the lists of names, before this file.
 //
 // SPDX-License-Identifier: Apache-2.0 WITH LLVM-exception

@@ -27,7 +27,7 @@
 //! ```
 //!
 //! What names mean is data, with a source for each name; tests try each row, and these tools are asked. Nothing here is proved: the triples are
-//! those of the crate `target-lexicon-verified`, whose parser and printer are compiled from a proved source.
+//! those of the crate `target-lexicon-verified`.
 //!
 //! # Features
 //!

@@ -1,7 +1,7 @@
 // SPDX-License-Identifier: Apache-2.0 WITH LLVM-exception
 //! LLVM target triples: what the crate `target-lexicon` 0.13.5 (upstream) has, with the Rust source of a verified port.
 //!
-//! The types and their methods are the proved source, without the parts that only proofs need.
+//! Most types and methods are the proved source, without the parts that only proofs need.
 //!
 //! ```
 //! use target_lexicon::{Architecture, Endianness, OperatingSystem, Triple};
