@@ -2,7 +2,8 @@
 upstream's crate.
 
 Lines are 20,000 of rustc's targets in turn, or the same with an `x` at the end; upstream's program writes straight into
-its output. The calls are those of speed.rs, with these targets. With `--store` the figures are written into the file;
+its output. The calls are those of speed.rs, with these targets; a refused field is one of theirs with an `X` at the
+end. With `--store` the figures are written into the file;
 then run tools/pictures/speed. The status is 1 if a query takes more instructions than upstream's.
 """
 import os
@@ -69,6 +70,7 @@ def main(options, folder):
             numbers = of_line([program, call], path)
             theirs = row["upstream"] != "-" and of_line([lines_of, call], path)
         else:
+            call += ", refused" if part == "field" and row["lines"] == "refused" else ""
             numbers = of_call(with_calls, "c" if part == "C" else "ours", call, f"{folder}/targets")
             theirs = row["upstream"] != "-" and of_call(with_calls, "upstream", call, f"{folder}/targets")
         row[ours] = f"{numbers[0]:.0f}"

@@ -3,7 +3,7 @@
 //!
 //! usage: speed WHO WHAT < LINES   WHO is `upstream`, `ours` or `c`. Calls WHAT 200 times with each line, or with the
 //! triple that it parses as, and prints how many calls that were. `none` calls what does nothing: it shows what the
-//! program itself takes
+//! program itself takes. With `, refused` after it a field has an `X` at its end.
 use std::hint::black_box;
 
 fn each<T>(items: &[T], call: fn(&T)) -> usize {
@@ -46,7 +46,8 @@ macro_rules! calls {
 
             pub fn run(what: &str, lines: &[String]) -> usize {
                 let (read, refused, triples) = parsed(lines, |it| it.parse::<Triple>().ok());
-                let shown = |field: fn(&Triple) -> String| triples.iter().map(field).collect::<Vec<_>>();
+                let (what, end) = what.strip_suffix(", refused").map_or((what, ""), |it| (it, "X"));
+                let shown = |field: fn(&Triple) -> String| triples.iter().map(|it| field(it) + end).collect::<Vec<_>>();
                 let (architecture, vendor) = (shown(|it| it.architecture.to_string()), shown(|it| it.vendor.to_string()));
                 let (operating_system, environment) = (shown(|it| it.operating_system.to_string()), shown(|it| it.environment.to_string()));
                 let binary_format = shown(|it| it.binary_format.to_string());
