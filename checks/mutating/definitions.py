@@ -13,6 +13,8 @@ OTHER = {"&&": "||", "||": "&&", "≡": "≢", "≢": "≡", "<": "≤", "≤": 
          "/": "*", "%": "/"}
 # Domain-specific operators whose parts may be left out.
 OF_PARTS = ("×", "⊎", "&&", "||", "++", "→", "↔")
+# Comparisons, of which the order of the arguments says nothing.
+SYMMETRIC = [("var", "bytes_eq"), ("var", "is_same_format")]
 
 
 def shown(it):
@@ -87,7 +89,7 @@ class Mutated(translate.Rust):
             for a, b in zip([*it[2]], [*it[2]][1:]):
                 yield "fields", ("record", None, {**it[2], a: it[2][b], b: it[2][a]})
         elif kind == "app":
-            if len(it[2]) > 1 and it[2][0] != it[2][1]:
+            if len(it[2]) > 1 and it[2][0] != it[2][1] and it[1] not in SYMMETRIC:
                 yield "arguments", ("app", it[1], [it[2][1], it[2][0], *it[2][2:]])
             if len(it[2]) == 1 and it[1] != ("var", "codes"):
                 yield "call", it[2][0]

@@ -4,14 +4,41 @@ use crate::common::{self, Shown};
 use crate::report::Report;
 use crate::{answers, inputs};
 use definitions::spec as s;
-use definitions::values::{con, eq, function, named, text as v, with, V};
+use definitions::values::{con, eq, fields, function, named, text as v, with, V};
 use std::borrow::Cow;
 use std::fmt::Display;
+/// The fields of a triple, as the definitions name them.
+const FIELDS: [&str; 5] = ["architecture", "vendor", "operating_system", "environment", "binary_format"];
+
 use target_lexicon::{Named as _, OperatingSystemExt as _, ParseErrorExt as _, TripleExt as _};
 use target_lexicon::{
     Architecture, BinaryFormat, CallingConvention, CDataModel, CustomVendor, DeploymentTarget, Endianness, Environment, Field, NotPlain,
     OperatingSystem, ParseError, ParseTripleError, Refusal, Source, Sources, Triple, TripleRef, Vendor, VendorRef, Z80Architecture,
 };
+
+// ---- values as the code has them, which definitions take apart
+
+fn vendor_of_code(vendor: &Vendor) -> V {
+    match vendor {
+        Vendor::Custom(CustomVendor::Static(text)) => con(s::Vendor__Custom, &[con(s::CustomVendor__Static, &[v(text)])]),
+        Vendor::Custom(CustomVendor::Owned(text)) => con(s::Vendor__Custom, &[con(s::CustomVendor__Owned, &[v(text)])]),
+        known => named("Vendor", &format!("{known:?}")).expect("a vendor"),
+    }
+}
+
+/// A vendor that borrows its string.
+fn ref_of_code(value: V) -> V {
+    let V::C(tag, of) = value else { unreachable!() };
+    con(if tag == s::VendorValue__Custom { s::VendorRef__Custom } else { s::VendorRef__Known }, of)
+}
+
+fn refusal_of_code(it: &Refusal) -> V {
+    let field = it.expected.and_then(|it| named("Field", &format!("{it:?}")));
+    let expected = field.map_or(V::C(s::Option__None, &[]), |it| con(s::Option__Some, &[it]));
+    s::refusal_with(expected, s::part_from(V::N(it.part.start as u64), v(it.part.text)))
+}
+
+// ---- what is compared
 
 /// What a word is as a vendor that is borrowed, and as a processor of the family of Z80, which upstream doesn't export.
 pub fn word(r: &mut Report, word: &str) {
@@ -20,6 +47,12 @@ pub fn word(r: &mut Report, word: &str) {
     answers! { r, &word, (x): vendor_of = VendorRef::from_str(word).ok(); }
     let is_whole = |it: Refusal| it.expected == Some(Field::Vendor) && (it.part.text, it.part.start) == (word, 0);
     r.holds("a refused vendor is the whole string", VendorRef::from_str(word).err().map_or(true, is_whole), &word);
+    if let (Ok(vendor), V::C(_, of)) = (word.parse::<Vendor>(), s::vendor_of(x)) {
+        let it = vendor_of_code(&vendor);
+        r.holds("OwnsCustomString", eq(s::vendor_value(it), of[0]) && s::OwnsCustomString(it).yes(), &word);
+    }
+    let has_row = s::row_texts().list().iter().any(|it| eq(*it, x));
+    r.holds("has_row", s::has_row(x).yes() == has_row, &word);
     answers! { r, &word, (function(s::as_z80), x): sub_architecture_of = word.parse::<Z80Architecture>().ok(); }
     answers! { r, &word, (x): version_of = word.parse::<DeploymentTarget>().ok(); }
 }
@@ -27,6 +60,10 @@ pub fn word(r: &mut Report, word: &str) {
 /// What each value of a field answers, by the calls without memory.
 pub fn values(r: &mut Report) {
     common::values(r);
+    let rows = s::row_texts().list();
+    let is_row = |i: usize| eq(s::row_text(V::N(i as u64)), rows[i]);
+    r.holds("reading_of_parts of none", eq(s::reading_of_parts(V::L(&[])), s::reading(v(""))), &"no parts");
+    r.holds("row_text", s::row_count().number() == rows.len() as u64 && (0..rows.len()).all(is_row), &"the rows");
     let fields = inputs::fields();
     for (x, architecture) in fields.architectures {
         answers! { r, &architecture, (x): architecture_name = architecture.name(); }
@@ -43,6 +80,9 @@ pub fn values(r: &mut Report) {
         let it = VendorRef::from(&vendor);
         answers! { r, &it, (x): vendor_name = it.as_str(); vendor_name = it.to_string(); is_plain = it.is_plain(); is_custom = it.is_custom(); }
         r.holds("to_vendor", it.to_vendor() == vendor, &it);
+        let of_code = vendor_of_code(&vendor);
+        r.holds("vendor_value", eq(s::vendor_value(of_code), x) && eq(s::ref_value(ref_of_code(x)), x), &it);
+        r.holds("OwnsCustomString of a static one", s::OwnsCustomString(of_code).yes() != it.is_custom() && !s::owns_string(of_code).yes(), &it);
         unpadded(r, &it);
         unpadded(r, &vendor);
         if let (V::C(_, of), VendorRef::Known(known)) = (x, it) {
@@ -107,6 +147,9 @@ pub fn string(r: &mut Report, string: &str) {
             r.same("reading", reading, &format_args!("Err({{ expected: {:?}, part: {:?} }})", refusal.expected, refusal.part.text), &string);
             if let V::C(s::Result__Err, it) = reading {
                 answers! { r, &string, (it[0]): refusal_line = refusal.to_string(); refusal_line = refusal.to_error().to_string(); }
+                let of_code = refusal_of_code(&refusal);
+                let outcome = con(s::Result__Err, &[of_code]);
+                r.holds("refusal_value", eq(s::refusal_value(of_code), it[0]) && eq(s::placed_outcome(outcome), outcome), &string);
             }
         }
     }
@@ -187,6 +230,9 @@ pub fn triple(r: &mut Report, t: V, owned: &Triple) {
         calling_convention = triple.default_calling_convention().ok();
         data_model = triple.data_model().ok();
     }
+    let of_code = |vendor| with(t, &[("vendor", vendor)]);
+    let outcome = con(s::Result__Ok, &[of_code(ref_of_code(s::get_vendor(t)))]);
+    r.holds("values_of", eq(s::values_of(of_code(vendor_of_code(&owned.vendor))), t) && eq(s::placed_outcome(outcome).at(0), t), input);
     common::fails_with_its_writer(r, input);
     let silent = !crate::allocates(|| {
         let mut room = [0; 64];
@@ -202,6 +248,7 @@ pub fn triple(r: &mut Report, t: V, owned: &Triple) {
         (Ok(it), Ok(other)) if plain => {
             r.same("canonical_values", settled, &it, input);
             r.same("canonical_values", settled, &Shown(&other), input);
+            r.same("canonical_string", s::canonical_string(t), &it.to_string(), input);
         }
         (Err(NotPlain(same)), Err(error)) if !plain => {
             let shown = format!("No text parses as the vendor {:?}", s::vendor_name(s::get_vendor(t)).string());
@@ -233,15 +280,16 @@ pub fn triple(r: &mut Report, t: V, owned: &Triple) {
     r.holds("write_to of a small buffer", triple.write_to(&mut vec![7; count - 1]) == count, input);
 }
 
-/// The sources, with this one for a format that isn't given.
-fn found(sources: Sources, format: Source) -> V {
-    let value = |source: Source| match source {
-        Source::Part(part) => con(s::SourceValue__FromPart, &[s::part_from(V::N(part.start as u64), v(part.text))]),
-        Source::NotGiven => V::C(s::SourceValue__NotGiven, &[]),
-        Source::Implied => V::C(s::SourceValue__Implied, &[]),
+/// The sources of a crate's answer.
+fn found(it: Sources) -> V {
+    let of_code = |source: Source| match source {
+        Source::Part(part) => con(s::Source__Part, &[s::part_from(V::N(part.start as u64), v(part.text))]),
+        Source::NotGiven => V::C(s::Source__NotGiven, &[]),
+        Source::Implied => V::C(s::Source__Implied, &[]),
     };
-    let format = if sources.binary_format == Source::NotGiven { format } else { sources.binary_format };
-    s::source_values(value(sources.architecture), value(sources.vendor), value(sources.operating_system), value(sources.environment), value(format))
+    let all = [it.architecture, it.vendor, it.operating_system, it.environment, it.binary_format].map(of_code);
+    let fields: Vec<(&str, V)> = FIELDS.into_iter().zip(all).collect();
+    s::sources_of(with(s::unknown_values(), &fields))
 }
 
 /// Where the fields of a string come from is in the relation of the specification, and with two sources swapped it
@@ -249,7 +297,7 @@ fn found(sources: Sources, format: Source) -> V {
 pub fn sources(r: &mut Report, string: &str) {
     let x = v(string);
     if let V::C(s::Result__Ok, _) = s::reading(x) {
-        let all = found(TripleRef::explain(string).sources, Source::NotGiven);
+        let all = found(TripleRef::explain(string).sources);
         let (environment, format) = (all.field("environment"), all.field("binary_format"));
         r.holds("AreSourcesOf", s::AreSourcesOf(x, all).yes() && s::AreInString(x, all).yes(), &string);
         let others = with(all, &[("environment", format), ("binary_format", environment)]);
@@ -258,9 +306,12 @@ pub fn sources(r: &mut Report, string: &str) {
         // the parts before the refused one give what they give by themselves, except that no format is implied yet
         let (explanation, start) = (TripleRef::explain(string), TripleRef::from_str(string).expect_err("a refusal").part.start);
         let before = v(&string[..start.saturating_sub(1)]);
-        let sources = found(explanation.sources, if start > 0 { Source::Implied } else { Source::NotGiven });
+        let (sources, not_given, none) = (found(explanation.sources), V::C(s::SourceValue__NotGiven, &[]), V::L(&[]));
+        let finished = s::finished_sources(s::reading(x).at(0).field("expected"), sources);
         let is_special = start > 0 && !eq(s::special_values(before), V::C(s::Option__None, &[]));
-        let holds = if start > 0 { is_special || s::AreSourcesOf(before, sources).yes() } else { eq(sources, s::same_sources(V::C(s::SourceValue__NotGiven, &[]))) };
+        let holds = if start > 0 { is_special || s::AreSourcesOf(before, finished).yes() } else { eq(sources, s::sources_at(not_given, none, none)) };
         r.holds("the sources of a refused string", holds && explanation.triple.is_err(), &string);
+        let changes = |(field, name): (&V, &str)| eq(s::with_source(*field, not_given, finished), with(finished, &[(name, not_given)]));
+        r.holds("with_source", fields().list().iter().zip(FIELDS).all(changes), &string);
     }
 }

@@ -8,7 +8,7 @@ use definitions::values::{con, eq, function, named, text as v, V};
 use std::fmt::{self, Debug, Display, Write};
 use target_lexicon::{
     Aarch64Architecture, Architecture, ArmArchitecture, BinaryFormat, CDataModel, CleverArchitecture, CustomVendor, Environment, Mips32Architecture,
-    Mips64Architecture, OperatingSystem, ParseError, Riscv32Architecture, Riscv64Architecture, Triple, Vendor, X86_32Architecture,
+    Mips64Architecture, OperatingSystem, ParseError, Riscv32Architecture, Riscv64Architecture, Size, Triple, Vendor, X86_32Architecture,
 };
 
 /// What a triple prints as: upstream's own crate has no `shows_unknowns`.
@@ -182,10 +182,12 @@ pub fn values(r: &mut Report) {
             ("long_long", model.long_long_size()), ("float", model.float_size()), ("double", model.double_size()),
         ];
         for (name, size) in sizes {
-            let specified = s::sizes_of(x).field(name);
-            r.same("sizes_of", specified, &size, &(model, name));
-            answers! { r, &size, (specified): size_bits = size.bits(); size_bytes = size.bytes(); }
+            r.same("sizes_of", s::sizes_of(x).field(name), &size, &(model, name));
         }
+    }
+    for size in [Size::U8, Size::U16, Size::U32, Size::U64] {
+        let x = named("Size", &format!("{size:?}")).expect("a size");
+        answers! { r, &size, (x): size_bits = size.bits(); size_bytes = size.bytes(); }
     }
 }
 

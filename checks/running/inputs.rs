@@ -90,7 +90,8 @@ pub fn versions() -> Vec<String> {
     let [major, number] = [("12345", 65535), ("123", 255)].map(|it| digits(it.0).chain(limits(it.1)).collect::<Vec<_>>());
     let others = ["", ".", "+", "1.", "1..2", "-0", "1.2.3.4", "+017", "0x1", "1_0", " 1", "99999999999999999999.00007", "13.4.255"].map(String::from);
     let major = major.into_iter().chain(('0'..='9').map(String::from));
-    major.chain(number.into_iter().flat_map(|it| [format!("1.{it}"), format!("1.2.{it}"), format!("1.{it}.2")])).chain(others).collect()
+    let followed = limits(65535).into_iter().flat_map(|it| [it.clone() + ".1", it + ".1.2"]);
+    major.chain(followed).chain(number.into_iter().flat_map(|it| [format!("1.{it}"), format!("1.2.{it}"), format!("1.{it}.2")])).chain(others).collect()
 }
 
 /// The systems like Darwin: without a version, with one, and with each other one.

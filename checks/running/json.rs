@@ -111,6 +111,8 @@ pub fn list(r: &mut Report, value: &Value) {
         Ok(triples) => {
             readings.iter().zip(&triples).for_each(|(t, triple)| r.same("ListParsesAs", *t, &triple.as_triple_ref(), value));
             r.holds("ListParsesAs", readings.len() == triples.len() && s::ListParsesAs(x, library::seq(&readings)).yes() && errors.is_empty(), value);
+            let more = library::seq(&[&readings[..], &[s::unknown_values()]].concat());
+            r.holds("ListParsesAs of more triples", !s::ListParsesAs(x, more).yes(), value);
         }
         Err(shown) => {
             r.holds("ListParsesAs of a list with an error", !s::ListParsesAs(x, library::seq(&readings)).yes() && errors.len() == 1, value);

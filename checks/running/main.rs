@@ -20,7 +20,7 @@ mod report;
 use common as calls;
 
 use definitions::spec as s;
-use definitions::values::{forget, text, V};
+use definitions::values::{eq, forget, text, V};
 use inputs::{Chosen, Fields, Strings};
 use report::Report;
 use std::alloc::{GlobalAlloc, Layout, System};
@@ -102,7 +102,10 @@ fn run(part: &str, chosen: Chosen, r: &mut Report) {
             calls::owned(r, string);
         }),
         "host" => inputs::hosts().iter().for_each(|(target, host)| match s::reading(text(target)) {
-            it @ V::C(s::Result__Ok, _) => r.same("reading", it, &format_args!("Ok({host})"), target),
+            it @ V::C(s::Result__Ok, of) => {
+                r.same("reading", it, &format_args!("Ok({host})"), target);
+                r.holds("host_values", eq(s::host_values(), of[0]) == (target == "x86_64-unknown-linux-gnu"), target);
+            }
             _ => r.holds("a target that is refused needs another one", host.contains("doesn't parse"), target),
         }),
         "strings" => strings(chosen, r, calls::string),

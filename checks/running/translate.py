@@ -80,7 +80,7 @@ class Rust:
     def __init__(self, root=ROOT, kit=None):
         self.root, self.names, self.compared = root, Names(root, kit, add_tests), []
         self.constructors, self.arity, self.shapes, self.wholes = {}, {}, {}, {}
-        self.fields = {"now": None, "value": None}  # those of references and boxes; of others the definition that has one first
+        self.fields = {}  # of records, each with the definition that has it first
         self.functions, self.of, self.constants, self.fresh, self.failed = [], {}, 5, 0, []  # values.rs has the first 5 constants
         self.todo, self.definition, self.look_ups = [], None, 0
         self.laws, self.law_definitions, self.others, self.given_as = [], set(), "", {}
@@ -111,10 +111,11 @@ class Rust:
 
     def translate(self, cited):
         """All definitions, and the propositions with these names and what they need."""
-        modules = self.names.modules()
+        # what a file Private has is of private functions: no public contract cites it, so a fault there breaks a proof
+        modules = [it for it in self.names.modules() if it.path[-1] != "Private"]
         self.own = [it for module in modules for it in module.definitions.values()]
         for module in [*modules, self.names.module(LIBRARY)]:
-            for fields in [*module.records, ["now"]]:
+            for fields in module.records:
                 self.shape(fields)
             for definition in module.definitions.values():
                 if definition.chunks and not definition.is_proposition:
@@ -143,7 +144,7 @@ class Rust:
                           for it in (self.root / "crates" / crate / "src").rglob("*.rt"))
         known = set().union(*self.shapes).union(re.findall(r"^\s+(?:pub(?:\(\w+\))? )?(\w+): ", of_code, re.M))
         self.failed += [(definition, f"no record has the field {field}") for field, definition in self.fields.items()
-                        if definition and field not in known]
+                        if field not in known]
         return self
 
     def has_no_arguments(self, definition):
@@ -478,6 +479,8 @@ class Rust:
             kind, what = self.names.resolve(self.definition, head)
         if head[0] == "get" and not kind:  # a field
             (of,), closed = self.all([head[1]], scope)
+            if head[2] in ("now", "value"):  # what a reference or a box has is itself here
+                return self.given(of, closed, arguments, scope)
             if not head[2].isdigit():
                 self.fields.setdefault(head[2], self.definition)
             return self.given(f"{of}.at({head[2]})" if head[2].isdigit() else f"get_{head[2]}({of})", closed, arguments,
