@@ -1,5 +1,5 @@
 // @generated: erased from crates/target_lexicon/src/reading.rt by tools/erase. Don't edit it here.
-//! Reading: a state that takes one part after the other.
+//! One step of parsing: a state that takes one part after the other. `parse` goes through the parts of a string.
 
 use crate::proved::explanation::{Source, Sources, TextPart};
 use crate::proved::refusal::Refusal;
@@ -34,27 +34,19 @@ impl<'a> Reading<'a> {
     #[inline(always)]
     fn fill(&mut self, field: Field, part: TextPart<'a>) {
         let source = Source::Part(part);
+        match field {
+            Field::Architecture => self.sources.architecture = source,
+            Field::Vendor => self.sources.vendor = source,
+            Field::OperatingSystem => self.sources.operating_system = source,
+            Field::Environment => self.sources.environment = source,
+            Field::BinaryFormat => self.sources.binary_format = source,
+        }
         self.expected = match field {
-            Field::Architecture => {
-                self.sources.architecture = source;
-                Some(Field::Vendor)
-            }
-            Field::Vendor => {
-                self.sources.vendor = source;
-                Some(Field::OperatingSystem)
-            }
-            Field::OperatingSystem => {
-                self.sources.operating_system = source;
-                Some(Field::Environment)
-            }
-            Field::Environment => {
-                self.sources.environment = source;
-                Some(Field::BinaryFormat)
-            }
-            Field::BinaryFormat => {
-                self.sources.binary_format = source;
-                None
-            }
+            Field::Architecture => Some(Field::Vendor),
+            Field::Vendor => Some(Field::OperatingSystem),
+            Field::OperatingSystem => Some(Field::Environment),
+            Field::Environment => Some(Field::BinaryFormat),
+            Field::BinaryFormat => None,
         };
     }
 
@@ -62,76 +54,11 @@ impl<'a> Reading<'a> {
     /// then. A part that has a row in the table of names is looked up once, and the comparisons aren't counted.
     #[inline(always)]
     pub fn take(&mut self, part: TextPart<'a>) -> Result<(), Refusal<'a>> {
-        let Some(expected) = self.expected else {
-            return Err(Refusal {
-                expected: None,
-                part,
-            });
-        };
-        match fixed_row(part.text) {
-            Some(row) => {
-                // whether the row has a value, and then whether its field is open: the compilers know the first from
-                // the row's meaning, so a line takes fewer instructions and fewer branches are mispredicted
-                if let Some(architecture) = row.architecture {
-                    if is_open(Field::Architecture, expected) {
-                        self.triple.architecture = architecture;
-                        self.fill(Field::Architecture, part);
-                        return Ok(());
-                    }
-                }
-                if let Some(vendor) = row.vendor {
-                    if is_open(Field::Vendor, expected) {
-                        self.triple.vendor = VendorRef::Known(vendor);
-                        self.fill(Field::Vendor, part);
-                        return Ok(());
-                    }
-                }
-                if let Some(operating_system) = row.operating_system {
-                    if is_open(Field::OperatingSystem, expected) {
-                        self.triple.operating_system = operating_system;
-                        self.fill(Field::OperatingSystem, part);
-                        return Ok(());
-                    }
-                }
-                if let Some(environment) = row.environment {
-                    if is_open(Field::Environment, expected) {
-                        self.triple.environment = environment;
-                        self.fill(Field::Environment, part);
-                        return Ok(());
-                    }
-                }
-                if let Some(binary_format) = row.binary_format {
-                    if is_open(Field::BinaryFormat, expected) {
-                        self.triple.binary_format = binary_format;
-                        self.fill(Field::BinaryFormat, part);
-                        return Ok(());
-                    }
-                }
+        if let Some(expected) = self.expected {
+            if let Some(field) = self.triple.set_open_field(part.text, expected) {
+                self.fill(field, part);
+                return Ok(());
             }
-            // an arm for each field, by which the kit's compiler sees that these calls repeat the look-up, and drops it,
-            // except after a part that is no vendor
-            None => match expected {
-                Field::Vendor => {
-                    if let Ok(vendor) = VendorRef::from_text(part.text) {
-                        self.triple.vendor = vendor;
-                        self.fill(Field::Vendor, part);
-                        return Ok(());
-                    }
-                    if let Ok(operating_system) = OperatingSystem::from_str(part.text) {
-                        self.triple.operating_system = operating_system;
-                        self.fill(Field::OperatingSystem, part);
-                        return Ok(());
-                    }
-                }
-                Field::OperatingSystem => {
-                    if let Ok(operating_system) = OperatingSystem::from_str(part.text) {
-                        self.triple.operating_system = operating_system;
-                        self.fill(Field::OperatingSystem, part);
-                        return Ok(());
-                    }
-                }
-                Field::Architecture | Field::Environment | Field::BinaryFormat => {}
-            },
         }
         Err(Refusal {
             expected: self.expected,
@@ -152,6 +79,71 @@ impl<'a> Reading<'a> {
     }
 }
 
+impl<'a> TripleRef<'a> {
+    /// Gives the first open field that the string parses as its value, and returns the field.
+    #[inline(always)]
+    fn set_open_field(&mut self, text: &'a str, expected: Field) -> Option<Field> {
+        match fixed_row(text) {
+            Some(row) => {
+                // whether the row has a value, and then whether its field is open: the compilers know the first from
+                // the row's meaning, so a line takes fewer instructions and fewer branches are mispredicted
+                if let Some(architecture) = row.architecture {
+                    if is_open(Field::Architecture, expected) {
+                        self.architecture = architecture;
+                        return Some(Field::Architecture);
+                    }
+                }
+                if let Some(vendor) = row.vendor {
+                    if is_open(Field::Vendor, expected) {
+                        self.vendor = VendorRef::Known(vendor);
+                        return Some(Field::Vendor);
+                    }
+                }
+                if let Some(operating_system) = row.operating_system {
+                    if is_open(Field::OperatingSystem, expected) {
+                        self.operating_system = operating_system;
+                        return Some(Field::OperatingSystem);
+                    }
+                }
+                if let Some(environment) = row.environment {
+                    if is_open(Field::Environment, expected) {
+                        self.environment = environment;
+                        return Some(Field::Environment);
+                    }
+                }
+                if let Some(binary_format) = row.binary_format {
+                    if is_open(Field::BinaryFormat, expected) {
+                        self.binary_format = binary_format;
+                        return Some(Field::BinaryFormat);
+                    }
+                }
+            }
+            // an arm for each field, by which the kit's compiler sees that these calls repeat the look-up, and drops it,
+            // except after a part that is no vendor
+            None => match expected {
+                Field::Vendor => {
+                    if let Ok(vendor) = VendorRef::from_text(text) {
+                        self.vendor = vendor;
+                        return Some(Field::Vendor);
+                    }
+                    if let Ok(operating_system) = OperatingSystem::from_str(text) {
+                        self.operating_system = operating_system;
+                        return Some(Field::OperatingSystem);
+                    }
+                }
+                Field::OperatingSystem => {
+                    if let Ok(operating_system) = OperatingSystem::from_str(text) {
+                        self.operating_system = operating_system;
+                        return Some(Field::OperatingSystem);
+                    }
+                }
+                Field::Architecture | Field::Environment | Field::BinaryFormat => {}
+            },
+        }
+        None
+    }
+}
+
 /// Whether a part can fill the field where this one is expected.
 #[inline(always)]
 fn is_open(field: Field, expected: Field) -> bool {
@@ -159,7 +151,7 @@ fn is_open(field: Field, expected: Field) -> bool {
         Field::Architecture => expected == Field::Architecture,
         Field::Vendor => expected == Field::Vendor,
         Field::OperatingSystem => matches!(expected, Field::Vendor | Field::OperatingSystem),
-        Field::Environment => !matches!(expected, Field::Architecture | Field::BinaryFormat),
+        Field::Environment => expected != Field::Architecture && expected != Field::BinaryFormat,
         Field::BinaryFormat => expected != Field::Architecture,
     }
 }
