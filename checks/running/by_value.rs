@@ -13,7 +13,7 @@ use target_lexicon::{CustomVendor, DeploymentTarget, Triple, Vendor};
 #[cfg(feature = "port")]
 use {
     definitions::values::named,
-    target_lexicon::{Architecture, CDataModel, CallingConvention, Endianness, Field, KnownVendor, PointerWidth, Size, TripleExt as _, TripleRef, VendorRef},
+    target_lexicon::{Architecture, CDataModel, CallingConvention, Endianness, Field, KnownVendor, PointerWidth, RoundTripException, Size, TripleExt as _, TripleRef, VendorRef},
 };
 
 #[cfg(feature = "port")]
@@ -153,7 +153,14 @@ pub fn values(r: &mut Report) {
             r.holds("order of versions", a.cmp(&b) == by_version(x, y) && a.partial_cmp(&b) == Some(by_version(x, y)), &(a, b));
         }
     }
+    compared(r, &long_texts().iter().map(|it| (v(it), CustomVendor::Static(it))).collect::<Vec<_>>(), &|x, y| x.bytes().cmp(&y.bytes()));
     of_this_crate(r, &fields);
+}
+
+/// Texts that differ only at the end, of each length.
+fn long_texts() -> Vec<&'static str> {
+    let long = inputs::LENGTHS.iter().flat_map(|count| ["a", "b", "ba"].map(|it| "q".repeat(*count) + it));
+    long.map(|it| &*it.leak()).chain(["", "a", "ab", "b"]).collect()
 }
 
 #[cfg(not(feature = "port"))]
@@ -173,11 +180,11 @@ fn of_this_crate(r: &mut Report, fields: &Fields) {
     }
     let known: Vec<_> = all.iter().filter_map(|(x, it)| if let (V::C(_, of), VendorRef::Known(known)) = (x, VendorRef::from(it)) { Some((of[0], known)) } else { None }).collect();
     compared(r, &known, &by_name(s::known_vendor_name));
-    let text = |it: &&'static str| (v(it), CustomVendor::Static(it));
-    let long: Vec<String> = [8, 16, 24, 64, 256, 1024].iter().flat_map(|count| ["a", "b", "ba"].map(|it| "q".repeat(*count) + it)).collect();
-    let all: Vec<&'static str> = long.into_iter().map(|it| &*it.leak()).chain(["", "a", "ab", "b"]).collect();
-    compared(r, &all.iter().map(text).collect::<Vec<_>>(), &|x, y| x.bytes().cmp(&y.bytes()));
-    compared(r, &all.iter().map(|it| (v(it), VendorRef::Custom(it))).collect::<Vec<_>>(), &|x, y| x.bytes().cmp(&y.bytes()));
+    compared(r, &long_texts().iter().map(|it| (v(it), VendorRef::Custom(it))).collect::<Vec<_>>(), &|x, y| x.bytes().cmp(&y.bytes()));
+    for text in long_texts() {
+        let vendor = Vendor::Custom(CustomVendor::Static(text));
+        r.holds("the hash of a long vendor", eq(fed(&VendorRef::Custom(text)), fed(&vendor)), &text);
+    }
     compared(r, &variants("PointerWidth", &[PointerWidth::U16, PointerWidth::U32, PointerWidth::U64]), &by_number(s::width_bits));
     compared(r, &variants("Size", &[Size::U8, Size::U16, Size::U32, Size::U64]), &by_number(s::size_bits));
     compared(r, &variants("Endianness", &[Endianness::Little, Endianness::Big]), &by_name(s::endianness_name));
@@ -186,6 +193,10 @@ fn of_this_crate(r: &mut Report, fields: &Fields) {
     compared(r, &variants("CDataModel", &[LP32, ILP32, LLP64, LP64, ILP64]), &by_name(s::model_name));
     let all = [Field::Architecture, Field::Vendor, Field::OperatingSystem, Field::Environment, Field::BinaryFormat];
     compared(r, &variants("Field", &all), &by_number(s::field_number));
+    use RoundTripException::*;
+    let all = variants("RoundTripException", &[PrintsAsSpecial, HidesNewlib, PrintsTheEspIdfString, ShowsOnlyNone, VendorIsNotPlain]);
+    let place = |x: V| all.iter().position(|it| eq(it.0, x));
+    compared(r, &all, &|x, y| place(x).cmp(&place(y)));
     macro_rules! parts_of_architectures {
         ($($tag:ident $variant:ident $name:ident;)*) => {$(
             let part = |it: &(V, Architecture)| match *it {

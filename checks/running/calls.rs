@@ -1,6 +1,6 @@
 //! Which definition is compared with which call that only this crate has; common.rs has the calls that upstream has
 //! too.
-use crate::common::{self, Shown};
+use crate::common::{self, fails_with_its_writer, in_many_ways, plainly_displayed, Shown};
 use crate::report::Report;
 use crate::{answers, inputs};
 use definitions::spec as s;
@@ -67,9 +67,9 @@ pub fn values(r: &mut Report) {
     let fields = inputs::fields();
     for (x, architecture) in fields.architectures {
         answers! { r, &architecture, (x): architecture_name = architecture.name(); }
-        unpadded(r, &architecture);
         if let (V::C(s::Architecture__Z80, of), target_lexicon::Architecture::Z80(z80)) = (x, architecture) {
             answers! { r, &z80, (of[0]): z80_name = z80.into_str(); z80_name = z80.to_string(); }
+            plainly_displayed(r, &z80);
         }
         if let (V::C(s::Option__Some, of), Ok(width)) = (s::architecture_width(x), architecture.pointer_width()) {
             answers! { r, &width, (of[0]): width_name = width.name(); }
@@ -83,8 +83,7 @@ pub fn values(r: &mut Report) {
         let of_code = vendor_of_code(&vendor);
         r.holds("vendor_value", eq(s::vendor_value(of_code), x) && eq(s::ref_value(ref_of_code(x)), x), &it);
         r.holds("OwnsCustomString of a static one", s::OwnsCustomString(of_code).yes() != it.is_custom() && !s::owns_string(of_code).yes(), &it);
-        unpadded(r, &it);
-        unpadded(r, &vendor);
+        plainly_displayed(r, &it);
         if let (V::C(_, of), VendorRef::Known(known)) = (x, it) {
             answers! { r, &known, (of[0]): known_vendor_name = known.name(); }
             padded(r, &known);
@@ -96,17 +95,20 @@ pub fn values(r: &mut Report) {
         r.holds("a name without a version is borrowed", matches!(system.into_str(), Cow::Borrowed(_)) == system.version().is_none(), &system);
         let without = if let V::C(tag, [_]) = x { con(tag, &[V::C(s::Option__None, &[])]) } else { x };
         answers! { r, &system, (without): operating_system_name = system.prefix(); }
-        unpadded(r, &system);
     }
     for (x, environment) in fields.environments {
         answers! { r, &environment, (x): environment_name = environment.name(); }
-        unpadded(r, &environment);
     }
     for (x, format) in fields.formats {
         answers! { r, &format, (x): binary_format_name = format.name(); }
-        unpadded(r, &format);
     }
     inputs::versions().iter().filter_map(|it| it.parse::<DeploymentTarget>().ok()).for_each(|it| padded(r, &it));
+    let t = TripleRef::unknown();
+    let errors = [t.endianness().err(), t.pointer_width().err(), t.default_calling_convention().err(), t.data_model().err()];
+    errors.iter().flatten().for_each(|it| plainly_displayed(r, it));
+    plainly_displayed(r, &NotPlain(Triple::unknown()));
+    plainly_displayed(r, &"".parse::<DeploymentTarget>().expect_err("no version"));
+    plainly_displayed(r, &TripleRef::from_str("foo").expect_err("a refusal"));
     [Field::Architecture, Field::Vendor, Field::OperatingSystem, Field::Environment, Field::BinaryFormat].iter().for_each(|it| padded(r, it));
     macro_rules! names {
         ($($type:ident $definition:ident: $($variant:ident)*;)*) => {$($(
@@ -121,18 +123,10 @@ pub fn values(r: &mut Report) {
     }
 }
 
-fn in_many_ways(it: &dyn Display) -> String {
-    format!("{it:>19}|{it:<18}|{it:^17}|{it:.3}|{it:*^9.2}|{it:-<3}|{it:05}")
-}
-
 /// Width, alignment and precision are those of the name.
 fn padded(r: &mut Report, it: &dyn Display) {
     r.holds("width, alignment and precision", in_many_ways(it) == in_many_ways(&it.to_string()), &it.to_string());
-}
-
-/// They change nothing, as upstream's types have it.
-fn unpadded(r: &mut Report, it: &dyn Display) {
-    r.holds("no width, alignment or precision", in_many_ways(it) == vec![it.to_string(); 7].join("|"), &it.to_string());
+    fails_with_its_writer(r, it);
 }
 
 /// How a string parses, or is refused, without memory.
@@ -140,7 +134,9 @@ pub fn string(r: &mut Report, string: &str) {
     common::string(r, string);
     let reading = s::reading(v(string));
     let silent = !crate::allocates(|| (TripleRef::from_str(string).map(|it| (it.comes_back(), it.vendor.is_plain())), TripleRef::explain(string)));
-    r.holds("parsing allocates nothing", silent, &string);
+    let is_known = |it: TripleRef| !it.vendor.is_custom();
+    let is_silent = TripleRef::from_str(string).map_or(true, |it| !crate::allocates(|| TripleRef::parse(string)) && !(is_known(it) && crate::allocates(|| it.to_triple())));
+    r.holds("parsing allocates nothing", silent && is_silent, &string);
     match TripleRef::from_str(string) {
         Ok(triple) => r.same("reading", reading, &Ok::<_, ()>(triple), &string),
         Err(refusal) => {
@@ -166,8 +162,8 @@ pub fn owned(r: &mut Report, string: &str) {
         (Err(error), Err(other)) => {
             r.same("reading", reading, &format_args!("Err({{ expected: {:?}, part: {:?} }})", error.expected(), error.part()), &string);
             if let V::C(s::Result__Err, it) = reading {
-                common::fails_with_its_writer(r, &error);
-                common::fails_with_its_writer(r, &other);
+                plainly_displayed(r, &error);
+                plainly_displayed(r, &other);
                 parse_error(r, string, &error);
                 parse_triple_error(r, string, it[0], &other);
                 let refusal = TripleRef::from_str(string).expect_err("a refusal");
@@ -233,7 +229,7 @@ pub fn triple(r: &mut Report, t: V, owned: &Triple) {
     let of_code = |vendor| with(t, &[("vendor", vendor)]);
     let outcome = con(s::Result__Ok, &[of_code(ref_of_code(s::get_vendor(t)))]);
     r.holds("values_of", eq(s::values_of(of_code(vendor_of_code(&owned.vendor))), t) && eq(s::placed_outcome(outcome).at(0), t), input);
-    common::fails_with_its_writer(r, input);
+    fails_with_its_writer(r, input);
     let silent = !crate::allocates(|| {
         let mut room = [0; 64];
         let written = (triple.write_to(&mut room), triple.default_binary_format(), owned.comes_back(), triple.comes_back(), triple.settles_as(*input));

@@ -77,6 +77,16 @@ pub fn fails_with_its_writer(r: &mut Report, it: &dyn Display) {
     r.holds("Display says that its writer fails", all_fail && !fails(shown.len()), &shown);
 }
 
+pub fn in_many_ways(it: &dyn Display) -> String {
+    format!("{it:>19}|{it:<18}|{it:^17}|{it:.3}|{it:*^9.2}|{it:-<3}|{it:05}")
+}
+
+/// Width, alignment and precision change nothing, and its writer's failure is passed on.
+pub fn plainly_displayed(r: &mut Report, it: &dyn Display) {
+    r.holds("no width, alignment or precision", in_many_ways(it) == vec![it.to_string(); 7].join("|"), &it.to_string());
+    fails_with_its_writer(r, it);
+}
+
 // ---- what is compared
 
 /// What a word is in each field, and in each type of an architecture.
@@ -128,6 +138,7 @@ pub fn values(r: &mut Report) {
             architecture_width = architecture.pointer_width().ok();
             is_clever = architecture.is_clever();
         }
+        plainly_displayed(r, &architecture);
         if let (V::C(s::Architecture__Arm, of), Architecture::Arm(arm)) = (x, architecture) {
             answers! { r, &arm, (of[0]): is_thumb = arm.is_thumb(); arm_endianness = arm.endianness(); }
             r.same("the width of Arm", s::architecture_width(x).at(0), &arm.pointer_width(), &arm);
@@ -141,6 +152,7 @@ pub fn values(r: &mut Report) {
             ($($tag:ident $variant:ident $name:ident;)*) => {$(
                 if let (V::C(s::$tag, of), Architecture::$variant(part)) = (x, architecture) {
                     answers! { r, &part, (of[0]): $name = part.into_str(); $name = part.to_string(); }
+                    plainly_displayed(r, &part);
                 }
             )*};
         }
@@ -155,19 +167,28 @@ pub fn values(r: &mut Report) {
     }
     for (x, vendor) in fields.vendors.concat() {
         answers! { r, &vendor, (x): vendor_name = vendor.as_str(); vendor_name = vendor.to_string(); }
-        fails_with_its_writer(r, &vendor);
+        plainly_displayed(r, &vendor);
     }
     for (x, system) in fields.systems.concat() {
         answers! { r, &system, (x):
             operating_system_name = system.to_string(); operating_system_name = system.into_str(); is_like_darwin = system.is_like_darwin();
         }
-        fails_with_its_writer(r, &system);
+        plainly_displayed(r, &system);
     }
     for (x, environment) in fields.environments {
         answers! { r, &environment, (x): environment_name = environment.into_str(); environment_name = environment.to_string(); }
+        plainly_displayed(r, &environment);
     }
     for (x, format) in fields.formats {
         answers! { r, &format, (x): binary_format_name = format.into_str(); binary_format_name = format.to_string(); }
+        plainly_displayed(r, &format);
+    }
+    use ParseError::*;
+    let of_part = |it: &str| [UnrecognizedArchitecture(it.into()), UnrecognizedVendor(it.into()), UnrecognizedOperatingSystem(it.into()), UnrecognizedEnvironment(it.into()), UnrecognizedBinaryFormat(it.into()), UnrecognizedField(it.into())];
+    let errors = ["foo", "", "foo\n"].map(of_part).concat();
+    for (i, error) in errors.iter().enumerate() {
+        plainly_displayed(r, error);
+        r.holds("equality of errors", errors.iter().enumerate().all(|(j, it)| (it == error) == (i == j)), error);
     }
     for text in ["foo", "", "a\0"] {
         let (owned, borrowed) = (CustomVendor::Owned(Box::new(text.to_string())), CustomVendor::Static(text));

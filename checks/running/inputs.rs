@@ -68,7 +68,7 @@ fn custom(text: String) -> (V, Vendor) {
 }
 
 /// Lengths at which something might change.
-const LENGTHS: [usize; 20] = [15, 16, 17, 32, 63, 64, 65, 128, 200, 255, 256, 257, 1023, 1024, 1025, 4096, 10000, 65535, 65536, 65537];
+pub const LENGTHS: [usize; 20] = [15, 16, 17, 32, 63, 64, 65, 128, 200, 255, 256, 257, 1023, 1024, 1025, 4096, 10000, 65535, 65536, 65537];
 
 /// Custom vendors, and such that no string parses as: each character that is admitted, and each next to one that is, at the first place,
 /// in the middle and at the end, and after `esp`; the words that parsing knows, as they are, with a letter more, and with one less; the second

@@ -350,6 +350,7 @@ static const struct row {
   {stated_versions, "x86_64-pc-windows-msvc19.33.31629", {0}, LEXICON_OK, "0.0.0 19.33.31629"},
   {stated_versions, "avr-\xff", {0}, LEXICON_NOT_UTF8, NULL},
   {macos_version, "x86_64-apple-darwin19.6", {0}, LEXICON_OK, "10.15.0"},
+  {macos_version, "x86_64-apple-macosx10.15.7", {0}, LEXICON_OK, "10.15.7"},
   {macos_version, "x86_64-apple-darwin", {0}, LEXICON_NO_ANSWER, NULL},
   {minimum_version, "x86_64-apple-darwin19.6", {0}, LEXICON_OK, "10.12.0"},
   {minimum_version, "x86_64-linux", {0}, LEXICON_NO_ANSWER, NULL},
@@ -542,6 +543,10 @@ static void try_too_large(void) {
         are_same(&it.triple, &other.triple));
     EXPECT(lexicon_facts(&it.triple, (struct lexicon_triple_facts *)(void *)out, sizes[i]) == LEXICON_TOO_LARGE);
   }
+  it.size = 12; /* of an array */
+  for (size_t most = PTRDIFF_MAX / sizeof(struct lexicon_change) + 1; most; most <<= 1)
+    EXPECT(lexicon_targets(it.text, it.size, (struct lexicon_change *)(void *)out, most, &length) == LEXICON_TOO_LARGE);
+  it.size = SIZE_MAX;
   it.numbers[0] = it.numbers[2] = 77;
   EXPECT(written(&it, out, SIZE_MAX, &length) == LEXICON_TOO_LARGE &&
       suggestion(&it, out, SIZE_MAX, &length) == LEXICON_TOO_LARGE);

@@ -1,8 +1,10 @@
 //! The traits of names, dialects and errors.
 use std::collections::{BTreeSet, HashSet};
+use std::fmt::{self, Debug, Display, Write as _};
 use target_lexicon::{Triple, TripleRef};
 use target_names::{
-    stated_versions, CLibrary, Dialect, Evidence, FloatAbi, Name, ParseNameError, StatedVersion, Suggest as _, UnknownWord,
+    read, stated_versions, vendor_suggestion, visible, CLibrary, Dialect, Evidence, FloatAbi, LinuxLibc, Name, ParseNameError,
+    Signedness, StatedVersion, Suggest as _, TargetInfo as _, UnknownWord, SHOWN,
 };
 
 #[test]
@@ -26,6 +28,114 @@ fn a_suggestion_has_the_width_that_is_asked_for() {
         format!("{one:>7}|{versioned:<7}|{versioned:.3}"),
         "  linux|ios17  |ios"
     );
+    assert!(versioned == "ios17" && versioned != "ios" && versioned != "ios1" && versioned != "ios171" && one != "linu");
+}
+
+/// Each pair of these is in the order of their names.
+#[track_caller]
+fn in_order_of_names<T: Ord + Display>(all: &[T]) {
+    for (a, b) in all.iter().flat_map(|a| all.iter().map(move |b| (a, b))) {
+        let order = a.to_string().cmp(&b.to_string());
+        assert_eq!((a.cmp(b), a.partial_cmp(b)), (order, Some(order)), "{a} {b}");
+    }
+}
+
+#[test]
+fn values_are_in_the_order_of_their_names() {
+    in_order_of_names(Dialect::ALL);
+    in_order_of_names(&["glibc", "musl", "msvc", "mingw", "gnullvm"].map(|it| it.parse::<LinuxLibc>().unwrap()));
+    in_order_of_names(&[FloatAbi::Soft, FloatAbi::Hard]);
+    in_order_of_names(&[Signedness::Unsigned, Signedness::Signed]);
+    in_order_of_names(&[CLibrary::Musl, CLibrary::Bionic, CLibrary::System, CLibrary::Glibc, CLibrary::Msvc]);
+    let versions = [(1, 0, 9), (1, 2, 0), (1, 2, 1), (2, 0, 0)];
+    let versions = versions.map(|(major, minor, patch)| StatedVersion { major, minor, patch });
+    assert!(versions.windows(2).all(|it| it[0] < it[1]));
+}
+
+/// Each is equal to itself only.
+#[track_caller]
+fn differ<T: PartialEq + Clone + Debug>(all: &[T]) {
+    for (i, a) in all.iter().enumerate() {
+        for (j, b) in all.iter().enumerate() {
+            assert_eq!(*a == b.clone(), i == j, "{a:?} {b:?}");
+        }
+    }
+}
+
+#[test]
+fn what_says_something_else_is_another_one() {
+    let error = |(dialect, name): (Dialect, &str)| dialect.parse(name).unwrap_err();
+    differ(&[(Dialect::Oci, "foo"), (Dialect::Go, "foo"), (Dialect::Go, "bar"), (Dialect::Go, "plan9/amd64")].map(error));
+    differ(&["foo".parse::<Dialect>().unwrap_err(), "foo".parse::<LinuxLibc>().unwrap_err(), "bar".parse::<Dialect>().unwrap_err()]);
+    let triples = ["avr", "arm", "avr-pc", "avr-pc-linux", "avr-pc-linux-musl", "avr-pc-linux-coff"];
+    let triples = triples.map(|it| TripleRef::from_str(it).unwrap());
+    differ(&triples.map(|it| it.llvm_target()));
+    let stating = ["x86_64-linux", "x86_64-freebsd13", "x86_64-freebsd13.2", "x86_64-freebsd13.2-musl1.2", "x86_64-linux-musl1.2"];
+    differ(&stating.map(|it| stated_versions(it).unwrap()));
+    differ(&["x86_64-pc-linxu", "x86_64-pc-windwos", "arm64-apple-iso1", "arm64-apple-iso2"].map(|it| read(it).unwrap_err().suggestion()));
+}
+
+/// A writer that has room for so many bytes.
+struct Room(usize);
+
+impl fmt::Write for Room {
+    fn write_str(&mut self, text: &str) -> fmt::Result {
+        self.0 = self.0.checked_sub(text.len()).ok_or(fmt::Error)?;
+        Ok(())
+    }
+}
+
+#[test]
+fn a_writer_that_fails_is_noticed() {
+    let triple = TripleRef::from_str("x86_64-unknown-linux-gnu").unwrap();
+    let custom = TripleRef::from_str("x86_64-linx").unwrap();
+    let versioned = TripleRef::from_str("arm64-apple-iso17").unwrap_err();
+    let spelled: Vec<_> = target_names::changes("amd64-unknown-freebsd13.2").map(|it| it.names).collect();
+    let mistakes = ["LINUX/AMD64", "linux /a", "linux", "linux-x64", "./linux/amd64", "x/y-z"].map(|it| Dialect::Go.mistake(it));
+    let errors = ["linux/amd46", "plan9/amd64", "x\u{1b}"].map(|it| Dialect::Go.parse(it).unwrap_err());
+    let words = ["golang", "\u{1b}"].map(|it| it.parse::<Dialect>().unwrap_err());
+    let shown: [&dyn Display; 14] = [
+        &Dialect::Go,
+        &Dialect::Go.write(triple).unwrap(),
+        &triple.llvm_target(),
+        &triple.rustc_cfg(),
+        &triple.multiarch_tuple().unwrap(),
+        &Evidence::of("linux-x64"),
+        &vendor_suggestion(custom).unwrap(),
+        &versioned.suggestion().unwrap(),
+        &visible("a\u{1b}"),
+        &visible("a\u{1b}").shortened(),
+        &Dialect::Go.write_with(custom, None).map_or_else(|it| it.to_string(), |it| it.to_string()),
+        &Dialect::Gnu.translate("foo", None, Dialect::Go).unwrap_err(),
+        &Dialect::Oci.translate("linux/386", None, Dialect::Debian).unwrap_err(),
+        &"foo".parse::<LinuxLibc>().unwrap_err(),
+    ];
+    let others = mistakes.iter().flatten().map(|it| it as &dyn Display).chain(spelled.iter().map(|it| it as _));
+    let others = others.chain(errors.iter().map(|it| it as _)).chain(words.iter().map(|it| it as _));
+    for it in shown.into_iter().chain(others) {
+        let text = it.to_string();
+        for size in 0..=text.len() {
+            assert_eq!(write!(Room(size), "{it}").is_ok(), size == text.len(), "{text}: {size}");
+        }
+    }
+}
+
+#[test]
+fn what_is_shortened_has_its_length() {
+    for (length, is_whole) in [(SHOWN - 1, true), (SHOWN, true), (SHOWN + 1, false), (9 * SHOWN, false)] {
+        let text = "a".repeat(length);
+        let expected = if is_whole { text.clone() } else { format!("{}...", "a".repeat(SHOWN)) };
+        assert_eq!(visible(&text).shortened().to_string(), expected);
+    }
+}
+
+#[test]
+fn a_name_of_256_bytes_has_a_suggestion_and_no_longer_one() {
+    for (length, meant) in [(255, Some("linux/amd64")), (256, Some("linux/amd64")), (257, None)] {
+        let path = format!("{}/linux/amd64", "q".repeat(length - "/linux/amd64".len()));
+        assert_eq!((path.len(), Dialect::Go.suggestion(&path)), (length, meant));
+        assert_eq!(target_names::suggestions(&path).find(|it| it.0 == Dialect::Go).map(|it| it.1), meant);
+    }
 }
 
 #[test]

@@ -6,8 +6,8 @@ use serde::ser::{Impossible, Serializer};
 use serde::{forward_to_deserialize_any, Deserialize, Serialize};
 use std::fmt::{self, Debug};
 use target_lexicon::{
-    triple, Architecture, BinaryFormat, Environment, OperatingSystem, Triple, TripleRef, Vendor,
-    VendorRef,
+    triple, Architecture, BinaryFormat, Environment, OperatingSystem, Triple, TripleExt as _,
+    TripleRef, Vendor, VendorRef,
 };
 
 struct Written<T>(T);
@@ -48,6 +48,33 @@ fn a_triple_is_its_string() {
             .to_string(),
         refused
     );
+}
+
+#[test]
+fn a_string_of_any_length_is_read_and_written() {
+    for length in [1, 15, 16, 255, 256, 1024, 65536] {
+        let vendor = "q".repeat(length);
+        let string = format!("x86_64-{vendor}-linux");
+        let triple: Triple = read(&string).unwrap();
+        assert_eq!(borrow(&string), Ok(TripleRef::from(&triple)));
+        assert_eq!(read(&vendor), Ok(triple.vendor.clone()));
+        assert_eq!(borrow(&vendor), Ok(VendorRef::from(&triple.vendor)));
+        assert_eq!(Written(&triple).to_string(), string);
+        assert_eq!(Written(TripleRef::from(&triple)).to_string(), string);
+        assert_eq!(Written(&triple.vendor).to_string(), vendor);
+        let refused = read::<Triple>(&vendor).unwrap_err().to_string();
+        assert_eq!(refused, format!("Unrecognized architecture: {vendor}"));
+    }
+}
+
+#[test]
+fn a_triple_is_written_as_it_is_printed() {
+    // Its canonical form is printed otherwise.
+    let triple = triple!("armv7-nintendo-horizon-newlib-unknown");
+    let printed = triple.to_string();
+    assert_ne!(triple.clone().settle().unwrap().to_string(), printed);
+    assert_eq!(Written(TripleRef::from(&triple)).to_string(), printed);
+    assert_eq!(Written(triple).to_string(), printed);
 }
 
 #[test]

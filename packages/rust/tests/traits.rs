@@ -1,8 +1,9 @@
 //! The traits that the layer implements: conversions, `Display`, and the error that owns its string.
 //! `checks/specification` tries orders and hashes.
 use std::collections::hash_map::DefaultHasher;
-use std::collections::HashMap;
+use std::collections::{HashMap, HashSet};
 use std::error::Error;
+use std::fmt::Debug;
 use std::hash::{Hash, Hasher};
 use target_lexicon::*;
 
@@ -181,4 +182,54 @@ fn each_error_says_what_is_wrong() {
         "The data model of C of the target is unknown",
     ];
     assert_eq!(said, expected);
+}
+
+#[test]
+fn an_error_is_equal_to_its_copy_only() {
+    fn differ<T: PartialEq + Clone + Debug>(all: &[T]) {
+        for (i, a) in all.iter().enumerate() {
+            assert_eq!(a.clone(), *a);
+            for (j, b) in all.iter().enumerate() {
+                assert_eq!(a == b, i == j, "{a:?} {b:?}");
+            }
+        }
+    }
+    fn have_different_hashes<T: PartialEq + Clone + Debug + Hash>(all: &[T]) {
+        differ(all);
+        let hashes: HashSet<u64> = all.iter().map(hash).collect();
+        assert_eq!(hashes.len(), all.len());
+    }
+    let refused = [
+        "foo",
+        "avr-Foo",
+        "avr-foo-foo",
+        "avr-foo-bar",
+        "avr-linux-foo",
+        "avr-gnu-foo",
+        "avr-elf-foo",
+    ];
+    differ(&refused.map(|it| it.parse::<Triple>().unwrap_err()));
+    differ(&refused.map(|it| TripleRef::from_str(it).unwrap_err()));
+    differ(&refused.map(TripleRef::explain));
+    have_different_hashes(&refused.map(|it| Triple::parse(it).unwrap_err()));
+    let unknown = TripleRef::unknown();
+    have_different_hashes(&[
+        unknown.endianness().unwrap_err(),
+        unknown.pointer_width().unwrap_err(),
+        unknown.default_calling_convention().unwrap_err(),
+        unknown.data_model().unwrap_err(),
+    ]);
+    let triples = [
+        "avr-pc-linux-gnu-elf",
+        "arm-pc-linux-gnu-elf",
+        "avr-sun-linux-gnu-elf",
+        "avr-pc-ios-gnu-elf",
+        "avr-pc-ios1-gnu-elf",
+        "avr-pc-linux-musl-elf",
+        "avr-pc-linux-gnu-coff",
+    ];
+    let triples = triples.map(|it| it.parse::<Triple>().unwrap());
+    have_different_hashes(&triples.clone().map(NotPlain));
+    have_different_hashes(&triples.clone().map(DefaultToHost));
+    have_different_hashes(&triples.map(DefaultToUnknown));
 }

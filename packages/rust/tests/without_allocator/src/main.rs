@@ -2,8 +2,19 @@
 //! allocator.
 #![no_std]
 #![no_main]
+use core::fmt::{self, Write as _};
 use target_lexicon::{CDataModel, Field, Source, TripleExt, TripleRef, VendorRef, HOST};
 use target_names::{read, Dialect, LinuxLibc, Suggest as _, TargetInfo};
+
+/// Compares what is written with a string.
+struct Left(&'static str);
+
+impl fmt::Write for Left {
+    fn write_str(&mut self, piece: &str) -> fmt::Result {
+        self.0 = self.0.strip_prefix(piece).ok_or(fmt::Error)?;
+        Ok(())
+    }
+}
 
 #[link(name = "c")]
 extern "C" {
@@ -36,6 +47,10 @@ pub extern "C" fn main() -> i32 {
     let refusal = explanation.triple.unwrap_err();
     assert_eq!(refusal.expected, Some(Field::OperatingSystem));
     assert_eq!(refusal.suggestion().unwrap(), "linux");
+    let versioned = TripleRef::from_str("arm64-apple-iso17").unwrap_err();
+    let mut left = Left("Unrecognized operating system: iso17: ios17");
+    write!(left, "{versioned}: {}", versioned.suggestion().unwrap()).unwrap();
+    assert!(left.0.is_empty());
     // A `Triple` is there too; only its custom vendor can't own a string.
     assert_eq!(HOST.pointer_width().ok(), TripleRef::from(&HOST).pointer_width().ok());
     assert!(HOST.comes_back() && custom != HOST);
