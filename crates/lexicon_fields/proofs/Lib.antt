@@ -1,9 +1,14 @@
--- RowTexts, PrefixKeyLemmas, SearchSteps, RowLemmas, RowReads: the table of names is in order, the search finds
--- each row, and a row has the values that the lists of names give. LookUpLemmas: what a look-up in a list gives, and
--- how to show that names parse back. NamesReadBack, VersionsReadBack, OperatingSystemsReadBack, ParsedSystems,
--- VendorsReadBack: the names of each type parse back and have no dash, and a parsed version is in range. Variants:
--- facts about values of one variant. HashInputs: different values are hashed from different inputs. EqualByValue: `==`
--- is true exactly for the same values.
+-- A map. The proof of a function, such as the law `names_read_back`, is in the folder of its file and name,
+-- laws/names_read_back, and cites lemmas of the files here. Begin there, and with LawOfNames, which the crates above
+-- cite.
+--
+-- The table of names: RowTexts (its strings are in order), PrefixKeyLemmas (so are their keys), SearchSteps (the search
+-- finds each row), RowLemmas (each fixed name has one), RowReads (its values are those of the lists of names).
+-- Names that parse back: LookUpLemmas (how to show it), NamesReadBack (types whose values are listed),
+-- VersionsReadBack, OperatingSystemsReadBack (systems with a version), VendorsReadBack; ParsedSystems (what is known of
+-- a parsed system).
+-- Equality and hashing: Variants (two values of one variant), EqualByValue (`==` is true exactly for the same values),
+-- HashInputs (different values feed a hasher differently). Buffers: Puts (strings put one after the other).
 pub mod EqualByValue
 pub mod HashInputs
 pub mod PrefixKeyLemmas

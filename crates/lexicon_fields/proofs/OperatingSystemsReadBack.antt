@@ -1,4 +1,4 @@
--- How the names of systems are parsed.
+-- How the names of systems are parsed, with their versions: each system parses back from its name.
 use Rattle.std.proofs.Common.{[], ◌∷◌, Option, Some, IfSome, option_map, option_and_then, ◌≡◌, ◌≢◌, ◌∙◌, ℕ, List, ◌++◌, take, drop, length, nat_eq, None, refl, sym, ap}
 use Rattle.std.specs.List.{starts_with}
 use Rattle.std.proofs.{lemmas.Bool.false_from_ne_true, lemmas.Bool.cond-false, lemmas.Bool.cond-true, Math.Seq.take-append_seam, Math.Seq.drop-append_seam, lemmas.List.take-append-drop, lemmas.Slice.Eq.bytes_eq-Decides}

@@ -1,4 +1,4 @@
--- What an index into the table gives.
+-- What an index into the table gives: the string of the row, its values and its key.
 use Rattle.std.proofs.Common.{◌≡◌, ◌∙◌, ℕ, zero, suc, ◌<◌, List, [], ◌∷◌, Bool, true, refl, ap, sym, map, get_or, ltb, arith}
 use Rattle.std.specs.{Borrow.Bor, List.list_all}
 use Rattle.std.proofs.{Math.ListN.get_or-map as mapped, lemmas.Bool.and_parts, lemmas.Bool.ltb-true, lemmas.List.get_or-map, lemmas.List.Sums.AllPass-from_list_all}

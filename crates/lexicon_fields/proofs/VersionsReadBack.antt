@@ -1,4 +1,4 @@
--- How version strings are parsed.
+-- How version strings are parsed, piece by piece.
 use Rattle.std.proofs.Common.{◌≡◌, ◌≢◌, ◌∙◌, ℕ, ◌+◌, ◌^◌, ◌<◌, ◌≤◌, nat_eq, nat_lt, nat_le, List, [], ◌∷◌, ◌++◌, length, Bool, true, false, ◌&&◌, cond, Option, Some, None, Result, Ok, Err, Bor, refl, sym, ap, rules, arith}
 use Rattle.std.specs.{Char.is_ascii_digit, List.list_all, List.before_first, List.after_first, List.position_or_len, Result.OkIff, Result.result_ok}
 use Rattle.std.specs.{Fmt.decimal, Str.Parse.IsNumeral, Str.Parse.ParsesUnsigned, Str.Parse.digits_value, Str.Parse.without_leading_plus}

@@ -6,9 +6,9 @@ use std::marker::Model;
 
 /// A counter, for instance of comparisons. It takes no memory and has no upper limit; only contracts see its count.
 ///
-/// [`row_order`](crate::row_order) ticks it once. [`fixed_row`](crate::fixed_row) ticks it exactly as often as it compares
-/// a row with the string: at least once, and at most eight times. No clause excludes a comparison without a tick: that
-/// only `row_order` compares can be read in the code.
+/// [`row_order`](crate::row_order) ticks it once. [`fixed_row`](crate::fixed_row) ticks it exactly as often as it
+/// compares a row with the string: at least once, and at most eight times. No clause excludes a comparison without a
+/// tick: that only `row_order` compares can be read in the code.
 #[derive(Drop)]
 pub struct Steps {
     pub ghost count: { ℕ },

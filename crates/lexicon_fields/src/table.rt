@@ -36,8 +36,8 @@ pub struct FixedRow {
     pub binary_format: Option<BinaryFormat>,
 }
 
-/// In which fields a string of the table parses, and as what. It has a tag of its own, which takes fewer instructions to
-/// read than one that is folded into the values.
+/// In which fields a string of the table parses, and as what. It has a tag of its own, which takes fewer instructions
+/// to read than one that is folded into the values.
 #[derive(Clone, Copy)]
 #[repr(u8)]
 enum Meaning {

@@ -1,4 +1,4 @@
-//! The vendors.
+//! The vendors, of which a custom one owns its string or has a static one.
 ghost use Rattle.std.specs.Prelude.{◌≡◌, true, false, nat_eq, Some, IfOk, IfErr, IsOk};
 ghost use Rattle.std.specs.Cmp;
 ghost use Rattle.std.specs.Cmp.{on_per, on_equiv};

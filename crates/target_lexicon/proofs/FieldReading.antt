@@ -1,4 +1,4 @@
--- The same reading field by field: each field takes the first part that is left, if that parses as it.
+-- Parsing as a function, field by field: each field takes the first part that is left, if that parses as it.
 use Rattle.std.proofs.Common.{◌≡◌, ◌∙◌, ℕ, List, [], ◌∷◌, Option, Some, None, Result, Ok, Err, refl}
 use Rattle.std.specs.Option.{option_map_or}
 use Rattle.lexicon_fields.specs.{Vendor.vendor_of, Architecture.architecture_of, declared.known_vendor.KnownVendor.TheVariants.Unknown, Environment.environment_of}

@@ -1,12 +1,16 @@
--- The lemmas, by topic. Parsing: PartLemmas (parts and dashes), NamesAcross (the law of names, and the names of one
--- field, parsed as an earlier field); GreedyPlacement, RefusalLemmas, UniqueReading, ComputedReading (from parsing as a
--- function to the least placement); FieldReading (that function field by field); ReadParts, SourceLemmas (part by part,
--- and the source of each field); ReadValues, Vendors (facts about all parsed triples). Printing: PrintingLemmas,
--- Upstream, Lengths (how much longer than the string), WordLengths (the words of queries). Round trips: RoundTrips,
--- TextRoundTrips (a printed string parsed again); SpecialRows (the facts of each special string), StepCases (those of
--- each exception), FixedPointLemmas, RoundCall, SettleLemmas, ModelsKnown, QueriesKept.
--- Elements: JSON lists. SameValues: equality of triples. HashInputPairs, VariantHashes: what is fed to a hasher.
--- OnLiterals: for proofs of callers.
+-- A map. The proof of a function, such as the law `round_is_normal_step`, is in the folder of its file and name,
+-- laws/round_is_normal_step, and cites lemmas of the files here. Begin there, and go from lemma to lemma.
+--
+-- Parsing, as the least placement: PartLemmas (a string's parts), NamesAcross (names of one field, parsed as another),
+-- GreedyPlacement, RefusalLemmas, UniqueReading, ComputedReading (one outcome, which the function `reading` gives).
+-- Parsing, as the code does it: FieldReading (field by field), ReadParts (part by part), SourceLemmas (the source of
+-- each field). All parsed triples: ReadValues, Vendors.
+-- Printing: PrintingLemmas (pieces), Upstream, Lengths, WordLengths (how long strings and words are).
+-- Round trips: SpecialRows (facts of each special string), StepCases (facts of each exception), RoundTrips (the shown
+-- parts parse as the normal step), TextRoundTrips (so does the string), FixedPointLemmas (which triples the step leaves
+-- unchanged), SettleLemmas (a second step changes none), RoundCall (what the call `round` gives), ModelsKnown,
+-- QueriesKept (the step keeps the answers of queries).
+-- Equality and hashing: SameValues, HashInputPairs, VariantHashes. JSON lists: Elements. Callers' proofs: OnLiterals.
 pub mod ComputedReading
 pub mod Elements
 pub mod FieldReading

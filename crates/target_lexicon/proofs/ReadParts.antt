@@ -1,5 +1,5 @@
--- What is left of the parts of a string goes on as all of them began. The fields that the parts fill one after the other are the
--- greedy placement.
+-- What is left of the parts of a string goes on as all of them began. The fields that the parts fill one after the
+-- other are the greedy placement.
 use Rattle.std.proofs.Common.{◌≡◌, ◌≢◌, ◌∙◌, ℕ, ◌+◌, ◌≤◌, List, [], ◌∷◌, ◌++◌, append_assoc, map, length, nat_eq, true, false, Option, Some, None, refl, sym, ap, arith, inl, inr}
 use Rattle.std.specs.Prelude.{IfSome, MatchOption}
 use Rattle.std.specs.Option.{option_map_or}

@@ -1,4 +1,5 @@
--- Facts of the special strings, one after the other. All that other lemmas know of these strings is here, so that they say "each row".
+-- Facts of the special strings, one after the other. All that other lemmas know of these strings is here, so that they
+-- say "each row".
 use Rattle.std.proofs.Common.{◌≡◌, ◌∙◌, ℕ, ◌+◌, ◌≤◌, ◌<◌, ◌^◌, List, [], ◌∷◌, length, Bool, true, false, cond, Option, Some, None, Result, Ok, Err, inl, inr, ◌⊎◌, is_some, refl, sym, ap, arith}
 use Rattle.std.specs.{Prelude.map, Str.bytes_eq}
 use Rattle.std.proofs.{lemmas.Slice.Eq.bytes_eq-Decides, lemmas.Bool.cases_Bool, lemmas.Bool.false≢true, lemmas.Bool.true≢false}

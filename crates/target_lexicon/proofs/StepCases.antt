@@ -1,5 +1,5 @@
--- The facts of the five fields of each exception. So a fact that holds in the case of each exception, and outside them, holds
--- for the step.
+-- From the exception of a triple to the facts of its five fields, and back. So what holds in the case of each
+-- exception, and outside them, holds for the step.
 use Rattle.std.proofs.Common.{◌≡◌, ◌∙◌, ◌⊎◌, ℕ, List, inl, inr, Bool, true, false, cond, ◌&&◌, codes, Option, Some, None, is_some, refl, sym, ap, subst}
 use Rattle.std.specs.Str.{bytes_eq}
 use Rattle.std.proofs.{lemmas.Slice.Eq.bytes_eq-Decides, lemmas.Bool.and_parts, lemmas.Bool.cases_Bool, lemmas.Bool.false≢true, Math.Bool.and-false}

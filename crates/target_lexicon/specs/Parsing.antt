@@ -1,5 +1,5 @@
--- Parsing: the parts of a string and the fields that they can be of, the triple that a string reads as, and how a
--- string is refused.
+-- Parsing as a relation, which knows no parser: the parts of a string and the fields that they can be of, the triple
+-- that a string parses as, and how a string is refused.
 use Rattle.std.specs.Prelude.{◌≡◌, ◌≢◌, ℕ, ◌<◌, ◌≤◌, ◌==◌, suc, List, [], ◌∷◌, Option, Some, None, true, map, take}
 use Rattle.std.specs.Prelude.{slice_get, if◌then◌else◌, IfSome, MatchOption, ◌⊎◌}
 use Rattle.std.specs.Borrow.{Bor}

@@ -51,8 +51,10 @@ special_string t = by_fields t.architecture t.vendor t.operating_system
   where
     by_fields : Architecture → VendorValue → OperatingSystem → Option (List ℕ)
     -- written by tools/names/write: special_string
-    by_fields (architecture.Arm arm.Armv6k) (Known known_vendor.Nintendo) operating_system.Horizon = Some (codes "armv6k-nintendo-3ds")
-    by_fields (architecture.Riscv32 riscv32.Riscv32imc) (Known known_vendor.Espressif) operating_system.Espidf = Some (codes "riscv32imc-esp-espidf")
+    by_fields (architecture.Arm arm.Armv6k) (Known known_vendor.Nintendo) operating_system.Horizon =
+        Some (codes "armv6k-nintendo-3ds")
+    by_fields (architecture.Riscv32 riscv32.Riscv32imc) (Known known_vendor.Espressif) operating_system.Espidf =
+        Some (codes "riscv32imc-esp-espidf")
     -- end of what is written
     by_fields _ _ _ = None
 

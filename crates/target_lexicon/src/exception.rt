@@ -20,17 +20,18 @@ use lexicon_fields::{
 /// use target_lexicon::{RoundTripException, TripleRef};
 ///
 /// let triple = TripleRef::from_str("riscv32imc-esp-espidf-elf").unwrap();
-/// assert_eq!(rt; (triple.comes_back(), triple.round_trip_exception()), (false, Some(RoundTripException::PrintsTheEspIdfString)));
+/// assert!(rt; !triple.comes_back());
+/// assert_eq!(rt; triple.round_trip_exception(), Some(RoundTripException::PrintsTheEspIdfString));
 /// ```
 // In Rust: #[non_exhaustive].
 #[derive(Clone, Copy, Debug, PartialEq, Eq)]
 // In Rust: #[derive(Hash)].
 pub enum RoundTripException {
-    /// The first three fields are those of a special string, such as `armv6k-nintendo-3ds`, which is printed, and environment and
-    /// format aren't `Newlib` and `Elf`.
+    /// The first three fields are those of a special string, such as `armv6k-nintendo-3ds`, which is printed, and
+    /// environment and format aren't `Newlib` and `Elf`.
     PrintsAsSpecial,
-    /// Vendor and system are those of a special string, and the environment is `Newlib`, which isn't shown, but the architecture is
-    /// another.
+    /// Vendor and system are those of a special string, and the environment is `Newlib`, which isn't shown, but the
+    /// architecture is another.
     HidesNewlib,
     /// The string is `riscv32imc-esp-espidf`, but the vendor is the custom `esp`.
     PrintsTheEspIdfString,
@@ -97,7 +98,8 @@ impl TripleRef<'_> {
         )
     }
 
-    /// Whether the environment is a `Newlib` that vendor and system imply. Where no special string is printed, it isn't shown.
+    /// Whether the environment is a `Newlib` that vendor and system imply. Where no special string is printed, it isn't
+    /// shown.
     fn hides_newlib(&self) -> bool
         ensures { result ≡ (implies_newlib (ref_value self.now.vendor)
             self.now.operating_system && is_newlib self.now.environment) }

@@ -1,9 +1,14 @@
 //! Laws of the definitions. Each function's contract is a law; a call does nothing.
 ghost use Rattle.std.specs.Prelude.{◌≡◌, ◌≢◌, ◌↔◌, ℕ, suc, List, All, take, IsTrue};
 ghost use Rattle.target_lexicon.specs.GreedyReading.{ResultsAreComputed};
-ghost use Rattle.target_lexicon.specs.Laws.{ComesBack, HasOneLeastPlacement, EveryStringHasOneOutcome, ReadingIsComputed, ReadVendorsArePlain, EqualTextsEqualTriples};
-ghost use Rattle.lexicon_fields.specs.Laws.{HashInjectiveOn, HashInjective, ComparesByValue, CopiesEqualTheirSources, HasVersionInRange};
-ghost use Rattle.target_lexicon.specs.FixedPoints.{ParsedTriplesArePlain, FixedExactlyOutsideExceptions, RoundIsNormalStep, OneStepSettles, CanonicalStringsAreKeys, RoundTripsAreKnown, PrintedStringsGrowAtMost, CanonicalStringsGrowAtMost, RefusedPartsDoNotGrow};
+ghost use Rattle.target_lexicon.specs.Laws.{ComesBack, HasOneLeastPlacement, EveryStringHasOneOutcome};
+ghost use Rattle.target_lexicon.specs.Laws.{ReadingIsComputed, ReadVendorsArePlain, EqualTextsEqualTriples};
+ghost use Rattle.lexicon_fields.specs.Laws.{HashInjectiveOn, HashInjective, ComparesByValue, CopiesEqualTheirSources};
+ghost use Rattle.lexicon_fields.specs.Laws.{HasVersionInRange};
+ghost use Rattle.target_lexicon.specs.FixedPoints.{ParsedTriplesArePlain, FixedExactlyOutsideExceptions};
+ghost use Rattle.target_lexicon.specs.FixedPoints.{RoundIsNormalStep, OneStepSettles, CanonicalStringsAreKeys};
+ghost use Rattle.target_lexicon.specs.FixedPoints.{RoundTripsAreKnown, PrintedStringsGrowAtMost};
+ghost use Rattle.target_lexicon.specs.FixedPoints.{CanonicalStringsGrowAtMost, RefusedPartsDoNotGrow};
 ghost use Rattle.target_lexicon.specs.ExceptionFacts.{ExceptionsAreFactsOfFields};
 ghost use Rattle.target_lexicon.specs.Json.{ListParsesAs, list_json_of, json_error_value, list_error_value};
 ghost use Rattle.target_lexicon.specs.Parsing.{HasPlacement};
@@ -136,7 +141,8 @@ pub fn errors_are_equal_by_value()
         IsTrue (⟦<ParseError as PartialEq>⟧.eq x y) ↔ (refusal_of x ≡ refusal_of y) }
 {}
 
-/// Two refusals are equal if and only if they expected the same field, and their parts and where these begin are the same.
+/// Two refusals are equal if and only if they expected the same field, and their parts and where these begin are the
+/// same.
 pub fn refusals_are_equal_by_value()
     ensures { (x y : Refusal) →
         IsTrue (⟦<Refusal<'static> as PartialEq>⟧.eq x y) ↔ (placed_refusal x ≡ placed_refusal y) }
@@ -164,8 +170,8 @@ pub fn queries_kept()
     ensures { QueriesKept }
 {}
 
-/// Two sizes, two data models, two calling conventions or two reasons why a triple doesn't round-trip are equal if and only if they are the
-/// same variant.
+/// Two sizes, two data models, two calling conventions or two reasons why a triple doesn't round-trip are equal if and
+/// only if they are the same variant.
 pub fn answers_are_equal_by_variant()
     ensures size { ComparesByValue ⟦<Size as PartialEq>⟧.eq }
     ensures data_model { ComparesByValue ⟦<CDataModel as PartialEq>⟧.eq }
@@ -173,7 +179,8 @@ pub fn answers_are_equal_by_variant()
     ensures exception { ComparesByValue ⟦<RoundTripException as PartialEq>⟧.eq }
 {}
 
-/// Two `DefaultToHost`, or two `DefaultToUnknown`, are equal if and only if the triples in them have the same five fields.
+/// Two `DefaultToHost`, or two `DefaultToUnknown`, are equal if and only if the triples in them have the same five
+/// fields.
 pub fn defaults_are_equal_by_value()
     ensures host { (x y : DefaultToHost) →
         IsTrue (⟦<DefaultToHost as PartialEq>⟧.eq x y) ↔ (values_of x.0 ≡ values_of y.0) }
@@ -183,14 +190,14 @@ pub fn defaults_are_equal_by_value()
     triples_are_equal_by_value();
 }
 
-/// Each exception is the facts of the five fields that its record states. So a reader of [`Triple::round_trip_exception`] need not follow
-/// the order of a list of cases.
+/// Each exception is the facts of the five fields that its record states. So a reader of
+/// [`Triple::round_trip_exception`] need not follow the order of a list of cases.
 pub fn exceptions_are_facts_of_fields()
     ensures { ExceptionsAreFactsOfFields }
 {}
 
-/// A triple comes back (it is printed and parsed again as itself) if and only if none of the five exceptions applies, also if
-/// its vendor is not plain.
+/// A triple comes back (it is printed and parsed again as itself) if and only if none of the five exceptions applies,
+/// also if its vendor is not plain.
 pub fn fixed_exactly_outside_families()
     ensures { FixedExactlyOutsideExceptions }
 {
@@ -219,9 +226,9 @@ pub fn canonical_strings_are_keys()
 }
 
 /// The headline, all of these laws in one: every string parses or is refused, in exactly one way. Each parsed triple
-/// has a plain vendor. A triple comes back if and only if none of the five exceptions applies. The round trip of each triple
-/// with a plain vendor succeeds, is the normal step, keeps the answers of the four queries, and gives the canonical
-/// form; and each canonical triple has a string of its own.
+/// has a plain vendor. A triple comes back if and only if none of the five exceptions applies. The round trip of each
+/// triple with a plain vendor succeeds, is the normal step, keeps the answers of the four queries, and gives the
+/// canonical form; and each canonical triple has a string of its own.
 pub fn round_trips_are_known()
     ensures { RoundTripsAreKnown }
 {
@@ -234,8 +241,8 @@ pub fn round_trips_are_known()
     canonical_strings_are_keys();
 }
 
-/// The printed string of a triple differs from upstream's if and only if environment and format are unknown, another format
-/// is implied, and no special string is printed.
+/// The printed string of a triple differs from upstream's if and only if environment and format are unknown, another
+/// format is implied, and no special string is printed.
 pub fn only_unknowns_differ_from_upstream()
     ensures { OnlyUnknownsDifferFromUpstream }
 {}
@@ -256,15 +263,16 @@ pub fn json_errors_are_equal_by_value()
         IsTrue (⟦<JsonError as PartialEq>⟧.eq x y) ↔ (json_error_value x ≡ json_error_value y) }
 {}
 
-/// Two errors of a JSON list are equal if and only if they are of one kind, with the same element and the same error of it.
+/// Two errors of a JSON list are equal if and only if they are of one kind, with the same element and the same error of
+/// it.
 pub fn list_errors_are_equal_by_value()
     ensures { (x y : ListError) →
         IsTrue (⟦<ListError as PartialEq>⟧.eq x y) ↔ (list_error_value x ≡ list_error_value y) }
 {}
 
-/// Two parts are equal if and only if their bytes are and they begin at the same index. Two sources are equal if and only if
-/// they are the same variant, with equal parts. Two explanations are equal if and only if their triples or refusals are,
-/// and their sources.
+/// Two parts are equal if and only if their bytes are and they begin at the same index. Two sources are equal if and
+/// only if they are the same variant, with equal parts. Two explanations are equal if and only if their triples or
+/// refusals are, and their sources.
 pub fn explanations_are_equal_by_value()
     ensures part { (x y : TextPart) →
         IsTrue (⟦<TextPart<'static> as PartialEq>⟧.eq x y) ↔ (part_value x ≡ part_value y) }
@@ -314,8 +322,9 @@ pub fn answers_hash_by_variant()
     ensures calling_convention { HashInjective ⟦<CallingConvention as Hash>⟧.hash_input }
 {}
 
-/// Two triples, with a default or without, feed a hasher the same if and only if their five values are the same, and what
-/// is fed after a triple can be distinguished from what it feeds. This is said of triples whose version is in range.
+/// Two triples, with a default or without, feed a hasher the same if and only if their five values are the same, and
+/// what is fed after a triple can be distinguished from what it feeds. This is said of triples whose version is in
+/// range.
 pub fn triples_hash_by_value()
     ensures triple { HashInjectiveOn (λ t. HasVersionInRange t.operating_system) values_of
         ⟦<Triple as Hash>⟧.hash_input }
@@ -327,8 +336,8 @@ pub fn triples_hash_by_value()
     values_hash_by_variant_and_fields();
 }
 
-/// Two borrowed triples feed a hasher the same if and only if their five values are the same, as [`triples_hash_by_value`]
-/// says of triples.
+/// Two borrowed triples feed a hasher the same if and only if their five values are the same, as
+/// [`triples_hash_by_value`] says of triples.
 pub fn triple_refs_hash_by_value()
     ensures { HashInjectiveOn (λ t. HasVersionInRange t.operating_system) values_of_ref
         ⟦<TripleRef<'static> as Hash>⟧.hash_input }

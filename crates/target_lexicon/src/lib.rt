@@ -2,9 +2,9 @@
 //!
 //! The calls of [`Triple`] are in files by topic: `triple` (the type, `unknown`, `clone`), `host`, `parse`
 //! (`from_str`), `display` (`Display`, `to_text`, and which fields are shown), `special` (the two special strings),
-//! `queries` (byte order, pointer width, calling convention, data model), `exception`, `settle` (`comes_back`, `normal`,
-//! `settle`), `settles_as`, `json`. Most of them call the same of [`TripleRef`], a borrowed triple (`triple_ref`).
-//! `round_trip` prints and parses a triple.
+//! `queries` (byte order, pointer width, calling convention, data model), `exception`, `settle` (`comes_back`,
+//! `normal`, `settle`), `settles_as`, `json`. Most of them call the same of [`TripleRef`], a borrowed triple
+//! (`triple_ref`). `round_trip` prints and parses a triple.
 //!
 //! To parse, `parse` gives each part of a string to a `reading`, which looks it up and fills a field. `explanation` has
 //! the types of what was found, `default_format` the implied format, and `refusal` why a string is refused.

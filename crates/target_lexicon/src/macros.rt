@@ -1,4 +1,4 @@
-//! The macro.
+//! The macro `triple!`.
 
 /// [`Triple::from_str`](crate::Triple::from_str) of an allocator and a string, for function bodies.
 #[macro_export]

@@ -3,7 +3,8 @@
 ghost use Rattle.std.specs.Prelude.{◌≡◌, ◌+◌, ◌∷◌, length, true, IfOk, IfErr, IfSome};
 ghost use Rattle.lexicon_fields.specs.Vendor.{OwnsCustomString, vendor_value, is_plain};
 ghost use Rattle.lexicon_fields.specs.VendorRef.{ref_value};
-ghost use Rattle.target_lexicon.specs.Explanation.{AreInString, AreSourcesOf, IsInString, IsRefusedAfter, IsRefusedAt, part_value, sources_of};
+ghost use Rattle.target_lexicon.specs.Explanation.{AreInString, AreSourcesOf, IsInString, IsRefusedAfter, IsRefusedAt};
+ghost use Rattle.target_lexicon.specs.Explanation.{part_value, sources_of};
 ghost use Rattle.target_lexicon.specs.Parsing.{ParsesAs, IsErrorOf, IsRefusedAs, parts_after, parts_of};
 ghost use Rattle.target_lexicon.specs.Values.{values_of};
 ghost use Rattle.target_lexicon.specs.ValuesRef.{refusal_value, values_of_ref};

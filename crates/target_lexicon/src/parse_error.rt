@@ -1,4 +1,4 @@
-//! Why a string doesn't parse as a triple.
+//! Why a string doesn't parse as a triple, as an error that owns the refused part.
 ghost use Rattle.std.specs.Prelude.{◌≡◌, Some, None, IfOk, IsOk};
 
 use crate::refusal::refusal_prefix;

@@ -1,4 +1,4 @@
-//! Why a string doesn't parse as a triple.
+//! Why a string doesn't parse as a triple, with the refused part borrowed from it.
 ghost use Rattle.std.specs.Prelude.{◌≡◌, ◌<◌, Some, IfOk, length};
 ghost use Rattle.target_lexicon.specs.Refusal as spec;
 ghost use Rattle.target_lexicon.specs.ValuesRef.{refusal_value};

@@ -1,4 +1,4 @@
-//! Round trips of a triple: the five exceptions that don't come back, the normal step, and the canonical form.
+//! Whether a triple comes back, its normal step, and its canonical form.
 ghost use Rattle.std.specs.Prelude.{◌≡◌, ◌↔◌, ◌⊎◌, true, IsTrue};
 ghost use Rattle.lexicon_fields.specs.Vendor.{is_plain, vendor_value};
 ghost use Rattle.lexicon_fields.specs.VendorRef.{ref_value};
@@ -26,7 +26,8 @@ impl Triple {
     /// Whether the triple comes back: printed and parsed again, it is itself. No string is made and nothing is
     /// allocated.
     ///
-    /// A triple comes back unless one of five exceptions applies, which [`RoundTripException`] lists, and [`Triple::round_trip_exception`] names.
+    /// A triple comes back unless one of five exceptions applies, which [`RoundTripException`] lists, and
+    /// [`Triple::round_trip_exception`] names.
     // Not in Rust.
     pub fn comes_back(&self) -> bool
         ensures { IsTrue result ↔ ComesBack (values_of self.now) }
@@ -55,11 +56,11 @@ impl Triple {
         self.step()
     }
 
-    /// The canonical form of the triple: it comes back. It is specified as two normal steps, of which the second changes
-    /// nothing (law `second_step_changes_one`). There are two calls since one triple would take both steps if printing
-    /// followed upstream's rules. The vendor must be plain, as for `normal`. A triple that comes back is unchanged. No other
-    /// canonical triple has the same string (law `canonical_strings_are_keys`), so the string serves as a key. Nothing is
-    /// allocated.
+    /// The canonical form of the triple: it comes back. It is specified as two normal steps, of which the second
+    /// changes nothing (law `second_step_changes_one`). There are two calls since one triple would take both steps if
+    /// printing followed upstream's rules. The vendor must be plain, as for `normal`. A triple that comes back is
+    /// unchanged. No other canonical triple has the same string (law `canonical_strings_are_keys`), so the string
+    /// serves as a key. Nothing is allocated.
     // Not in Rust.
     pub fn settle(self) -> Triple
         requires { is_plain (vendor_value self.vendor) ≡ true }

@@ -1,4 +1,4 @@
-//! Whether two borrowed triples have the same canonical form.
+//! Whether two triples have the same canonical form: a question, where `settle` makes that form.
 ghost use Rattle.std.specs.Prelude.{◌≡◌, ◌↔◌, IsTrue};
 ghost use Rattle.target_lexicon.specs.FixedPoints.{canonical_values};
 ghost use Rattle.target_lexicon.specs.Values.{values_of};

@@ -1,5 +1,5 @@
-//! Tests of the public calls of the libraries: what they print, that a failed write is reported, and that they return with
-//! ample memory. They are a crate of their own, so that the libraries aren't proved a second time for them.
+//! Tests of the public calls of the libraries: what they print, that a failed write is reported, and that they return
+//! with ample memory. They are a crate of their own, so that the libraries aren't proved a second time for them.
 #![tactic(auto)]
 
 #[cfg(test)]

@@ -16,8 +16,8 @@ use target_lexicon::{
     Riscv64Architecture, X86_32Architecture, Z80Architecture,
 };
 
-/// Each row is a name and its value, as `{:?}` shows it. A name parses if and only if its value begins with that of the family,
-/// and then it is what the value prints.
+/// Each row is a name and its value, as `{:?}` shows it. A name parses if and only if its value begins with that of the
+/// family, and then it is what the value prints.
 fn check_names<T: Debug + Display + Drop + FromStr<Err = ()>>(
     rt: &impl Abort,
     rows: &str,

@@ -62,9 +62,9 @@ fn is_round(alloc: Global, triple: &Triple, back: &Triple) -> bool {
     }
 }
 
-/// Whether the triple of the string prints this, and comes back and has no exception if and only if that parses as the triple;
-/// and the triple of the printed string is the round trip, the next step and the canonical triple, and prints the last
-/// string.
+/// Whether the triple of the string prints this, and comes back and has no exception if and only if that parses as the
+/// triple; and the triple of the printed string is the round trip, the next step and the canonical triple, and prints
+/// the last string.
 fn is_round_trip(alloc: Global, text: &str, print: &str, last: &str) -> bool {
     match (
         Triple::from_str(alloc, text),
@@ -106,8 +106,8 @@ fn parsed_triples_print(rt: HostRuntime) {
     }
 }
 
-/// A custom vendor and a string; what the string's triple prints with that vendor; and the triple that this parses as, or
-/// why it is refused. Only the first vendor is plain.
+/// A custom vendor and a string; what the string's triple prints with that vendor; and the triple that this parses as,
+/// or why it is refused. Only the first vendor is plain.
 const BUILT: &str = "\
 customvendor x86_64-unknown-linux-unknown-elf=x86_64-customvendor-linux=X86_64 Custom(Owned(\"customvendor\")) Linux Unknown Elf
 a-b x86_64-unknown-linux-unknown-elf=x86_64-a-b-linux=Unrecognized operating system: b
@@ -117,8 +117,8 @@ pc x86_64-unknown-windows-msvc-coff=x86_64-pc-windows-msvc=X86_64 Pc Windows Msv
 unknown-linux x86_64-unknown-unknown-unknown-elf=x86_64-unknown-linux-unknown-elf=X86_64 Unknown Linux Unknown Elf
 none x86_64-unknown-linux-unknown-elf=x86_64-none-linux=Unrecognized environment: linux";
 
-/// Whether the triple of the string with this vendor prints this string, which parses as that, as a round trip does; and it
-/// comes back and has no exception if and only if its vendor is plain.
+/// Whether the triple of the string with this vendor prints this string, which parses as that, as a round trip does;
+/// and it comes back and has no exception if and only if its vendor is plain.
 fn is_built(alloc: Global, text: &str, vendor: &'static str, print: &str, expected: &str) -> bool {
     let Ok(parsed) = Triple::from_str(alloc, text) else {
         return false;

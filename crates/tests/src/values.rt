@@ -5,8 +5,8 @@ use std::fmt::{Display, Write as _};
 use std::hash::{DefaultHasher, Hash, Hasher};
 use target_lexicon::Triple;
 
-/// Takes the rest of a string in pieces, up to `room` bytes. It fails at a piece that doesn't fit, and at one that the rest
-/// doesn't begin with.
+/// Takes the rest of a string in pieces, up to `room` bytes. It fails at a piece that doesn't fit, and at one that the
+/// rest doesn't begin with.
 #[derive(Drop)]
 struct Target<'a> {
     rest: &'a str,
@@ -30,8 +30,8 @@ impl fmt::Write for Target<'_> {
     }
 }
 
-/// Whether the value is written as this string, and writing it fails if and only if its target does, with no piece after that:
-/// tried with room for each number of its bytes.
+/// Whether the value is written as this string, and writing it fails if and only if its target does, with no piece
+/// after that: tried with room for each number of its bytes.
 pub(crate) fn writes<T: Display>(value: &T, text: &str) -> bool {
     for room in 0..text.len() + 1 {
         let mut target = Target {

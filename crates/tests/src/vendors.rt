@@ -30,7 +30,8 @@ CustomVendor=
 a-b=
 Ünix=";
 
-/// Whether the string parses as this vendor, also without an allocator, and is its name; or is refused if this is empty.
+/// Whether the string parses as this vendor, also without an allocator, and is its name; or is refused if this is
+/// empty.
 fn is_vendor(alloc: Global, text: &'static str, expected: &str) -> bool {
     match (Vendor::from_str(alloc, text), VendorRef::from_str(text)) {
         (Ok(vendor), Ok(borrowed)) => match (vendor.clone(alloc), borrowed.to_vendor(alloc)) {

@@ -1,10 +1,12 @@
-//! A reader or writer with a trace of its calls, and so with a count of its failures. Only this file can change these, so
-//! that no other contract can claim a call, a failure, or bytes, that there were not.
+//! A reader or writer with a trace of its calls, and so with a count of its failures. Only this file can change these,
+//! so that no other contract can claim a call, a failure, or bytes, that there were not.
 ghost use Rattle.std.specs.Prelude.{◌≡◌, ◌+◌, ◌∷◌, ◌++◌, [], false, IsTrue, is_ok};
 ghost use Rattle.std.specs.Io.{ReadsAtMost, WritesAtMost};
 ghost use Rattle.std.specs.Io.KnownBytes.{Keeps, ReadConsumes, WriteAppends};
 ghost use Rattle.triples.specs.Calls.{After, stops_last};
-ghost use Rattle.triples.specs.Streams.{calls, inner, failures, moved, is_ended, failures_of, write_failures_of, moved_by, finds_end, stops, stops_by, is_last_by, read_call, write_call, flush_call};
+ghost use Rattle.triples.specs.Streams.{calls, inner, failures, moved, is_ended, failures_of, write_failures_of};
+ghost use Rattle.triples.specs.Streams.{moved_by, finds_end, stops, stops_by, is_last_by, read_call, write_call};
+ghost use Rattle.triples.specs.Streams.{flush_call};
 
 use crate::trace::Trace;
 use std::io;
@@ -15,7 +17,8 @@ use std::io::{Read, Write};
 #[derive(Drop)]
 pub struct Counted<D> {
     inner: D,
-    /// One entry for each call: only contracts see them. It takes no memory, and the number of failures has no upper limit.
+    /// One entry for each call: only contracts see them. It takes no memory, and the number of failures has no upper
+    /// limit.
     trace: Trace,
 }
 

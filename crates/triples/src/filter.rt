@@ -6,7 +6,8 @@ ghost use Rattle.target_lexicon.specs.Values.{is_plain};
 ghost use Rattle.target_lexicon.specs.ValuesRef.{refusal_value, values_of_ref};
 ghost use Rattle.triples.specs.Facts.{facts_of, spaced_word};
 ghost use Rattle.triples.specs.Filter.{FilterEndsAs};
-ghost use Rattle.triples.specs.FilterSteps.{AnswersRest, HasNoFeed, IsKept, IsLineAnswer, IsLineEnd, IsShortAnswer, LinesAnswered, MakesRoom, Pushes, PushesAnswer, RestAnswered};
+ghost use Rattle.triples.specs.FilterSteps.{AnswersRest, HasNoFeed, IsKept, IsLineAnswer, IsLineEnd, IsShortAnswer};
+ghost use Rattle.triples.specs.FilterSteps.{LinesAnswered, MakesRoom, Pushes, PushesAnswer, RestAnswered};
 ghost use Rattle.triples.specs.Output.{shown_by};
 ghost use Rattle.triples.specs.Run.{use_of};
 
@@ -20,8 +21,8 @@ use target_lexicon::laws::{
 };
 use target_lexicon::{CDataModel, CallingConvention, Endianness, PointerWidth, Refusal, TripleRef};
 
-/// How many bytes an answer can have more than its line: 22 that printing can add, 32 for four words in mode `show`, and
-/// the line feed.
+/// How many bytes an answer can have more than its line: 22 that printing can add, 32 for four words in mode `show`,
+/// and the line feed.
 pub const ANSWER_ROOM: usize = 55;
 
 /// Reads the input to its end, writes the answer to each line, as the mode says, and flushes. After each read the lines
@@ -33,9 +34,10 @@ pub const ANSWER_ROOM: usize = 55;
 /// # Errors
 ///
 /// - [`FilterError::Read`] if and only if a read failed. The answers to all lines before it were written.
-/// - [`FilterError::Write`] if and only if a write or the flush failed, or a write took no byte of a piece. A beginning of
-///   the answers was written.
-/// - [`FilterError::Endless`] after `u64::MAX` reads, if none of them found the end. The answers to all lines were written.
+/// - [`FilterError::Write`] if and only if a write or the flush failed, or a write took no byte of a piece. A beginning
+///   of the answers was written.
+/// - [`FilterError::Endless`] after `u64::MAX` reads, if none of them found the end. The answers to all lines were
+///   written.
 pub fn filter<R: Read, W: Write>(
     mode: LineMode,
     input: &mut [u8],
@@ -67,9 +69,9 @@ pub fn filter<R: Read, W: Write>(
     Err(FilterError::Endless)
 }
 
-/// Writes the answers to the lines that end in the bytes, the first `searched` of which have no line feed. The first line
-/// is too long if it `is_late`. Returns where the line begins that doesn't end, and whether that is still the first, and too
-/// long.
+/// Writes the answers to the lines that end in the bytes, the first `searched` of which have no line feed. The first
+/// line is too long if it `is_late`. Returns where the line begins that doesn't end, and whether that is still the
+/// first, and too long.
 fn answer_lines<W: Write>(
     mode: LineMode,
     is_late: bool,
@@ -180,8 +182,8 @@ fn keep_rest(buffer: &mut [u8], start: usize, end: usize, is_late: bool) -> (usi
     (end - start, false)
 }
 
-/// Puts the answer to a line, which is too long if it `is_late`, into the buffer at this position, and a line feed. Returns
-/// where they end.
+/// Puts the answer to a line, which is too long if it `is_late`, into the buffer at this position, and a line feed.
+/// Returns where they end.
 fn push_line(mode: LineMode, is_late: bool, line: &[u8], out: &mut [u8], at: usize) -> usize
     requires { at + length line.now + ANSWER_ROOM ≤ length out.old }
     ensures { PushesAnswer (IsLineAnswer mode is_late line.now) out.old at out.new result }
@@ -192,8 +194,8 @@ fn push_line(mode: LineMode, is_late: bool, line: &[u8], out: &mut [u8], at: usi
     push_answer(mode, line, out, at)
 }
 
-/// Where the first line ends, if it does. No byte before `from` is a line feed. Not inlined, since then the loop takes an
-/// instruction less a byte.
+/// Where the first line ends, if it does. No byte before `from` is a line feed. Not inlined, since then the loop takes
+/// an instruction less a byte.
 #[inline(never)]
 fn line_end(bytes: &[u8], from: usize) -> Option<usize>
     requires within { from ≤ length bytes.now }
@@ -256,8 +258,8 @@ fn put_triple(out: &mut [u8], at: usize, triple: &TripleRef<'_>) -> usize
     at + triple.write_to(&mut out[at..])
 }
 
-/// Puts the words for the byte order, pointer width, calling convention and data model of a triple, as [`put_triple`] puts
-/// the triple.
+/// Puts the words for the byte order, pointer width, calling convention and data model of a triple, as [`put_triple`]
+/// puts the triple.
 fn put_facts(out: &mut [u8], at: usize, triple: &TripleRef<'_>) -> usize
     requires { at + length (facts_of (values_of_ref triple.now)) ≤ length out.old }
     ensures { Pushes (facts_of (values_of_ref triple.now)) out.old at out.new result }

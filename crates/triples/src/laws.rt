@@ -1,8 +1,10 @@
 //! Laws of the definitions. Each function's contract is a law; a call does nothing.
 ghost use Rattle.std.specs.Prelude.{List};
 ghost use Rattle.target_lexicon.specs.Laws.{ComparesByValue, CopiesEqualTheirSources};
-ghost use Rattle.triples.specs.FilterLaws.{ErrorsOfFiltersAreExact, EveryInputIsFiltered, FiltersAgreeWithRuns, FiltersEndOneWay};
-ghost use Rattle.triples.specs.MatrixLaws.{EntriesAreCanonicalTriples, KeepsEntriesOnce, FirstEntriesStayInOrder, EachCanonicalTripleHasAnEntry, MatricesAreTheirOwn};
+ghost use Rattle.triples.specs.FilterLaws.{ErrorsOfFiltersAreExact, EveryInputIsFiltered, FiltersAgreeWithRuns};
+ghost use Rattle.triples.specs.FilterLaws.{FiltersEndOneWay};
+ghost use Rattle.triples.specs.MatrixLaws.{EntriesAreCanonicalTriples, KeepsEntriesOnce, FirstEntriesStayInOrder};
+ghost use Rattle.triples.specs.MatrixLaws.{EachCanonicalTripleHasAnEntry, MatricesAreTheirOwn};
 ghost use Rattle.triples.specs.Output.{Answer};
 ghost use Rattle.triples.specs.RunLaws.{ErrorsOfRunsAreExact, EveryInputHasAnOutcome, RunsEndOneWay};
 ghost use Rattle.triples.specs.declared.filter_error.FilterError.{FilterError};
@@ -93,8 +95,8 @@ pub fn every_input_has_an_outcome()
     target_lexicon::laws::every_string_has_one_outcome();
 }
 
-/// A run returns `Read` if and only if a read failed, and `Write` if and only if a write or the flush did. Of an input that was read
-/// whole, unless memory runs out, it returns `NotUtf8` if and only if it isn't UTF-8, and in mode `json`
+/// A run returns `Read` if and only if a read failed, and `Write` if and only if a write or the flush did. Of an input
+/// that was read whole, unless memory runs out, it returns `NotUtf8` if and only if it isn't UTF-8, and in mode `json`
 /// only `NotJson` if and only if it is UTF-8 but not JSON, and `NotList` if and only if it is JSON but not a list.
 pub fn errors_of_runs_are_exact()
     ensures { ErrorsOfRunsAreExact }

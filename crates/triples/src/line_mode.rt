@@ -1,4 +1,4 @@
-//! The modes that answer each line by itself.
+//! The type of the modes that answer each line by itself, which a filter can have too.
 ghost use Rattle.std.specs.Prelude.{◌≡◌};
 
 /// What is written for each line.

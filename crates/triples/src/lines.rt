@@ -1,4 +1,4 @@
-//! The modes that answer each line by itself.
+//! What a run writes in the modes that answer each line by itself.
 ghost use Rattle.std.specs.Prelude.{◌≡◌, ◌<◌, ◌++◌, length, option_map, string_bytes, IfOk, OnOk, OnErr};
 ghost use Rattle.target_lexicon.specs.Values.{values_of};
 ghost use Rattle.triples.specs.Facts.{facts_of, spaced_word};
@@ -27,8 +27,8 @@ pub(crate) fn answers(alloc: Global, mode: LineMode, input: &str) -> Result<Stri
     Ok(output)
 }
 
-/// Appends the answer to a line, and a line feed: the triple that the line parses as, or in mode `settle` its canonical form,
-/// printed, and in mode `show` its facts; or why the line is refused.
+/// Appends the answer to a line, and a line feed: the triple that the line parses as, or in mode `settle` its canonical
+/// form, printed, and in mode `show` its facts; or why the line is refused.
 fn push_answer(
     alloc: Global,
     output: &mut String,

@@ -1,10 +1,10 @@
-//! Reads lines of target triples and writes what they are. `main` gives its arguments to `requested`, and its streams to
-//! `perform`, which calls `run` or `filter`, and then `conclude`, which gives the exit status.
+//! Reads lines of target triples and writes what they are. `main` gives its arguments to `requested`, and its streams
+//! to `perform`, which calls `run` or `filter`, and then `conclude`, which gives the exit status.
 //!
-//! `run` reads the whole input and writes what `lines`, `matrix` or `json` makes of it, as `mode` says. `filter` answers
-//! line by line between two buffers, as `line_mode` says. `streams` reads or writes to the end through `counted`, which
-//! counts failures, and keeps in a `trace` which bytes were moved; only contracts see it. `laws` has what follows from
-//! the contracts.
+//! `run` reads the whole input and writes what `lines`, `matrix` or `json` makes of it, as `mode` says. `filter`
+//! answers line by line between two buffers, as `line_mode` says. `streams` reads or writes to the end through
+//! `counted`, which counts failures, and keeps in a `trace` which bytes were moved; only contracts see it. `laws` has
+//! what follows from the contracts.
 #![tactic(auto)]
 
 mod counted;

@@ -13,8 +13,8 @@ use crate::run_error::RunError;
 use std::alloc::Global;
 use std::io::{Read, Write};
 
-/// Does what was asked for, and returns the exit status. The closing line goes to the writer, but to the writer of errors
-/// after a filter, so that it isn't taken for an answer.
+/// Does what was asked for, and returns the exit status. The closing line goes to the writer, but to the writer of
+/// errors after a filter, so that it isn't taken for an answer.
 pub fn perform<R: Read, W: Write, E: Write>(
     alloc: Global,
     request: Option<Request>,

@@ -14,8 +14,8 @@ pub enum Request {
     Filter(LineMode),
 }
 
-/// What the arguments after the program's name ask for, of which these are the first two: a run in mode `print` if there is
-/// none, what a single word names, and `None` for another word or more words.
+/// What the arguments after the program's name ask for, of which these are the first two: a run in mode `print` if
+/// there is none, what a single word names, and `None` for another word or more words.
 pub fn requested(word: Option<String>, next: Option<String>) -> Option<Request>
     ensures { result ≡ request_of (option_map string_bytes word) (option_map string_bytes next) }
 {

@@ -83,8 +83,8 @@ pub fn conclude<W: Write>(end: Option<Result<(), RunError>>, w: &mut Counted<W>)
     }
 }
 
-/// Writes the first word of a line, the rest of it and a line feed, and flushes. If the writer fails, a part of the line may be
-/// missing.
+/// Writes the first word of a line, the rest of it and a line feed, and flushes. If the writer fails, a part of the
+/// line may be missing.
 fn write_line<W: Write>(writer: &mut Counted<W>, word: &str, rest: &str) -> Result<(), RunError>
     ensures whole { OnOk result
         (Takes (use_of W.contents writer.old writer.new)

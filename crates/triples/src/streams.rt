@@ -1,6 +1,7 @@
 //! A whole input is read, or a whole output written, through a [`Counted`].
 ghost use Rattle.std.specs.Prelude.{◌≡◌, ℕ, List, IfOk, OnOk, IfErr};
-ghost use Rattle.triples.specs.Run.{Gives, HasFailed, IsReadErrorOf, IsReadWhole, IsUnfailed, OnlyMoves, StopsLast, Takes, TakesBeginning, use_of};
+ghost use Rattle.triples.specs.Run.{Gives, HasFailed, IsReadErrorOf, IsReadWhole, IsUnfailed, OnlyMoves, StopsLast};
+ghost use Rattle.triples.specs.Run.{Takes, TakesBeginning, use_of};
 
 use crate::counted::Counted;
 use crate::run_error::RunError;

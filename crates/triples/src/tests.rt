@@ -23,8 +23,8 @@ const _: () = prove!(size_of::<Counted<Vec<u8>>>() == size_of::<Vec<u8>>());
 /// Two kinds of errors that code may treat in its own way.
 const SPECIAL_KINDS: [ErrorKind; 2] = [ErrorKind::Interrupted, ErrorKind::BrokenPipe];
 
-/// The outcome of a run or a filter, its reads, writes and flushes, and how many bytes were kept; `None` if these aren't a
-/// beginning of the output.
+/// The outcome of a run or a filter, its reads, writes and flushes, and how many bytes were kept; `None` if these
+/// aren't a beginning of the output.
 type Trace<E> = Option<(Result<(), E>, usize, usize, u32, usize)>;
 
 fn trace<E: Copy>(

@@ -1,5 +1,5 @@
-//! Five uses of the port, as a caller writes them: a boot loader, the macro, a key, a literal, and a spelling. Each function
-//! is proved only from public contracts and definitions.
+//! Five uses of the port, as a caller writes them: a boot loader, the macro, a key, a literal, and a spelling. Each
+//! function is proved only from public contracts and definitions.
 #![tactic(auto)]
 
 mod boot;

@@ -20,8 +20,8 @@ static ENDS: [(Option<Result<(), RunError>>, u8, &str); 8] = [
     (Some(Err(RunError::OutOfMemory)), 1, "fault: Out of memory\n"),
 ];
 
-/// The line is written up to the write that has a fault, where each write takes one byte, and the status is the same. The
-/// flush fails too; there is none if there is no line.
+/// The line is written up to the write that has a fault, where each write takes one byte, and the status is the same.
+/// The flush fails too; there is none if there is no line.
 #[test]
 fn concludes(rt: HostRuntime) {
     for (end, status, line) in &ENDS {

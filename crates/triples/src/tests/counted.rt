@@ -38,8 +38,8 @@ fn each_kind_of_error_is_passed_back(rt: HostRuntime) {
 /// A prime number of bytes, of which neighbours differ.
 const LETTERS: &str = "abcdefghijklmnopqrstuvwxyzABCDEFGHIJKLMNOPQRSTUVWXYZ.";
 
-/// A piece is passed on whole, by one write, and a read has all the room. There are no bytes, and lengths around those of
-/// usual buffers.
+/// A piece is passed on whole, by one write, and a read has all the room. There are no bytes, and lengths around those
+/// of usual buffers.
 #[test]
 fn a_piece_of_any_length_is_passed_on_whole(rt: HostRuntime) {
     let Ok(letters) = LETTERS.repeat(rt.alloc(), 6000) else {

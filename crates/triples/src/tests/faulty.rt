@@ -5,8 +5,8 @@ use std::alloc::Global;
 use std::io::{ErrorKind, Read, Write};
 use std::{fmt, io};
 
-/// Gives its bytes and keeps what it takes, at most `most` bytes a call. Its call number `fault_at`, counted from 0, has a
-/// fault, and a flush has the result `flush`.
+/// Gives its bytes and keeps what it takes, at most `most` bytes a call. Its call number `fault_at`, counted from 0,
+/// has a fault, and a flush has the result `flush`.
 #[derive(Drop)]
 pub(super) struct Faulty<'a> {
     rest: &'a [u8],

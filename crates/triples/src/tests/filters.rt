@@ -63,8 +63,8 @@ fn expected(alloc: Global, size: usize, input: &str, output: &str) -> Option<Vec
     Some(bytes)
 }
 
-/// How many reads give the input, of at most `piece` bytes each, and how many writes its answers take, if each is whole: one
-/// after each read in which a line ends, and one for a last line that doesn't end.
+/// How many reads give the input, of at most `piece` bytes each, and how many writes its answers take, if each is
+/// whole: one after each read in which a line ends, and one for a last line that doesn't end.
 fn calls(size: usize, piece: usize, input: &[u8]) -> (usize, usize) {
     let mut rest = input;
     let mut reads = 1usize;
@@ -96,8 +96,8 @@ fn calls(size: usize, piece: usize, input: &[u8]) -> (usize, usize) {
     (reads, writes.saturating_add(usize::from(has_rest)))
 }
 
-/// A filter writes what a run writes, however many bytes come at once, makes no more reads and writes than that takes, and
-/// flushes once.
+/// A filter writes what a run writes, however many bytes come at once, makes no more reads and writes than that takes,
+/// and flushes once.
 #[test]
 fn filters_answer_as_runs(rt: HostRuntime) {
     let alloc = rt.alloc();
@@ -145,8 +145,8 @@ const FAULTS: [Option<ErrorKind>; 3] = [
     None,
 ];
 
-/// A filter ends at the read that fails, after the answers to the lines that had ended: it reads no more, and doesn't flush.
-/// A read of no byte is the end, after the answer to what came of the last line.
+/// A filter ends at the read that fails, after the answers to the lines that had ended: it reads no more, and doesn't
+/// flush. A read of no byte is the end, after the answer to what came of the last line.
 #[test]
 fn each_read_of_a_filter_fails_in_turn(rt: HostRuntime) {
     let alloc = rt.alloc();
@@ -180,8 +180,8 @@ fn each_read_of_a_filter_fails_in_turn(rt: HostRuntime) {
     }
 }
 
-/// A filter ends at the write that fails or takes no byte, after a beginning of the answers: it writes no more, and doesn't
-/// flush. The flush after all writes fails too.
+/// A filter ends at the write that fails or takes no byte, after a beginning of the answers: it writes no more, and
+/// doesn't flush. The flush after all writes fails too.
 #[test]
 fn each_write_of_a_filter_fails_in_turn(rt: HostRuntime) {
     let alloc = rt.alloc();

@@ -14,16 +14,17 @@ use crate::proved::{
 /// use target_lexicon::{RoundTripException, TripleRef};
 ///
 /// let triple = TripleRef::from_str("riscv32imc-esp-espidf-elf").unwrap();
-/// assert_eq!((triple.comes_back(), triple.round_trip_exception()), (false, Some(RoundTripException::PrintsTheEspIdfString)));
+/// assert!(!triple.comes_back());
+/// assert_eq!(triple.round_trip_exception(), Some(RoundTripException::PrintsTheEspIdfString));
 /// ```
 #[non_exhaustive]
 #[derive(Clone, Copy, Debug, PartialEq, Eq, Hash)]
 pub enum RoundTripException {
-    /// The first three fields are those of a special string, such as `armv6k-nintendo-3ds`, which is printed, and environment and
-    /// format aren't `Newlib` and `Elf`.
+    /// The first three fields are those of a special string, such as `armv6k-nintendo-3ds`, which is printed, and
+    /// environment and format aren't `Newlib` and `Elf`.
     PrintsAsSpecial,
-    /// Vendor and system are those of a special string, and the environment is `Newlib`, which isn't shown, but the architecture is
-    /// another.
+    /// Vendor and system are those of a special string, and the environment is `Newlib`, which isn't shown, but the
+    /// architecture is another.
     HidesNewlib,
     /// The string is `riscv32imc-esp-espidf`, but the vendor is the custom `esp`.
     PrintsTheEspIdfString,
@@ -73,7 +74,8 @@ impl TripleRef<'_> {
         )
     }
 
-    /// Whether the environment is a `Newlib` that vendor and system imply. Where no special string is printed, it isn't shown.
+    /// Whether the environment is a `Newlib` that vendor and system imply. Where no special string is printed, it isn't
+    /// shown.
     fn hides_newlib(&self) -> bool {
         matches!(self.environment, Environment::Newlib) && self.implies_newlib()
     }

@@ -118,8 +118,8 @@ impl<'a> TripleRef<'a> {
                     }
                 }
             }
-            // an arm for each field, by which the kit's compiler sees that these calls repeat the look-up, and drops it,
-            // except after a part that is no vendor
+            // an arm for each field, by which the kit's compiler sees that these calls repeat the look-up, and drops
+            // it, except after a part that is no vendor
             None => match expected {
                 Field::Vendor => {
                     if let Ok(vendor) = VendorRef::from_text(text) {

@@ -1,5 +1,5 @@
 // @generated: erased from crates/target_lexicon/src/refusal.rt by tools/erase. Don't edit it here.
-//! Why a string doesn't parse as a triple.
+//! Why a string doesn't parse as a triple, with the refused part borrowed from it.
 
 use crate::proved::display::put;
 use crate::proved::explanation::TextPart;

@@ -1,5 +1,5 @@
 // @generated: erased from crates/target_lexicon/src/settle.rt by tools/erase. Don't edit it here.
-//! Round trips of a triple: the five exceptions that don't come back, the normal step, and the canonical form.
+//! Whether a triple comes back, its normal step, and its canonical form.
 
 use crate::proved::exception::RoundTripException;
 use crate::proved::triple::Triple;

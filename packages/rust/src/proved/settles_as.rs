@@ -1,5 +1,5 @@
 // @generated: erased from crates/target_lexicon/src/settles_as.rt by tools/erase. Don't edit it here.
-//! Whether two borrowed triples have the same canonical form.
+//! Whether two triples have the same canonical form: a question, where `settle` makes that form.
 
 use crate::proved::triple_ref::TripleRef;
 

@@ -1,5 +1,5 @@
 // @generated: erased from crates/lexicon_fields/src/vendor.rt by tools/erase. Don't edit it here.
-//! The vendors.
+//! The vendors, of which a custom one owns its string or has a static one.
 
 #[cfg(feature = "alloc")]
 use alloc::{boxed::Box, string::String};

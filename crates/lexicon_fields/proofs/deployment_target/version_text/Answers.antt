@@ -1,4 +1,5 @@
--- Three numbers with dots between are put one after the other: what is put is the name of the version, fits, and is ASCII.
+-- Three numbers with dots between are put one after the other: what is put is the name of the version, fits, and is
+-- ASCII.
 use Rattle.std.proofs.Common.{◌≡◌, ℕ, ◌<◌, ◌^◌, ◌∙◌, List, [], ◌∷◌, length, ap, arith, rules}
 use Rattle.std.specs.{Fmt.decimal, Str.IsAscii, Str.IsUtf8}
 use Rattle.std.proofs.lemmas.{Fmt.IsAscii-decimal, Str.IsAscii-append, Str.IsUtf8-from_ascii}

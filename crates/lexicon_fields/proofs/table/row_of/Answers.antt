@@ -1,4 +1,5 @@
--- A binary search: no row before `low` or after the `size` rows from there has the string, and the ticks so far are those of the way to them.
+-- A binary search: no row before `low` or after the `size` rows from there has the string, and the ticks so far are
+-- those of the way to them.
 use Rattle.std.proofs.Common.{arith, sym, ap, refl, subst, ◌≡◌, ◌<◌, ◌+◌, ◌/◌, ℕ, List, true}
 use Rattle.lexicon_fields.proofs.{RowReads.text-is, RowReads.values-are, RowLemmas.row-exists, RowLemmas.no_row-outside, RowLemmas.no_row-below, RowLemmas.no_row-above, RowTexts.row_text-is, SearchSteps.on-the-way-first, SearchSteps.on-the-way-less, SearchSteps.on-the-way-greater, SearchSteps.found-there, SearchSteps.none-left}
 use Rattle.lexicon_fields.specs.{FixedRow.has_row, FixedRow.row_count, FixedRow.row_texts, Private.name_values, Vendor.known_vendor_of, OperatingSystem.fixed_operating_system_of}

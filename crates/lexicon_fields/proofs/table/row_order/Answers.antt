@@ -1,4 +1,5 @@
--- The order of two different prefix keys is that of the strings; with equal keys the order of the lengths is, or of the strings.
+-- The order of two different prefix keys is that of the strings; with equal keys the order of the lengths is, or of the
+-- strings.
 use Rattle.std.specs.{Cmp.nat_cmp_is}
 use Rattle.std.proofs.Common.{◌≡◌, ◌<◌, ◌≤◌, ◌⊎◌, ◌∙◌, List, ℕ, Iter, Equal, drop, get_or, ap, arith, sym, refl, nat_cmp, inl, inr}
 use Rattle.std.proofs.{lemmas.List.take_rest, lemmas.Iterator.YieldsList-from_slice, lemmas.Iterator.Search.cmp_from_yields_List}

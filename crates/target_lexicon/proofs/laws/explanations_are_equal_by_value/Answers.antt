@@ -1,4 +1,5 @@
--- Two explanations are equal if their outcomes and all five sources are, and each of these comparisons decides equality.
+-- Two explanations are equal if their outcomes and all five sources are, and each of these comparisons decides
+-- equality.
 use Rattle.std.proofs.Common.{rules, ◌≡◌, ◌↔◌, Bool, Result, Ok, Err, ap}
 use Rattle.std.specs.Prelude.{IsTrue}
 use Rattle.std.specs.Result.{result_eq}

@@ -1,4 +1,5 @@
--- The parts of a string give its triple or refusal, and the places that the parts have; the clauses say the same of the string.
+-- The parts of a string give its triple or refusal, and the places that the parts have; the clauses say the same of the
+-- string.
 use Rattle.std.specs.Borrow.{Bor}
 use Rattle.std.proofs.Common.{arith, ◌≤◌, ◌+◌, ◌-◌, length, rules, refl, [], ◌∷◌, Option, ◌≡◌, ◌∙◌, ℕ, List, Result, Ok, Err, Some, None, ap, sym, subst}
 use Rattle.std.specs.Option.{option_map_or}

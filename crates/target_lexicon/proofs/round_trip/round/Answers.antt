@@ -1,4 +1,5 @@
--- The printed string is that of the triple, so each clause follows from `from_str` and a clause of `round_trips_are_known`.
+-- The printed string is that of the triple, so each clause follows from `from_str` and a clause of
+-- `round_trips_are_known`.
 use Rattle.std.proofs.Common.{◌≡◌, ◌∙◌, ℕ, List, subst, refl}
 use Rattle.std.proofs.lemmas.Result.{IfOk-weaker, IfErr-weaker}
 use Rattle.target_lexicon.specs.{Printing.string_of, Parsing.ParsesAs, Refusal.refusal_of, Values.values_of}

@@ -1,4 +1,5 @@
--- Each way out of the code is one case of `version_of`: how many pieces there are, and whether each is a number in range.
+-- Each way out of the code is one case of `version_of`: how many pieces there are, and whether each is a number in
+-- range.
 use Rattle.std.proofs.Common.{refl, sym}
 use Rattle.lexicon_fields.proofs.VersionsReadBack.{number_read, pieces-last, pieces-more, pieces_of-some, no_major, no_minor, no_patch, one_piece, two_pieces, three_pieces, too_many_pieces}
 use Rattle.lexicon_fields.proofs.deployment_target.DeploymentTarget.from_text.Goals as goal
