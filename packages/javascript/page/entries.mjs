@@ -1,4 +1,5 @@
-// What the page copies of each target: what `target-lexicon facts --json` and `target-lexicon what --json` write, without notes. The tests compare.
+// What the page copies of each target: what `target-lexicon facts --json` and `target-lexicon what --json` write,
+// without notes. The tests compare.
 export const snakeCase = (name) => name.replace(/[A-Z]/g, (letter) => `_${letter.toLowerCase()}`);
 export const versionOf = ({ version: it }) => it && `${it.major}.${it.minor}.${it.patch}`;
 const place = (text) => ({ target: text, file: null, line: null });
@@ -11,23 +12,28 @@ export function byteRange(text, { start, end }) {
 
 export function errorEntry(text, error) {
   const field = error.field && snakeCase(error.field);
-  return { ...place(text), error: `unrecognized ${(field ?? "field").replace("_", " ")}`, part: error.part, ...byteRange(text, error), field, suggestion: error.suggestion };
+  return { ...place(text), error: `unrecognized ${(field ?? "field").replace("_", " ")}`, part: error.part,
+    ...byteRange(text, error), field, suggestion: error.suggestion };
 }
 
 export function factsEntry({ FIELDS, Triple }, text) {
   const { triple, error } = Triple.explain(text);
   if (error) return errorEntry(text, error);
-  const fields = FIELDS.flatMap((name) => [[name, triple[name]], ...(name === "operatingSystem" ? [["version", versionOf(triple)]] : [])]);
-  const facts = { ...Object.fromEntries(fields), ...triple.facts(), llvmTarget: triple.llvmTarget(), multiarchTuple: triple.multiarchTuple(), printed: `${triple}`, canonical: triple.canonical };
-  return { ...place(text), ...Object.fromEntries(Object.entries(facts).map(([name, fact]) => [snakeCase(name), fact])) };
+  const version = ["version", versionOf(triple)];
+  const fields = FIELDS.flatMap((name) => [[name, triple[name]], ...(name === "operatingSystem" ? [version] : [])]);
+  const facts = { ...Object.fromEntries(fields), ...triple.facts(), llvmTarget: triple.llvmTarget(),
+    multiarchTuple: triple.multiarchTuple(), printed: `${triple}`, canonical: triple.canonical };
+  const entries = Object.entries(facts).map(([name, fact]) => [snakeCase(name), fact]);
+  return { ...place(text), ...Object.fromEntries(entries) };
 }
 
 /**
- * The names of a triple in the dialects `written`, and the reasons of those without one. An Arm without a version gets no C library: where one
- * of Linux is chosen, it has no name in a dialect whose names state that.
+ * The names of a triple in the dialects `written`, and the reasons of those without one. An Arm without a version gets
+ * no C library: where one of Linux is chosen, it has no name in a dialect whose names state that.
  */
 export function namesAndReasons(triple, written, hasChosenLibc) {
-  const all = triple.names(), names = {}, reasons = {}, isBareArm = triple.architecture === "arm" && triple.operatingSystem === "linux" && triple.environment === "unknown";
+  const all = triple.names(), names = {}, reasons = {},
+    isBareArm = triple.architecture === "arm" && triple.operatingSystem === "linux" && triple.environment === "unknown";
   const others = hasChosenLibc && isBareArm ? triple.with({ environment: "gnu" }).names() : all;
   for (const dialect of written) {
     const isMissing = all[dialect] === null;
@@ -37,7 +43,10 @@ export function namesAndReasons(triple, written, hasChosenLibc) {
   return { names, reasons };
 }
 
-/** Likewise of a tool's name that says a level of the machine, which its triple can't; `libcs` are the chosen C libraries. */
+/**
+ * Likewise of a tool's name that says a level of the machine, which its triple can't; `libcs` are the chosen C
+ * libraries.
+ */
 export function namesAtLevel({ ParseError, translate }, text, { triple, tools: [tool] }, written, libcs) {
   const names = {}, reasons = {}, libc = libcs.find((it) => !triple.complete(it).equals(triple)) ?? null;
   for (const dialect of written) {
@@ -54,11 +63,16 @@ export function namesAtLevel({ ParseError, translate }, text, { triple, tools: [
 
 /** Of what a name means; `libcs` are the chosen C libraries, of Linux and of Windows. */
 export function namesEntry(lexicon, text, written, libcs) {
-  const { DIALECTS, meanings } = lexicon, hasChosenLibc = libcs.some((it) => ["glibc", "musl"].includes(it)), { meanings: found, withoutTriple } = meanings(text), merged = new Map(), order = ["triple", ...DIALECTS, "spelling"];
+  const { DIALECTS, meanings } = lexicon, hasChosenLibc = libcs.some((it) => ["glibc", "musl"].includes(it)),
+    { meanings: found, withoutTriple } = meanings(text), merged = new Map(),
+    order = ["triple", ...DIALECTS, "spelling"];
   for (const meaning of found) {
-    const { triple, level, tools } = meaning, it = libcs.reduce((it, libc) => it.complete(libc), triple), { canonical } = it, key = `${canonical} ${level}`;
-    const all = [...merged.get(key)?.tools ?? [], ...tools].sort((one, other) => order.indexOf(one) - order.indexOf(other));
-    const names = level === null ? namesAndReasons(it, written, hasChosenLibc) : namesAtLevel(lexicon, text, meaning, written, libcs);
+    const { triple, level, tools } = meaning, it = libcs.reduce((it, libc) => it.complete(libc), triple),
+      { canonical } = it, key = `${canonical} ${level}`;
+    const all = [...merged.get(key)?.tools ?? [], ...tools];
+    all.sort((one, other) => order.indexOf(one) - order.indexOf(other));
+    const names = level === null ? namesAndReasons(it, written, hasChosenLibc)
+      : namesAtLevel(lexicon, text, meaning, written, libcs);
     merged.set(key, { canonical, level, tools: all, ...names });
   }
   if (!found.length && !Object.keys(withoutTriple).length) return { ...place(text), error: "no tool has the name" };

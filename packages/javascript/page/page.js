@@ -6,18 +6,22 @@ import { factsEntry, namesAndReasons, namesAtLevel, namesEntry, versionOf } from
 import { found } from "./search.mjs";
 
 const LABELS = {
-  architecture: "Architecture", vendor: "Vendor", operatingSystem: "System", environment: "Environment", binaryFormat: "Format",
+  architecture: "Architecture", vendor: "Vendor", operatingSystem: "System", environment: "Environment",
+  binaryFormat: "Format",
 };
 // The tools as they write themselves, where that isn't the dialect's name with a capital. A string that is only spelled
 // like a triple is LLVM's.
-const TOOLS = { oci: "containers", gnu: "GNU", rust: "rustc", uname: "uname", rpm: "RPM", apk: "apk", pacman: "pacman", dotnet: ".NET", conda: "conda",
+const TOOLS = { oci: "containers", gnu: "GNU", rust: "rustc", uname: "uname", rpm: "RPM", apk: "apk", pacman: "pacman",
+  dotnet: ".NET", conda: "conda",
   spelling: "LLVM", triple: "a triple" };
 const toolName = (tool) => TOOLS[tool] ?? tool[0].toUpperCase() + tool.slice(1);
 // The linkers of an object format.
-const LINKERS = { elf: "ld, ld.lld, mold", macho: "ld64, ld64.lld", coff: "link.exe, lld-link", wasm: "wasm-ld", xcoff: "AIX's ld" };
+const LINKERS = { elf: "ld, ld.lld, mold", macho: "ld64, ld64.lld", coff: "link.exe, lld-link", wasm: "wasm-ld",
+  xcoff: "AIX's ld" };
 // The targets of which there are chips, with the word for one and for more. Those of a kind that is a mistake come
 // first.
-const KINDS = { all: ["target", "targets"], refused: ["refused"], suspicious: ["suspicious"], duplicate: ["duplicate", "duplicates"] };
+const KINDS = { all: ["target", "targets"], refused: ["refused"], suspicious: ["suspicious"],
+  duplicate: ["duplicate", "duplicates"] };
 const ORDER = ["refused", "suspicious", "other"];
 const LONGEST_LINK = 32000;
 const SLICE = 12; // milliseconds of work between two chances for input
@@ -34,14 +38,15 @@ const element = (name, attributes = {}, ...inside) => {
   return made;
 };
 /**
- * A string of the user as it is shown: all but printable ASCII is escaped, and of a long one only the ends are there. The text field has the
- * whole.
+ * A string of the user as it is shown: all but printable ASCII is escaped, and of a long one only the ends are there.
+ * The text field has the whole.
  */
 const HIDDEN = /[^ -~]/gu;
 const SHOWN = 60, HEAD = 36;
 function shown(text) {
   const letters = [...text.replace(HIDDEN, (it) => `\\u{${it.codePointAt(0).toString(16)}}`)];
-  return letters.length <= SHOWN ? letters.join("") : `${letters.slice(0, HEAD).join("")}\u2026${letters.slice(HEAD - SHOWN).join("")}`;
+  return letters.length <= SHOWN ? letters.join("")
+    : `${letters.slice(0, HEAD).join("")}\u2026${letters.slice(HEAD - SHOWN).join("")}`;
 }
 const code = (text) => element("code", {}, shown(text));
 const small = (...inside) => element("small", {}, ...inside);
@@ -58,7 +63,8 @@ const linesOf = (text) => targetsIn(text).map((item) => item.text);
 function markOf({ origin, part }, text, isCustom) {
   if (isCustom) return [small("custom")];
   if (origin === "chosen") return [small("chosen")];
-  if (origin === "alias") return [part === text && part.includes("-") ? small("from the whole") : small("alias ", code(part))];
+  if (origin === "alias")
+    return [part === text && part.includes("-") ? small("from the whole") : small("alias ", code(part))];
   return origin === "implied" ? [element("span", { class: "aside" }, " implied")] : [];
 }
 
@@ -69,7 +75,9 @@ function fieldCell(triple, name, source, text) {
 }
 
 function offer(name, text, fixed) {
-  const button = element("button", { type: "button", class: "offer", "aria-label": `${shown(name)}: replace ${shown(text)} by ${shown(fixed)}` }, shown(name));
+  const button = element("button",
+    { type: "button", class: "offer", "aria-label": `${shown(name)}: replace ${shown(text)} by ${shown(fixed)}` },
+    shown(name));
   button.addEventListener("click", () => replaceTarget(text, fixed));
   return button;
 }
@@ -111,17 +119,20 @@ function grouped(pairs) {
   return found;
 }
 
-const listOf = (words) => words.length < 2 ? words.join() : `${words.slice(0, -1).join(", ")} and ${words[words.length - 1]}`;
+const listOf = (words) => words.length < 2 ? words.join()
+  : `${words.slice(0, -1).join(", ")} and ${words[words.length - 1]}`;
 const toolsOf = (tools) => listOf(tools.map(toolName));
 
 /** A triple with the environment that is chosen for those that state none. */
 const CHOICES = ["linux", "windows"];
 const hasChosenLibc = () => byId("linux").value !== "";
-const chosenLibcs = () => CHOICES.map((id) => byId(id).value).filter(Boolean), completed = (triple) => chosenLibcs().reduce((it, library) => it.complete(library), triple);
+const chosenLibcs = () => CHOICES.map((id) => byId(id).value).filter(Boolean),
+  completed = (triple) => chosenLibcs().reduce((it, library) => it.complete(library), triple);
 
 /** A name that a click copies. */
 function copied(name) {
-  const button = element("button", { type: "button", class: "copied", "aria-label": `Copy ${shown(name)}` }, code(name));
+  const button = element("button", { type: "button", class: "copied", "aria-label": `Copy ${shown(name)}` },
+    code(name));
   button.addEventListener("click", () => copy(button, name, `Copied ${shown(name)}.`));
   return button;
 }
@@ -131,22 +142,31 @@ const pair = (term, ...answer) => element("div", {}, element("dt", {}, term), el
 /** What each tool calls a triple, or a name that says a level of its machine, and for those that have no name why. */
 function toolNames(triple, text, meaning) {
   const isOfLevel = meaning && meaning.level !== null, lexicon = { ParseError, translate };
-  const { names, reasons } = isOfLevel ? namesAtLevel(lexicon, text, meaning, WRITTEN, chosenLibcs()) : namesAndReasons(triple, WRITTEN, hasChosenLibc()), without = grouped(Object.entries(reasons).map(([dialect, reason]) => [reason, dialect]));
-  const list = element("dl", {}, ...WRITTEN.filter((dialect) => names[dialect] !== null).map((dialect) => pair(toolName(dialect), copied(names[dialect]))));
-  return [list, ...[...without].map(([reason, tools]) => element("p", {}, dim(`None in ${toolsOf(tools)}: `), `${reason}.`))];
+  const { names, reasons } = isOfLevel ? namesAtLevel(lexicon, text, meaning, WRITTEN, chosenLibcs())
+    : namesAndReasons(triple, WRITTEN, hasChosenLibc());
+  const without = grouped(Object.entries(reasons).map(([dialect, reason]) => [reason, dialect]));
+  const named = WRITTEN.filter((dialect) => names[dialect] !== null);
+  const list = element("dl", {}, ...named.map((dialect) => pair(toolName(dialect), copied(names[dialect]))));
+  const noneIn = ([reason, tools]) => element("p", {}, dim(`None in ${toolsOf(tools)}: `), `${reason}.`);
+  return [list, ...[...without].map(noneIn)];
 }
 
 /** What a driver asks, where there is an answer. */
 function factList(triple) {
-  const facts = triple.facts(), list = element("dl"), isMingw = triple.operatingSystem === "windows" && triple.environment.startsWith("gnu");
+  const facts = triple.facts(), list = element("dl"),
+    isMingw = triple.operatingSystem === "windows" && triple.environment.startsWith("gnu");
   const sizes = ["short", "int", "long", "longLong", "float", "double"].filter((it) => facts[`${it}Size`] !== null)
     .map((it) => `${it === "longLong" ? "long long" : it} ${facts[`${it}Size`]}`);
   const layout = (size, alignment) => size && `${size}, aligned to ${alignment}`;
   for (const [term, answer] of Object.entries({
-    "calling convention": facts.defaultCallingConvention, "data model": facts.dataModel, "object format": facts.objectFormat, linker: isMingw ? "ld of mingw-w64, ld.lld" : LINKERS[facts.objectFormat], "C library": facts.cLibrary,
-    "floating point": facts.floatAbi, "C types in bytes": sizes.join(", "), "long double": layout(facts.longDoubleSize, facts.longDoubleAlignment),
+    "calling convention": facts.defaultCallingConvention, "data model": facts.dataModel,
+    "object format": facts.objectFormat, linker: isMingw ? "ld of mingw-w64, ld.lld" : LINKERS[facts.objectFormat],
+    "C library": facts.cLibrary,
+    "floating point": facts.floatAbi, "C types in bytes": sizes.join(", "),
+    "long double": layout(facts.longDoubleSize, facts.longDoubleAlignment),
     wchar_t: layout(facts.wcharSize, facts.wcharAlignment), "family": facts.family,
-    "Arm version": facts.armVersion, "Arm profile": facts.armProfile, "like Unix": facts.isUnix ? "yes" : "no", "LLVM target": triple.llvmTarget(),
+    "Arm version": facts.armVersion, "Arm profile": facts.armProfile, "like Unix": facts.isUnix ? "yes" : "no",
+    "LLVM target": triple.llvmTarget(),
     "Debian's multiarch tuple": triple.multiarchTuple(),
   })) if (answer) list.append(pair(term, answer));
   return list;
@@ -154,13 +174,16 @@ function factList(triple) {
 
 /** The cell with the button for names and facts, and the cell of these, which are looked up when they are shown. */
 function detailCells(triple, text, meaning) {
-  const inside = element("div"), details = element("td", { role: "cell", class: "names", colspan: 8, "aria-colspan": 8, hidden: "" }, inside);
-  const button = element("button", { type: "button", "aria-label": `Names and facts: ${shown(text)}` }, element("span", {}, "names"));
+  const inside = element("div"),
+    details = element("td", { role: "cell", class: "names", colspan: 8, "aria-colspan": 8, hidden: "" }, inside);
+  const button = element("button", { type: "button", "aria-label": `Names and facts: ${shown(text)}` },
+    element("span", {}, "names"));
   const show = (isOpen) => {
     details.hidden = !isOpen;
     button.setAttribute("aria-expanded", isOpen);
     if (!isOpen || inside.firstChild) return;
-    inside.append(element("h2", {}, "In each tool"), ...toolNames(triple, text, meaning), element("h2", {}, "For a linker and a driver"), factList(triple));
+    inside.append(element("h2", {}, "In each tool"), ...toolNames(triple, text, meaning),
+      element("h2", {}, "For a linker and a driver"), factList(triple));
   };
   button.addEventListener("click", () => show(details.hidden));
   return [show, element("td", { role: "cell", class: "elsewhere" }, button), details];
@@ -168,7 +191,8 @@ function detailCells(triple, text, meaning) {
 
 /** What a name means. That a single word is a bare machine to GNU nobody means who has the name from another tool. */
 function meaningsOf(text) {
-  const { meanings: found, withoutTriple } = meanings(text), isBare = ({ tools }) => !text.includes("-") && tools.every((it) => it === "gnu");
+  const { meanings: found, withoutTriple } = meanings(text),
+    isBare = ({ tools }) => !text.includes("-") && tools.every((it) => it === "gnu");
   const isNamed = Object.keys(withoutTriple).length > 0 || found.some((it) => !isBare(it));
   return { found: isNamed ? found.filter((it) => !isBare(it)) : found, withoutTriple };
 }
@@ -188,18 +212,22 @@ function readIn(text, dialect) {
  * the name too.
  */
 function meaningsOfCustom(text, { found, withoutTriple }) {
-  const others = found.filter(({ tools }) => tools.some((it) => it !== "gnu" && it !== "triple")), { triple } = readIn(text);
-  return { found: triple && !triple.hasCustomVendor ? [{ triple: triple.settle(), tools: ["spelling"] }, ...others] : others, withoutTriple };
+  const others = found.filter(({ tools }) => tools.some((it) => it !== "gnu" && it !== "triple")),
+    { triple } = readIn(text);
+  return { found: triple && !triple.hasCustomVendor ? [{ triple: triple.settle(), tools: ["spelling"] }, ...others]
+    : others, withoutTriple };
 }
 
 /** Whether two triples are of the same target, up to a known vendor and how much is written of it. */
-const isSame = (one, own) => one.canonical === own.canonical || !own.hasCustomVendor && one.architecture === own.architecture
-  && one.operatingSystem === own.operatingSystem && one.environment === own.environment && one.facts().objectFormat === own.facts().objectFormat;
+const isSame = (one, own) => one.canonical === own.canonical
+  || !own.hasCustomVendor && one.architecture === own.architecture && one.operatingSystem === own.operatingSystem
+  && one.environment === own.environment && one.facts().objectFormat === own.facts().objectFormat;
 
 /**
  * Whether a string is a name of rustc's. Then it means itself, if it is a triple, and has one reason, if it is none.
  */
-const isOfRustc = ({ found, withoutTriple }) => "rust" in withoutTriple || found.some(({ tools }) => tools.includes("rust"));
+const isOfRustc = ({ found, withoutTriple }) => "rust" in withoutTriple ||
+  found.some(({ tools }) => tools.includes("rust"));
 
 /**
  * What tools mean by a string, except by the meaning `own` that its row shows: a line for each, or the reason why no
@@ -209,29 +237,35 @@ function* otherMeanings(meant, text, own) {
   const isRustc = isOfRustc(meant), { rust, ...without } = meant.withoutTriple;
   for (const { triple, tools } of meant.found) {
     const named = tools.filter((it) => it !== "triple" && !(isRustc && ["gnu", "rust"].includes(it)));
-    if (named.length && !(own && isSame(triple, own))) yield element("p", {}, `In ${toolsOf(named)} it is `, offer(triple.canonical, text, triple.canonical), ".");
+    if (named.length && !(own && isSame(triple, own)))
+      yield element("p", {}, `In ${toolsOf(named)} it is `, offer(triple.canonical, text, triple.canonical), ".");
   }
   if (isRustc) {
-    if (rust && (!own || own.operatingSystem === "unknown")) yield element("p", {}, `${rust[0].toUpperCase()}${rust.slice(1)}.`);
+    if (rust && (!own || own.operatingSystem === "unknown"))
+      yield element("p", {}, `${rust[0].toUpperCase()}${rust.slice(1)}.`);
     return;
   }
-  for (const [reason, tools] of grouped(Object.entries(without).map(([tool, reason]) => [reason, tool]))) yield element("p", {}, `In ${toolsOf(tools)} no triple means it: ${reason}.`);
+  for (const [reason, tools] of grouped(Object.entries(without).map(([tool, reason]) => [reason, tool])))
+    yield element("p", {}, `In ${toolsOf(tools)} no triple means it: ${reason}.`);
 }
 
 /** A row of what a triple is; `fields` says where each value comes from. */
 function tripleRow(head, given, fields, text, isSuspicious, others, meaning) {
   const triple = completed(given), facts = triple.facts();
-  const sources = triple.environment === given.environment ? fields : { ...fields, environment: { origin: "chosen", part: triple.environment } };
+  const sources = triple.environment === given.environment ? fields
+    : { ...fields, environment: { origin: "chosen", part: triple.environment } };
   const row = element("tr", { role: "row", class: isSuspicious ? "suspicious" : "" }, head);
   head.classList.add("folds");
   head.append(...forms(triple, text));
   row.append(...FIELDS.map((name) => fieldCell(triple, name, sources[name], text)));
   if (isSuspicious) row.children[2].querySelector("code").className = "odd";
   if (facts.objectFormat !== triple.binaryFormat) row.lastChild.append(small("objects ", code(facts.objectFormat)));
-  const [showNames, ...details] = detailCells(triple, text, meaning), pointers = cell("Pointers", facts.pointerWidth ? `${facts.pointerWidth} bits` : dim("unknown"));
+  const [showNames, ...details] = detailCells(triple, text, meaning),
+    pointers = cell("Pointers", facts.pointerWidth ? `${facts.pointerWidth} bits` : dim("unknown"));
   pointers.firstChild.append(small(facts.endianness ? `${facts.endianness}-endian` : "byte order unknown"));
   row.append(pointers, details[0]);
-  if (others.length) row.append(element("td", { role: "cell", class: "others", colspan: 8, "aria-colspan": 8 }, ...others));
+  if (others.length)
+    row.append(element("td", { role: "cell", class: "others", colspan: 8, "aria-colspan": 8 }, ...others));
   row.append(details[1]);
   row.canonical = triple.canonical;
   row.kind = isSuspicious ? "suspicious" : "other";
@@ -246,7 +280,8 @@ function parsedRow({ text, triple, fields, suggestion }, all) {
   const { part, start, end } = fields.vendor, known = triple.hasCustomVendor && meant.found.length > 0;
   const isSuspicious = !isRustc && Boolean(known || suggestion);
   const head = isSuspicious && part !== null
-    ? header(text, text.slice(0, start), element("span", { class: "odd" }, shown(part)), text.slice(end)) : header(text, text);
+    ? header(text, text.slice(0, start), element("span", { class: "odd" }, shown(part)), text.slice(end))
+    : header(text, text);
   const others = [...otherMeanings(meant, text, triple)];
   if (isSuspicious && suggestion && !known) head.append(small(...question(suggestion, text, fields.vendor)));
   return tripleRow(head, triple, fields, text, isSuspicious, others);
@@ -256,10 +291,13 @@ function parsedRow({ text, triple, fields, suggestion }, all) {
 function namedRow(text, meant) {
   const [meaning] = meant.found, { triple, level, tools } = meaning, head = header(text, text);
   const fields = Object.fromEntries(FIELDS.map((name) =>
-    [name, name === "binaryFormat" ? { origin: "implied", part: null } : { origin: "given", part: triple[name] === "unknown" ? null : triple[name] }]));
+    [name, name === "binaryFormat" ? { origin: "implied", part: null }
+      : { origin: "given", part: triple[name] === "unknown" ? null : triple[name] }]));
   const isSeveral = meant.found.slice(1).some((it) => it.tools.some((tool) => tools.includes(tool)));
-  head.append(small("a name of ", toolsOf(tools), level === null ? "" : `, for the machine's level ${level}`, isSeveral ? ", of several machines" : ""));
-  const row = tripleRow(head, triple, fields, text, false, [...otherMeanings({ ...meant, found: meant.found.slice(1) }, text, triple)], meaning);
+  head.append(small("a name of ", toolsOf(tools), level === null ? "" : `, for the machine's level ${level}`,
+    isSeveral ? ", of several machines" : ""));
+  const row = tripleRow(head, triple, fields, text, false,
+    [...otherMeanings({ ...meant, found: meant.found.slice(1) }, text, triple)], meaning);
   row.isName = true;
   return row;
 }
@@ -273,8 +311,10 @@ function soFar(fields) {
 
 /** The nearest names of tools for one that nobody knows: for each name, which tools have it. */
 function* nearestNames(text) {
-  const found = DIALECTS.filter((dialect) => dialect !== "gnu").map((dialect) => [readIn(text, dialect).error?.suggestion, dialect]).filter(([name]) => name);
-  for (const [name, tools] of grouped(found)) yield element("p", {}, "Did you mean ", offer(name, text, name), ` of ${toolsOf(tools)}?`);
+  const suggested = (dialect) => [readIn(text, dialect).error?.suggestion, dialect];
+  const found = DIALECTS.filter((dialect) => dialect !== "gnu").map(suggested).filter(([name]) => name);
+  for (const [name, tools] of grouped(found))
+    yield element("p", {}, "Did you mean ", offer(name, text, name), ` of ${toolsOf(tools)}?`);
 }
 
 const SEVERAL = ["x86_64-apple-darwin", "aarch64-apple-darwin"];
@@ -283,9 +323,16 @@ function refusedRow({ text, error, fields, suggestion }, meant) {
   const part = element("strong", { class: "wrong" }, shown(error.part) || "(empty)");
   const head = header(text, text.slice(0, error.start), part, text.slice(error.end));
   const others = text === "universal2"
-    ? [element("p", {}, "It is several machines: ", ...SEVERAL.flatMap((it, at) => [at ? " and " : "", offer(it, text, it)]), ".")] : [...otherMeanings(meant, text, null)];
-  const inside = others.length ? others : [element("p", { class: "message" }, `${error.report.split(":", 1)[0]}: ${shown(error.part)}`)];
-  if (!others.length) inside.push(...(suggestion ? [element("p", {}, ...question(suggestion, text, error))] : error.start === 0 ? nearestNames(text) : []), ...soFar(fields));
+    ? [element("p", {}, "It is several machines: ",
+      ...SEVERAL.flatMap((it, at) => [at ? " and " : "", offer(it, text, it)]), ".")]
+      : [...otherMeanings(meant, text, null)];
+  const message = () => element("p", { class: "message" }, `${error.report.split(":", 1)[0]}: ${shown(error.part)}`);
+  const inside = others.length ? others : [message()];
+  if (!others.length) {
+    if (suggestion) inside.push(element("p", {}, ...question(suggestion, text, error)));
+    else if (error.start === 0) inside.push(...nearestNames(text));
+    inside.push(...soFar(fields));
+  }
   const answer = element("td", { role: "cell", class: "refused", colspan: 7, "aria-colspan": 7 }, ...inside);
   const row = element("tr", { role: "row", class: "refused" }, head, answer);
   row.kind = "refused";
@@ -294,7 +341,8 @@ function refusedRow({ text, error, fields, suggestion }, meant) {
 
 function rowOf(text) {
   const explained = Triple.explain(text), meant = meaningsOf(text);
-  const row = !explained.error ? parsedRow(explained, meant) : meant.found.length ? namedRow(text, meant) : refusedRow(explained, meant);
+  const row = !explained.error ? parsedRow(explained, meant) : meant.found.length ? namedRow(text, meant)
+    : refusedRow(explained, meant);
   row.target = text;
   return row;
 }
@@ -304,7 +352,8 @@ function markDouble(row, first) {
   const earlier = first.get(row.canonical);
   if (earlier === undefined) first.set(row.canonical, row.target);
   row.classList.toggle("duplicate", earlier !== undefined);
-  row.double.replaceChildren(...(earlier === undefined ? [] : earlier === row.target ? ["repeated"] : ["the same target as ", code(earlier)]));
+  row.double.replaceChildren(...(earlier === undefined ? [] : earlier === row.target ? ["repeated"]
+    : ["the same target as ", code(earlier)]));
   return earlier !== undefined;
 }
 
@@ -380,8 +429,10 @@ function group(kind, index) {
 /** Makes the rows those of the lines, and keeps each row that is there. A later call ends an earlier one. */
 async function show() {
   const run = ++runs, lines = linesOf(field.value), progress = byId("progress"), begin = performance.now();
-  const found = rowsFor(lines), first = new Map(), counts = { all: lines.length, refused: 0, suspicious: 0, other: 0, duplicate: 0, named: 0 };
-  const places = Object.fromEntries(ORDER.map((kind) => [kind, {}])), areFew = lines.length <= UNFOLDED, unfolds = areFew && !wereFew;
+  const found = rowsFor(lines), first = new Map(),
+    counts = { all: lines.length, refused: 0, suspicious: 0, other: 0, duplicate: 0, named: 0 };
+  const places = Object.fromEntries(ORDER.map((kind) => [kind, {}])), areFew = lines.length <= UNFOLDED,
+    unfolds = areFew && !wereFew;
   wereFew = areFew;
   let until = performance.now() + SLICE;
   table.hidden = lines.length === 0;
@@ -416,12 +467,16 @@ async function show() {
   table.removeAttribute("aria-busy");
   showCounts(counts);
   if (lines.length) {
-    const more = ["suspicious", "duplicate"].filter((kind) => counts[kind]).map((kind) => `, ${chipOf(kind).textContent}`).join("");
+    const others = ["suspicious", "duplicate"].filter((kind) => counts[kind]);
+    const more = others.map((kind) => `, ${chipOf(kind).textContent}`).join("");
     const named = counts.named ? `, ${countOf(counts.named)} named by tools` : "";
-    say(`${chipOf("all").textContent}: ${countOf(lines.length - counts.refused - counts.named)} parsed${named}, ${chipOf("refused").textContent}${more}.`, true);
+    const parsed = countOf(lines.length - counts.refused - counts.named);
+    say(`${chipOf("all").textContent}: ${parsed} parsed${named}, ${chipOf("refused").textContent}${more}.`, true);
   } else {
-    const whyNone = isLongLink() ? `The link isn't followed: its targets are longer than ${countOf(LONGEST_LINK)} characters. ` : "";
-    say(`${whyNone}No targets. Paste some above, or names of any tool: one a line, or any text that has some, such as a workflow.`);
+    const whyNone = isLongLink()
+      ? `The link isn't followed: its targets are longer than ${countOf(LONGEST_LINK)} characters. ` : "";
+    say(`${whyNone}No targets. Paste some above, or names of any tool: `
+      + "one a line, or any text that has some, such as a workflow.");
   }
   notice(unread.map((it) => `A target of the link can't be read: ${shown(it)}.`).join(" "));
 }
@@ -436,7 +491,8 @@ const pageUrl = () => location.href.split(/[?#]/, 1)[0];
 
 /** What is chosen, as the query of a link. */
 const chosen = () => {
-  const query = new URLSearchParams(CHOICES.filter((id) => byId(id).value).map((id) => [id, byId(id).value])).toString();
+  const chosen = CHOICES.filter((id) => byId(id).value).map((id) => [id, byId(id).value]);
+  const query = new URLSearchParams(chosen).toString();
   return query && `?${query}`;
 };
 
@@ -448,7 +504,8 @@ function linkOf(lines) {
   if (field.value.length > LONGEST_LINK) return null;
   try {
     const hash = lines.map((line) => encodeURIComponent(line.toWellFormed?.() ?? line)).join(",");
-    return hash.length > LONGEST_LINK ? null : `${page}#${hash}`; // also without targets: an address without # shows the first ones
+    // also without targets: an address without # shows the first ones
+    return hash.length > LONGEST_LINK ? null : `${page}#${hash}`;
   } catch {
     return null; // an engine that has no toWellFormed, and a lone surrogate
   }
@@ -491,8 +548,8 @@ function stopLinking() {
 }
 
 /**
- * Shows what was edited, and makes the address the link to it: after a pause, since browsers don't let a page do that often. What was there before a
- * button is a page to go back to.
+ * Shows what was edited, and makes the address the link to it: after a pause, since browsers don't let a page do that
+ * often. What was there before a button is a page to go back to.
  */
 function edited(isPage = false) {
   const before = linked, isWaiting = linking !== null;
@@ -526,7 +583,8 @@ function search() {
     return button;
   });
   const more = all.length - offers.length;
-  byId("found").replaceChildren(...offers, ...(more > 0 ? [dim(`and ${more} more`)] : !all.length && byId("search").value.trim() ? [dim("no target has all these words")] : []));
+  const none = !all.length && byId("search").value.trim() ? [dim("no target has all these words")] : [];
+  byId("found").replaceChildren(...offers, ...(more > 0 ? [dim(`and ${more} more`)] : none));
 }
 
 async function copy(button, text, said) {
@@ -545,12 +603,14 @@ async function copy(button, text, said) {
 }
 
 function copyJson(button, entryOf) {
-  return copy(button, JSON.stringify(linesOf(field.value).map(entryOf), null, 2), `Copied ${chipOf("all").textContent} as JSON.`);
+  return copy(button, JSON.stringify(linesOf(field.value).map(entryOf), null, 2),
+    `Copied ${chipOf("all").textContent} as JSON.`);
 }
 
 function copyLink(button) {
   const link = linkOf(linesOf(field.value));
-  return link === null ? say("These targets are too long for a link.") : copy(button, link, "Copied the link to these targets.");
+  return link === null ? say("These targets are too long for a link.")
+    : copy(button, link, "Copied the link to these targets.");
 }
 
 /** Empties the text field, where the focus then is. */
@@ -577,7 +637,9 @@ async function begin() {
   });
   byId("search").addEventListener("input", search);
   const lexicon = { DIALECTS, FIELDS, ParseError, Triple, meanings, translate };
-  for (const [id, entryOf] of [["copy_names", (text) => namesEntry(lexicon, text, WRITTEN, chosenLibcs())], ["copy_facts", (text) => factsEntry(lexicon, text)]]) byId(id).addEventListener("click", ({ currentTarget }) => copyJson(currentTarget, entryOf));
+  for (const [id, entryOf] of [["copy_names", (text) => namesEntry(lexicon, text, WRITTEN, chosenLibcs())],
+    ["copy_facts", (text) => factsEntry(lexicon, text)]]) byId(id).addEventListener("click",
+    ({ currentTarget }) => copyJson(currentTarget, entryOf));
   byId("copy_link").addEventListener("click", ({ currentTarget }) => copyLink(currentTarget));
   for (const id of CHOICES) {
     byId(id).addEventListener("change", () => {

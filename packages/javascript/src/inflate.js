@@ -1,7 +1,7 @@
 
 /**
- * The bytes of a text in base64 that DEFLATE (RFC 1951, without a header) packed, so many. No browser unpacks at once, and a script without
- * `await` can be part of any bundle.
+ * The bytes of a text in base64 that DEFLATE (RFC 1951, without a header) packed, so many. No browser unpacks at once,
+ * and a script without `await` can be part of any bundle.
  */
 function inflate(text, size) {
   const packed = Uint8Array.from(atob(text), (it) => it.charCodeAt(0)), out = new Uint8Array(size);
@@ -12,8 +12,10 @@ function inflate(text, size) {
     return value;
   };
   // A code: how many words of each length it has, and what they mean, in the order of the words.
-  const codeOf = (lengths) => ({ counts: Array.from({ length: 16 }, (_, length) => lengths.filter((it) => it === length && it > 0).length),
-    meanings: [...lengths.keys()].filter((it) => lengths[it] > 0).sort((one, other) => lengths[one] - lengths[other] || one - other) });
+  const codeOf = (lengths) => ({
+    counts: Array.from({ length: 16 }, (_, length) => lengths.filter((it) => it === length && it > 0).length),
+    meanings: [...lengths.keys()].filter((it) => lengths[it] > 0)
+      .sort((one, other) => lengths[one] - lengths[other] || one - other) });
   const next = ({ counts, meanings }) => {
     for (let length = 1, word = 0, first = 0, before = 0; length < 16; length++) {
       word = 2 * word + bits(1);
@@ -28,8 +30,10 @@ function inflate(text, size) {
   const usual = [144, 112, 24, 8].flatMap((count, index) => Array(count).fill([8, 9, 7, 8][index]));
   /** The lengths of the words of both codes, which are packed themselves. */
   const lengthsOf = () => {
-    const [literals, distances, count] = [bits(5) + 257, bits(5) + 1, bits(4) + 4], order = [16, 17, 18, 0, 8, 7, 9, 6, 10, 5, 11, 4, 12, 3, 13, 2, 14, 1, 15];
-    const given = read(count, () => bits(3)), code = codeOf(read(19, (_, it) => given[order.indexOf(it)] ?? 0)), found = [];
+    const [literals, distances, count] = [bits(5) + 257, bits(5) + 1, bits(4) + 4],
+      order = [16, 17, 18, 0, 8, 7, 9, 6, 10, 5, 11, 4, 12, 3, 13, 2, 14, 1, 15];
+    const given = read(count, () => bits(3)), code = codeOf(read(19, (_, it) => given[order.indexOf(it)] ?? 0)),
+      found = [];
     while (found.length < literals + distances) {
       const it = next(code), times = it < 16 ? 1 : [3 + bits([2, 3, 7][it - 16]), 0][0] + (it === 18 ? 8 : 0);
       found.push(...Array(times).fill(it < 16 ? it : it === 16 ? found[found.length - 1] : 0));
@@ -52,8 +56,10 @@ function inflate(text, size) {
         out[at++] = it;
         continue;
       }
-      const extra = it < 265 || it === 285 ? 0 : it - 261 >> 2, length = it === 285 ? 258 : it < 265 ? it - 254 : 3 + ((4 + (it - 261 & 3)) << extra) + bits(extra);
-      const far = next(distances), more = Math.max(0, (far >> 1) - 1), distance = 1 + (far < 4 ? far : ((2 + (far & 1)) << more) + bits(more));
+      const extra = it < 265 || it === 285 ? 0 : it - 261 >> 2,
+        length = it === 285 ? 258 : it < 265 ? it - 254 : 3 + ((4 + (it - 261 & 3)) << extra) + bits(extra);
+      const far = next(distances), more = Math.max(0, (far >> 1) - 1),
+        distance = 1 + (far < 4 ? far : ((2 + (far & 1)) << more) + bits(more));
       for (let i = 0; i < length; i++, at++) out[at] = out[at - distance];
     }
   }

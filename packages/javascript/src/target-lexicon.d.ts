@@ -28,7 +28,11 @@ export interface Version {
 }
 
 /** A version as an argument. */
-export type GivenVersion = { readonly major: number; readonly minor?: number | undefined; readonly patch?: number | undefined };
+export type GivenVersion = {
+  readonly major: number;
+  readonly minor?: number | undefined;
+  readonly patch?: number | undefined;
+};
 
 /** What a triple is made of. The architecture may be an alias, and a field may be left out, or undefined. */
 export type Given = { [Name in Exclude<Field, "architecture">]?: Values[Name] | undefined } & {
@@ -39,8 +43,8 @@ export type Given = { [Name in Exclude<Field, "architecture">]?: Values[Name] | 
 };
 
 /**
- * The value of a field, and where it comes from. A special string such as armv6k-nintendo-3ds is one part, of all fields. The range
- * of the part is in units of UTF-16, as text.slice takes it.
+ * The value of a field, and where it comes from. A special string such as armv6k-nintendo-3ds is one part, of all
+ * fields. The range of the part is in units of UTF-16, as text.slice takes it.
  */
 export type Explained<Value> =
   /** This part of the string is the value, as it is printed, or as an alias another spelling of it. */
@@ -51,8 +55,9 @@ export type Explained<Value> =
   | { value: Value; origin: "implied"; part: null };
 
 /**
- * The triple or the error of a string, and where each field comes from. Of a string that is refused only the fields before the
- * refused part have a value. The suggestion is the known name that the refused part, or a custom vendor, may mean.
+ * The triple or the error of a string, and where each field comes from. Of a string that is refused only the fields
+ * before the refused part have a value. The suggestion is the known name that the refused part, or a custom vendor, may
+ * mean.
  */
 export type Explanation = {
   text: string;
@@ -93,8 +98,9 @@ export class ParseError extends Error {
   /** Whether `translate` has a name with a C library that is said. */
   readonly needsLibc: boolean;
   /**
-   * What was expected, the string below it, and carets below the refused part, with the suggestion or the reason. What isn't printable
-   * ASCII is escaped. The `message` is this, and which call reads a name of another tool; it is made when it is read.
+   * What was expected, the string below it, and carets below the refused part, with the suggestion or the reason. What
+   * isn't printable ASCII is escaped. The `message` is this, and which call reads a name of another tool; it is made
+   * when it is read.
    */
   readonly report: string;
   /** All of the above except the report, and `name` and `message`: what `JSON.stringify` writes. */
@@ -120,23 +126,25 @@ export class Triple {
   /** The triple of a string, or null if it is refused, which takes a small part of the time of an error. */
   static tryParse(text: string): Triple | null;
   /**
-   * The triple of what another tool calls a target. Without a dialect, the string is spelled like a triple, as clang takes it after
-   * `-target`: `x86_64-w64-mingw32` is read as `x86_64-pc-windows-gnu`. With one, it is a name of that tool, and no other is tried; what
-   * the name doesn't state is unknown. Throws a ParseError for any other string, and where a name means no triple.
+   * The triple of what another tool calls a target. Without a dialect, the string is spelled like a triple, as clang
+   * takes it after `-target`: `x86_64-w64-mingw32` is read as `x86_64-pc-windows-gnu`. With one, it is a name of that
+   * tool, and no other is tried; what the name doesn't state is unknown. Throws a ParseError for any other string, and
+   * where a name means no triple.
    */
   static read(text: string, dialect?: Dialect | null): Triple;
   /** The triple or the error of a string, and where each field comes from. */
   static explain(text: string): Explanation;
   /**
-   * The triple of these values. A field that is left out is unknown, and the binary format is then the one that the others imply.
-   * The values may be those of a triple, spread or cloned: `Triple.of(structuredClone(triple))`. Throws a RangeError if there is no
-   * such value, and for a version of a system that has none.
+   * The triple of these values. A field that is left out is unknown, and the binary format is then the one that the
+   * others imply. The values may be those of a triple, spread or cloned: `Triple.of(structuredClone(triple))`. Throws a
+   * RangeError if there is no such value, and for a version of a system that has none.
    */
   static of(values: Given): Triple;
 
   /**
-   * The triple with other values in these fields. A binary format that the fields imply becomes the one that the new ones imply;
-   * another one stays. A new operating system has no version unless it is given. A value that is undefined is as if left out.
+   * The triple with other values in these fields. A binary format that the fields imply becomes the one that the new
+   * ones imply; another one stays. A new operating system has no version unless it is given. A value that is undefined
+   * is as if left out.
    */
   with(values: Given): Triple;
   /** The printed string. */
@@ -144,9 +152,9 @@ export class Triple {
   /** The printed string too, so that JSON has it. */
   toJSON(): string;
   /**
-   * The name in a dialect, or null if it has none. The vendor doesn't matter, nor what the dialect doesn't name; byte order, pointer
-   * width and object format do. With a version, the name states it, as some of Python's do: of glibc, musl, macOS, or Android's
-   * API level. `manylinux_2_17_x86_64` has the version `{ major: 2, minor: 17 }`.
+   * The name in a dialect, or null if it has none. The vendor doesn't matter, nor what the dialect doesn't name; byte
+   * order, pointer width and object format do. With a version, the name states it, as some of Python's do: of glibc,
+   * musl, macOS, or Android's API level. `manylinux_2_17_x86_64` has the version `{ major: 2, minor: 17 }`.
    */
   nameIn(dialect: Dialect, version?: GivenVersion): string | null;
   /**
@@ -171,8 +179,8 @@ export class Triple {
   sameTarget(other: Triple): boolean;
   facts(): Facts;
   /**
-   * The values of rustc's cfg options, as Cargo's variables such as `CARGO_CFG_TARGET_OS` have them: of several families there is a comma
-   * between them, and an option without a value, such as `unix`, is an empty string.
+   * The values of rustc's cfg options, as Cargo's variables such as `CARGO_CFG_TARGET_OS` have them: of several
+   * families there is a comma between them, and an option without a value, such as `unix`, is an empty string.
    */
   rustcCfg(): Record<string, string>;
   /** The string that LLVM and clang take for the target, such as `arm64-apple-macosx` for `aarch64-apple-darwin`. */
@@ -182,9 +190,10 @@ export class Triple {
 }
 
 /**
- * The name in the dialect `to` of what a name of the dialect `from` means. Where `from` is null, the string is spelled like a triple.
- * Names of Debian, GNU and rustc state the C library of Linux, and those of Go, container images and Python don't: from one of the
- * latter to one of the former, say `libc`. Throws a ParseError if the name isn't read, or what it means has no name.
+ * The name in the dialect `to` of what a name of the dialect `from` means. Where `from` is null, the string is spelled
+ * like a triple. Names of Debian, GNU and rustc state the C library of Linux, and those of Go, container images and
+ * Python don't: from one of the latter to one of the former, say `libc`. Throws a ParseError if the name isn't read, or
+ * what it means has no name.
  */
 export function translate(name: string, from: Dialect | null, to: Dialect, libc?: LinuxLibc | null): string;
 
@@ -194,10 +203,15 @@ export function translate(name: string, from: Dialect | null, to: Dialect, libc?
  */
 export interface Meanings {
   /**
-   * `triple` is a string that parses, and `spelling` one that is spelled like a triple, as `Triple.read` reads it. `level` is that of the machine,
-   * which a triple can't state, such as `v3` of `linux/amd64/v3`: then `translate` has the other tools' names.
+   * `triple` is a string that parses, and `spelling` one that is spelled like a triple, as `Triple.read` reads it.
+   * `level` is that of the machine, which a triple can't state, such as `v3` of `linux/amd64/v3`: then `translate` has
+   * the other tools' names.
    */
-  readonly meanings: readonly { readonly triple: Triple; readonly level: string | null; readonly tools: readonly ((typeof DIALECTS)[number] | "triple" | "spelling")[] }[];
+  readonly meanings: readonly {
+    readonly triple: Triple;
+    readonly level: string | null;
+    readonly tools: readonly ((typeof DIALECTS)[number] | "triple" | "spelling")[];
+  }[];
   readonly withoutTriple: Readonly<Partial<Record<(typeof DIALECTS)[number], string>>>;
 }
 
@@ -208,29 +222,30 @@ export interface Meanings {
 export function meanings(text: string): Meanings;
 
 /**
- * The targets in any text, such as a list, a workflow in YAML or a page in Markdown, each with its place: the words that are a name of a machine
- * and a system, or are with a name that is suggested, and of a list all items.
+ * The targets in any text, such as a list, a workflow in YAML or a page in Markdown, each with its place: the words
+ * that are a name of a machine and a system, or are with a name that is suggested, and of a list all items.
  */
 export function targetsIn(text: string): { readonly text: string; readonly start: number; readonly end: number }[];
 
 /**
- * The canonical string of each target, or null for one that is refused. It is one call of the module for all targets, so that a long list
- * takes a fraction of the time of a loop over `Triple.parse`.
+ * The canonical string of each target, or null for one that is refused. It is one call of the module for all targets,
+ * so that a long list takes a fraction of the time of a loop over `Triple.parse`.
  */
 export function settleAll(targets: Iterable<string>): (string | null)[];
 
 /**
- * What `Triple.read`, without a dialect, reads as other names in a string. A version that is dropped is such a part: `freebsd13.2` is
- * read as `freebsd`. A string that is refused has its changes too.
+ * What `Triple.read`, without a dialect, reads as other names in a string. A version that is dropped is such a part:
+ * `freebsd13.2` is read as `freebsd`. A string that is refused has its changes too.
  */
 export function changes(text: string): Change[];
 
 /** The names of a field's values. */
-export function namesOf<Name extends Field>(field: Name): readonly (Name extends "vendor" ? KnownVendor : Values[Name])[];
+export function namesOf<Name extends Field>(
+  field: Name): readonly (Name extends "vendor" ? KnownVendor : Values[Name])[];
 
 /**
- * The triple that Node, Deno or Bun runs as, by `process.arch` and `process.platform`; what these don't say is unknown. Throws an
- * Error in a browser.
+ * The triple that Node, Deno or Bun runs as, by `process.arch` and `process.platform`; what these don't say is unknown.
+ * Throws an Error in a browser.
  */
 export function host(): Triple;
 
@@ -238,7 +253,7 @@ export function host(): Triple;
 export function version(): string;
 
 /**
- * Loads the module, from its bytes, or compiled, which takes effect at once. What was loaded before is replaced. The package's own
- * entries have done so.
+ * Loads the module, from its bytes, or compiled, which takes effect at once. What was loaded before is replaced. The
+ * package's own entries have done so.
  */
 export function load(module: ArrayBuffer | ArrayBufferView | WebAssembly.Module): Promise<void>;

@@ -68,8 +68,8 @@ class Instance {
   }
 
   /**
-   * Writes a string at a place after the structs; its bytes as the calls take them, a pointer and a size. A lone surrogate becomes
-   * U+FFFD, which no target has.
+   * Writes a string at a place after the structs; its bytes as the calls take them, a pointer and a size. A lone
+   * surrogate becomes U+FFFD, which no target has.
    */
   text(text, at = 0) {
     const start = this.base + TEXTS + at, length = text.length;
@@ -139,7 +139,8 @@ class Instance {
 
   /** Writes a triple. Where it is, and the bytes of strings that this used. */
   triple(triple, place = FIRST, at = 0) {
-    const { bytes, view } = this, { version, vendor, hasCustomVendor } = triple, numbers = numbersOf(triple), start = this.base + place;
+    const { bytes, view } = this, { version, vendor, hasCustomVendor } = triple, numbers = numbersOf(triple),
+      start = this.base + place;
     view.setUint16(start, numbers.architecture, true);
     bytes[start + 2] = numbers.vendor;
     bytes[start + 3] = numbers.operatingSystem;
@@ -167,12 +168,14 @@ class Instance {
     };
     const values = {
       architecture: names[0][numbers.architecture],
-      vendor: numbers.vendor === CUSTOM ? this.read(this.number(VENDOR), this.number(VENDOR + 4)) : names[1][numbers.vendor],
+      vendor: numbers.vendor === CUSTOM ? this.read(this.number(VENDOR), this.number(VENDOR + 4))
+        : names[1][numbers.vendor],
       operatingSystem: names[2][numbers.operatingSystem],
       environment: names[3][numbers.environment],
       binaryFormat: names[4][numbers.binaryFormat],
     };
-    const version = bytes[start + 6] ? { major: view.getUint16(start + 10, true), minor: bytes[start + 7], patch: bytes[start + 8] } : null;
+    const version = bytes[start + 6] ? { major: view.getUint16(start + 10, true), minor: bytes[start + 7],
+      patch: bytes[start + 8] } : null;
     return make(values, version, numbers);
   }
 
@@ -237,14 +240,16 @@ function meant(word, names) {
 /** The number of a dialect in target_lexicon.h. */
 function dialectOf(name) {
   const index = DIALECTS.indexOf(Object.hasOwn(OTHER_NAMES, name) ? OTHER_NAMES[name] : name);
-  if (index < 0) throw new TypeError(`there is no dialect ${String(name)}${meant(name, [...DIALECTS, ...Object.keys(OTHER_NAMES)])}`);
+  const names = () => [...DIALECTS, ...Object.keys(OTHER_NAMES)];
+  if (index < 0) throw new TypeError(`there is no dialect ${String(name)}${meant(name, names())}`);
   return index + 1;
 }
 
 /** The number of a C library of Linux in target_lexicon.h. */
 function libcOf(name) {
   const number = LINUX_LIBCS.indexOf(name);
-  if (number < 1) throw new TypeError(`there is no C library ${String(name)}${name === "gnu" ? "; did you mean glibc or mingw?" : meant(name, LINUX_LIBCS.slice(1))}`);
+  const hint = () => (name === "gnu" ? "; did you mean glibc or mingw?" : meant(name, LINUX_LIBCS.slice(1)));
+  if (number < 1) throw new TypeError(`there is no C library ${String(name)}${hint()}`);
   return number;
 }
 
@@ -252,20 +257,24 @@ function libcOf(name) {
 const LARGEST = Object.freeze({ major: 65535, minor: 255, patch: 255 });
 
 /** What a value is, for the message that refuses it. */
-const kindOf = (value) => (value === null || value === undefined ? `${value}` : Array.isArray(value) ? "an array" : typeof value === "object" ? "an object" : `a ${typeof value}`);
+const kindOf = (value) => (value === null || value === undefined ? `${value}` : Array.isArray(value) ? "an array"
+  : typeof value === "object" ? "an object" : `a ${typeof value}`);
 
 /**
  * A version as every call takes it, `{ major, minor, patch }`: its numbers, of which the last two are 0 if they are
  * left out.
  */
 function fullVersion(value) {
-  if (kindOf(value) !== "an object") throw new TypeError(`a version is an object such as { major: 17, minor: 2 }, not ${kindOf(value)}`);
-  for (const part of Object.keys(value)) if (!Object.hasOwn(LARGEST, part)) throw new TypeError(`a version has no ${part}`);
+  if (kindOf(value) !== "an object")
+    throw new TypeError(`a version is an object such as { major: 17, minor: 2 }, not ${kindOf(value)}`);
+  for (const part of Object.keys(value))
+    if (!Object.hasOwn(LARGEST, part)) throw new TypeError(`a version has no ${part}`);
   if (value.major === undefined) throw new TypeError("a version has a major: { major: 17, minor: 2 }");
   const { major, minor = 0, patch = 0 } = value, version = { major, minor, patch };
   for (const [part, most] of Object.entries(LARGEST)) {
     const number = version[part];
-    if (!Number.isInteger(number) || number < 0 || number > most) throw new RangeError(`a version's ${part} is a whole number up to ${most}`);
+    if (!Number.isInteger(number) || number < 0 || number > most)
+      throw new RangeError(`a version's ${part} is a whole number up to ${most}`);
   }
   return version;
 }
@@ -279,13 +288,16 @@ function statedVersion(value) {
 
 /** The values of an argument, of which those that are undefined are as if left out. */
 function givenValues(values) {
-  if (typeof values === "string") throw new TypeError("the values are an object; Triple.parse has the triple of a string");
-  if (kindOf(values) !== "an object") throw new TypeError(`the values are an object such as { architecture: "x86_64" }, not ${kindOf(values)}`);
+  if (typeof values === "string")
+    throw new TypeError("the values are an object; Triple.parse has the triple of a string");
+  if (kindOf(values) !== "an object")
+    throw new TypeError(`the values are an object such as { architecture: "x86_64" }, not ${kindOf(values)}`);
   return Object.fromEntries(Object.entries(values).filter(([, value]) => value !== undefined));
 }
 
 function tripleOf(value) {
-  if (!(value instanceof Triple)) throw new TypeError(`only a Triple can be compared with a Triple, not ${kindOf(value)}`);
+  if (!(value instanceof Triple))
+    throw new TypeError(`only a Triple can be compared with a Triple, not ${kindOf(value)}`);
   return value;
 }
 
@@ -304,7 +316,8 @@ export class ParseError extends Error {
     Error.stackTraceLimit = 0; // the one that is taken below is enough
     super();
     Error.stackTraceLimit = stackTraceLimit;
-    Object.assign(this, { name: "ParseError", field: FIELDS[status - 1] ?? null, text, part: text.slice(start, end), start, end, reason, needsLibc: status === NEEDS_C_LIBRARY });
+    Object.assign(this, { name: "ParseError", field: FIELDS[status - 1] ?? null, text, part: text.slice(start, end),
+      start, end, reason, needsLibc: status === NEEDS_C_LIBRARY });
     this.#status = status;
     this.#range = range;
     this.#dialect = dialect;
@@ -347,9 +360,11 @@ export class ParseError extends Error {
    * has it.
    */
   #note() {
-    if (this.#dialect || this.start > 0 || this.#status > REFUSED) return null; // what begins with an architecture has a suggestion
-    const { meanings: found, withoutTriple: reasons } = meanings(this.text), tools = found.flatMap((it) => it.tools), calls = [];
-    for (const tool of [...DIALECTS, "spelling"].filter((it) => it !== "gnu" && tools.includes(it))) { // GNU's names are spelled like triples
+    // What begins with an architecture has a suggestion.
+    if (this.#dialect || this.start > 0 || this.#status > REFUSED) return null;
+    const { meanings: found, withoutTriple: reasons } = meanings(this.text), calls = [];
+    const tools = found.flatMap((it) => it.tools).filter((it) => it !== "gnu"); // whose names are spelled like triples
+    for (const tool of [...DIALECTS, "spelling"].filter((it) => tools.includes(it))) {
       const reason = tool === "spelling" ? null : reasonOf(this.text, tool); // of a name that means several triples
       if (reason === null) calls.push(tool === "spelling" ? "Triple.read(text)" : `Triple.read(text, "${tool}")`);
       else reasons[tool] = reason;
@@ -372,14 +387,16 @@ export class ParseError extends Error {
     const it = instance(), given = it.text(this.text);
     const lines = it.written("error_text", given[1], ...given, it.error(this.#status, ...this.#range));
     if (this.reason !== null) return `${lines} ${this.reason}`;
-    return this.#status === UNKNOWN_NAME && this.suggestion !== null ? `${lines} did you mean \`${this.suggestion}\`?` : lines;
+    return this.#status === UNKNOWN_NAME && this.suggestion !== null ? `${lines} did you mean \`${this.suggestion}\`?`
+      : lines;
   }
 }
 
 /** Why a name of a dialect means no single triple, or null. */
 function reasonOf(text, dialect) {
   const it = instance();
-  return it.call("read", dialectOf(dialect), ...it.text(text), it.base + FIRST, it.base + ERROR) === OK ? null : it.string(it.number(REASON));
+  return it.call("read", dialectOf(dialect), ...it.text(text), it.base + FIRST, it.base + ERROR) === OK ? null
+    : it.string(it.number(REASON));
 }
 
 /** The range of a string at a place in the memory: in bytes, and in units of UTF-16. */
@@ -392,7 +409,8 @@ function rangesAt(it, place, text, size) {
 
 /** The error of the string that was written last; `dialect` is the number of that in which it is a name, and else 0. */
 function errorAt(it, status, text, given, dialect = 0) {
-  if (status > REFUSED && ![UNKNOWN_NAME, NAME_WITHOUT_TRIPLE, TRIPLE_WITHOUT_NAME, NEEDS_C_LIBRARY].includes(status)) return failure(status);
+  if (status > REFUSED && ![UNKNOWN_NAME, NAME_WITHOUT_TRIPLE, TRIPLE_WITHOUT_NAME, NEEDS_C_LIBRARY].includes(status))
+    return failure(status);
   const [range, [start, end]] = rangesAt(it, RANGE, text, given[1]);
   return new ParseError(status, range, text, start, end, dialect, it.string(it.number(REASON)));
 }
@@ -453,8 +471,10 @@ export class Triple {
     const status = it.call("explain", ...given, it.base + FIRST, it.base + SOURCE_TABLE, it.base + ERROR);
     if (status > REFUSED) throw failure(status);
     const triple = status === OK ? it.tripleAt() : null;
-    const fields = Object.fromEntries(FIELDS.map((field, index) => [field, { value: triple && triple[field], ...sourceAt(it, index, text, size) }]));
-    if (triple) return { text, triple, error: null, fields, suggestion: it.written("vendor_suggestion", size, it.base + FIRST) };
+    const found = (field, index) => ({ value: triple && triple[field], ...sourceAt(it, index, text, size) });
+    const fields = Object.fromEntries(FIELDS.map((field, index) => [field, found(field, index)]));
+    if (triple)
+      return { text, triple, error: null, fields, suggestion: it.written("vendor_suggestion", size, it.base + FIRST) };
     const error = errorAt(it, status, text, given);
     for (const field of FIELDS) fields[field].value = valueOf(field, fields[field].part);
     return { text, triple, error, fields, suggestion: error.suggestion };
@@ -463,7 +483,8 @@ export class Triple {
   static of(given) {
     const { version = null, hasCustomVendor: _custom, ...values } = givenValues(given);
     const it = instance(), numbers = {}, names = {};
-    for (const field of Object.keys(values)) if (!FIELDS.includes(field)) throw new TypeError(`a triple has no ${field}`);
+    for (const field of Object.keys(values))
+      if (!FIELDS.includes(field)) throw new TypeError(`a triple has no ${field}`);
     for (const [index, field] of FIELDS.entries()) {
       const name = values[field] ?? "unknown";
       if (typeof name !== "string") throw new TypeError(`${field} is a name, not ${kindOf(name)}`);
@@ -472,10 +493,13 @@ export class Triple {
       numbers[field] = known;
       names[field] = known === CUSTOM && field === "vendor" ? name : it.names[index][known];
     }
-    const full = version === null ? null : fullVersion(version), { impliedFormat, isLikeDarwin } = make(names, null, numbers).facts();
-    if (full !== null && !isLikeDarwin) throw new RangeError(`the operating system ${names.operatingSystem} has no version`);
+    const full = version === null ? null : fullVersion(version),
+      { impliedFormat, isLikeDarwin } = make(names, null, numbers).facts();
+    if (full !== null && !isLikeDarwin)
+      throw new RangeError(`the operating system ${names.operatingSystem} has no version`);
     if (values.binaryFormat != null) return make(names, full, numbers);
-    return make({ ...names, binaryFormat: impliedFormat }, full, { ...numbers, binaryFormat: it.numbers[4].get(impliedFormat) });
+    return make({ ...names, binaryFormat: impliedFormat }, full,
+      { ...numbers, binaryFormat: it.numbers[4].get(impliedFormat) });
   }
 
   with(given) {
@@ -495,7 +519,8 @@ export class Triple {
 
   /** What `console.log` of Node shows: the call that makes the triple, on one line. */
   [Symbol.for("nodejs.util.inspect.custom")]() {
-    return this.comesBack() ? `Triple.parse(${JSON.stringify(this.toString())})` : `Triple.of(${JSON.stringify({ ...this, hasCustomVendor: undefined })})`;
+    return this.comesBack() ? `Triple.parse(${JSON.stringify(this.toString())})`
+      : `Triple.of(${JSON.stringify({ ...this, hasCustomVendor: undefined })})`;
   }
 
   names() {
@@ -504,7 +529,8 @@ export class Triple {
 
   nameIn(dialect, version) {
     const it = instance(), number = dialectOf(dialect);
-    return version === undefined ? it.writtenOf(this, "write", [number]) : it.writtenOf(this, "write_versioned", [number], statedVersion(version));
+    return version === undefined ? it.writtenOf(this, "write", [number])
+      : it.writtenOf(this, "write_versioned", [number], statedVersion(version));
   }
 
   reasonWithoutName(dialect, version) {
@@ -549,7 +575,8 @@ export class Triple {
 
   rustcCfg() {
     const found = {}, lines = instance().writtenOf(this, "rustc_cfg");
-    for (const [, name, value = ""] of lines.matchAll(/^(\w+)(?:="(.*)")?$/gm)) found[name] = name in found ? `${found[name]},${value}` : value;
+    for (const [, name, value = ""] of lines.matchAll(/^(\w+)(?:="(.*)")?$/gm))
+      found[name] = name in found ? `${found[name]},${value}` : value;
     return found;
   }
 
@@ -561,7 +588,8 @@ export class Triple {
 }
 
 export function translate(name, from, to, libc = null) {
-  const it = instance(), source = from === null ? 0 : dialectOf(from), target = dialectOf(to), number = libc === null ? 0 : libcOf(libc);
+  const it = instance(), source = from === null ? 0 : dialectOf(from), target = dialectOf(to),
+    number = libc === null ? 0 : libcOf(libc);
   const given = it.text(stringOf(name)), out = it.base + TEXTS + given[1];
   const status = it.call("translate", source, ...given, number, target, out, ROOM, it.base + LENGTH, it.base + ERROR);
   if (status === OK) return it.read(out, it.number(LENGTH));
@@ -570,7 +598,11 @@ export function translate(name, from, to, libc = null) {
 
 export function meanings(text) {
   const it = instance(), found = new Map(), withoutTriple = {};
-  for (let number = 0, status; (status = it.call("meaning", ...it.text(stringOf(text)), number, it.base + LENGTH, it.base + FIRST, it.base + ANSWER)) !== NO_SUCH_MEANING; number++) {
+  const meaning = (number) => {
+    const given = it.text(stringOf(text));
+    return it.call("meaning", ...given, number, it.base + LENGTH, it.base + FIRST, it.base + ANSWER);
+  };
+  for (let number = 0, status; (status = meaning(number)) !== NO_SUCH_MEANING; number++) {
     const dialect = it.number(LENGTH), note = it.string(it.number(ANSWER));
     if (status === NAME_WITHOUT_TRIPLE) {
       withoutTriple[DIALECTS[dialect - 1]] = note;
@@ -579,14 +611,16 @@ export function meanings(text) {
     if (status !== OK) throw failure(status);
     const triple = it.tripleAt(), key = `${triple} ${note}`;
     if (!found.has(key)) found.set(key, { triple, level: note, tools: [] });
-    const spelled = () => (it.call("parse", ...it.text(text), it.base + FIRST, it.base + ERROR) === OK ? "triple" : "spelling");
+    const spelled = () => (it.call("parse", ...it.text(text), it.base + FIRST, it.base + ERROR) === OK ? "triple"
+      : "spelling");
     found.get(key).tools.push(dialect > 0 ? DIALECTS[dialect - 1] : spelled());
   }
   return { meanings: [...found.values()], withoutTriple };
 }
 
 export function settleAll(targets) {
-  if (typeof targets === "string" || typeof targets?.[Symbol.iterator] !== "function") throw new TypeError("the targets are an iterable of strings");
+  if (typeof targets === "string" || typeof targets?.[Symbol.iterator] !== "function")
+    throw new TypeError("the targets are an iterable of strings");
   const lines = Array.from(targets, stringOf);
   if (lines.length === 0) return [];
   const text = lines.map((it) => (it.includes("\n") ? "" : it)).join("\n") + "\n";
@@ -620,7 +654,8 @@ export function targetsIn(text) {
     return units;
   };
   for (let place = out; found.length < it.number(LENGTH); place += 8) {
-    const from = unitsTo(start + it.view.getUint32(place, true)), to = unitsTo(start + it.view.getUint32(place + 4, true));
+    const from = unitsTo(start + it.view.getUint32(place, true)),
+      to = unitsTo(start + it.view.getUint32(place + 4, true));
     found.push({ text: text.slice(from, to), start: from, end: to });
   }
   return found;
@@ -631,7 +666,8 @@ export function targetsIn(text) {
  * part of its name.
  */
 function nearest(it, field, name) {
-  const given = it.text(name), suggestion = it.written("suggestion", given[1], ...given, it.error(field + 1, 0, given[1]));
+  const given = it.text(name), suggestion = it.written("suggestion", given[1], ...given,
+    it.error(field + 1, 0, given[1]));
   return suggestion === null ? "" : `; did you mean ${it.names[field][numberOf(FIELDS[field], suggestion)]}?`;
 }
 

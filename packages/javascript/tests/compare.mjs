@@ -5,13 +5,16 @@ import { byteRange, errorEntry, factsEntry, namesEntry, snakeCase, versionOf } f
 function explained({ FIELDS, Triple }, text) {
   const { triple, error, fields, suggestion } = Triple.explain(text);
   if (error) return errorEntry(text, error);
-  const sources = FIELDS.map((name) => [snakeCase(name), { value: fields[name].value, origin: fields[name].origin, part: fields[name].part }]);
-  return { ...Object.fromEntries(sources), version: versionOf(triple), has_custom_vendor: triple.hasCustomVendor, suggestion };
+  const sources = FIELDS.map((name) => [snakeCase(name),
+    { value: fields[name].value, origin: fields[name].origin, part: fields[name].part }]);
+  return { ...Object.fromEntries(sources), version: versionOf(triple), has_custom_vendor: triple.hasCustomVendor,
+    suggestion };
 }
 
 function read({ ParseError, Triple, changes }, text) {
   try {
-    return { canonical: Triple.read(text).canonical, changes: changes(text).map((it) => ({ part: it.part, ...byteRange(text, it), read_as: it.names })) };
+    return { canonical: Triple.read(text).canonical,
+      changes: changes(text).map((it) => ({ part: it.part, ...byteRange(text, it), read_as: it.names })) };
   } catch (error) {
     if (!(error instanceof ParseError)) throw error;
     return errorEntry(text, error);
@@ -22,7 +25,8 @@ function cfg({ Triple }, text) {
   const { triple, error } = Triple.explain(text);
   if (error) return errorEntry(text, error);
   const { target_family: families, target_pointer_width: width, target_endian = null, ...values } = triple.rustcCfg();
-  return { ...values, target_endian, target_family: families?.split(",") ?? [], target_pointer_width: width ? Number(width) : null };
+  return { ...values, target_endian, target_family: families?.split(",") ?? [],
+    target_pointer_width: width ? Number(width) : null };
 }
 
 function translated({ ParseError, translate }, text, from, to, libc) {
@@ -41,13 +45,20 @@ const CALLS = { facts: factsEntry, explain: explained, read, cfg, translate: tra
 
 /** Whether answers of target-lexicon.js to a text that parses agree. */
 function* agreeing({ FIELDS, Triple, settleAll }, text) {
-  const { triple, fields } = Triple.explain(text), parsed = Triple.parse(text), settled = triple.settle(), printed = Triple.parse(`${settled}`), { version } = triple;
-  const given = FIELDS.filter((name) => fields[name].part !== null), isSpecial = given.length === 5 && fields.architecture.end === fields.vendor.end;
+  const { triple, fields } = Triple.explain(text), parsed = Triple.parse(text), settled = triple.settle(),
+    printed = Triple.parse(`${settled}`), { version } = triple;
+  const given = FIELDS.filter((name) => fields[name].part !== null),
+    isSpecial = given.length === 5 && fields.architecture.end === fields.vendor.end;
   yield parsed.equals(triple) && FIELDS.every((name) => parsed[name] === triple[name]);
-  yield given.every((name) => text.slice(fields[name].start, fields[name].end) === fields[name].part && (isSpecial || Triple.of({ [name]: name === "operatingSystem" ? triple[name] : fields[name].part })[name] === triple[name]));
-  yield Triple.of({ ...Object.fromEntries(FIELDS.map((name) => [name, triple[name]])), version }).equals(triple) && triple.with({}).equals(triple);
-  yield settled.comesBack() && printed.equals(settled) && triple.sameTarget(settled) && settleAll([text])[0] === `${settled}`;
-  yield triple.equals(settled) === triple.equals(printed) && triple.comesBack() === Triple.parse(`${triple}`).equals(triple);
+  yield given.every((name) => text.slice(fields[name].start, fields[name].end) === fields[name].part &&
+    (isSpecial ||
+    Triple.of({ [name]: name === "operatingSystem" ? triple[name] : fields[name].part })[name] === triple[name]));
+  yield Triple.of({ ...Object.fromEntries(FIELDS.map((name) => [name, triple[name]])), version }).equals(triple) &&
+    triple.with({}).equals(triple);
+  yield settled.comesBack() && printed.equals(settled) && triple.sameTarget(settled) &&
+    settleAll([text])[0] === `${settled}`;
+  yield triple.equals(settled) === triple.equals(printed) &&
+    triple.comesBack() === Triple.parse(`${triple}`).equals(triple);
 }
 
 /** What differs. `answers` has what the command wrote by its words. */
@@ -61,9 +72,12 @@ export function differences(lexicon, answers) {
       if (meanings) wanted.meanings = meanings.map(({ note: _, ...it }) => it);
       for (const [key, value] of Object.entries(wanted)) {
         const [ours, theirs] = [answer[key], value].map((it) => JSON.stringify(it));
-        if (ours !== theirs && !(word === "what" && "error" in answer && key !== "error")) found.push(`${words} ${JSON.stringify(target)}: ${key} is ${ours}, and not ${theirs}`);
+        if (ours !== theirs && !(word === "what" && "error" in answer && key !== "error"))
+          found.push(`${words} ${JSON.stringify(target)}: ${key} is ${ours}, and not ${theirs}`);
       }
-      if (word === "facts" && !wanted.error) [...agreeing(lexicon, target)].forEach((agrees, at) => agrees || found.push(`agreement ${at} of ${JSON.stringify(target)}`));
+      if (word === "facts" && !wanted.error)
+        [...agreeing(lexicon, target)].forEach((agrees, at) => agrees ||
+          found.push(`agreement ${at} of ${JSON.stringify(target)}`));
     }
   }
   return found;

@@ -28,8 +28,9 @@ IN_SIGHT = ROWS + ".filter((row) => row.getClientRects().length > 0).map((row) =
 FOCUSED = "document.activeElement.querySelector('.target').textContent"
 OTHERS = ROWS + ".map((row) => row.querySelector('.others')?.innerText ?? null)"
 # What is unfolded in sight: the terms and answers of the lists, and the lines below them.
-DETAILS = ("[...document.querySelectorAll('td.names')].map((cell) => [...cell.querySelectorAll('dl > div, p')]"
-           ".filter((it) => it.checkVisibility({ contentVisibilityAuto: true })).map((it) => [...it.childNodes].map((part) => part.textContent).join(' ')))")
+DETAILS = """[...document.querySelectorAll('td.names')].map((cell) => [...cell.querySelectorAll('dl > div, p')]
+  .filter((it) => it.checkVisibility({ contentVisibilityAuto: true }))
+  .map((it) => [...it.childNodes].map((part) => part.textContent).join(' ')))"""
 LINES = """((element) => {
   const range = document.createRange();
   range.selectNodeContents(element);
@@ -68,22 +69,25 @@ def typed(page, text, status=None):
     else:
         page.keys(text)
     if text:
-        page.until(
-            f"{STATUS}.startsWith({json.dumps(status or f'{len([it for it in text.splitlines() if it.strip()]):,} target')})")
+        count = len([it for it in text.splitlines() if it.strip()])
+        page.until(f"{STATUS}.startsWith({json.dumps(status or f'{count:,} target')})")
+
+
+def set_value(page, name, value, event):
+    page.run(f"((it) => {{ it.value = '{value}'; it.dispatchEvent(new Event('{event}')) }})"
+             f"(document.getElementById('{name}'))")
 
 
 def choose(page, **values):
     for name, value in values.items():
-        page.run(
-            f"(document.getElementById('{name}').value = '{value}', document.getElementById('{name}').dispatchEvent(new Event('change')))")
+        set_value(page, name, value, "change")
         page.until("!document.querySelector('table[aria-busy]')")
 
 
 def unfolded(page):
     """The details of each target, when those that are unfolded are laid out."""
-    page.until(
-        "[...document.querySelectorAll('td.names:not([hidden])')].every((it) => it.checkVisibility({ contentVisibilityAuto: true })"
-               " || it.getBoundingClientRect().top > innerHeight)")
+    page.until("""[...document.querySelectorAll('td.names:not([hidden])')].every((it) =>
+        it.checkVisibility({ contentVisibilityAuto: true }) || it.getBoundingClientRect().top > innerHeight)""")
     return page.run(DETAILS)
 
 
@@ -113,7 +117,8 @@ def begins_with_targets(page):
 # What a page may do that `default-src` says nothing about: each must be a violation of its own directive.
 VIOLATIONS = """new Promise((resolve) => {
   const found = [];
-  document.addEventListener("securitypolicyviolation", (event) => found.push(event.effectiveDirective) === 3 && resolve(found.sort()));
+  document.addEventListener("securitypolicyviolation",
+    (event) => found.push(event.effectiveDirective) === 3 && resolve(found.sort()));
   setTimeout(() => resolve(found.sort()), 5000);
   const base = document.createElement("base"), form = document.createElement("form");
   base.href = form.action = "https://example.invalid/";
@@ -131,8 +136,8 @@ def forbids_what_it_does_not_need(page):
 
 
 def shows_fields(page):
-    typed(
-        page, "arm64-linux-gnu\n\n  armv7a-nuttx-eabi \nclever-unknown-unknown-none\naarch64-apple-ios17.1\naarch64-unknown-linux-gnu-elf\narmv6k-nintendo-3ds\nx86_64-unknown-uefi\narmeb")
+    typed(page, "arm64-linux-gnu\n\n  armv7a-nuttx-eabi \nclever-unknown-unknown-none\naarch64-apple-ios17.1\n"
+          "aarch64-unknown-linux-gnu-elf\narmv6k-nintendo-3ds\nx86_64-unknown-uefi\narmeb")
     same(page.run(STATUS), "8 targets: 8 parsed, 0 refused, 1 duplicate.")
     rows = page.run(CELLS)
     same(rows[0], ["arm64-linux-gnu canonical: aarch64-unknown-linux-gnu", "aarch64 alias arm64", "unknown", "linux",
@@ -157,11 +162,11 @@ def escapes_and_shortens(page):
     """All but printable ASCII is shown escaped, and a long part moves nothing."""
     hostile = "\u200b\u3164\u115f\ufe0f\U000e0100e\u0301\u00e9"
     vendor = "a" * 3000
-    typed(
-        page, f"x86_64-pc-\u202ebar\nx86_64-{vendor}-linux\nx86_64-linux-{hostile}{vendor}\nx86_64-pc-linux-\u2066gnu\nx86_64-pc-<b>")
+    typed(page, f"x86_64-pc-\u202ebar\nx86_64-{vendor}-linux\nx86_64-linux-{hostile}{vendor}\n"
+          "x86_64-pc-linux-\u2066gnu\nx86_64-pc-<b>")
     same(page.run(STATUS), "5 targets: 1 parsed, 4 refused.")
-    text = page.run(
-        "document.querySelector('table').textContent + [...document.querySelectorAll('[aria-label]')].map((it) => it.ariaLabel).join()")
+    text = page.run("document.querySelector('table').textContent"
+                    " + [...document.querySelectorAll('[aria-label]')].map((it) => it.ariaLabel).join()")
     for hidden in "\u202e", "\u2066", *set(hostile) - {"e"}, "a" * 61:
         assert hidden not in text, f"the table has {hidden!r}"
     rows = page.run(CELLS)
@@ -210,8 +215,8 @@ def refuses_and_suggests(page):
     typed(page, "x86_64-pc-windws-msvc\nx86_64-pc-\u4e2d\u6587\nx86_64-linux-gnu--\nlinux/amd46\nx86_64-linx-gnu")
     same(page.run(STATUS), "5 targets: 1 parsed, 4 refused, 1 suspicious.")
     rows = page.run(CELLS)
-    same(rows[0], ["x86_64-pc-windws-msvc",
-                   "Unrecognized operating system: windwsDid you mean windows?Before it: architecture x86_64, vendor pc"])
+    same(rows[0], ["x86_64-pc-windws-msvc", "Unrecognized operating system: windwsDid you mean windows?"
+                   "Before it: architecture x86_64, vendor pc"])
     same(page.run(ROWS + ".map((row) => row.querySelector('strong')?.textContent ?? '')"),
          ["windws", "\\u{4e2d}\\u{6587}", "(empty)", "linux/amd46", ""])
     same(page.run("[...document.querySelectorAll('.offer')].map((it) => it.textContent)"),
@@ -246,8 +251,8 @@ def mistakes_come_first(page):
         same([page.run(IN_SIGHT), [it[1] for it in page.run(CHIPS)]],
              [wanted, [str(it == number).lower() for it in range(4)]])
     page.run("scrollTo(0, 3000)")
-    bar, head = page.run(
-        "['.bar', 'thead'].map((it) => document.querySelector(it).getBoundingClientRect()).map((it) => [it.top, it.bottom].map(Math.round))")
+    bar, head = page.run("['.bar', 'thead'].map((it) => document.querySelector(it).getBoundingClientRect())"
+                         ".map((it) => [it.top, it.bottom].map(Math.round))")
     same([bar[0], head[0]], [0, bar[1]])
     press(page, "#chips button", 1)
     press(page, ".refused .offer")
@@ -263,11 +268,10 @@ def mistakes_come_first(page):
 def is_cleared(page):
     typed(page, "arm64")
     press(page, "#clear")
-    page.until(
-        f"{STATUS} === 'No targets. Paste some above, or names of any tool: one a line, or any text that has some, such as a workflow.'")
-    same(
-        page.run(
-        f"[{TEXT}, document.activeElement.id, document.getElementById('chips').hidden, document.getElementById('table').hidden]"), ["", "targets", True, True])
+    page.until(f"{STATUS} === 'No targets. Paste some above, or names of any tool: one a line, "
+               "or any text that has some, such as a workflow.'")
+    same(page.run(f"[{TEXT}, document.activeElement.id, ...['chips', 'table'].map((it) => "
+                  "document.getElementById(it).hidden)]"), ["", "targets", True, True])
     page.driver.refresh()
     page.until(f"{STATUS}.startsWith('No targets. Paste')")
     same(page.run(TEXT), "")
@@ -312,11 +316,9 @@ def is_searched(page):
         page.keys(words)
         offered = page.run(offers)
         assert set(wanted) <= set(offered), f"{words}: {offered}"
-    page.run(
-        "(document.getElementById('search').value = 'no such thing', document.getElementById('search').dispatchEvent(new Event('input')))")
+    set_value(page, "search", "no such thing", "input")
     same(page.run("document.getElementById('found').textContent"), "no target has all these words")
-    page.run(
-        "(document.getElementById('search').value = 'apple m1', document.getElementById('search').dispatchEvent(new Event('input')))")
+    set_value(page, "search", "apple m1", "input")
     typed(page, "avr")
     press(page, "#found button")
     page.until(f"{STATUS}.startsWith('2 targets: 2 parsed')")
@@ -349,9 +351,8 @@ def links_to_pages(page):
             same(answer.read()[:len(begin)], begin)
     for link in links[2:]:
         page.driver.get(link)
-        same(
-            page.run(
-            "[document.querySelectorAll('h1').length, document.querySelectorAll('table').length > 0, /^#|\\[.*\\]\\(|^\\|-/m.test(document.body.innerText)]"), [1, True, False])
+        same(page.run("[document.querySelectorAll('h1').length, document.querySelectorAll('table').length > 0, "
+                      "/^#|\\[.*\\]\\(|^\\|-/m.test(document.body.innerText)]"), [1, True, False])
         for width in 390, 1280:
             is_no_wider(page, width)
         targets = page.run("[...document.querySelectorAll('a')].map((it) => it.href)")
@@ -408,13 +409,16 @@ def says_what_a_driver_asks(page):
 def says_why_there_is_no_name(page):
     typed(page, "linux/arm64\nx86_64-pc-windows\njs/wasm")
     same(page.run(CELLS)[0],
-         ["js/wasm", "In Go and containers no triple means it: a module for Go's own JavaScript; rustc's nearest target is wasm32-unknown-unknown."])
+         ["js/wasm", "In Go and containers no triple means it: a module for Go's own JavaScript; "
+          "rustc's nearest target is wasm32-unknown-unknown."])
     linux, windows = unfolded(page)
-    assert "None in Debian, GNU, rustc, RPM, apk, pacman, .NET and conda:  it depends on the C library: say glibc or musl." in linux, f"{linux}"
+    assert "None in Debian, GNU, rustc, RPM, apk, pacman, .NET and conda: " \
+        " it depends on the C library: say glibc or musl." in linux, f"{linux}"
     assert any(re.match("None in .*rustc.*say msvc, mingw or gnullvm", it) for it in windows), f"{windows}"
     choose(page, linux="musl", windows="mingw")
     linux, windows = unfolded(page)
-    assert "rustc aarch64-unknown-linux-musl" in linux and "rustc x86_64-pc-windows-gnu" in windows, f"{linux}, {windows}"
+    assert "rustc aarch64-unknown-linux-musl" in linux, f"{linux}"
+    assert "rustc x86_64-pc-windows-gnu" in windows, f"{windows}"
     same(page.run(CELLS)[1][4], "musl chosen")
 
 
@@ -424,7 +428,8 @@ def says_what_other_tools_mean(page):
     same(page.run(OTHERS), [
         "In LLVM it is aarch64-unknown-macosx.\n\nIn Zig it is aarch64-apple-darwin.",
         "In LLVM it is i686-pc-windows-gnu.", None,
-        "In Go no triple means it: a machine without a system.\n\nIn containers no triple means it: half of a platform: containerd adds that of the host."])
+        "In Go no triple means it: a machine without a system.\n\n"
+        "In containers no triple means it: half of a platform: containerd adds that of the host."])
     press(page, "tbody .offer", 1)
     page.until(f"{STATUS} === '4 targets: 3 parsed, 1 named by tools, 0 refused, 1 suspicious.'")
     same([page.run(f"{TEXT}.split('\\n')[0]"), page.run(FOCUSED)], ["aarch64-apple-darwin", "i686-w64-windows-gnu"])
@@ -451,7 +456,8 @@ def is_folded(page):
     """The details of more than three targets are folded until each is opened, on a phone the cards too. Fewer are
     unfolded, also those that are left of a list."""
     shown = ROWS + ".map((row) => [...row.cells].filter((it) => it.getClientRects().length > 0).length)"
-    open_names = "[...document.querySelectorAll('.elsewhere button')].map((it) => it.getAttribute('aria-expanded') === 'true')"
+    open_names = ("[...document.querySelectorAll('.elsewhere button')]"
+                  ".map((it) => it.getAttribute('aria-expanded') === 'true')")
     for width, few, folded, one in (400, [2, 10, 10], [2, 1, 1, 1],
                                     [2, 10, 1, 1]), (1280, [2, 10, 10], [2, 9, 9, 9], [2, 10, 9, 9]):
         page.size(width, 900)
@@ -469,9 +475,8 @@ def is_folded(page):
         page.until(f"{STATUS}.startsWith('1 target:')")
         same([page.run(shown), page.run(open_names)], [[10], [True]])
     # The button is on the line of the target.
-    same(
-        page.run(
-        f"[1, 7].map((cell) => Math.round({ROWS}[0].cells[cell].getBoundingClientRect().top)).filter((top, at, all) => top !== all[0])"), [])
+    same(page.run(f"[1, 7].map((cell) => Math.round({ROWS}[0].cells[cell].getBoundingClientRect().top))"
+                  ".filter((top, at, all) => top !== all[0])"), [])
 
 
 def fits_each_width(page):
@@ -480,27 +485,25 @@ def fits_each_width(page):
     typed(page, "linux/arm64\nx86_64-" + "z" * 300 + "-linux\nx86_64-pc-windws-msvc\namd64\n" + "y" * 300)
     for width in 320, 390, 800, 959, 960, 1100, 1280, 1600:
         is_no_wider(page, width)
-        same(
-            page.run(
-            "[...document.querySelectorAll('main *')].filter((it) => it.getBoundingClientRect().right > innerWidth + 1 && !it.closest('thead, textarea')).length"), 0)
-        same(
-            page.run(
-            "[...document.querySelectorAll('button, select, textarea, a')].filter((it) => it.getClientRects().length > 0).map((it) => [it.innerText, it.getBoundingClientRect()])"
-                      ".filter(([, it]) => it.width < 24 || it.height < 24).map(([text, it]) => `${text} ${it.width} ${it.height}`)"), [])
+        same(page.run("""[...document.querySelectorAll('main *')].filter((it) =>
+            it.getBoundingClientRect().right > innerWidth + 1 && !it.closest('thead, textarea')).length"""), 0)
+        same(page.run("""[...document.querySelectorAll('button, select, textarea, a')]
+            .filter((it) => it.getClientRects().length > 0).map((it) => [it.innerText, it.getBoundingClientRect()])
+            .filter(([, it]) => it.width < 24 || it.height < 24)
+            .map(([text, it]) => `${text} ${it.width} ${it.height}`)"""), [])
     typed(page, "loongarch64-unknown-none-softfloat\nx86_64-pc-windows-msvc\nwasm32-wasi\narm64-apple-macosx14.10.1")
     page.size(960, 900)
     same(page.run("getComputedStyle(document.querySelector('tbody tr')).display"), "grid")
     same(page.run(f"[...document.querySelectorAll('.target, small code')].map({LINES})"), [1] * 7)
-    same(
-        page.run(
-        ROWS + f".flatMap((row) => [...row.cells].slice(1, 7).map((it) => {LINES}(it.querySelector('code, span') ?? it.firstChild.firstChild)))"), [1] * 24)
+    same(page.run(ROWS + f".flatMap((row) => [...row.cells].slice(1, 7).map((it) => "
+                  f"{LINES}(it.querySelector('code, span') ?? it.firstChild.firstChild)))"), [1] * 24)
     same(page.run("[...document.querySelectorAll('thead th')].filter((it) => it.scrollWidth > it.clientWidth).length"),
          0)
     page.size(400, 900)
     same(page.run(f"[...document.querySelectorAll('.target')].map({LINES})"), [1] * 4)
-    same(
-        page.run(
-        "[getComputedStyle(document.querySelector('tbody tr')).display, getComputedStyle(document.querySelector('td[data-label]'), '::before').content]"), ["block", '"Architecture" / ""'])
+    same(page.run("[getComputedStyle(document.querySelector('tbody tr')).display, "
+                  "getComputedStyle(document.querySelector('td[data-label]'), '::before').content]"),
+         ["block", '"Architecture" / ""'])
 
 
 def complete_roles(page):
@@ -525,9 +528,8 @@ def is_accessible(page):
                        ("table", "What each target is"), ("columnheader", "Pointers"),
                        ("button", "windows: replace x86_64-pc-windws-msvc by x86_64-pc-windows-msvc")]:
             assert wanted in roles, f"at {width} pixels there is no {wanted}"
-        assert [name.split()[0] for role, name in roles
-                if role == "rowheader"] == ["x86_64-pc-windws-msvc",
-                                            "x86_64-unknown-linux-gnu"], f"at {width} pixels the rows have other headers: {roles}"
+        same([name.split()[0] for role, name in roles if role == "rowheader"],
+             ["x86_64-pc-windws-msvc", "x86_64-unknown-linux-gnu"])
         same([[role for role, _ in roles].count("columnheader"), "status" in [role for role, _ in roles]], [8, True])
     page.run("document.getElementById('targets').focus()")
     reached = []
@@ -537,9 +539,8 @@ def is_accessible(page):
     same(reached, ["linux", "windows", "search", "copy_names", "copy_facts", "copy_link", "clear", "2 targets",
                    "1 refused", "windows", "names"])
     # The border of the text field has a contrast of 6 to 1.
-    same(
-        page.run(
-        "[getComputedStyle(document.getElementById('targets')).borderTopColor, getComputedStyle(document.body).backgroundColor]"), ["rgb(90, 98, 108)", "rgb(255, 255, 255)"])
+    same(page.run("[getComputedStyle(document.getElementById('targets')).borderTopColor, "
+                  "getComputedStyle(document.body).backgroundColor]"), ["rgb(90, 98, 108)", "rgb(255, 255, 255)"])
 
 
 def has_a_link(page):
