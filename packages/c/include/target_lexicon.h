@@ -50,7 +50,8 @@
 #define LEXICON_VERSION_PATCH 0
 #define LEXICON_VERSION "0.5.0"
 /* The version as one number, of which two may be compared: 1000000 * major + 1000 * minor + patch. */
-#define LEXICON_VERSION_NUMBER (1000000L * LEXICON_VERSION_MAJOR + 1000L * LEXICON_VERSION_MINOR + LEXICON_VERSION_PATCH)
+#define LEXICON_VERSION_NUMBER \
+  (1000000L * LEXICON_VERSION_MAJOR + 1000L * LEXICON_VERSION_MINOR + LEXICON_VERSION_PATCH)
 
 /* A string that ends in a zero byte, and its size. The string is evaluated twice. */
 #define LEXICON_Z(text) (text), strlen(text)
@@ -463,7 +464,7 @@ struct lexicon_triple {
   uint8_t operating_system;  /* enum lexicon_operating_system */
   uint8_t environment;       /* enum lexicon_environment */
   uint8_t binary_format;     /* enum lexicon_binary_format */
-  uint8_t has_version;       /* 1 if the operating system has a version, otherwise 0; only a system like Darwin may have one */
+  uint8_t has_version;       /* 1 if the system has a version, which only a system like Darwin may have, otherwise 0 */
   uint8_t minor, patch;      /* the version is read only if has_version is 1 */
   uint16_t major;
   const char *custom_vendor; /* read only if the vendor is LEXICON_VENDOR_CUSTOM; no zero byte follows it */
@@ -487,8 +488,8 @@ enum lexicon_origin {
   LEXICON_ORIGIN_NOT_GIVEN = 0, /* no part of the string is of this field, which is unknown */
   LEXICON_ORIGIN_GIVEN = 1,     /* this part of the string, which is the name of the value, as it is printed */
   LEXICON_ORIGIN_IMPLIED = 2,   /* the binary format that the other fields imply */
-  LEXICON_ORIGIN_ALIAS = 3      /* this part of the string, which is another spelling: arm64, or ios17 for ios17.0.0. A special
-                                   string such as armv6k-nintendo-3ds is one part, of all fields */
+  LEXICON_ORIGIN_ALIAS = 3      /* this part of the string, which is another spelling: arm64, or ios17 for ios17.0.0. A
+                                   special string such as armv6k-nintendo-3ds is one part, of all fields */
 };
 struct lexicon_source {
   uint32_t origin; /* enum lexicon_origin */
@@ -559,7 +560,8 @@ struct lexicon_change {
 /* Parses a string. At LEXICON_OK the triple is written. At any other status, from 1 to 7 or LEXICON_TOO_LARGE, the
    error is written, unless it is null: whoever only asks whether a string parses needs none. */
 LEXICON_CHECKED LEXICON_NONNULL(3)
-enum lexicon_status lexicon_parse(const char *text, size_t text_size, struct lexicon_triple *triple, struct lexicon_error *error);
+enum lexicon_status lexicon_parse(const char *text, size_t text_size, struct lexicon_triple *triple,
+                                  struct lexicon_error *error);
 
 /* Parses a string, and says where each field comes from. The sources are written at each status; those from the refused
    part on are LEXICON_ORIGIN_NOT_GIVEN. */
@@ -580,7 +582,8 @@ enum lexicon_status lexicon_settle(struct lexicon_triple *triple);
    line feed. A line ends with a line feed, which the last one may lack. A buffer of text_size + lines *
    LEXICON_MAX_GROWTH + 2 bytes has room. One that is too small has the first lines, as far as they fit. */
 LEXICON_CHECKED
-enum lexicon_status lexicon_settle_lines(const char *text, size_t text_size, char *out, size_t out_size, size_t *length);
+enum lexicon_status lexicon_settle_lines(const char *text, size_t text_size, char *out, size_t out_size,
+                                         size_t *length);
 
 /* Whether the triple round-trips: printing and parsing it give it again. */
 LEXICON_CHECKED LEXICON_NONNULL(1, 2)
@@ -588,16 +591,19 @@ enum lexicon_status lexicon_comes_back(const struct lexicon_triple *triple, bool
 
 /* Whether two triples are equal, and whether their canonical forms are. */
 LEXICON_CHECKED LEXICON_NONNULL(1, 2, 3)
-enum lexicon_status lexicon_equal(const struct lexicon_triple *first, const struct lexicon_triple *second, bool *answer);
+enum lexicon_status lexicon_equal(const struct lexicon_triple *first, const struct lexicon_triple *second,
+                                  bool *answer);
 LEXICON_CHECKED LEXICON_NONNULL(1, 2, 3)
-enum lexicon_status lexicon_same_target(const struct lexicon_triple *first, const struct lexicon_triple *second, bool *answer);
+enum lexicon_status lexicon_same_target(const struct lexicon_triple *first, const struct lexicon_triple *second,
+                                        bool *answer);
 
 /* What a compiler asks about a triple. Call lexicon_all_facts(triple, facts), which passes facts_size: sizeof *facts,
    so that the library may be older or later than the header that a program was compiled with: so many bytes of the
    struct are written, and the members that an older library doesn't have become 0. Up to offsetof implied_format it
    takes the least time, then up to offsetof c_library. */
 LEXICON_CHECKED LEXICON_NONNULL(1, 2)
-enum lexicon_status lexicon_facts(const struct lexicon_triple *triple, struct lexicon_triple_facts *facts, size_t facts_size);
+enum lexicon_status lexicon_facts(const struct lexicon_triple *triple, struct lexicon_triple_facts *facts,
+                                  size_t facts_size);
 
 /* What rustc --print cfg writes of the target's cfg options: a line for each, such as target_os="linux" or unix. */
 LEXICON_CHECKED LEXICON_NONNULL(1)
@@ -607,24 +613,29 @@ enum lexicon_status lexicon_rustc_cfg(const struct lexicon_triple *triple, char 
    arm64-apple-macosx for aarch64-apple-darwin, x86_64-apple-macosx13.0.0 for x86_64-apple-darwin22. It has the versions
    that a triple has, those of Apple's systems: lexicon_stated_versions gives the others of a string. */
 LEXICON_CHECKED LEXICON_NONNULL(1)
-enum lexicon_status lexicon_llvm_target(const struct lexicon_triple *triple, char *out, size_t out_size, size_t *length);
+enum lexicon_status lexicon_llvm_target(const struct lexicon_triple *triple, char *out, size_t out_size,
+                                        size_t *length);
 
 /* What clang passes to the linker for the target: the dynamic linker that programs name, and the emulation after -m;
    and what ends the name of a program, as rustc has it, which may be nothing. /lib64/ld-linux-x86-64.so.2, elf_x86_64
    and an empty string for x86_64-unknown-linux-gnu. LEXICON_NO_ANSWER where clang passes none, or the triple states no
    C library. */
 LEXICON_CHECKED LEXICON_NONNULL(1)
-enum lexicon_status lexicon_dynamic_linker(const struct lexicon_triple *triple, char *out, size_t out_size, size_t *length);
+enum lexicon_status lexicon_dynamic_linker(const struct lexicon_triple *triple, char *out, size_t out_size,
+                                           size_t *length);
 LEXICON_CHECKED LEXICON_NONNULL(1)
-enum lexicon_status lexicon_linker_emulation(const struct lexicon_triple *triple, char *out, size_t out_size, size_t *length);
+enum lexicon_status lexicon_linker_emulation(const struct lexicon_triple *triple, char *out, size_t out_size,
+                                             size_t *length);
 LEXICON_CHECKED LEXICON_NONNULL(1)
-enum lexicon_status lexicon_program_suffix(const struct lexicon_triple *triple, char *out, size_t out_size, size_t *length);
+enum lexicon_status lexicon_program_suffix(const struct lexicon_triple *triple, char *out, size_t out_size,
+                                           size_t *length);
 
 /* Debian's multiarch tuple, as dpkg-architecture -qDEB_HOST_MULTIARCH prints it: i386-linux-gnu for
    i686-unknown-linux-gnu. If there is none, the status is LEXICON_TRIPLE_WITHOUT_NAME; lexicon_write with
    LEXICON_DIALECT_DEBIAN says why. */
 LEXICON_CHECKED LEXICON_NONNULL(1)
-enum lexicon_status lexicon_multiarch_tuple(const struct lexicon_triple *triple, char *out, size_t out_size, size_t *length);
+enum lexicon_status lexicon_multiarch_tuple(const struct lexicon_triple *triple, char *out, size_t out_size,
+                                            size_t *length);
 
 /* Reads what another tool calls a target. At LEXICON_OK the triple is written. At any other status the error is, unless
    it is null.
@@ -660,16 +671,17 @@ enum lexicon_status lexicon_stated_versions(const char *text, size_t text_size, 
 
        it depends on the C library: say glibc or musl */
 LEXICON_CHECKED LEXICON_NONNULL(2)
-enum lexicon_status lexicon_write(uint32_t dialect, const struct lexicon_triple *triple, char *out, size_t out_size, size_t *length,
-                                  const char **reason);
+enum lexicon_status lexicon_write(uint32_t dialect, const struct lexicon_triple *triple, char *out, size_t out_size,
+                                  size_t *length, const char **reason);
 
 /* The name of a triple in a dialect that states a version which triples don't have: manylinux_2_17_x86_64 of Python
    with glibc 2.17, musllinux_1_2_aarch64 with musl 1.2, macosx_11_0_arm64 with macOS 11.0, or android_21_x86_64 with
    Android's API level 21, which has no second number: pass 0. LEXICON_TRIPLE_WITHOUT_NAME if the dialect has no such
    name, or a number is too large for one: over 65535, or 255 for the second. */
 LEXICON_CHECKED LEXICON_NONNULL(2)
-enum lexicon_status lexicon_write_versioned(uint32_t dialect, const struct lexicon_triple *triple, uint32_t major, uint32_t minor,
-                                            char *out, size_t out_size, size_t *length, const char **reason);
+enum lexicon_status lexicon_write_versioned(uint32_t dialect, const struct lexicon_triple *triple, uint32_t major,
+                                            uint32_t minor, char *out, size_t out_size, size_t *length,
+                                            const char **reason);
 
 /* Gives a triple of Linux or Windows, whose environment is unknown, the usual one of a C library: gnueabihf, gnu and so
    on. Only the environment changes. Any other triple stays as it is, and so does arm-unknown-linux, which may be
@@ -700,16 +712,17 @@ enum lexicon_status lexicon_minimum_os_version(const struct lexicon_triple *trip
    LEXICON_NEEDS_C_LIBRARY say that what it means can't be written; the range of the error is that of the whole name. At
    any other status from 15 on the range is empty, and at LEXICON_TOO_SMALL no error is written. */
 LEXICON_CHECKED
-enum lexicon_status lexicon_translate(uint32_t from, const char *name, size_t name_size, uint32_t linux_libc, uint32_t to, char *out,
-                                      size_t out_size, size_t *length, struct lexicon_error *error);
+enum lexicon_status lexicon_translate(uint32_t from, const char *name, size_t name_size, uint32_t linux_libc,
+                                      uint32_t to, char *out, size_t out_size, size_t *length,
+                                      struct lexicon_error *error);
 
 /* The change with this number, from 0, of those that lexicon_read, without a dialect, makes in a string: the range of a
    part, and the names that it is read as. Of amd64-unknown-freebsd13.2 the first is amd64, read as x86_64, and the
    second freebsd13.2, read as freebsd: the version is dropped. After the last one the status is LEXICON_NO_SUCH_CHANGE.
    A string that is refused has its changes too. If the buffer is too small, the change is unchanged too. */
 LEXICON_CHECKED LEXICON_NONNULL(4)
-enum lexicon_status lexicon_changes(const char *text, size_t text_size, size_t number, struct lexicon_change *change, char *out,
-                                    size_t out_size, size_t *length);
+enum lexicon_status lexicon_changes(const char *text, size_t text_size, size_t number, struct lexicon_change *change,
+                                    char *out, size_t out_size, size_t *length);
 
 /* What a string means to those who have it as a name: the meaning with this number, from 0. If it parses, its triple
    comes first, with LEXICON_DIALECT_NONE as the dialect; then the dialects, in the order of their numbers, where a name
@@ -720,15 +733,16 @@ enum lexicon_status lexicon_changes(const char *text, size_t text_size, size_t n
    the triple can't state, such as v3 of linux/amd64/v3: then lexicon_translate has the names at this level. Else it
    becomes null. After the last meaning the status is LEXICON_NO_SUCH_MEANING, and nothing is written. */
 LEXICON_CHECKED LEXICON_NONNULL(4, 5)
-enum lexicon_status lexicon_meaning(const char *text, size_t text_size, size_t number, uint32_t *dialect, struct lexicon_triple *triple,
-                                    const char **note);
+enum lexicon_status lexicon_meaning(const char *text, size_t text_size, size_t number, uint32_t *dialect,
+                                    struct lexicon_triple *triple, const char **note);
 
 /* The targets in any text, such as a list, a workflow in YAML, or a page in Markdown: the ranges of the words that are
    a name of a machine and a system, of any tool or as a triple, or are with a name that is suggested; and of all items
    of a list. They are written into an array of so many elements, which may be null if that is 0, and in *count is how
    many there are: with LEXICON_TOO_SMALL there are more. */
 LEXICON_CHECKED LEXICON_NONNULL(5)
-enum lexicon_status lexicon_targets(const char *text, size_t text_size, struct lexicon_change *parts, size_t most, size_t *count);
+enum lexicon_status lexicon_targets(const char *text, size_t text_size, struct lexicon_change *parts, size_t most,
+                                    size_t *count);
 
 /* The name of the dialect that may have been meant, where lexicon_read gives LEXICON_UNKNOWN_NAME: linux/amd64 for
    linux/amd46 in LEXICON_DIALECT_GO. Null if there is none, and otherwise. Only names that are read are suggested. */
@@ -761,7 +775,8 @@ enum lexicon_status lexicon_suggestion(const char *text, size_t text_size, const
 
 /* Likewise by a custom vendor, of the vendors and the later fields: linux in x86_64-linx. */
 LEXICON_CHECKED LEXICON_NONNULL(1)
-enum lexicon_status lexicon_vendor_suggestion(const struct lexicon_triple *triple, char *out, size_t out_size, size_t *length);
+enum lexicon_status lexicon_vendor_suggestion(const struct lexicon_triple *triple, char *out, size_t out_size,
+                                              size_t *length);
 
 /* The number of the value that a string names in one field, outside any triple. An alias gives the number of its value,
    a custom vendor LEXICON_VENDOR_CUSTOM, and a version is parsed and dropped. If the string names no value of the
@@ -788,10 +803,11 @@ const char *lexicon_host(void);
     static const char *const names[] = {__VA_ARGS__}; \
     return number < sizeof names / sizeof *names ? names[number] : NULL; \
   }
-LEXICON_NAMES(lexicon_status_name, "ok", "unrecognized architecture", "unrecognized vendor", "unrecognized operating system",
-  "unrecognized environment", "unrecognized binary format", "unrecognized field", "not UTF-8", "too small a buffer", "no such field",
-  "no such value", "no such vendor", "unknown name", "name without a triple", "triple without a name", "no such dialect",
-  "too large a size", "needs a C library", "no such C library", "no such change", "no suggestion", "no answer", "no such meaning")
+LEXICON_NAMES(lexicon_status_name, "ok", "unrecognized architecture", "unrecognized vendor",
+  "unrecognized operating system", "unrecognized environment", "unrecognized binary format", "unrecognized field",
+  "not UTF-8", "too small a buffer", "no such field", "no such value", "no such vendor", "unknown name",
+  "name without a triple", "triple without a name", "no such dialect", "too large a size", "needs a C library",
+  "no such C library", "no such change", "no suggestion", "no answer", "no such meaning")
 LEXICON_NAMES(lexicon_field_name, "architecture", "vendor", "operating system", "environment", "binary format")
 LEXICON_NAMES(lexicon_family_name,
   /* written by tools/names/write: the names of families for C */
@@ -811,7 +827,8 @@ LEXICON_NAMES(lexicon_origin_name, "not given", "given", "implied", "alias")
 LEXICON_NAMES(lexicon_endianness_name, NULL, "little", "big")
 LEXICON_NAMES(lexicon_calling_convention_name, NULL, "SystemV", "WasmBasicCAbi", "WindowsFastcall", "AppleAarch64")
 LEXICON_NAMES(lexicon_data_model_name, NULL, "LP32", "ILP32", "LLP64", "LP64", "ILP64")
-LEXICON_NAMES(lexicon_c_library_name, NULL, "bionic", "glibc", "mingw", "msvc", "musl", "newlib", "relibc", "system", "uclibc")
+LEXICON_NAMES(lexicon_c_library_name, NULL, "bionic", "glibc", "mingw", "msvc", "musl", "newlib", "relibc", "system",
+  "uclibc")
 LEXICON_NAMES(lexicon_float_abi_name, NULL, "soft", "hard")
 LEXICON_NAMES(lexicon_arm_profile_name, NULL, "A", "R", "M")
 LEXICON_NAMES(lexicon_signedness_name, NULL, "signed", "unsigned")
@@ -831,15 +848,16 @@ static inline enum lexicon_dialect lexicon_dialect_named(const char *name) {
 
 /* lexicon_facts with the size of this header's struct. */
 LEXICON_CHECKED LEXICON_NONNULL(1, 2)
-static inline enum lexicon_status lexicon_all_facts(const struct lexicon_triple *triple, struct lexicon_triple_facts *facts) {
+static inline enum lexicon_status lexicon_all_facts(const struct lexicon_triple *triple,
+                                                    struct lexicon_triple_facts *facts) {
   return lexicon_facts(triple, facts, sizeof *facts);
 }
 
 /* lexicon_parse for strings that people type: a custom vendor is refused too, as in x86_64-linx and
    x86_64-unknwon-linux. */
 LEXICON_CHECKED LEXICON_NONNULL(3)
-static inline enum lexicon_status lexicon_parse_strict(const char *text, size_t text_size, struct lexicon_triple *triple,
-                                                       struct lexicon_error *error) {
+static inline enum lexicon_status lexicon_parse_strict(const char *text, size_t text_size,
+                                                       struct lexicon_triple *triple, struct lexicon_error *error) {
   struct lexicon_triple parsed;
   enum lexicon_status status = lexicon_parse(text, text_size, &parsed, error);
   if (status != LEXICON_OK) return status;

@@ -592,8 +592,7 @@ static void try_text(const char *text, size_t size) {
   struct lexicon_triple alone = triple;
   CHECK(lexicon_parse(text, size, &alone, NULL) == status);
   const struct lexicon_source *each[] = {&sources.architecture, &sources.vendor, &sources.operating_system,
-      &sources.environment,
-      &sources.binary_format};
+      &sources.environment, &sources.binary_format};
   for (size_t i = 0; i < 5; i++) try_source(each[i], size);
   if (status == LEXICON_OK) {
     CHECK(is_unchanged(&error, sizeof error) && is_unchanged(&other, sizeof other));
@@ -609,8 +608,6 @@ static void try_text(const char *text, size_t size) {
   try_targets(text, size, status);
   try_meanings(text, size, status);
 }
-
-#define SAME_TEXT(one, two) CHECK((one) == (two) && strcmp(out, other) == 0)
 
 /* The inline calls, for a string that ends in a zero byte, answer as those with a size. */
 static void try_zero_ended(const char *text, size_t size) {
