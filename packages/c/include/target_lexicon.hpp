@@ -159,7 +159,8 @@ enum class LinuxLibc : std::uint8_t {
 
 // Where the value of a field comes from: nowhere, so that it is unknown; a part of the string; or the other fields.
 enum class Origin : std::uint8_t {
-  NotGiven = LEXICON_ORIGIN_NOT_GIVEN, Given = LEXICON_ORIGIN_GIVEN, Implied = LEXICON_ORIGIN_IMPLIED, Alias = LEXICON_ORIGIN_ALIAS
+  NotGiven = LEXICON_ORIGIN_NOT_GIVEN, Given = LEXICON_ORIGIN_GIVEN, Implied = LEXICON_ORIGIN_IMPLIED,
+  Alias = LEXICON_ORIGIN_ALIAS
 };
 
 namespace detail {
@@ -258,7 +259,8 @@ template <class Value, class = decltype(detail::FieldOf<Value>::field)> constexp
 // The value that a string is in its field, aliases too: value_of<lexicon::Architecture>("arm64").
 template <class Value> std::optional<Value> value_of(std::string_view text) {
   std::uint32_t number = 0;
-  if (lexicon_number(static_cast<std::uint32_t>(detail::FieldOf<Value>::field), text.data(), text.size(), &number) != LEXICON_OK)
+  constexpr auto field = static_cast<std::uint32_t>(detail::FieldOf<Value>::field);
+  if (lexicon_number(field, text.data(), text.size(), &number) != LEXICON_OK)
     return std::nullopt;
   return static_cast<Value>(number);
 }
@@ -267,7 +269,9 @@ inline std::string_view name(Field value) { return detail::name_of(lexicon_field
 inline std::string_view name(Family value) { return detail::name_of(lexicon_family_name, value); }
 inline std::string_view name(Dialect value) { return detail::name_of(lexicon_dialect_name, value); }
 inline std::string_view name(Endianness value) { return detail::name_of(lexicon_endianness_name, value); }
-inline std::string_view name(CallingConvention value) { return detail::name_of(lexicon_calling_convention_name, value); }
+inline std::string_view name(CallingConvention value) {
+  return detail::name_of(lexicon_calling_convention_name, value);
+}
 inline std::string_view name(LinuxLibc value) { return detail::name_of(lexicon_linux_libc_name, value); }
 inline std::string_view name(Origin value) { return detail::name_of(lexicon_origin_name, value); }
 inline std::string_view name(DataModel value) { return detail::name_of(lexicon_data_model_name, value); }
@@ -283,7 +287,9 @@ inline std::optional<Dialect> dialect_named(std::string_view text) {
 }
 
 // Each value is written by its name.
-template <class Value> auto operator<<(std::ostream& out, Value value) -> decltype(out << name(value)) { return out << name(value); }
+template <class Value> auto operator<<(std::ostream& out, Value value) -> decltype(out << name(value)) {
+  return out << name(value);
+}
 
 // The size and the alignment of a type of C, in bytes.
 struct TypeLayout {
@@ -297,9 +303,13 @@ struct Version {
   std::uint16_t major = 0;
   std::uint8_t minor = 0, patch = 0;
 
-  friend bool operator==(Version a, Version b) { return std::tie(a.major, a.minor, a.patch) == std::tie(b.major, b.minor, b.patch); }
+  friend bool operator==(Version a, Version b) {
+    return std::tie(a.major, a.minor, a.patch) == std::tie(b.major, b.minor, b.patch);
+  }
   friend bool operator!=(Version a, Version b) { return !(a == b); }
-  friend bool operator<(Version a, Version b) { return std::tie(a.major, a.minor, a.patch) < std::tie(b.major, b.minor, b.patch); }
+  friend bool operator<(Version a, Version b) {
+    return std::tie(a.major, a.minor, a.patch) < std::tie(b.major, b.minor, b.patch);
+  }
   friend bool operator>(Version a, Version b) { return b < a; }
   friend bool operator<=(Version a, Version b) { return !(b < a); }
   friend bool operator>=(Version a, Version b) { return !(a < b); }
@@ -319,7 +329,7 @@ struct ParseError {
   std::string line;        // Unrecognized operating system: linx
   std::string text;        // the line, the string with carets under the part, and the suggestion or the reason
   std::string suggestion;  // the name that may have been meant; empty if there is none
-  std::string reason;      // why a dialect's name has no triple, or isn't translated, and what would help; empty if there is none
+  std::string reason;      // why a name has no triple, or isn't translated, and what would help; empty if none
 
   // The field of which a value was expected; none after the binary format, or if the string isn't UTF-8.
   std::optional<Field> field() const {
@@ -348,8 +358,8 @@ class Triple {
   // What is compared.
   auto key() const {
     const auto& it = numbers_;
-    return std::make_tuple(it.architecture, vendor(), std::string_view(custom_vendor_), it.operating_system, it.has_version, it.major,
-                           it.minor, it.patch, it.environment, it.binary_format);
+    return std::make_tuple(it.architecture, vendor(), std::string_view(custom_vendor_), it.operating_system,
+                           it.has_version, it.major, it.minor, it.patch, it.environment, it.binary_format);
   }
 
  public:
@@ -367,7 +377,8 @@ class Triple {
                                   Environment environment = Environment::Unknown,
                                   std::optional<BinaryFormat> binary_format = std::nullopt) {
     auto number = value_of<lexicon::Vendor>(vendor);
-    return number ? of_numbers(architecture, *number, vendor, operating_system, environment, binary_format) : std::nullopt;
+    if (!number) return std::nullopt;
+    return of_numbers(architecture, *number, vendor, operating_system, environment, binary_format);
   }
 
   // The triple of a struct of target_lexicon.h, if it is one.
@@ -386,7 +397,8 @@ class Triple {
     auto number = value_of<lexicon::Vendor>(vendor);
     return number ? with_vendor(*number, vendor) : std::nullopt;
   }
-  std::optional<Triple> with_operating_system(OperatingSystem value, std::optional<Version> version = std::nullopt) const {
+  std::optional<Triple> with_operating_system(OperatingSystem value,
+                                              std::optional<Version> version = std::nullopt) const {
     return changed([&](lexicon_triple& it) {
       it.operating_system = static_cast<std::uint8_t>(value);
       set_version(it, version);
@@ -405,7 +417,9 @@ class Triple {
   }
 
   // The triple that a string parses as. If it is refused, `error` says why.
-  static std::optional<Triple> parse(std::string_view text, ParseError* error = nullptr) { return parsed(lexicon_parse, text, error); }
+  static std::optional<Triple> parse(std::string_view text, ParseError* error = nullptr) {
+    return parsed(lexicon_parse, text, error);
+  }
 
   // Likewise, and a custom vendor is refused too, as in x86_64-linx and x86_64-unknwon-linux.
   static std::optional<Triple> parse_strict(std::string_view text, ParseError* error = nullptr) {
@@ -430,7 +444,8 @@ class Triple {
   // The versions that such a string states: those of systems other than Apple's aren't the triple's.
   static std::optional<lexicon_versions> stated_versions(std::string_view text) {
     lexicon_versions versions;
-    return lexicon_stated_versions(text.data(), text.size(), &versions, nullptr) == LEXICON_OK ? std::make_optional(versions) : std::nullopt;
+    if (lexicon_stated_versions(text.data(), text.size(), &versions, nullptr) != LEXICON_OK) return std::nullopt;
+    return versions;
   }
 
   // What a string means to each dialect that has it as a name, and as one that is spelled like a triple, as
@@ -443,12 +458,15 @@ class Triple {
   }
 
   // Likewise the name that states a version which triples don't have, as `lexicon_write_versioned` writes it.
-  std::optional<std::string> versioned_name_in(Dialect dialect, std::uint32_t major, std::uint32_t minor = 0, std::string* reason = nullptr) const {
+  std::optional<std::string> versioned_name_in(Dialect dialect, std::uint32_t major, std::uint32_t minor = 0,
+                                               std::string* reason = nullptr) const {
     return named(lexicon_write_versioned, dialect, reason, major, minor);
   }
 
   // The triple with the usual environment of a C library, if it is of Linux and states none; else this one.
-  Triple completed(LinuxLibc libc) const { return variant(lexicon_complete, static_cast<std::uint32_t>(libc)).value_or(*this); }
+  Triple completed(LinuxLibc libc) const {
+    return variant(lexicon_complete, static_cast<std::uint32_t>(libc)).value_or(*this);
+  }
 
   // The triple with the variant of its architecture whose pointers have so many bits, or that has a byte order, if
   // there is one: with 32 bits i686-pc-windows-msvc for x86_64-pc-windows-msvc. With other pointers the environment is
@@ -461,7 +479,8 @@ class Triple {
   // The name in the dialect `to` of what a name of the dialect `from` means, with a C library of Linux if one is said.
   // Without `from`, the string is spelled like a triple. If there is none, `error` says why.
   static std::optional<std::string> translate(std::string_view name, std::optional<Dialect> from, Dialect to,
-                                              std::optional<LinuxLibc> libc = std::nullopt, ParseError* error = nullptr) {
+                                              std::optional<LinuxLibc> libc = std::nullopt,
+                                              ParseError* error = nullptr) {
     std::uint32_t dialect = from ? static_cast<std::uint32_t>(*from) : std::uint32_t(LEXICON_DIALECT_NONE);
     std::uint32_t number = libc ? static_cast<std::uint32_t>(*libc) : std::uint32_t(LEXICON_LINUX_LIBC_NONE);
     lexicon_error found = {};
@@ -482,7 +501,9 @@ class Triple {
   BinaryFormat binary_format() const { return static_cast<BinaryFormat>(numbers_.binary_format); }
 
   // The name of the vendor, also of a custom one. It stays as long as the triple.
-  std::string_view vendor_name() const { return has_custom_vendor() ? std::string_view(custom_vendor_) : name(vendor()); }
+  std::string_view vendor_name() const {
+    return has_custom_vendor() ? std::string_view(custom_vendor_) : name(vendor());
+  }
   // The name that may have been meant by a custom vendor; empty if there is none.
   std::string vendor_suggestion() const { return text(lexicon_vendor_suggestion); }
   std::optional<Version> version() const {
@@ -592,7 +613,8 @@ class Triple {
   std::size_t hash() const {
     const auto& it = numbers_;
     std::uint64_t low = it.architecture | std::uint64_t(it.vendor) << 16 | std::uint64_t(it.operating_system) << 24 |
-                        std::uint64_t(it.environment) << 32 | std::uint64_t(it.binary_format) << 40 | std::uint64_t(it.has_version) << 48;
+                        std::uint64_t(it.environment) << 32 | std::uint64_t(it.binary_format) << 40 |
+                        std::uint64_t(it.has_version) << 48;
     std::uint64_t version = std::uint64_t(it.major) << 16 | std::uint64_t(it.minor) << 8 | it.patch;
     return std::hash<std::uint64_t>()(low * 0x9e3779b97f4a7c15u ^ version) ^ std::hash<std::string>()(custom_vendor_);
   }
@@ -613,7 +635,8 @@ class Triple {
   std::optional<std::string> named(Call call, Dialect dialect, std::string* reason, Version... version) const {
     lexicon_triple triple = c_triple();
     const char* why = nullptr;
-    std::string name = detail::written([&](auto... out) { return call(static_cast<std::uint32_t>(dialect), &triple, version..., out..., &why); });
+    std::string name = detail::written(
+        [&](auto... out) { return call(static_cast<std::uint32_t>(dialect), &triple, version..., out..., &why); });
     if (!name.empty()) return name;
     if (reason) *reason = detail::text_of(why);
     return std::nullopt;
@@ -644,7 +667,8 @@ class Triple {
   }
 
   template <class Call>
-  static std::optional<Triple> parsed(Call call, std::string_view text, ParseError* error, std::uint32_t dialect = LEXICON_DIALECT_NONE) {
+  static std::optional<Triple> parsed(Call call, std::string_view text, ParseError* error,
+                                      std::uint32_t dialect = LEXICON_DIALECT_NONE) {
     lexicon_triple triple;
     lexicon_error found;
     if (call(text.data(), text.size(), &triple, &found) == LEXICON_OK) return Triple(triple);
@@ -667,9 +691,9 @@ class Triple {
     numbers_.patch = it.patch;
   }
 
-  static std::optional<Triple> of_numbers(Architecture architecture, lexicon::Vendor vendor, std::string_view custom_vendor,
-                                          OperatingSystem operating_system, Environment environment,
-                                          std::optional<BinaryFormat> binary_format) {
+  static std::optional<Triple> of_numbers(Architecture architecture, lexicon::Vendor vendor,
+                                          std::string_view custom_vendor, OperatingSystem operating_system,
+                                          Environment environment, std::optional<BinaryFormat> binary_format) {
     lexicon_triple it = {};
     it.architecture = static_cast<std::uint16_t>(architecture);
     it.vendor = static_cast<std::uint8_t>(vendor);
@@ -748,19 +772,21 @@ struct Explanation {
 
 inline std::optional<Explanation> Triple::explain(std::string_view text, ParseError* error) {
   lexicon_sources sources;
-  auto call = [&](auto of, auto size, auto triple, auto found) { return lexicon_explain(of, size, triple, &sources, found); };
+  auto call = [&](auto of, auto size, auto triple, auto found) {
+    return lexicon_explain(of, size, triple, &sources, found);
+  };
   auto triple = parsed(call, text, error);
   if (!triple) return std::nullopt;
   auto of = [](const lexicon_source& it) { return Source{static_cast<Origin>(it.origin), it.start, it.end}; };
-  return Explanation{*triple, of(sources.architecture), of(sources.vendor), of(sources.operating_system), of(sources.environment),
-                     of(sources.binary_format)};
+  return Explanation{*triple, of(sources.architecture), of(sources.vendor), of(sources.operating_system),
+                     of(sources.environment), of(sources.binary_format)};
 }
 
 // Whose name a string is, and the canonical triple that it means there.
 struct Meaning {
   std::optional<Dialect> dialect;  // none of a string that is spelled like a triple
   std::optional<Triple> triple;
-  std::string level;   // of the machine, that the name says and the triple can't, such as v3 of linux/amd64/v3; empty if it says none
+  std::string level;   // of the machine, which the triple can't state, such as v3 of linux/amd64/v3; empty if none
   std::string reason;  // why no triple means the same; empty if one does
 };
 
@@ -783,7 +809,8 @@ inline std::vector<Meaning> Triple::meanings(std::string_view text) {
 inline std::vector<Change> changes(std::string_view text) {
   std::vector<Change> found;
   for (lexicon_change it = {};;) {
-    std::string names = detail::written([&](auto... out) { return lexicon_changes(text.data(), text.size(), found.size(), &it, out...); });
+    std::string names = detail::written(
+        [&](auto... out) { return lexicon_changes(text.data(), text.size(), found.size(), &it, out...); });
     if (names.empty()) return found;
     found.push_back({it.start, it.end, std::string(text.substr(it.start, it.end - it.start)), std::move(names)});
   }
@@ -799,9 +826,11 @@ struct Target {
 inline std::vector<Target> targets_in(std::string_view text) {
   std::size_t count = 0;
   std::vector<lexicon_change> parts;
-  while (lexicon_targets(text.data(), text.size(), parts.data(), parts.size(), &count) == LEXICON_TOO_SMALL) parts.resize(count);
+  while (lexicon_targets(text.data(), text.size(), parts.data(), parts.size(), &count) == LEXICON_TOO_SMALL)
+    parts.resize(count);
   std::vector<Target> found;
-  for (const auto& it : parts) found.push_back({it.start, it.end, std::string(text.substr(it.start, it.end - it.start))});
+  for (const auto& it : parts)
+    found.push_back({it.start, it.end, std::string(text.substr(it.start, it.end - it.start))});
   return found;
 }
 
@@ -810,7 +839,8 @@ inline std::vector<Target> targets_in(std::string_view text) {
 inline std::string settle_lines(std::string_view text) {
   std::size_t lines = 1 + static_cast<std::size_t>(std::count(text.begin(), text.end(), '\n')), length = 0;
   std::string settled(text.size() + lines * LEXICON_MAX_GROWTH + 1, '\0');
-  if (lexicon_settle_lines(text.data(), text.size(), settled.data(), settled.size() + 1, &length) != LEXICON_OK) length = 0;
+  if (lexicon_settle_lines(text.data(), text.size(), settled.data(), settled.size() + 1, &length) != LEXICON_OK)
+    length = 0;
   settled.resize(length);
   return settled;
 }
