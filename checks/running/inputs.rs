@@ -307,7 +307,7 @@ pub fn long_and_spaced() -> Vec<String> {
     let long = LENGTHS.iter().flat_map(|&n| {
         let (q, dashes, zeros) = ("q".repeat(n), "-".repeat(n.min(40)), "0".repeat(n));
         let placed = ["*", "*-linux", "x86_64-*", "x86_64-*-linux", "x86_64-*-linux-gnu-elf", "x86_64-pc-*", "x86_64-pc-linux-*", "x86_64-PC*-linux"].map(|it| it.replace('*', &q));
-        placed.into_iter().chain([format!("x86_64{dashes}linux"), format!("arm64-apple-ios{zeros}17.1"), format!("arm64-apple-ios1.{zeros}256")])
+        placed.into_iter().chain([format!("x86_64{dashes}linux"), format!("{zeros}17.1"), format!("arm64-apple-ios{zeros}17.1"), format!("arm64-apple-ios1.{zeros}256")])
     });
     let spaces = ["\t", " ", "\n", "\r", "\r\n", "\u{b}", "\u{c}", "\0", "\u{85}", "\u{a0}", "\u{2003}", "\u{feff}"];
     let spaced = spaces.iter().flat_map(|space| ["*x86_64-pc-linux", "x86_64*-pc-linux", "x86_64-*pc-linux", "x86_64-pc*-linux", "x86_64-pc-linux*", "x86_64-pc-linux-gnu**", "*x86_64*", "x86_64-*"].map(|it| it.replace('*', space)));

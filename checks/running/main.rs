@@ -97,6 +97,7 @@ fn run(part: &str, chosen: Chosen, r: &mut Report) {
             }
         }),
         "lengths" => words(chosen, inputs::long_and_spaced(), r, |r, string| {
+            calls::word(r, string);
             calls::string(r, string);
             #[cfg(feature = "port")]
             calls::owned(r, string);

@@ -164,6 +164,11 @@ fn each_error_says_what_is_wrong() {
     }
     let version = "x".parse::<DeploymentTarget>().unwrap_err();
     let vendor = VendorRef::from_str("Linux").unwrap_err();
+    #[cfg(feature = "std")]
+    assert_eq!(
+        shown("foo".parse::<Triple>().unwrap_err()),
+        "Unrecognized architecture: foo"
+    );
     let unknown = TripleRef::unknown();
     let said = [
         shown(version),
@@ -172,6 +177,7 @@ fn each_error_says_what_is_wrong() {
         shown(unknown.pointer_width().unwrap_err()),
         shown(unknown.default_calling_convention().unwrap_err()),
         shown(unknown.data_model().unwrap_err()),
+        shown(NotPlain(Triple::unknown())),
     ];
     let expected = [
         "Not a version: it is one to three numbers, at most 65535.255.255",
@@ -180,6 +186,7 @@ fn each_error_says_what_is_wrong() {
         "The pointer width of the target is unknown",
         "The calling convention of the target is unknown",
         "The data model of C of the target is unknown",
+        "No text parses as the vendor \"unknown\"",
     ];
     assert_eq!(said, expected);
 }
