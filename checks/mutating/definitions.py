@@ -13,8 +13,9 @@ OTHER = {"&&": "||", "||": "&&", "≡": "≢", "≢": "≡", "<": "≤", "≤": 
          "/": "*", "%": "/"}
 # Domain-specific operators whose parts may be left out.
 OF_PARTS = ("×", "⊎", "&&", "||", "++", "→", "↔")
-# Comparisons, of which the order of the arguments says nothing.
+# Comparisons, of which the order of the arguments says nothing; and what is its argument in Rust.
 SYMMETRIC = [("var", "bytes_eq"), ("var", "is_same_format")]
+SAME = [("var", "codes"), ("var", "string_bytes")]
 
 
 def shown(it):
@@ -91,7 +92,7 @@ class Mutated(translate.Rust):
         elif kind == "app":
             if len(it[2]) > 1 and it[2][0] != it[2][1] and it[1] not in SYMMETRIC:
                 yield "arguments", ("app", it[1], [it[2][1], it[2][0], *it[2][2:]])
-            if len(it[2]) == 1 and it[1] != ("var", "codes"):
+            if len(it[2]) == 1 and it[1] not in SAME:
                 yield "call", it[2][0]
 
     def constructor_of(self, it, scope):

@@ -71,6 +71,20 @@ fn hashed<T: Hash + Debug>(r: &mut Report, all: &[(V, T)]) {
     r.holds("HashInjectiveOn", holds, &format_args!("{:?}", if holds { vec![] } else { all.iter().map(|it| &it.1).collect() }));
 }
 
+/// Feeds of two values that say less than these, or of which one goes on as the other, aren't injective; of one kind
+/// of value it is enough that its own are.
+fn not_injective(r: &mut Report) {
+    let numbers = |all: &[u64]| library::seq(&all.iter().map(|it| N(*it)).collect::<Vec<_>>());
+    let (none, one) = (library::seq(&[]), library::seq(&[numbers(&[1])]));
+    unsafe { (TRIED, WRITES) = (Some(numbers(&[0, 1])), Some(library::seq(&[none, one]))) }
+    let (every, first) = (function(|_| truth(true)), function(|i| truth(i.number() == 0)));
+    let (itself, same) = (function(|i| i), function(|_| N(0)));
+    let (apart, within) = (function(|i| library::seq(&[library::seq(&[i])])), function(move |i| if i.number() == 0 { none } else { one }));
+    let holds = |kind, value, feed| s::HashInjectiveOn(kind, value, feed).yes();
+    let of_first = holds(first, itself, function(move |_| none));
+    r.holds("HashInjectiveOn of others", !holds(every, same, apart) && !holds(every, itself, within) && of_first, &"two values");
+}
+
 // ---- orders
 
 fn by_name(name: fn(V) -> V) -> impl Fn(V, V) -> Ordering {
@@ -132,6 +146,7 @@ fn vendors(x: V, vendor: &Vendor) -> Vec<(V, Vendor)> {
 
 /// All values of each field, and of what fields and answers consist of.
 pub fn values(r: &mut Report) {
+    not_injective(r);
     let fields = inputs::fields();
     compared(r, &fields.architectures, &by_name(s::architecture_name));
     // of each kind one in 50, and the first

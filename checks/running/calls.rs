@@ -228,7 +228,7 @@ pub fn triple(r: &mut Report, t: V, owned: &Triple) {
     }
     let of_code = |vendor| with(t, &[("vendor", vendor)]);
     let outcome = con(s::Result__Ok, &[of_code(ref_of_code(s::get_vendor(t)))]);
-    r.holds("values_of", eq(s::values_of(of_code(vendor_of_code(&owned.vendor))), t) && eq(s::placed_outcome(outcome).at(0), t), input);
+    r.holds("values_of", eq(s::values_of(of_code(vendor_of_code(&owned.vendor))), t) && eq(s::placed_outcome(outcome), con(s::Result__Ok, &[t])), input);
     fails_with_its_writer(r, input);
     let silent = !crate::allocates(|| {
         let mut room = [0; 64];
@@ -294,10 +294,18 @@ pub fn sources(r: &mut Report, string: &str) {
     let x = v(string);
     if let V::C(s::Result__Ok, _) = s::reading(x) {
         let all = found(TripleRef::explain(string).sources);
-        let (environment, format) = (all.field("environment"), all.field("binary_format"));
         r.holds("AreSourcesOf", s::AreSourcesOf(x, all).yes() && s::AreInString(x, all).yes(), &string);
-        let others = with(all, &[("environment", format), ("binary_format", environment)]);
-        r.holds("AreSourcesOf of others", !s::AreSourcesOf(x, others).yes() || eq(environment, format), &string);
+        let [not_given, implied] = [s::SourceValue__NotGiven, s::SourceValue__Implied].map(|it| V::C(it, &[]));
+        let is_wrong = |i: usize| {
+            let of = all.field(FIELDS[i]);
+            let other = with(all, &[(FIELDS[i], if eq(of, not_given) { implied } else { not_given })]);
+            let moved = with(all, &[(FIELDS[i], not_given), (FIELDS[(i + 1) % 5], of)]);
+            !s::AreSourcesOf(x, other).yes() && (eq(moved, all) || !s::AreSourcesOf(x, moved).yes())
+        };
+        let elsewhere = |start: usize, text| con(s::SourceValue__FromPart, &[s::part_from(V::N(start as u64), v(text))]);
+        let outside = [elsewhere(0, "~"), elsewhere(string.len() + 1, "")];
+        let is_in = |field: &str| outside.iter().any(|it| s::AreInString(x, with(all, &[(field, *it)])).yes());
+        r.holds("AreSourcesOf of others", (0..5).all(is_wrong) && !FIELDS.into_iter().any(is_in), &string);
     } else {
         // the parts before the refused one give what they give by themselves, except that no format is implied yet
         let (explanation, start) = (TripleRef::explain(string), TripleRef::from_str(string).expect_err("a refusal").part.start);

@@ -68,9 +68,11 @@ fn cases(variables: &[(&str, &str)]) -> Cases {
 /// Laws of which a case takes long, since they search: they are tried with an eighth of the cases.
 const SLOW: [&str; 4] = ["EqualTextsEqualTriples", "EveryStringHasOneOutcome", "ReadingIsComputed", "RefusedPartsDoNotGrow"];
 
-/// Runs each law on some of its cases, as many as the step at least if it has so many. Prints the forms that are false.
+/// Runs each law, or the one that the last argument names, on some of its cases, as many as the step at least if it has
+/// so many. Prints the forms that are false.
 pub fn run(r: &mut Report, chosen: Chosen) {
-    for (title, variables, law, forms) in LAWS {
+    let only = std::env::args().nth(5);
+    for (title, variables, law, forms) in LAWS.iter().filter(|it| only.as_ref().map_or(true, |only| only == it.0)) {
         let (first, all, case) = cases(variables);
         let count = all - first;
         let at_least = if SLOW.iter().any(|it| title.contains(it)) { chosen.step / 8 } else { chosen.step };

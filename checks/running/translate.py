@@ -61,10 +61,11 @@ def add_tests(module):
     for name, record in module.typed.items():
         if record.kind == "data" or record.is_data:
             continue
-        test = "⊤"
+        test = ""
         for field, type in reversed(record.items):
             is_variable = " ".join(TOKEN.findall(type)) in DOMAINS
-            test = f"({field} : {type}) × {test}" if is_variable else f"({type}) × ({test})"
+            rest = f" × ({test})" if test else ""
+            test = f"({field} : {type}) × {test or '⊤'}" if is_variable else f"({type}){rest}"
         parameters = [(it, type) for bracket, it, type in record.parameters if bracket == "("]
         types = "".join(f"({type}) → " if "→" in type else f"{type} → " for _, type in parameters)
         definition = module.definitions[name] = Definition(module, name, f"{types}Type 0")
