@@ -29,10 +29,12 @@ KNOWN = f"{built.ROOT}/checks/known_triples.txt"
 HEAD = """# @generated: answers of upstream's crate, target-lexicon 0.13.5. checks/comparisons/answers.py says what each line is.
 # `checks/compare answers --write` writes them, and `checks/compare answers` compares them with the answers of this repository.
 """
-# Words that aren't in upstream's sources: systems with versions, custom vendors, and words that parse as nothing.
+# Words that aren't in upstream's sources: systems with versions, custom vendors, and words that parse as nothing, of
+# which one has each character next to those of a vendor.
 MORE_WORDS = ["darwin23.6.0", "ios17", "macosx10.7", "tvos+1.02", "visionos0.0.0", "watchos1.2.3.4",
               "xros65535.255.255", "xros65536",
-              "xros1.256", "xros1.2.256", "ios1.", "iosfoo", "acme", "a_b.c9", "7up", "_esp", "PC"]
+              "xros1.256", "xros1.2.256", "ios1.", "iosfoo", "acme", "a_b.c9", "7up", "_esp", "PC",
+              *(f"a{c}z" for c in "+,/:@A^`{~")]
 # Special strings, triples that don't come back, and strings that are refused.
 MORE_STRINGS = """armv6k-nintendo-3ds riscv32imc-esp-espidf riscv32imc-esp-espidf-unknown armv6k-nintendo-3ds-elf
     armv6k-nintendo-horizon-gnu-coff aarch64-nintendo-horizon-newlib aarch64-nintendo-horizon-newlib-unknown

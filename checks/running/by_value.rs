@@ -186,20 +186,13 @@ fn of_this_crate(_: &mut Report, _: &Fields) {}
 fn of_this_crate(r: &mut Report, fields: &Fields) {
     let all: Vec<_> = fields.vendors.iter().flat_map(|it| it.iter().step_by(50)).cloned().collect();
     compared(r, &all.iter().map(|it| (it.0, VendorRef::from(&it.1))).collect::<Vec<_>>(), &by_vendor);
-    for (_, vendor) in fields.vendors.iter().flatten() {
-        let it = VendorRef::from(vendor);
-        r.holds("conversions of a vendor", it.to_vendor() == *vendor && eq(fed(&it), fed(vendor)), vendor);
-        if let VendorRef::Known(known) = it {
-            r.holds("a known vendor", VendorRef::from(known) == it && known.to_vendor() == *vendor && KnownVendor::clone(&known) == known, vendor);
-        }
+    let long = long_texts(usize::MAX).into_iter().map(|it| Vendor::Custom(CustomVendor::Static(it)));
+    for vendor in fields.vendors.iter().flatten().map(|it| it.1.clone()).chain(long) {
+        r.holds("the hash of a borrowed vendor", eq(fed(&VendorRef::from(&vendor)), fed(&vendor)), &vendor);
     }
     let known: Vec<_> = all.iter().filter_map(|(x, it)| if let (V::C(_, of), VendorRef::Known(known)) = (x, VendorRef::from(it)) { Some((of[0], known)) } else { None }).collect();
     compared(r, &known, &by_name(s::known_vendor_name));
     compared(r, &long_texts(1025).iter().map(|it| (v(it), VendorRef::Custom(it))).collect::<Vec<_>>(), &|x, y| x.bytes().cmp(&y.bytes()));
-    for text in long_texts(usize::MAX) {
-        let vendor = Vendor::Custom(CustomVendor::Static(text));
-        r.holds("the hash of a long vendor", eq(fed(&VendorRef::Custom(text)), fed(&vendor)), &text);
-    }
     compared(r, &variants("PointerWidth", &[PointerWidth::U16, PointerWidth::U32, PointerWidth::U64]), &by_number(s::width_bits));
     compared(r, &variants("Size", &[Size::U8, Size::U16, Size::U32, Size::U64]), &by_number(s::size_bits));
     compared(r, &variants("Endianness", &[Endianness::Little, Endianness::Big]), &by_name(s::endianness_name));

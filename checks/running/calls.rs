@@ -1,6 +1,6 @@
 //! Which definition is compared with which call that only this crate has; common.rs has the calls that upstream has
 //! too.
-use crate::common::{self, fails_with_its_writer, in_many_ways, plainly_displayed, Shown};
+use crate::common::{self, displayed, fails_with_its_writer, Shown};
 use crate::report::Report;
 use crate::{answers, inputs};
 use definitions::spec as s;
@@ -69,11 +69,11 @@ pub fn values(r: &mut Report) {
         answers! { r, &architecture, (x): architecture_name = architecture.name(); }
         if let (V::C(s::Architecture__Z80, of), target_lexicon::Architecture::Z80(z80)) = (x, architecture) {
             answers! { r, &z80, (of[0]): z80_name = z80.into_str(); z80_name = z80.to_string(); }
-            plainly_displayed(r, &z80);
+            displayed(r, &z80, false);
         }
         if let (V::C(s::Option__Some, of), Ok(width)) = (s::architecture_width(x), architecture.pointer_width()) {
             answers! { r, &width, (of[0]): width_name = width.name(); }
-            padded(r, &width);
+            displayed(r, &width, true);
         }
     }
     for (x, vendor) in fields.vendors.concat() {
@@ -83,11 +83,11 @@ pub fn values(r: &mut Report) {
         let of_code = vendor_of_code(&vendor);
         r.holds("vendor_value", eq(s::vendor_value(of_code), x) && eq(s::ref_value(ref_of_code(x)), x), &it);
         r.holds("OwnsCustomString of a static one", s::OwnsCustomString(of_code).yes() != it.is_custom() && !s::owns_string(of_code).yes(), &it);
-        plainly_displayed(r, &it);
+        displayed(r, &it, false);
         if let (V::C(_, of), VendorRef::Known(known)) = (x, it) {
             answers! { r, &known, (of[0]): known_vendor_name = known.name(); }
-            padded(r, &known);
-            r.holds("to_vendor", known.to_vendor() == vendor, &known);
+            displayed(r, &known, true);
+            r.holds("to_vendor", known.to_vendor() == vendor && VendorRef::from(known) == it, &known);
         }
     }
     for (x, system) in fields.systems.concat() {
@@ -102,31 +102,26 @@ pub fn values(r: &mut Report) {
     for (x, format) in fields.formats {
         answers! { r, &format, (x): binary_format_name = format.name(); }
     }
-    inputs::versions().iter().filter_map(|it| it.parse::<DeploymentTarget>().ok()).for_each(|it| padded(r, &it));
+    inputs::versions().iter().filter_map(|it| it.parse::<DeploymentTarget>().ok()).for_each(|it| displayed(r, &it, true));
+    let host = "x86_64-unknown-linux-gnu";
+    r.holds("host_values", eq(s::host_values(), s::reading(v(host)).at(0)), &host);
     let t = TripleRef::unknown();
-    let errors = [t.endianness().err(), t.pointer_width().err(), t.default_calling_convention().err(), t.data_model().err()];
-    errors.iter().flatten().for_each(|it| plainly_displayed(r, it));
-    plainly_displayed(r, &NotPlain(Triple::unknown()));
-    plainly_displayed(r, &"".parse::<DeploymentTarget>().expect_err("no version"));
-    plainly_displayed(r, &TripleRef::from_str("foo").expect_err("a refusal"));
-    [Field::Architecture, Field::Vendor, Field::OperatingSystem, Field::Environment, Field::BinaryFormat].iter().for_each(|it| padded(r, it));
+    let no_answers = [t.endianness().err(), t.pointer_width().err(), t.default_calling_convention().err(), t.data_model().err()];
+    no_answers.iter().flatten().for_each(|it| displayed(r, it, false));
+    let errors: [&dyn Display; 3] = [&NotPlain(Triple::unknown()), &"".parse::<DeploymentTarget>().unwrap_err(), &TripleRef::from_str("foo").unwrap_err()];
+    errors.iter().for_each(|it| displayed(r, it, false));
+    [Field::Architecture, Field::Vendor, Field::OperatingSystem, Field::Environment, Field::BinaryFormat].iter().for_each(|it| displayed(r, it, true));
     macro_rules! names {
         ($($type:ident $definition:ident: $($variant:ident)*;)*) => {$($(
             let (x, it) = (named(stringify!($type), stringify!($variant)).expect("a variant"), $type::$variant);
             answers! { r, &it, (x): $definition = it.name(); $definition = it.to_string(); }
-            padded(r, &it);
+            displayed(r, &it, true);
         )*)*};
     }
     names! {
         Endianness endianness_name: Little Big; CallingConvention convention_name: SystemV WasmBasicCAbi WindowsFastcall AppleAarch64;
         CDataModel model_name: LP32 ILP32 LLP64 LP64 ILP64;
     }
-}
-
-/// Width, alignment and precision are those of the name.
-fn padded(r: &mut Report, it: &dyn Display) {
-    r.holds("width, alignment and precision", in_many_ways(it) == in_many_ways(&it.to_string()), &it.to_string());
-    fails_with_its_writer(r, it);
 }
 
 /// How a string parses, or is refused, without memory.
@@ -162,8 +157,8 @@ pub fn owned(r: &mut Report, string: &str) {
         (Err(error), Err(other)) => {
             r.same("reading", reading, &format_args!("Err({{ expected: {:?}, part: {:?} }})", error.expected(), error.part()), &string);
             if let V::C(s::Result__Err, it) = reading {
-                plainly_displayed(r, &error);
-                plainly_displayed(r, &other);
+                displayed(r, &error, false);
+                displayed(r, &other, false);
                 parse_error(r, string, &error);
                 parse_triple_error(r, string, it[0], &other);
                 let refusal = TripleRef::from_str(string).expect_err("a refusal");

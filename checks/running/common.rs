@@ -7,7 +7,7 @@ use definitions::spec as s;
 use definitions::values::{con, eq, function, named, text as v, V};
 use std::fmt::{self, Debug, Display, Write};
 use target_lexicon::{
-    Aarch64Architecture, Architecture, ArmArchitecture, BinaryFormat, CDataModel, CleverArchitecture, CustomVendor, Environment, Mips32Architecture,
+    Aarch64Architecture, Architecture, ArmArchitecture, BinaryFormat, CDataModel, CleverArchitecture, Environment, Mips32Architecture,
     Mips64Architecture, OperatingSystem, ParseError, Riscv32Architecture, Riscv64Architecture, Size, Triple, Vendor, X86_32Architecture,
 };
 
@@ -77,13 +77,12 @@ pub fn fails_with_its_writer(r: &mut Report, it: &dyn Display) {
     r.holds("Display says that its writer fails", all_fail && !fails(shown.len()), &shown);
 }
 
-pub fn in_many_ways(it: &dyn Display) -> String {
-    format!("{it:>19}|{it:<18}|{it:^17}|{it:.3}|{it:*^9.2}|{it:-<3}|{it:05}")
-}
-
-/// Width, alignment and precision change nothing, and its writer's failure is passed on.
-pub fn plainly_displayed(r: &mut Report, it: &dyn Display) {
-    r.holds("no width, alignment or precision", in_many_ways(it) == vec![it.to_string(); 7].join("|"), &it.to_string());
+/// Width, alignment and precision are those of the string, or change nothing.
+pub fn displayed(r: &mut Report, it: &dyn Display, is_padded: bool) {
+    let in_many_ways = |it: &dyn Display| format!("{it:>19}|{it:<18}|{it:^17}|{it:.3}|{it:*^9.2}|{it:-<3}|{it:05}");
+    let shown = it.to_string();
+    let expected = if is_padded { in_many_ways(&shown) } else { vec![&*shown; 7].join("|") };
+    r.holds("width, alignment and precision", in_many_ways(it) == expected, &shown);
     fails_with_its_writer(r, it);
 }
 
@@ -138,7 +137,7 @@ pub fn values(r: &mut Report) {
             architecture_width = architecture.pointer_width().ok();
             is_clever = architecture.is_clever();
         }
-        plainly_displayed(r, &architecture);
+        displayed(r, &architecture, false);
         if let (V::C(s::Architecture__Arm, of), Architecture::Arm(arm)) = (x, architecture) {
             answers! { r, &arm, (of[0]): is_thumb = arm.is_thumb(); arm_endianness = arm.endianness(); }
             r.same("the width of Arm", s::architecture_width(x).at(0), &arm.pointer_width(), &arm);
@@ -152,7 +151,7 @@ pub fn values(r: &mut Report) {
             ($($tag:ident $variant:ident $name:ident;)*) => {$(
                 if let (V::C(s::$tag, of), Architecture::$variant(part)) = (x, architecture) {
                     answers! { r, &part, (of[0]): $name = part.into_str(); $name = part.to_string(); }
-                    plainly_displayed(r, &part);
+                    displayed(r, &part, false);
                 }
             )*};
         }
@@ -167,32 +166,28 @@ pub fn values(r: &mut Report) {
     }
     for (x, vendor) in fields.vendors.concat() {
         answers! { r, &vendor, (x): vendor_name = vendor.as_str(); vendor_name = vendor.to_string(); }
-        plainly_displayed(r, &vendor);
+        displayed(r, &vendor, false);
     }
     for (x, system) in fields.systems.concat() {
         answers! { r, &system, (x):
             operating_system_name = system.to_string(); operating_system_name = system.into_str(); is_like_darwin = system.is_like_darwin();
         }
-        plainly_displayed(r, &system);
+        displayed(r, &system, false);
     }
     for (x, environment) in fields.environments {
         answers! { r, &environment, (x): environment_name = environment.into_str(); environment_name = environment.to_string(); }
-        plainly_displayed(r, &environment);
+        displayed(r, &environment, false);
     }
     for (x, format) in fields.formats {
         answers! { r, &format, (x): binary_format_name = format.into_str(); binary_format_name = format.to_string(); }
-        plainly_displayed(r, &format);
+        displayed(r, &format, false);
     }
     use ParseError::*;
     let of_part = |it: &str| [UnrecognizedArchitecture(it.into()), UnrecognizedVendor(it.into()), UnrecognizedOperatingSystem(it.into()), UnrecognizedEnvironment(it.into()), UnrecognizedBinaryFormat(it.into()), UnrecognizedField(it.into())];
     let errors = ["foo", "", "foo\n"].map(of_part).concat();
     for (i, error) in errors.iter().enumerate() {
-        plainly_displayed(r, error);
+        displayed(r, error, false);
         r.holds("equality of errors", errors.iter().enumerate().all(|(j, it)| (it == error) == (i == j)), error);
-    }
-    for text in ["foo", "", "a\0"] {
-        let (owned, borrowed) = (CustomVendor::Owned(Box::new(text.to_string())), CustomVendor::Static(text));
-        r.holds("equality of custom vendors", owned == borrowed && owned != CustomVendor::Static("bar"), &text);
     }
     r.same("unknown_values", s::unknown_values(), &Shown(&Triple::unknown()), &"the unknown triple");
     use CDataModel::*;
@@ -225,6 +220,12 @@ pub fn string(r: &mut Report, string: &str) {
         }
     }
 }
+
+/// What only this repository's crate has.
+#[cfg(not(feature = "port"))]
+pub fn owned(_: &mut Report, _: &str) {}
+#[cfg(not(feature = "port"))]
+pub use owned as sources;
 
 /// What a triple prints as and answers, and what its string parses as.
 pub fn triple(r: &mut Report, t: V, triple: &Triple) {

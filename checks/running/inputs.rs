@@ -314,12 +314,6 @@ pub fn long_and_spaced() -> Vec<String> {
     long.chain(spaced).collect()
 }
 
-/// The targets of the file HOSTS, and what the crate's build script says of each.
-pub fn hosts() -> Vec<(String, String)> {
-    let path = std::env::var("HOSTS").expect("HOSTS: a file of targets");
-    std::fs::read_to_string(path).expect("targets").lines().map(|it| it.split_once('\t').map(|(a, b)| (a.into(), b.into())).expect("a tab")).collect()
-}
-
 /// Numbers that are the same in each run.
 pub struct Random(u64);
 

@@ -19,8 +19,7 @@ mod report;
 #[cfg(not(feature = "port"))]
 use common as calls;
 
-use definitions::spec as s;
-use definitions::values::{eq, forget, text, V};
+use definitions::values::{forget, V};
 use inputs::{Chosen, Fields, Strings};
 use report::Report;
 use std::alloc::{GlobalAlloc, Layout, System};
@@ -81,34 +80,15 @@ fn triples(chosen: Chosen, fields: Fields, r: &mut Report, call: fn(&mut Report,
 /// Compares the cases of a part.
 fn run(part: &str, chosen: Chosen, r: &mut Report) {
     match part {
-        "values" | "library" | "host" if chosen.shard > 0 => {}
+        "values" | "library" if chosen.shard > 0 => {}
         "values" => calls::values(r),
         "words" => words(chosen, inputs::edited_words(40), r, calls::word),
         "source" => words(chosen, inputs::quoted(), r, |r, word| {
             common::rows_to_add(r, word);
             inputs::placed(word).iter().for_each(|it| calls::string(r, it));
         }),
-        "special" => words(chosen, inputs::near_special(), r, |r, string| {
-            calls::string(r, string);
-            #[cfg(feature = "port")]
-            {
-                calls::owned(r, string);
-                calls::sources(r, string);
-            }
-        }),
-        "lengths" => words(chosen, inputs::long_and_spaced(), r, |r, string| {
-            calls::word(r, string);
-            calls::string(r, string);
-            #[cfg(feature = "port")]
-            calls::owned(r, string);
-        }),
-        "host" => inputs::hosts().iter().for_each(|(target, host)| match s::reading(text(target)) {
-            it @ V::C(s::Result__Ok, of) => {
-                r.same("reading", it, &format_args!("Ok({host})"), target);
-                r.holds("host_values", eq(s::host_values(), of[0]) == (target == "x86_64-unknown-linux-gnu"), target);
-            }
-            _ => r.holds("a target that is refused needs another one", host.contains("doesn't parse"), target),
-        }),
+        "special" => words(chosen, inputs::near_special(), r, |r, it| [calls::string, calls::owned, calls::sources].iter().for_each(|call| call(r, it))),
+        "lengths" => words(chosen, inputs::long_and_spaced(), r, |r, it| [calls::word, calls::string, calls::owned].iter().for_each(|call| call(r, it))),
         "strings" => strings(chosen, r, calls::string),
         "exceptions" => triples(chosen, inputs::near_exceptions(), r, calls::triple),
         "vendors" => triples(chosen, inputs::near_vendors(), r, calls::triple),

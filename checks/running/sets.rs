@@ -29,10 +29,8 @@ fn main() {
         let comes_back = t.comes_back() == (TripleRef::from_str(&printed) == Ok(t));
         let format = (t.default_binary_format(), t.vendor.is_plain(), comes_back, t.round_trip_exception(), t.step(), t.settles_as(&t));
         // borrowed and owned it is one value, whose hash is that of other features; and two settle alike if what each prints as parses alike
-        let vendor = match t.vendor {
-            VendorRef::Known(known) => known.to_vendor(),
-            VendorRef::Custom(text) => Vendor::Custom(CustomVendor::Static(text.to_string().leak())),
-        };
+        let custom = |text: &str| Vendor::Custom(CustomVendor::Static(text.to_string().leak()));
+        let vendor = if let VendorRef::Known(known) = t.vendor { known.to_vendor() } else { custom(t.vendor.as_str()) };
         let TripleRef { architecture, operating_system, environment, binary_format, .. } = t;
         let owned = Triple { architecture, vendor, operating_system, environment, binary_format };
         let same = (t == owned, TripleRef::from(&owned) == t, hash(&owned) == hash(&t), TripleRef::from(&owned).cmp(&t), hash(&t));
