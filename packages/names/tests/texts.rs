@@ -108,6 +108,7 @@ fn files() {
         "linux-x64 darwin-arm46>darwin-arm64",
     );
     same("{\"targets\": [\"x86_64-linux-gnu\",\n  \"amd64\"], \"os\": \"amd64\"}", "x86_64-linux-gnu amd64");
+    same("os: x\narch: [\n  'amd64',\n  'arm64',\n]\nos: amd64\n", "amd64 arm64");
 }
 
 #[test]

@@ -31,6 +31,14 @@ fn a_suggestion_has_the_width_that_is_asked_for() {
     assert!(versioned == "ios17" && versioned != "ios" && versioned != "ios1" && versioned != "ios171" && one != "linu");
 }
 
+#[test]
+fn the_longest_names_are_seen_in_the_name_of_a_file() {
+    for name in Dialect::Rust.names().filter(|it| it.len() > 30 && it.contains("linux")) {
+        let file = format!("tool-1.2-{name}.tar.gz");
+        assert_eq!(Dialect::Rust.read_loosely(&file), Dialect::Rust.read(name), "{file}");
+    }
+}
+
 /// Each pair of these is in the order of their names.
 #[track_caller]
 fn in_order_of_names<T: Ord + Display>(all: &[T]) {
