@@ -13,8 +13,8 @@
        }
 
    Names are case-sensitive. Names, rules and tables are those of the Rust crate target-lexicon 0.13.5 (upstream), even
-   where toolchains differ (docs/DIFFERENCES.md). Parsing, printing and queries are compiled from source that is proved
-   to follow written definitions (docs/PROOF.md), which were compared with upstream; one rule of printing differs.
+   where toolchains differ (docs/DIFFERENCES.md). Parsing, printing, keys and queries are compiled from source that is
+   proved to follow written definitions (docs/PROOF.md), which were compared with upstream; one rule of printing differs.
 
    A string goes in as a pointer and a size. It needs no zero byte at its end, and need not be UTF-8. Of a string that
    ends in a zero byte, LEXICON_Z is both arguments. A string comes out into the caller's buffer, with a zero byte after

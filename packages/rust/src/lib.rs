@@ -72,7 +72,7 @@ mod explain; // a function there, and a method here
 mod extensions; // the calls of upstream's types that upstream lacks, as traits
 mod hash; // the hash of a borrowed vendor, which is the owned one's
 mod host; // the target of the build
-mod order; // `Ord`, which isn't proved, except of versions
+mod order; // `Ord`, which isn't proved
 #[cfg(feature = "alloc")]
 mod owned; // what allocates, which there may fail and here doesn't return then
 #[cfg(feature = "alloc")]
