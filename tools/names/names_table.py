@@ -121,7 +121,7 @@ def special_faults(row, values):
     is_custom = second not in set().union(*known.values()) and re.match("[a-z]", second)
     others_parse = all(it in set().union(*(known[field] for field in FIELDS[2:])) for it in others)
     if first in known["architecture"] and is_custom and others_parse and row.text != WITH_CUSTOM_VENDOR:
-        yield f"parses by its parts too, with the custom vendor `{second}`", "exceptions_are_facts_of_fields"
+        yield f"parses by its parts too, with the custom vendor `{second}`", "round_is_normal_step"
 
 
 def add_value(earlier, line):
