@@ -2,7 +2,8 @@
 
 Another constructor, a field of a record left out or two of them swapped, a part of a proposition left out, true instead
 of an equation, a clause left out, a number or a letter moved by one, another operator, a function that isn't called, or
-whose first arguments are swapped. Laws have none: checks/specification tries forms that say more.
+whose first arguments are swapped. Laws have none, nor has a definition of which laws.txt has the text of each part:
+checks/specification finds another text, and tries forms that say more.
 """
 import pathlib
 import re
@@ -15,7 +16,7 @@ OTHER = {"&&": "||", "||": "&&", "≡": "≢", "≢": "≡", "<": "≤", "≤": 
 OF_PARTS = ("×", "⊎", "&&", "||", "++", "→", "↔")
 # Comparisons, of which the order of the arguments says nothing; and what is its argument in Rust.
 SYMMETRIC = [("var", "bytes_eq"), ("var", "is_same_format")]
-SAME = [("var", "codes"), ("var", "string_bytes")]
+SAME = [("var", "codes"), ("var", "string_bytes"), ("var", "IsTrue")]
 
 
 def shown(it):
@@ -48,7 +49,8 @@ class Mutated(translate.Rust):
         self.mutants, self.is_off = {}, False
 
     def has_mutants(self):
-        return not self.is_off and self.definition in self.own and self.definition not in self.law_definitions
+        it = self.definition
+        return not self.is_off and it in self.own and it not in self.law_definitions and it.title not in self.forms
 
     def new(self, kind, old, new):
         number = len(self.mutants) + 1

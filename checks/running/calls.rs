@@ -4,7 +4,7 @@ use crate::common::{self, displayed, fails_with_its_writer, Shown};
 use crate::report::Report;
 use crate::{answers, inputs};
 use definitions::spec as s;
-use definitions::values::{con, eq, fields, function, named, text as v, with, V};
+use definitions::values::{con, eq, fields, function, library, named, text as v, with, V};
 use std::borrow::Cow;
 use std::fmt::Display;
 /// The fields of a triple, as the definitions name them.
@@ -60,6 +60,10 @@ pub fn word(r: &mut Report, word: &str) {
 /// What each value of a field answers, by the calls without memory.
 pub fn values(r: &mut Report) {
     common::values(r);
+    for (string, parts, holds) in [("a-b", &["a", "b"][..], true), ("a-b", &["a-b"], false), ("a-b", &["a"], false), ("", &[], false)] {
+        let all = library::seq(&parts.iter().map(|it| v(it)).collect::<Vec<_>>());
+        r.holds("ArePartsOf", s::ArePartsOf(v(string), all).yes() == holds, &(string, parts));
+    }
     let rows = s::row_texts().list();
     let is_row = |i: usize| eq(s::row_text(V::N(i as u64)), rows[i]);
     r.holds("reading_of_parts of none", eq(s::reading_of_parts(V::L(&[])), s::reading(v(""))), &"no parts");
@@ -300,6 +304,9 @@ pub fn sources(r: &mut Report, string: &str) {
         let elsewhere = |start: usize, text| con(s::SourceValue__FromPart, &[s::part_from(V::N(start as u64), v(text))]);
         let outside = [elsewhere(0, "~"), elsewhere(string.len() + 1, "")];
         let is_in = |field: &str| outside.iter().any(|it| s::AreInString(x, with(all, &[(field, *it)])).yes());
+        if let V::C(s::Result__Err, it) = s::reading_of_parts(s::parts_of(x)) {
+            r.holds("IsRefusedAs of a special string", !s::IsRefusedAs(x, it[0]).yes(), &string);
+        }
         r.holds("AreSourcesOf of others", (0..5).all(is_wrong) && !FIELDS.into_iter().any(is_in), &string);
     } else {
         // the parts before the refused one give what they give by themselves, except that no format is implied yet
