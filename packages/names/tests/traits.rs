@@ -39,6 +39,18 @@ fn the_longest_names_are_seen_in_the_name_of_a_file() {
     }
 }
 
+#[test]
+fn a_number_in_a_name_has_no_other_spelling() {
+    let is_read = |name: String| Dialect::Python.read(&name).is_ok();
+    for number in ["0", "7", "255"] {
+        assert!(is_read(format!("macosx_11_{number}_arm64")), "{number}");
+    }
+    for number in ["", "00", "000", "01", "007", "+1", "256", "1_1"] {
+        assert!(!is_read(format!("macosx_11_{number}_arm64")), "{number}");
+    }
+    assert!(is_read("macosx_65535_0_arm64".into()) && !is_read("macosx_65536_0_arm64".into()));
+}
+
 /// Each pair of these is in the order of their names.
 #[track_caller]
 fn in_order_of_names<T: Ord + Display>(all: &[T]) {
