@@ -185,7 +185,7 @@ impl Dialect {
             Some((row, numbers)) if row.2 == Way::Several => (row.1, numbers),
             _ => ("", None),
         };
-        let each = several.split('+').filter(|it| !it.is_empty());
+        let each = several.split('+');
         let each = each.filter_map(move |triple| with_numbers(triple, numbers).ok());
         each.chain(self.read_loosely(name).ok())
     }
@@ -242,9 +242,7 @@ impl Dialect {
             architecture: level.parse().unwrap_or(triple.architecture),
             ..*triple
         };
-        let stated = self
-            .name_of(&refined, level, None)
-            .filter(|_| refined != *triple);
+        let stated = self.name_of(&refined, level, None);
         stated.or_else(|| self.name_of(triple, level, None))
     }
 
@@ -286,13 +284,12 @@ impl Dialect {
             levels.next().map_or("", |it| it.1)
         };
         let is_wanted = |row: &Row| match version {
-            Some((major, minor)) => is_read(row) && has_version(major, minor, row.0),
+            Some((major, minor)) => has_version(major, minor, row.0),
             None if !level.is_empty() && level == level_of(row) => true,
             None => is_written(row) && star_count(row.0) == stars,
         } && builds_for(level_of(row));
         let mut buffer = [0; MAX_LENGTH];
-        let length = shape.write_to(&mut buffer);
-        let text = buffer.get(..length)?;
+        let text = text_in(&mut buffer, &shape);
         let mut rows = self.rows().iter().filter(|row| row.1.as_bytes() == text);
         match rows.find(|row| is_wanted(row)) {
             Some(row) => Some(Name::filled(row.0, numbers)),
@@ -315,11 +312,9 @@ impl Dialect {
     /// The row that means just this triple, with its vendor.
     fn row_of_itself(self, triple: &TripleRef<'_>) -> Option<&'static Row> {
         let mut buffer = [0; MAX_LENGTH];
-        let length = triple.write_to(&mut buffer);
-        let text = buffer.get(..length)?;
-        let is_itself = |row: &&Row| row.1.as_bytes() == text && is_read(row);
+        let text = text_in(&mut buffer, triple);
         let mut rows = self.rows().iter().filter(|_| self.table().rules.itself);
-        rows.find(is_itself)
+        rows.find(|row| row.1.as_bytes() == text)
     }
 
     /// The triple without what the dialect doesn't name: the vendor, which is the usual one of the system; the version
@@ -431,6 +426,13 @@ fn number<N: FromStr>(digits: &[u8]) -> Option<N> {
     }
 }
 
+/// The text of a triple, as far as a row may have it.
+#[inline]
+pub(super) fn text_in<'a>(buffer: &'a mut [u8; MAX_LENGTH], triple: &TripleRef<'_>) -> &'a [u8] {
+    let length = triple.write_to(buffer).min(MAX_LENGTH);
+    &buffer[..length]
+}
+
 /// How many stars a pattern has.
 fn star_count(pattern: &str) -> usize {
     pattern.bytes().filter(|it| *it == b'*').count()
@@ -440,18 +442,11 @@ pub(crate) fn is_written(row: &Row) -> bool {
     matches!(row.2, Way::Both | Way::Written)
 }
 
-fn is_read(row: &Row) -> bool {
-    matches!(row.2, Way::Both | Way::Read)
-}
-
 /// Whether names with a pattern may have a version: it has a place for both numbers, or for the first, if the second is 0; and
 /// the first is one of its system or C library.
 pub(crate) fn has_version(major: u16, minor: u8, pattern: &str) -> bool {
-    let has_places = match star_count(pattern) {
-        2 => true,
-        1 => minor == 0,
-        _ => false,
-    };
+    // All ranges are of names with a place for a number.
+    let has_places = minor == 0 || star_count(pattern) == 2;
     let is_in = |(text, least, most): &(&str, u16, u16)| {
         (pattern.starts_with(text) || pattern.ends_with(text)) && (*least..=*most).contains(&major)
     };

@@ -1,5 +1,5 @@
 //! The name that is suggested for an unknown name of a dialect.
-use crate::dialect::{Row, Way};
+use crate::dialect::Row;
 use crate::evidence::only_machine;
 use crate::mistakes::LONGEST_PATH;
 use crate::spelled::may_be_versioned;
@@ -67,7 +67,6 @@ impl Dialect {
         }
         // the lengths first: all others are farther than a misspelling
         let is_near = |row: &&Row| row.0.len().abs_diff(name.len()) <= 2;
-        let only_written = self.rows().iter().filter(|row| row.2 == Way::Written);
         let says = |known: &&str| self.read(known).map_or(false, |it| evidence.allows(&it));
         let allows =
             |row: &Row| TripleRef::from_str(row.1).map_or(false, |it| evidence.allows(&it));
@@ -75,7 +74,7 @@ impl Dialect {
             name.as_bytes(),
             name.as_bytes(),
             self.rows_read().filter(is_near).map(|row| (row.0, row)),
-            only_written.filter(is_near).map(|row| (row.0, row)),
+            core::iter::empty(),
             said_of_machine,
             |row| allows(row) && keeps_systems(name, row.0),
         )

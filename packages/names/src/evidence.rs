@@ -258,12 +258,11 @@ impl<'a> Evidence<'a> {
     #[must_use]
     pub fn machine(&self) -> Said<Architecture> {
         let arm = Architecture::Arm(ArmArchitecture::Arm);
-        let is_64 = self.width == Said::One(PointerWidth::U64);
+        let may_be_64 = self.width.allows(PointerWidth::U64);
         let is_arm = |it| matches!(it, Architecture::Arm(_) | Architecture::Aarch64(_));
         match self.machine {
             Said::One(it) if self.is_any_arm && !is_arm(it) => Said::Contradicted,
-            Said::Unsaid if self.is_any_arm && self.floats != Said::Unsaid => Said::One(arm),
-            Said::Unsaid if self.is_any_arm && self.width != Said::Unsaid && !is_64 => {
+            Said::Unsaid if self.is_any_arm && (self.floats != Said::Unsaid || !may_be_64) => {
                 Said::One(arm)
             }
             said => said,
@@ -358,8 +357,7 @@ impl<'a> Evidence<'a> {
         let floats = match self.floats {
             // A library of Arm has one of both ways.
             Said::Unsaid if is_arm && !library.is_empty() => return false,
-            Said::Unsaid if form == "android" || form == "ohos" => FloatAbi::of(triple),
-            Said::Unsaid => FloatAbi::of(&bare),
+            Said::Unsaid => FloatAbi::of(triple),
             said => match said.one() {
                 None => return false,
                 floats => floats,
@@ -429,7 +427,7 @@ impl<'a> Evidence<'a> {
     pub(crate) fn allows_system(&self, triple: &TripleRef<'_>) -> bool {
         let own = unversioned(triple.operating_system);
         let is_own = |it: &str| {
-            let said = it.parse().map(unversioned);
+            let said = it.parse();
             said == Ok(own) || (said, own) == (Ok(OperatingSystem::Wasi), OperatingSystem::WasiP1)
         };
         match self.system {
@@ -565,7 +563,6 @@ fn kind_of(said: &str) -> Kind {
         "arm32|64" | "several" | "other-machine" => Kind::Machine,
         "other-system" => Kind::System,
         "gnu" => Kind::Gnu,
-        "unknown" => Kind::Other,
         _ if said.parse::<Architecture>().is_ok() => Kind::Machine,
         _ if said.parse::<OperatingSystem>().is_ok() => Kind::System,
         _ => Kind::Other,
@@ -626,15 +623,11 @@ impl InText for Word {
 /// The most bytes of a word that is understood.
 const LONGEST: usize = 24;
 
-/// What a word in lower case says: by the table, or as a known name of a machine, or of a system.
+/// What a word in lower case says: by the table, which has `unknown` and `none`, or as a known name of a machine, or of a system.
 pub(crate) fn said(word: &str) -> Option<&'static str> {
     let listed = |word: &str| {
         let at = WORDS.binary_search_by(|it| it.0.cmp(word)).ok()?;
         Some(WORDS.get(at)?.1)
-    };
-    let system = || {
-        let mut names = known_names(Field::OperatingSystem).iter().copied();
-        names.find(|it| *it == word && *it != "unknown")
     };
     let versioned = || {
         let name = word.trim_end_matches(|it: char| it.is_ascii_digit());
@@ -645,7 +638,7 @@ pub(crate) fn said(word: &str) -> Option<&'static str> {
     };
     listed(word)
         .or_else(|| machine_named(word))
-        .or_else(system)
+        .or_else(|| system_named(word))
         .or_else(versioned)
 }
 
@@ -662,13 +655,13 @@ pub(crate) fn only_machine(text: &str) -> Option<Architecture> {
 
 fn system_named(word: &str) -> Option<&'static str> {
     let mut names = known_names(Field::OperatingSystem).iter().copied();
-    names.find(|it| *it == word && !matches!(*it, "unknown" | "none"))
+    names.find(|it| *it == word)
 }
 
 /// The known name of the machine that a word names.
 fn machine_named(word: &str) -> Option<&'static str> {
     let mut names = known_names(Field::Architecture).iter().copied();
-    let known = names.find(|it| *it == word && *it != "unknown");
+    let known = names.find(|it| *it == word);
     known.or_else(|| {
         if word == "arm64" {
             Some("aarch64")

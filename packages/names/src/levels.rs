@@ -149,6 +149,7 @@ mod tests {
 armv4 armv4t armv5t armv5te armv6 armv6k armv7 armv7ve armv8 armv8.1a armv8.2a armv8.3a
 armv6 armv6t2 armv7
 armv7 thumbv7neon armv8
+armv7 armv7@neon armv8
 thumbv6m thumbv7m thumbv7em
 thumbv6m thumbv8m.base thumbv8m.main
 armv7r armv8r

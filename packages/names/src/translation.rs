@@ -1,7 +1,7 @@
 //! From a name in one dialect to the name in another, and why there is none.
 //!
 //! This is the composition of reading, completing and writing, and the reason where a triple has no name.
-use crate::dialect::{has_version, is_written, Row, Way, MAX_LENGTH};
+use crate::dialect::{has_version, is_written, text_in, Row, Way, MAX_LENGTH};
 use crate::shape::{is_another_target, version};
 use crate::table::WRITE_REASONS;
 use crate::{Dialect, LinuxLibc, Name, NameError, TargetInfo, WriteError};
@@ -386,13 +386,6 @@ const ARMV7: Architecture = Architecture::Arm(ArmArchitecture::Armv7);
 
 /// First numbers of versions, of which each system and C library has one.
 const FIRST_NUMBERS: [u16; 4] = [1, 2, 11, 10240];
-
-/// The text of a triple with a known vendor.
-#[inline]
-fn text_in<'a>(buffer: &'a mut [u8; MAX_LENGTH], triple: &TripleRef<'_>) -> &'a [u8] {
-    let length = triple.write_to(buffer).min(MAX_LENGTH);
-    &buffer[..length]
-}
 
 /// The system of a triple's text, and what follows it, or the text if it is only a machine.
 #[inline]

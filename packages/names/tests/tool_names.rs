@@ -2,7 +2,7 @@
 use target_lexicon::{DeploymentTarget, Endianness, Field, PointerWidth, Triple, TripleRef};
 use target_lexicon::{Named as _, TripleExt as _};
 use target_names::{
-    known_names, suggestion, suggestions, Dialect, LinuxLibc, Suggest as _, TargetInfo, TypeLayout,
+    known_names, suggestion, suggestions, visible, Dialect, LinuxLibc, Suggest as _, TargetInfo, TypeLayout,
     TypeSizes,
 };
 
@@ -345,6 +345,8 @@ aarch64_be=aarch64be
 arm64=ARM64
 i386=i368
 powerpc64le=ppc64el
+clever1.0=clever10
+x86_64h=xx86_64h
 -=arm64e arm64ec riscv64im riscv32em thumbv8r armv7hl armv6hl mips32el iso17 arm6j wasm x86 x86_32 mipsel64
 -=arc arceb crisv32 m88k r600 s390 spir64 spirv64 z8k amr64 powerpcle mipsl mipse";
 
@@ -400,6 +402,19 @@ fn an_environment_is_suggested_for_its_machines() {
         ("riscv64-linux-gnueabii", None),
         ("mips64el-unknown-linux-gnuabii64", Some("gnuabi64")),
         ("arm64-unknown-linux-gnuu", Some("gnu")),
+        ("armv7-unknown-linux-gnueabihf2.31", Some("gnueabihf")),
+        ("x86_64-unknown-linux-gnueabihf2.31", None),
+        ("aarch64-unknown-none-softfloa", Some("softfloat")),
+        ("powerpc-unknown-linux-gnuspee", Some("gnuspe")),
+        ("powerpc-unknown-none-eaib", Some("eabi")),
+        ("mips-unknown-none-eaib", Some("eabi")),
+        ("hexagon-unknown-none-eaib", Some("eabi")),
+        ("x86_64-unknown-none-eaib", None),
+        ("aarch64-unknown-linux-gnu_ipl32", Some("gnu_ilp32")),
+        ("x86_64-unknown-linux-gnu_ipl32", None),
+        ("x86_64-unknown-linux-gnxu32", Some("gnux32")),
+        ("aarch64-unknown-linux-gnxu32", None),
+        ("mips64-unknown-linux-muslabii64", Some("muslabi64")),
     ] {
         let error = TripleRef::parse(text).unwrap_err();
         assert_eq!(error.suggestion().map(|it| it.names), name, "{text}");
@@ -434,11 +449,13 @@ fn an_error_shows_printable_ascii() {
             "{shown}"
         );
     };
-    let low = ('\0'..='\u{700}').chain('\u{1100}'..='\u{1200}');
-    for c in low
-        .chain('\u{2000}'..='\u{2100}')
-        .chain(['\u{3164}', '\u{feff}', '\u{e0001}'])
-    {
+    let all = ('\0'..='\u{700}').chain('\u{1100}'..='\u{1200}').chain('\u{2000}'..='\u{2100}');
+    for c in all.chain(['\u{3164}', '\u{feff}', '\u{e0001}']) {
+        shows(visible(c).to_string());
+        // Errors take long: of all of ASCII, and of others such as those that turn the direction.
+        if !c.is_ascii() && u32::from(c) % 16 != 14 {
+            continue;
+        }
         for dialect in [Dialect::Gnu, Dialect::Node] {
             for name in [format!("{c}-linux-gnu"), format!("@{c}/linux-x46")] {
                 if let Err(error) = dialect.parse(&name) {

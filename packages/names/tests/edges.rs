@@ -1,0 +1,318 @@
+//! What calls answer at the edges of what they take.
+use std::fmt::{self, Display, Write};
+use target_lexicon::{Field, PointerWidth, TripleRef};
+use target_names::{
+    changes, read, targets_in, visible, Dialect, Evidence, FloatAbi, LinuxLibc, NameError, Said, Suggest as _, TargetInfo,
+    WordIs, SHOWN,
+};
+
+/// A writer with room for so many bytes.
+struct Room(usize);
+
+impl Write for Room {
+    fn write_str(&mut self, text: &str) -> fmt::Result {
+        self.0 = self.0.checked_sub(text.len()).ok_or(fmt::Error)?;
+        Ok(())
+    }
+}
+
+#[test]
+fn what_is_displayed_fails_as_its_writer_does() {
+    let fails = |value: &dyn Display| {
+        let whole = value.to_string();
+        for room in 0..whole.len() {
+            assert!(write!(Room(room), "{value}").is_err(), "{whole}: {room}");
+        }
+        assert!(write!(Room(whole.len()), "{value}").is_ok());
+    };
+    for (text, _) in SENTENCES.lines().map(|row| row.split_once('=').unwrap()) {
+        fails(&Evidence::of(text));
+    }
+    for text in "wasm32-unknown-emscripten aarch64-apple-ios17-sim x86_64-apple-ios arm-none-eabi".split(' ') {
+        fails(&triple(text).rustc_cfg());
+        fails(&triple(text).llvm_target());
+    }
+    for (dialect, name) in "debian x86_64,go Linux/AMD64,gnu nios2-linux-gnu,uname Linux,oci linux/amd46,debian all"
+        .split(',')
+        .map(|it| it.split_once(' ').unwrap())
+    {
+        let error = dialect.parse::<Dialect>().unwrap().parse(name).unwrap_err();
+        fails(&error);
+        error.mistake().iter().for_each(|it| fails(it));
+        fails(&error.why());
+    }
+    for word in ["foo", "golang"] {
+        fails(&word.parse::<Dialect>().unwrap_err());
+        fails(&word.parse::<LinuxLibc>().unwrap_err());
+    }
+    changes("arm-none-unknown-eabi-macos13-mingw32").for_each(|it| fails(&it.names));
+    changes("x86_64-nuttx").for_each(|it| fails(&it.names));
+    fails(&TripleRef::from_str("arm64-apple-iso17").unwrap_err().suggestion().unwrap());
+    fails(&triple("i686-unknown-linux-gnu").multiarch_tuple().unwrap());
+    fails(&visible("\u{202e}ab"));
+    match targets_in("aarch64-apple-darwn").next().unwrap().is() {
+        WordIs::Misspelled(meant) => fails(&meant),
+        other => panic!("{other:?}"),
+    }
+}
+
+fn triple(text: &str) -> TripleRef<'_> {
+    TripleRef::from_str(text).unwrap()
+}
+
+#[test]
+fn an_unknown_name_has_no_note_and_no_level() {
+    for dialect in Dialect::ALL {
+        assert_eq!((dialect.note("nothing"), dialect.level("nothing")), (None, None));
+    }
+}
+
+#[test]
+fn the_file_of_a_wheel_means_several_triples() {
+    let each = |dialect: Dialect, name| dialect.read_each(name).map(|it| it.to_string()).collect::<Vec<_>>().join(" ");
+    let wheel = "a-1.0-cp311-cp311-macosx_11_0_universal2.whl";
+    assert_eq!(each(Dialect::Python, wheel), "x86_64-apple-macosx11.0.0 aarch64-apple-macosx11.0.0");
+    // Only names of Python have tags.
+    assert_eq!(each(Dialect::Go, "py3-darwin_all"), "");
+}
+
+#[test]
+fn a_triple_that_is_a_name_itself_has_no_version() {
+    let unikraft = triple("x86_64-unikraft-linux-musl");
+    assert_eq!(Dialect::Rust.write(unikraft).unwrap(), "x86_64-unikraft-linux-musl");
+    assert_eq!(Dialect::Rust.write_versioned(unikraft, 1, 2), None);
+}
+
+/// A text, and after `=` what its words say.
+const SENTENCES: &str = "\
+x86_64-linux=its words name x86_64-unknown-linux
+foo=it names nothing known here
+x86_64-universal=it names several machines
+arm64e-linux=it names a machine that no triple has
+arm=it names an Arm of 32 or of 64 bits, and no system
+linux-arm-32bit=its words name arm-unknown-linux
+x86_64-arm64-mips-linux=it names several machines
+linux=it names a system, and no single machine known here
+x64-linux-windows=it names several systems
+x64=it names a machine, and no system
+x64-foo=it names a machine, and no system known here
+x64-plan9=it names a machine, and a system that no triple has
+linux-x64-32bit-64bit=no triple says all that its words say: x86_64, several widths, linux
+linux-armhf-armel=no triple says all that its words say: arm, several floating-point ABIs, linux
+linux-x64-glibc-musl=no triple says all that its words say: x86_64, linux, several C libraries or ABIs
+linux-x64-android-ohos=no triple says all that its words say: x86_64, linux, several C libraries or ABIs
+linux-x64-gnuf32=no triple says all that its words say: x86_64, linux, another C library or ABI
+x86_64_v3-linux=no triple says all that its words say: x86_64, its level v3, linux
+x86_64_v2-linux-foo=its words say x86_64, its level v2, linux; here nobody knows `foo`
+linux-x64-32bit-foo-bar=its words say x86_64, 32 bits, linux; here nobody knows `foo`
+x86_64_v4-linux=no triple says all that its words say: x86_64, its level v4, linux
+linux-amd64v2=no triple says all that its words say: x86_64, its level v2, linux
+linux-amd64v4=no triple says all that its words say: x86_64, its level v4, linux
+linux-x86-64bit=no triple says all that its words say: i686, 64 bits, linux
+x64-linux-gnuspe=no triple says all that its words say: x86_64, linux, gnu, spe
+linux-arm-64bit=it names a system, and no single machine known here
+gnu-make-linux-x64=its words name x86_64-unknown-linux
+softfp-game-linux-x64=its words name x86_64-unknown-linux
+hardfp-game-linux-x64=its words name x86_64-unknown-linux
+32bit-game-linux-x64=its words name x86_64-unknown-linux
+64bit-game-linux-x64=its words name x86_64-unknown-linux
+sim-game-linux-x64=its words name x86_64-unknown-linux
+newlib-game-linux-x64=its words name x86_64-unknown-linux
+linux-x64-newlib=its words name x86_64-unknown-linux-newlib
+maccatalyst-arm64=its words name aarch64-apple-ios-macabi
+linux-ppc-gnuspe=its words name powerpc-unknown-linux-gnuspe
+x64-linux-none=its words name x86_64-unknown-linux
+x86_64-iphonesimulator=its words name x86_64-apple-ios
+arm64-iphonesimulator=its words name aarch64-apple-ios-sim
+linux-arm64-glibc-32bit=its words name aarch64-unknown-linux-gnu_ilp32
+linux-armel-musl=its words name arm-unknown-linux-musleabi
+linux-armhf-musl=its words name arm-unknown-linux-musleabihf
+linux-mips64-muslabi64=its words name mips64-unknown-linux-muslabi64
+linux-mips64-gnuabi64=its words name mips64-unknown-linux-gnuabi64
+linux-armel-uclibc=its words name arm-unknown-linux-uclibceabi
+linux-armhf-uclibc=its words name arm-unknown-linux-uclibceabihf
+linux-x64-uclibc=its words name x86_64-unknown-linux-uclibc
+win-x64-gnullvm=its words name x86_64-pc-windows-gnullvm
+win-x64-msvc=its words name x86_64-pc-windows-msvc
+armv8-32-linux=its words name arm-unknown-linux
+multi-arch-linux=it names several machines
+x86--64-linux=no triple says all that its words say: i686, 64 bits, linux
+GNULinux-x64=its words name x86_64-unknown-linux
+linux-x64-FOO=its words say x86_64, linux; here nobody knows `FOO`
+armv7-ohos=its words name armv7-unknown-linux-ohos
+armhf-linux-uclibc-foo=its words say arm, hard-float, linux, uclibc; here nobody knows `foo`";
+
+#[test]
+fn evidence_is_said_in_a_sentence() {
+    for (text, sentence) in SENTENCES.lines().map(|row| row.split_once('=').unwrap()) {
+        assert_eq!(Evidence::of(text).to_string(), sentence, "{text}");
+    }
+    let long = Evidence::of(&format!("linux-x64-{}", "q".repeat(SHOWN + 1))).to_string();
+    assert!(long.ends_with("qqq...`"), "{long}");
+}
+
+/// A text, a triple, and after `=` whether the words may be of it.
+const ALLOWED: &str = "\
+linux-arm aarch64-unknown-linux-gnu=true
+linux-arm arm-unknown-linux-gnueabi=true
+linux-arm armv7-unknown-linux-gnueabihf=false
+linux-armv6 armv7-unknown-linux-gnueabihf=false
+linux-armv7 armv6-unknown-linux-gnueabihf=false
+linux-riscv64 riscv64gc-unknown-linux-gnu=true
+linux-x64 x86_64-unknown-linux-gnux32=false
+linux x86_64-unknown-linux-gnux32=true
+linux-x64-32bit x86_64-unknown-linux-gnux32=true
+linux-x64-32bit x86_64-unknown-linux-gnu=false
+linux-armel arm-unknown-linux=true
+linux-armhf-armel arm-unknown-linux=false
+linux-hf x86_64-unknown-linux=false
+wasi-wasm32 wasm32-wasip1=true
+wasi-wasm32 wasm32-wasip2=false
+linux-x64-gnu x86_64-unknown-linux-musl=false
+linux-x64 x86_64-linux-android=false
+x64 x86_64-linux-android=true";
+
+#[test]
+fn words_may_be_of_triples() {
+    for (row, expected) in ALLOWED.lines().map(|row| row.split_once('=').unwrap()) {
+        let (text, of) = row.split_once(' ').unwrap();
+        assert_eq!(Evidence::of(text).allows(&triple(of)).to_string(), expected, "{row}");
+    }
+}
+
+#[test]
+fn evidence_is_asked_for_each_property() {
+    let evidence = Evidence::of("armhf-linux-uclibc-32bit-foo");
+    assert_eq!(evidence.pointer_width(), Said::One(PointerWidth::U32));
+    assert_eq!(evidence.float_abi(), Said::One(FloatAbi::Hard));
+    assert_eq!(evidence.c_library(), Said::One("uclibc"));
+    assert_eq!(evidence.system(), Said::One("linux"));
+    assert_eq!(evidence.machine().one().map(|it| it.to_string()), Some("arm".into()));
+    assert_eq!(evidence.unknown_word(), Some(("foo", 25..28)));
+}
+
+/// A name of GNU, and after `=` its triple, or why it has none.
+const OF_GNU: &str = "\
+aarch64-android-linux=aarch64-linux-android
+armv7-netbsd-eabi=armv7-unknown-netbsd-eabi
+armv7-cloudabi-eabihf=armv7-unknown-cloudabi-eabihf
+arm-uclinux-uclibc=!triples have no system uclinux
+arm-uclinux-gnu=!triples have no system uclinux
+x86_64-kfreebsd-gnu=!triples have no system kfreebsd
+x86_64-kfreebsd-musl=!to config.sub its second part is a maker, or another machine's
+x86_64-softfloat-linux-gnu=!it says soft-float, which a triple of this machine and C library can't state";
+
+/// The triple, or after `!` why there is none.
+fn shown(found: Result<TripleRef, NameError>) -> String {
+    match found {
+        Ok(triple) => triple.to_string(),
+        Err(NameError::Unknown) => "!".into(),
+        Err(NameError::WithoutTriple(why)) => format!("!{why}"),
+    }
+}
+
+#[test]
+fn names_of_gnu_are_those_of_config_sub() {
+    for (name, expected) in OF_GNU.lines().map(|row| row.split_once('=').unwrap()) {
+        assert_eq!(shown(Dialect::Gnu.read(name)), expected, "{name}");
+    }
+}
+
+#[test]
+fn soft_floats_that_a_triple_cannot_state_are_refused() {
+    for text in ["x86_64-softfloat-linux-gnu", "armv7-softfloat-linux", "armv7-softfloat-linux-gnueabihf"] {
+        let refusal = read(text).unwrap_err();
+        assert_eq!((refusal.part.text, refusal.expected), ("softfloat", Some(Field::Vendor)), "{text}");
+        assert_eq!(refusal.part.start, text.find('-').unwrap() + 1);
+    }
+    assert_eq!(read("armv7-softfloat-linux-musleabi").unwrap().to_string(), "armv7-unknown-linux-musleabi");
+}
+
+#[test]
+fn a_system_that_no_triple_has_is_a_vendor_only_before_another() {
+    assert_eq!(read("x86_64-lynx-linux").unwrap().to_string(), "x86_64-lynx-linux");
+    for text in ["x86_64-lynx", "x86_64-lynx-unknown", "x86_64-lynx-elf"] {
+        assert_eq!(read(text).unwrap_err().part.text, "lynx", "{text}");
+    }
+}
+
+/// A dialect, a text with a name in it, and after `=` the triple that it means.
+const LOOSE: &str = "\
+uname Linux localhost 4.14.1 armv7l Android=armv7-linux-androideabi
+uname Linux localhost 4.14.1 aarch64 Android=aarch64-linux-android
+uname FreeBSD a 13.2 b amd64 Android=x86_64-unknown-freebsd
+debian gcc-x86-64-linux-gnu_12.2_amd64.deb=x86_64-unknown-linux-gnu
+debian hello-musl_2.10_amd64.deb=!";
+
+#[test]
+fn texts_have_names_in_them() {
+    for (text, expected) in LOOSE.lines().map(|row| row.split_once('=').unwrap()) {
+        let (dialect, name) = text.split_once(' ').unwrap();
+        let dialect: Dialect = dialect.parse().unwrap();
+        assert_eq!(shown(dialect.read_loosely(name)), expected, "{text}");
+    }
+}
+
+#[test]
+fn a_mistake_names_all_tools() {
+    let mistake = Dialect::Debian.mistake("x86_64").unwrap();
+    assert_eq!(mistake.to_string(), "it is a name of gnu, rpm, apk and pacman");
+}
+
+#[test]
+fn a_name_is_debugged_as_a_string() {
+    let name = Dialect::Debian.write(triple("x86_64-unknown-linux-gnu")).unwrap();
+    assert_eq!(format!("{name:?}"), "\"amd64\"");
+}
+
+#[test]
+fn a_long_part_is_shortened() {
+    let shown = |length| visible("a".repeat(length)).shortened().to_string();
+    assert_eq!(shown(SHOWN), "a".repeat(SHOWN));
+    assert_eq!(shown(SHOWN + 1), "a".repeat(SHOWN) + "...");
+}
+
+#[test]
+fn words_say_whether_they_are_items() {
+    let of = |text| targets_in(text).map(|it| (it.text(), it.is_item())).collect::<Vec<_>>();
+    assert_eq!(of("linux/amd64, foo"), [("linux/amd64", true), ("foo", true)]);
+    assert_eq!(of("build linux/amd64 and foo"), [("linux/amd64", false)]);
+}
+
+/// A dialect, a triple, and after `=` its name, or after `!` why it has none.
+const WRITTEN: &str = "\
+debian riscv64a23-unknown-linux-gnu=!Baseline
+go riscv64a23-unknown-linux-gnu=!Baseline
+debian riscv64imac-unknown-linux-gnu=riscv64
+gnu mipsisa32r6el-unknown-linux-musleabi=mipsisa32r6el-unknown-linux-musleabi
+rust x86_64-acme_acme_acme_acme_acme_acme_acme_acme_acme_acme_acme_acme-linux=!NeedsCLibrary";
+
+#[test]
+fn triples_have_names_or_reasons() {
+    for (row, expected) in WRITTEN.lines().map(|row| row.split_once('=').unwrap()) {
+        let (dialect, text) = row.split_once(' ').unwrap();
+        let found = dialect.parse::<Dialect>().unwrap().write_with(triple(text), None);
+        assert_eq!(found.map_or_else(|why| format!("!{why:?}"), |it| it.to_string()), expected, "{row}");
+    }
+}
+
+/// A dialect, a name that it doesn't have, and after `=` the one that is suggested, or `-`.
+const SUGGESTED: &str = "\
+go aux/ppc64=-
+go aux7/ppc64=-
+go aix/ppc46=aix/ppc64
+rust x86_64-unknown-linux-gnux=-
+debian armv7-hardfloat-linux-gnueabi.2.17=armhf";
+
+#[test]
+fn names_are_suggested_for_unknown_ones() {
+    for (row, expected) in SUGGESTED.lines().map(|row| row.split_once('=').unwrap()) {
+        let (dialect, name) = row.split_once(' ').unwrap();
+        let found = dialect.parse::<Dialect>().unwrap().suggestion(name);
+        assert_eq!(found.unwrap_or("-"), expected, "{row}");
+    }
+    // A longer string gets none.
+    let path = |length: usize| format!("{}/linux/amd64", "a".repeat(length - 12));
+    assert_eq!(Dialect::Go.suggestion(&path(256)), Some("linux/amd64"));
+    assert_eq!(Dialect::Go.suggestion(&path(257)), None);
+}
