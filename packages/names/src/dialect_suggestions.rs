@@ -48,10 +48,9 @@ impl Dialect {
             let triple = self.read(known).ok()?;
             return evidence.allows(&triple).then_some(known);
         }
-        let is_known = |it: &TripleRef<'_>| !it.vendor.is_custom();
         let spelled = read(name)
             .ok()
-            .filter(|it| is_known(it) && !has_number_of_abi(name));
+            .filter(|it| !it.vendor.is_custom() && !has_number_of_abi(name));
         let said = evidence.triple().filter(|_| !evidence.has_title());
         let named = spelled.or(said);
         let same = || self.name_of_machine(name);
@@ -60,10 +59,6 @@ impl Dialect {
             .or_else(same)
         {
             return Some(known);
-        }
-        // A triple of known parts isn't misspelled.
-        if TripleRef::from_str(name).map_or(false, |it| is_known(&it)) {
-            return None;
         }
         // the lengths first: all others are farther than a misspelling
         let is_near = |row: &&Row| row.0.len().abs_diff(name.len()) <= 2;

@@ -66,10 +66,7 @@ impl<'a> Parts<'a> {
     fn write(&self, out: &mut Spelled) -> core::fmt::Result {
         let states_floats = self.maker == "hardfloat" || is_soft_floats(self.maker);
         let maker = if states_floats { self.maker } else { "unknown" };
-        out.write_str(self.machine)?;
-        if self.kernel.is_some() || self.system.is_some() || states_floats {
-            write!(out, "-{maker}")?;
-        }
+        write!(out, "{}-{maker}", self.machine)?;
         let mut later = self.kernel.iter().chain(&self.system);
         later.try_for_each(|part| write!(out, "-{part}"))
     }
@@ -83,7 +80,7 @@ impl<'a> Parts<'a> {
                 Some(name) => part == name || is_versioned(part, name),
                 None => part == *pattern,
             };
-            part.is_empty() || NOT_SYSTEMS.iter().any(has)
+            NOT_SYSTEMS.iter().any(has)
         };
         let why = if NOT_MACHINES.contains(&self.machine) {
             refusals::MACHINE
