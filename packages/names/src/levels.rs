@@ -63,8 +63,8 @@ fn level_of((architecture, word): Machine<'_>) -> (Architecture, u32) {
     let stated = match (kind, word) {
         (X86_64, _) => first(number(major)),
         // Armv9 has what Armv8.5 has.
-        (Aarch64(_), _) if major == "9" => first(6 + number(minor)) | 1 << 16,
-        (Aarch64(_), _) if major == "8" => first(1 + number(minor)),
+        (Aarch64(_), _) if major == "9" => first(5 + number(minor)) | 1 << 16,
+        (Aarch64(_), _) => first(number(minor)),
         (Arm(_), "armv6") => arm_level(ArmArchitecture::Armv6),
         (Arm(_), "neon") => NEON,
         (Riscv32(_) | Riscv64(_), "gc" | "rva20u64") => first(6),
@@ -124,7 +124,7 @@ fn arm_level(arm: ArmArchitecture) -> u32 {
         Armv7m | Thumbv7m => MICRO | first(1),
         Thumbv7em => MICRO | first(2),
         Armv8mBase | Thumbv8mBase => MICRO | 1 << 2,
-        Armv8mMain | Thumbv8mMain => MICRO | 1 | 1 << 2 | 1 << 3,
+        Armv8mMain | Thumbv8mMain => MICRO | first(1) | 1 << 2,
         Armv7r | Armebv7r => REAL_TIME,
         // Armv8r, the last one.
         _ => REAL_TIME | 1,
@@ -146,13 +146,18 @@ mod tests {
 
     /// In each line each machine is at most the next one, which isn't at most it.
     const CHAINS: &str = "\
-armv4 armv4t armv5t armv5te armv6 armv6k armv7 armv7ve armv8 armv8.1a armv8.2a armv8.3a
+armv4 armv4t armv5t armv5te armv6 armv6k armv7 armv7ve armv7k armv8 armv8.1a armv8.2a armv8.3a armv8.4a armv8.5a
+armv7 thumbv7neon armv7k
 armv6 armv6t2 armv7
 armv7 thumbv7neon armv8
 armv7 armv7@neon armv8
 thumbv6m thumbv7m thumbv7em
 thumbv6m thumbv8m.base thumbv8m.main
+thumbv7m thumbv8m.main
 armv7r armv8r
+armeb armebv7r
+thumbeb armebv7r
+arm armv4t
 x86_64 x86_64@v2 x86_64@v3 x86_64@v4
 x86_64@v2 x86_64h x86_64@v4
 i386 i586
@@ -180,18 +185,53 @@ riscv32i riscv32im riscv32ima riscv32imac riscv32imafc riscv32gc";
             ("armebv7r", "armv7r"),
             ("mips", "mipsel"),
             ("x86_64", "i686"),
-            ("aarch64@v8.9", "aarch64@v9"),
+            ("aarch64@v8.6", "aarch64@v9"),
+            ("armv6t2", "armv6k"),
+            ("thumbv8m.base", "thumbv7em"),
+            ("thumbv7em", "thumbv8m.main"),
+            ("armv7ve", "thumbv7neon"),
+            ("thumbv7neon", "armv7ve"),
+            ("powerpc64", "powerpc64le"),
+            ("powerpc64le", "powerpc64"),
+            ("powerpc64", "riscv32"),
         ] {
             assert!(
                 !is_at_most(machine(first), machine(second)),
                 "{first} {second}"
             );
         }
-        assert!(is_at_most(machine("x86_64h"), machine("x86_64@v3")));
-        assert!(is_at_most(
-            machine("riscv64a23"),
-            machine("riscv64@rva23u64")
-        ));
+        for (first, second) in [
+            ("x86_64", "x86_64@v1"),
+            ("x86_64h", "x86_64@v3"),
+            ("powerpc64", "powerpc64@power8"),
+            ("aarch64", "aarch64@v8"),
+            ("riscv64gc", "riscv64@gc"),
+            ("riscv64gc", "riscv64@rva20u64"),
+            ("riscv32gc", "riscv32@gc"),
+            ("riscv64a23", "riscv64@rva23u64"),
+            ("sparc64", "sparcv9"),
+            ("i586", "i686"),
+            ("arm", "armv4"),
+            ("armv4t", "thumbv4t"),
+            ("armv5te", "armv5tej"),
+            ("armv5te", "thumbv5te"),
+            ("armv6", "armv6j"),
+            ("armv6", "armv6z"),
+            ("armv6k", "armv6kz"),
+            ("armv7", "armv7a"),
+            ("armv7", "thumbv7a"),
+            ("armv7k", "armv7s"),
+            ("armv8", "armv8a"),
+            ("armv6m", "thumbv6m"),
+            ("armv7m", "thumbv7m"),
+            ("armv8m.base", "thumbv8m.base"),
+            ("armv8m.main", "thumbv8m.main"),
+            // No machine has a higher level than some number.
+            ("aarch64@v8.99", "aarch64@v8.4000000000"),
+        ] {
+            assert!(is_at_most(machine(first), machine(second)), "{first} {second}");
+            assert!(is_at_most(machine(second), machine(first)), "{second} {first}");
+        }
         let all = known_names(Field::Architecture)
             .iter()
             .map(|it| machine(it));
@@ -230,10 +270,9 @@ riscv32i riscv32im riscv32ima riscv32imac riscv32imafc riscv32gc";
         ] {
             assert!(!may(first, second), "{first} {second}");
         }
-        assert!(may_have_name(
-            machine("riscv32imac"),
-            machine("riscv32"),
-            false
-        ));
+        // Without a system a name such as `riscv64` is for all of them.
+        let may = |first, second| may_have_name(machine(first), machine(second), false);
+        assert!(may("riscv32imac", "riscv32") && may("riscv64a23", "riscv64"));
+        assert!(!may("riscv64a23", "riscv64imac"));
     }
 }

@@ -111,11 +111,9 @@ impl Dialect {
         let places = text.match_indices(signs).map(|(at, _)| at + 1);
         let starts = core::iter::once(0).chain(places);
         let ends = starts.map(|start| (start, &text[start..]));
-        let may_be_name = |(_, end): &(usize, &str)| {
-            end.len() <= LONGEST_NAME && !end.starts_with(|it: char| it.is_ascii_digit())
-        };
+        let may_be_name = |(_, end): &(usize, &str)| end.len() <= LONGEST_NAME;
         // A machine alone is no reason: the words before it may name a system.
-        let is_port = |end: &str| end.contains(['-', '_', '/']);
+        let is_port = |end: &str| end.contains(['_', '/']);
         let mut found = ends.filter(may_be_name).map(|(start, end)| {
             let found = match self.read(end) {
                 Err(NameError::Unknown) if self == Dialect::Go => self.read_port(end),
@@ -225,9 +223,6 @@ impl Dialect {
     #[inline]
     fn read_tags(self, text: &str) -> Option<Found> {
         let platforms = last_tag(text);
-        if platforms.len() == text.len() && !text.contains('.') {
-            return None;
-        }
         let found = || platforms.split('.').map(|platform| self.read(platform));
         let first = found().find(Result::is_err).or_else(|| found().next())?;
         let is_one = first.is_err() || found().all(|it| it == first);

@@ -259,6 +259,7 @@ armv7-netbsd-eabi=armv7-unknown-netbsd-eabi
 armv7-cloudabi-eabihf=armv7-unknown-cloudabi-eabihf
 arm-uclinux-uclibc=!triples have no system uclinux
 arm-uclinux-gnu=!triples have no system uclinux
+x86_64-kfreebsd8-linux-gnu=!to config.sub its second part is a maker, or another machine's
 x86_64-kfreebsd-gnu=!triples have no system kfreebsd
 x86_64-kfreebsd-musl=!to config.sub its second part is a maker, or another machine's
 x86_64-softfloat-linux-gnu=!it says soft-float, which a triple of this machine and C library can't state";
@@ -334,6 +335,11 @@ debian libc6:i386=i686-unknown-linux-gnu
 debian a:amd64=!
 debian Libc:amd64=!
 debian linux:amd64=!
+go tool_darwin_all.tar.gz=!several machines
+go tool-plan9/amd64.zip=!Plan 9 is no known name
+go tool-plan9-amd64.zip=!Plan 9 is no known name
+go tool-amd64.zip=!
+debian dc:amd64=x86_64-unknown-linux-gnu
 debian g++:amd64=x86_64-unknown-linux-gnu
 gnu /usr/bin/aarch64-linux-gnu-gcc-12=aarch64-unknown-linux-gnu
 gnu C:\\x\\x86_64-w64-mingw32-gcc.exe=x86_64-pc-windows-gnu
@@ -363,6 +369,9 @@ uname SunOS i86pc=!two systems: Solaris and illumos
 uname MINGW64_NT-6.1 x86_64=x86_64-pc-windows-gnu
 uname Linux-x86_64=x86_64-unknown-linux
 uname Linux_x86_64=x86_64-unknown-linux
+uname  Linux x86_64=x86_64-unknown-linux
+uname  Linux-x86_64 =x86_64-unknown-linux
+uname Darwin  Power  Macintosh=powerpc-apple-darwin
 uname Linux,x86_64=x86_64-unknown-linux
 oci windows(10.0)/amd64=x86_64-pc-windows
 oci Windows(10.0)/amd64=x86_64-pc-windows
@@ -382,6 +391,19 @@ fn texts_have_names_in_them() {
         let (dialect, name) = text.split_once(' ').unwrap();
         let dialect: Dialect = dialect.parse().unwrap();
         assert_eq!(shown(dialect.read_loosely(name)), expected, "{text}");
+    }
+    // No longer string is a name.
+    for length in 20..80 {
+        let q = &"q".repeat(length);
+        let words = [format!("Q{q}_arm"), format!("{q}_amd64"), format!("linux_{q}"), format!("linux_{q}_{q}")];
+        let parts = [format!("x86_64-{q}.5-foo"), format!("{q}-linux.5-gnu"), format!("x86_64-linux.5-{q}")];
+        let others = [format!("{q} {q}"), format!("{q}_NT-10 x86_64"), format!("Linux {q}"), format!("windows(1){q}")];
+        let around = [format!("uclibc-{q}"), format!("{q}:{q}"), format!("{q}/{q}"), format!("{q}-gcc"), q.clone()];
+        for name in words.iter().chain(&parts).chain(&others).chain(&around) {
+            for dialect in Dialect::ALL {
+                assert_eq!(dialect.read_loosely(name), Err(NameError::Unknown), "{dialect} {name}");
+            }
+        }
     }
 }
 
