@@ -181,5 +181,5 @@ fn is_part(word: &str, name: &str) -> bool {
     let after = name.strip_prefix(word).and_then(|it| it.bytes().next());
     let before = name.strip_suffix(word).and_then(|it| it.bytes().last());
     let is_sign = |byte: &u8| b"/ -_".contains(byte);
-    !word.is_empty() && after.iter().chain(&before).any(is_sign)
+    after.iter().chain(&before).any(is_sign)
 }

@@ -2,7 +2,7 @@
 use std::fmt::{self, Display, Write};
 use target_lexicon::{Field, PointerWidth, TripleRef};
 use target_names::{
-    changes, read, targets_in, visible, Dialect, Evidence, FloatAbi, LinuxLibc, NameError, Said, Suggest as _, TargetInfo,
+    changes, meanings, read, targets_in, visible, Dialect, Evidence, FloatAbi, LinuxLibc, Meaning, Mistake, NameError, Said, Suggest as _, TargetInfo,
     WordIs, SHOWN,
 };
 
@@ -32,7 +32,7 @@ fn what_is_displayed_fails_as_its_writer_does() {
         fails(&triple(text).rustc_cfg());
         fails(&triple(text).llvm_target());
     }
-    for (dialect, name) in "debian x86_64,go Linux/AMD64,gnu nios2-linux-gnu,uname Linux,oci linux/amd46,debian all"
+    for (dialect, name) in "debian linux/arm64,gnu bpfel-linux-gnu,go Linux/AMD64,gnu nios2-linux-gnu,uname Linux,oci linux/amd46,debian all"
         .split(',')
         .map(|it| it.split_once(' ').unwrap())
     {
@@ -339,6 +339,7 @@ go tool_darwin_all.tar.gz=!several machines
 go tool-plan9/amd64.zip=!Plan 9 is no known name
 go tool-plan9-amd64.zip=!Plan 9 is no known name
 go tool-amd64.zip=!
+debian raspbian-x_1_armhf.deb=!
 debian dc:amd64=x86_64-unknown-linux-gnu
 debian g++:amd64=x86_64-unknown-linux-gnu
 gnu /usr/bin/aarch64-linux-gnu-gcc-12=aarch64-unknown-linux-gnu
@@ -375,6 +376,9 @@ uname Darwin  Power  Macintosh=powerpc-apple-darwin
 uname Linux,x86_64=x86_64-unknown-linux
 oci windows(10.0)/amd64=x86_64-pc-windows
 oci Windows(10.0)/amd64=x86_64-pc-windows
+oci macos/arm64=aarch64-apple-darwin
+oci MacOS/ARM64=aarch64-apple-darwin
+oci windows(10.0.*)/amd64=!
 oci linux(10.0)/amd64=!
 oci windows(x)/amd64=!
 debian uclibc-linux-amd64=x86_64-unknown-linux-uclibc
@@ -411,6 +415,30 @@ fn texts_have_names_in_them() {
 fn a_mistake_names_all_tools() {
     let mistake = Dialect::Debian.mistake("x86_64").unwrap();
     assert_eq!(mistake.to_string(), "it is a name of gnu, rpm, apk and pacman");
+    assert_eq!(Dialect::Go.mistake("/opt/linux/amd64"), Some(Mistake::Path));
+    // Of the names with a part one of Linux without Android, which begins or ends with it.
+    assert_eq!(Dialect::Rust.mistake("aarch64"), Some(Mistake::Part("aarch64-unknown-linux-gnu")));
+    assert_eq!(Dialect::Go.mistake("arm64"), Some(Mistake::Part("linux/arm64")));
+    assert_eq!(Dialect::Go.mistake(""), None);
+    let long = format!("{}-linux-gnu", "q".repeat(SHOWN + 1));
+    let mistake = Dialect::Gnu.mistake(&long).unwrap().to_string();
+    assert!(mistake.starts_with("as a triple: Unrecognized architecture: qqq") && mistake.ends_with("qqq..."));
+}
+
+#[test]
+fn meanings_are_those_of_each_tool() {
+    let meant = |text| {
+        let shown = |it: Meaning| format!("{} {}", it.of, it.triple.map_or_else(|why| format!("!{why}"), |it| it.to_string()));
+        meanings(text).map(shown).collect::<Vec<_>>().join(", ")
+    };
+    let horizon = meanings("armv7-nintendo-horizon-newlib").next().unwrap();
+    assert_eq!(horizon.triple, Ok(triple("armv7-nintendo-horizon")));
+    assert_eq!(meant("darwin_all"), "go x86_64-apple-darwin, go aarch64-apple-darwin");
+    assert_eq!(meant("plan9/amd64"), "go !Plan 9 is no known name");
+    // A file of pacman's may be MSYS2's too, unless it names a system, or a machine that MSYS2 doesn't have.
+    assert_eq!(meant("linux-6.1-1-x86_64.pkg.tar.zst"), "pacman x86_64-unknown-linux-gnu");
+    assert_eq!(meant("zlib-1-1-armv7h.pkg.tar.xz"), "pacman armv7-unknown-linux-gnueabihf");
+    assert_eq!(meant("zlib-1-1-x86_64.pkg.tar.zst") + &meant("zlib-1-1-any.pkg.tar.xz"), "");
 }
 
 #[test]
@@ -458,6 +486,10 @@ go aix/ppc46=aix/ppc64
 rust x86_64-unknown-linux-gnux=-
 zig aarch64-macosx-none=aarch64-macos-none
 debian powerpc-spe=powerpcspe
+debian  x32 =x32
+node /opt/linux-x64-musl/linux-x64=linux-x64-musl
+node x-bun-linux-x64=bun-linux-x64
+debian foo-musl-linux-amd64=musl-linux-amd64
 debian armv7-hardfloat-linux-gnueabi.2.17=armhf";
 
 #[test]
@@ -471,4 +503,19 @@ fn names_are_suggested_for_unknown_ones() {
     let path = |length: usize| format!("{}/linux/amd64", "a".repeat(length - 12));
     assert_eq!(Dialect::Go.suggestion(&path(256)), Some("linux/amd64"));
     assert_eq!(Dialect::Go.suggestion(&path(257)), None);
+    assert_eq!(Dialect::Go.mistake(&path(256)), Some(Mistake::Path));
+    assert_eq!(Dialect::Go.mistake(&path(257)), None);
+}
+
+#[test]
+fn only_an_unknown_name_has_a_suggestion() {
+    assert_eq!(Dialect::Debian.parse("aarch64").unwrap_err().suggestion(), None);
+    assert_eq!("golang".parse::<LinuxLibc>().unwrap_err().suggestion(), None);
+}
+
+#[test]
+fn a_name_of_the_same_tool_stays_if_it_says_more() {
+    let same = |name| Dialect::Gnu.translate(name, None, Dialect::Gnu).unwrap();
+    assert_eq!(same("armv7-foo-linux-gnueabihf"), "armv7-foo-linux-gnueabihf");
+    assert_eq!(same("armv7-aaaaaaaaaaaaaaaaaaaaaaaaaaaa-linux-gnueabihf"), "arm-linux-gnueabihf");
 }
