@@ -44,10 +44,8 @@ impl<'a> Iterator for SpelledParts<'a> {
             version,
             system,
         };
-        let found = match self.name {
-            Some(_) => None,
-            None => fit(self.place, self.hard_floats, part, rest),
-        };
+        // No rule fits the second of a pair.
+        let found = fit(self.place, self.hard_floats, part, rest);
         let names = match (&found, self.name) {
             (Some(fit), _) => spelling(fit.names, fit.kept_version(), None),
             (None, Some(name)) => spelling(name, "", None),

@@ -53,9 +53,7 @@ fn sum(it: Option<impl ToString>) -> String {
     (sum >> 29).to_string()
 }
 
-fn answers(it: TripleRef<'_>) -> [(&'static str, String); 29] {
-    let cfg = it.rustc_cfg();
-    let sizes = it.type_sizes().map(|it| [it.short, it.int, it.long, it.long_long, it.float, it.double]);
+fn of_systems(it: TripleRef<'_>) -> [(&'static str, String); 12] {
     [
         ("c_library", shown(it.c_library())),
         ("float_abi", shown(it.float_abi())),
@@ -67,17 +65,29 @@ fn answers(it: TripleRef<'_>) -> [(&'static str, String); 29] {
         ("program_suffix", it.program_suffix().to_string()),
         ("dynamic_linker", shown(it.dynamic_linker())),
         ("linker_emulation", shown(it.linker_emulation())),
+        ("macos_version", shown(it.macos_version().map(|it| format!("{}.{}", it.major, it.minor)))),
+        ("minimum_os_version", shown(it.minimum_os_version().map(|it| format!("{}.{}", it.major, it.minor)))),
+    ]
+}
+
+fn of_machines(it: TripleRef<'_>) -> [(&'static str, String); 9] {
+    let sizes = it.type_sizes().map(|it| [it.short, it.int, it.long, it.long_long, it.float, it.double]);
+    [
         ("arm_version", shown(it.arm_version())),
         ("arm_profile", shown(it.arm_profile())),
         ("long_double_layout", layout(it.long_double_layout())),
         ("wchar_layout", layout(it.wchar_layout())),
         ("type_sizes", shown(sizes.map(|it| it.map(|it| it.to_string()).concat()))),
-        ("macos_version", shown(it.macos_version().map(|it| format!("{}.{}", it.major, it.minor)))),
-        ("minimum_os_version", shown(it.minimum_os_version().map(|it| format!("{}.{}", it.major, it.minor)))),
         ("with_pointer_width(U32)", sum(it.with_pointer_width(PointerWidth::U32))),
         ("with_pointer_width(U64)", sum(it.with_pointer_width(PointerWidth::U64))),
         ("with_endianness(Little)", sum(it.with_endianness(Endianness::Little))),
         ("with_endianness(Big)", sum(it.with_endianness(Endianness::Big))),
+    ]
+}
+
+fn of_rustc(it: TripleRef<'_>) -> [(&'static str, String); 8] {
+    let cfg = it.rustc_cfg();
+    [
         ("multiarch_tuple", shown(it.multiarch_tuple())),
         ("llvm_target", sum(Some(it.llvm_target()))),
         ("rustc_cfg", sum(Some(cfg))),
@@ -186,8 +196,18 @@ fn compare(found: Vec<String>) {
 }
 
 #[test]
-fn each_answer_is_that_of_as_many_triples() {
-    compare(counted(triples().into_iter().map(answers)));
+fn each_answer_of_a_system_is_that_of_as_many_triples() {
+    compare(counted(triples().into_iter().map(of_systems)));
+}
+
+#[test]
+fn each_answer_of_a_machine_is_that_of_as_many_triples() {
+    compare(counted(triples().into_iter().map(of_machines)));
+}
+
+#[test]
+fn each_answer_of_rustc_is_that_of_as_many_triples() {
+    compare(counted(triples().into_iter().map(of_rustc)));
 }
 
 #[test]

@@ -466,6 +466,10 @@ const WRITTEN: &str = "\
 debian riscv64a23-unknown-linux-gnu=!Baseline
 go riscv64a23-unknown-linux-gnu=!Baseline
 debian riscv64imac-unknown-linux-gnu=riscv64
+debian x86_64-lynx-linux-gnu=amd64
+gnu x86_64-beos=!OtherTarget
+debian x86_64-beos=!OtherTarget
+rust armv8-pc-windows-msvc=!Baseline
 gnu mipsisa32r6el-unknown-linux-musleabi=mipsisa32r6el-unknown-linux-musleabi
 rust x86_64-acme_acme_acme_acme_acme_acme_acme_acme_acme_acme_acme_acme-linux=!NeedsCLibrary";
 
@@ -476,6 +480,9 @@ fn triples_have_names_or_reasons() {
         let found = dialect.parse::<Dialect>().unwrap().write_with(triple(text), None);
         assert_eq!(found.map_or_else(|why| format!("!{why:?}"), |it| it.to_string()), expected, "{row}");
     }
+    // Of Windows on Arm rustc has one machine, and another one is none that it has.
+    assert_eq!(Dialect::Rust.shape(&triple("armv8-pc-windows-msvc")).to_string(), "armv8-pc-windows-msvc");
+    assert_eq!(Dialect::Rust.shape(&triple("armv7-pc-windows-msvc")).to_string(), "thumbv7a-pc-windows-msvc");
 }
 
 /// A dialect, a name that it doesn't have, and after `=` the one that is suggested, or `-`.

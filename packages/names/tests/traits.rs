@@ -226,6 +226,8 @@ fn stated_versions_are_whole() {
         ("x86_64-unknown-netbsd9.3.1.4", Some((9, 3, 1)), None),
         ("x86_64-unknown-netbsd4294967295", Some((u32::MAX, 0, 0)), None),
         ("x86_64-unknown-netbsd4294967296", None, None),
+        ("x86_64-unknown-netbsd9.4294967296", None, None),
+        ("x86_64-unknown-netbsd9.3.4294967296", None, None),
         ("x86_64-pc-windows-msvc19.33.31629", None, Some((19, 33, 31629))),
         ("x86_64-unknown-freebsd13.2-musl1.2", Some((13, 2, 0)), Some((1, 2, 0))),
         ("x86_64-linux-gnu", None, None),
