@@ -134,6 +134,82 @@ fn command_lines() {
     same("GOOS=linux GOARCH=arm64 go build -o dist/linux_amd64", "arm64 linux_amd64");
 }
 
+/// What is near a word says whether it is a key, a value, a comment, an item or a part of a pattern.
+#[test]
+fn signs() {
+    for (text, expected) in [
+        ("triple: amd64", "amd64"),
+        ("platform: amd64", "amd64"),
+        ("architecture: amd64", "amd64"),
+        ("TARGET: amd64", "amd64"),
+        ("x: amd64 and more", ""),
+        ("targets = amd64 arm64", "amd64 arm64"),
+        ("target =amd64 x", "amd64"),
+        ("\"target\": amd64 x", "amd64"),
+        ("'target': amd64 x", "amd64"),
+        ("target:amd64 x", ""),
+        ("target:\tamd64 x", "amd64"),
+        ("target:\"amd64\" x", "amd64"),
+        ("target:[amd64] x y", "amd64"),
+        ("target:{amd64 x", "amd64"),
+        ("target: \n  amd64 x", ""),
+        ("target: \n- amd64 x", "amd64"),
+        ("target: \n- amd64 x\n- arm64 y\nfoo: i386 x", "amd64 arm64"),
+        ("target: amd64 x\n\"arm64\" x\n'i386' x\n] riscv64 x", "amd64 arm64 i386 riscv64"),
+        ("see $-x86_64-linux-gnu x", ""),
+        ("see %-x86_64-linux x", ""),
+        ("see *-x86_64-linux x", ""),
+        ("see <-x86_64-linux x", ""),
+        ("see >-x86_64-linux x", ""),
+        ("see {-x86_64-linux x", ""),
+        ("see }-x86_64-linux x", ""),
+        ("see }.x86_64-linux x", ""),
+        ("see }_x86_64-linux x", ""),
+        ("see }x86_64-linux x", "x86_64-linux"),
+        ("see x86_64-linux-$ x", ""),
+        ("see x86_64-linux.$ x", ""),
+        ("see x86_64-linux_$ x", ""),
+        ("see x86_64-linux$ x", "x86_64-linux"),
+        ("see target/x86_64-linux/release x", "x86_64-linux"),
+        ("see a.x86_64-linux.b x", "x86_64-linux"),
+        ("see a/b.x86_64-linux.c/d x", "x86_64-linux"),
+        ("see x86_64-linux. And x", "x86_64-linux"),
+        ("see -x86_64-linux- x", "x86_64-linux"),
+        ("see +x86_64-linux+ x", "x86_64-linux"),
+        ("see _x86_64-linux_ x", "x86_64-linux"),
+        ("see /x86_64-linux/ x", "x86_64-linux"),
+        ("x86_64-linux # linux/amd64", "x86_64-linux"),
+        ("x86_64-linux# linux/amd64", "x86_64-linux linux/amd64"),
+        ("x86_64-linux #linux/amd64", "x86_64-linux linux/amd64"),
+        ("  # linux/amd64", ""),
+        ("* linux/amd64, - arm64", "linux/amd64 arm64"),
+        ("linux/amd64 (a), arm64 (b) c", "linux/amd64"),
+        ("linux/amd64 (installed)", "linux/amd64"),
+        ("x y", ""),
+        ("--, linux/amd64", "linux/amd64"),
+        ("linux/amd64, target: x", "linux/amd64"),
+        ("linux/amd64, \"a\": b", "linux/amd64"),
+        ("linux/amd64, 'a': b", "linux/amd64"),
+        ("linux/amd64, a=b", "linux/amd64"),
+        ("Linux x86_64, linux/amd64", "Linux x86_64 linux/amd64"),
+        ("foo bar x86_64-unknown-foo-gnu", "x86_64-unknown-foo-gnu!"),
+        ("foo bar x86_64-foo-foo-gnu", ""),
+        ("foo bar x86_64-unknown", ""),
+        ("foo bar linux_amd64", "linux_amd64"),
+        ("foo bar a_b", ""),
+        ("foo bar x86_64", ""),
+        ("foo bar arm-based x86-64-v2", ""),
+        ("foo bar x86_64-pc-linux", "x86_64-pc-linux"),
+        ("foo bar amd64-linxu", ""),
+        ("foo bar x86_64-elf", "x86_64-elf"),
+        ("foo bar x86_64-unknown-elf", "x86_64-unknown-elf"),
+        ("foo bar x86_64-foo-elf", "x86_64-foo-elf"),
+        ("foo bar x86_64-linux-gnux86_64-linux-gnux86_64-linux-gnu", ""),
+    ] {
+        same(text, expected);
+    }
+}
+
 #[test]
 fn what_rustup_prints() {
     let printed = "aarch64-apple-darwin\naarch64-unknown-none\nx86_64-unknown-linux-gnu (installed)\n";
