@@ -334,8 +334,7 @@ fn meant(word: &str) -> Option<Meant<'_>> {
     of_triple.filter(is_target).or_else(|| {
         // All of whose words are known is no misspelled name, and a name with others around it neither.
         let evidence = Evidence::of(word);
-        let is_said = evidence.machine() != Said::Unsaid && evidence.system() != Said::Unsaid;
-        let is_known = is_said || evidence.triple().is_some();
+        let is_known = evidence.machine() != Said::Unsaid && evidence.system() != Said::Unsaid;
         let near = suggestions(word).find(|(_, name)| !word.contains(name)).filter(|_| !is_known)?;
         let part = TextPart { text: word, start: 0 };
         let suggestion = Suggestion::of(near.1);

@@ -305,7 +305,7 @@ impl Dialect {
     /// The reason, if a version of the system, or another name of it, has a name.
     #[inline]
     fn why_system(self, triple: &TripleRef<'_>) -> Option<WriteError> {
-        use OperatingSystem::{Darwin, MacOSX, Wasi, IOS};
+        use OperatingSystem::{Darwin, MacOSX, Wasi};
         let has = |system| self.has_name_with(triple, |it| it.operating_system = system);
         let version = Some(version(11, 0));
         let is_preview_1 = |row: &Row| row.1 == "wasm32-wasip1" && is_written(row);
@@ -314,7 +314,6 @@ impl Dialect {
         match triple.operating_system {
             Wasi if self.rows().iter().any(is_preview_1) => Some(WriteError::NeedsWasiVersion),
             Darwin(_) | MacOSX(_) if has(MacOSX(version)) => Some(WriteError::NeedsVersion),
-            IOS(None) if has(IOS(version)) => Some(WriteError::NeedsVersion),
             Wasi | Darwin(_) | MacOSX(_) => None,
             _ if is_simulator && self.has_name_with(triple, without) => Some(WriteError::Simulator),
             _ => None,

@@ -452,6 +452,8 @@ fn a_long_part_is_shortened() {
     let shown = |length| visible("a".repeat(length)).shortened().to_string();
     assert_eq!(shown(SHOWN), "a".repeat(SHOWN));
     assert_eq!(shown(SHOWN + 1), "a".repeat(SHOWN) + "...");
+    let escaped = visible("\u{202e}".repeat(SHOWN / 8 + 1)).shortened().to_string();
+    assert_eq!(escaped, "\\u{202e}".repeat(SHOWN / 8) + "...");
 }
 
 #[test]
@@ -467,6 +469,18 @@ debian riscv64a23-unknown-linux-gnu=!Baseline
 go riscv64a23-unknown-linux-gnu=!Baseline
 debian riscv64imac-unknown-linux-gnu=riscv64
 debian x86_64-lynx-linux-gnu=amd64
+go aarch64-apple-darwin-sim=!NoAbi
+node aarch64-apple-macosx-sim=!NoAbi
+go aarch64-apple-ios-sim=!Simulator
+go x86_64-unknown-linux-sim=!Simulator
+go wasm32-wasi-sim=!NeedsWasiVersion
+debian wasm32-wasi=!NoMachineOnAnySystem
+python x86_64h-apple-darwin=!Baseline
+python aarch64-apple-ios=!NeedsVersion
+debian arm-unknown-linux=!NeedsArmVersion
+gnu arm-unknown-linux=!NeedsArmVersion
+go riscv64-pc-windows=!NoMachine
+debian x86_64-pc-windows=!NoSystem
 gnu x86_64-beos=!OtherTarget
 debian x86_64-beos=!OtherTarget
 rust armv8-pc-windows-msvc=!Baseline
@@ -480,6 +494,9 @@ fn triples_have_names_or_reasons() {
         let found = dialect.parse::<Dialect>().unwrap().write_with(triple(text), None);
         assert_eq!(found.map_or_else(|why| format!("!{why:?}"), |it| it.to_string()), expected, "{row}");
     }
+    // A C library of Linux says nothing of another system.
+    let freebsd = Dialect::Gnu.write_with(triple("arm-unknown-freebsd"), "glibc".parse().ok());
+    assert_eq!(freebsd.unwrap(), "arm-unknown-freebsd");
     // Of Windows on Arm rustc has one machine, and another one is none that it has.
     assert_eq!(Dialect::Rust.shape(&triple("armv8-pc-windows-msvc")).to_string(), "armv8-pc-windows-msvc");
     assert_eq!(Dialect::Rust.shape(&triple("armv7-pc-windows-msvc")).to_string(), "thumbv7a-pc-windows-msvc");
@@ -524,5 +541,6 @@ fn only_an_unknown_name_has_a_suggestion() {
 fn a_name_of_the_same_tool_stays_if_it_says_more() {
     let same = |name| Dialect::Gnu.translate(name, None, Dialect::Gnu).unwrap();
     assert_eq!(same("armv7-foo-linux-gnueabihf"), "armv7-foo-linux-gnueabihf");
+    assert_eq!(same("i686-pc-netbsd"), "i486--netbsdelf");
     assert_eq!(same("armv7-aaaaaaaaaaaaaaaaaaaaaaaaaaaa-linux-gnueabihf"), "arm-linux-gnueabihf");
 }

@@ -192,6 +192,12 @@ fn signs() {
         ("linux/amd64, 'a': b", "linux/amd64"),
         ("linux/amd64, a=b", "linux/amd64"),
         ("Linux x86_64, linux/amd64", "Linux x86_64 linux/amd64"),
+        ("target:\r\n- amd64 x\r\n", "amd64"),
+        ("- amd64 and more", ""),
+        ("foo bar plan9/amd64", "plan9/amd64"),
+        ("target: amd64-linx x", "amd64-linx"),
+        ("foo bar x86_64-linx", "x86_64-linx>x86_64-linux"),
+        ("foo bar i368-w64-mingw32", ""),
         ("foo bar x86_64-unknown-foo-gnu", "x86_64-unknown-foo-gnu!"),
         ("foo bar x86_64-foo-foo-gnu", ""),
         ("foo bar x86_64-unknown", ""),
@@ -208,6 +214,11 @@ fn signs() {
     ] {
         same(text, expected);
     }
+    // Of a path that is too long only the end is given.
+    let (end, folder) = ("aarch64-linux-gnu-gcc", |length| "q".repeat(length));
+    let path = format!("{}/{end}", folder(256 - 1 - end.len()));
+    same(&format!("see {path} x"), &path);
+    same(&format!("see {}/{end} x", folder(256 - end.len())), end);
 }
 
 #[test]
