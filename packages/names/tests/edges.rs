@@ -2,7 +2,7 @@
 use std::fmt::{self, Display, Write};
 use target_lexicon::{Field, PointerWidth, TripleRef};
 use target_names::{
-    changes, meanings, read, targets_in, visible, Dialect, Evidence, FloatAbi, LinuxLibc, Meaning, Mistake, NameError, Said, Suggest as _, TargetInfo,
+    changes, meanings, read, targets_in, vendor_suggestion, visible, Dialect, Evidence, FloatAbi, LinuxLibc, Meaning, Mistake, NameError, Said, Suggest as _, TargetInfo,
     WordIs, SHOWN,
 };
 
@@ -452,6 +452,7 @@ fn a_long_part_is_shortened() {
     let shown = |length| visible("a".repeat(length)).shortened().to_string();
     assert_eq!(shown(SHOWN), "a".repeat(SHOWN));
     assert_eq!(shown(SHOWN + 1), "a".repeat(SHOWN) + "...");
+    assert_eq!(visible("'".repeat(SHOWN)).shortened().to_string(), "'".repeat(SHOWN));
     let escaped = visible("\u{202e}".repeat(SHOWN / 8 + 1)).shortened().to_string();
     assert_eq!(escaped, "\\u{202e}".repeat(SHOWN / 8) + "...");
 }
@@ -543,4 +544,30 @@ fn a_name_of_the_same_tool_stays_if_it_says_more() {
     assert_eq!(same("armv7-foo-linux-gnueabihf"), "armv7-foo-linux-gnueabihf");
     assert_eq!(same("i686-pc-netbsd"), "i486--netbsdelf");
     assert_eq!(same("armv7-aaaaaaaaaaaaaaaaaaaaaaaaaaaa-linux-gnueabihf"), "arm-linux-gnueabihf");
+}
+
+#[test]
+fn a_part_that_has_no_place_is_refused() {
+    for (text, part, expected) in [
+        ("x86_64-linux-gnu.", "gnu.", Some(Field::Environment)),
+        ("amd64-unknown-linux-gnu-elf-arm", "arm", None),
+        ("x86_64-foo-bar", "bar", Some(Field::OperatingSystem)),
+    ] {
+        let refusal = read(text).unwrap_err();
+        assert_eq!((refusal.part.text, refusal.expected), (part, expected), "{text}");
+    }
+    let many = TripleRef::from_str("x86_64-unknown-linux-gnu-elf-foo").unwrap_err();
+    assert_eq!((many.suggestion(), many.suggestion_in("x86_64-")), (None, None));
+    assert_eq!(changes("x86_64-none-unknown").count(), 0);
+}
+
+#[test]
+fn a_vendor_that_is_an_environment_is_one_of_the_machine() {
+    let suggested = |text| vendor_suggestion(triple(text)).map(|it| it.to_string());
+    assert_eq!(suggested("armv7-gnueabihf13").as_deref(), Some("gnueabihf"));
+    assert_eq!(suggested("x86_64-gnueabihf13"), None);
+    // Any machine may have it.
+    assert_eq!(suggested("unknown-gnueabihf13").as_deref(), Some("gnueabihf"));
+    let linux = vendor_suggestion(triple("x86_64-linx")).unwrap();
+    assert!(linux == "linux" && linux == *"linux" && linux != "lin" && linux != *"linuxx");
 }

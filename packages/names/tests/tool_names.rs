@@ -352,7 +352,7 @@ fn lines_are_those_of_rustc() {
 
 /// For each field a name, or `-` for none, and after `=` the strings for which it should be suggested.
 const OPERATING_SYSTEMS: &str = "\
-linux=linx lniux Linux LINUX linux5.10 Linux5.10
+linux=linx lniux Linux LINUX linux5.10 Linux5.10 linux5.10.3
 darwin=darwim darwin20.1.2.3
 windows=widows windows10 windows.win10
 solaris=solart

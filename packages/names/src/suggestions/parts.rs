@@ -25,7 +25,7 @@ impl<'a> Reading<'a> {
         }
     }
 
-    /// Takes a part into the first field that is open and that it parses as.
+    /// Takes a part into the first field that is open and that it parses as. A refusal says only what was expected.
     pub(crate) fn take(&mut self, part: TextPart<'a>) -> Result<(), Refusal<'a>> {
         let filled = match self.expected {
             Some(Field::Architecture) => self.take_architecture(part.text),
@@ -38,7 +38,7 @@ impl<'a> Reading<'a> {
             Some(Field::OperatingSystem) => self.expected = Some(Field::Environment),
             Some(Field::Environment) => self.expected = Some(Field::BinaryFormat),
             Some(Field::BinaryFormat) => self.expected = None,
-            None => return refused(self.expected, part),
+            None => return refused(self.expected),
         }
         Ok(())
     }
@@ -76,12 +76,10 @@ impl<'a> Reading<'a> {
     }
 }
 
-/// The refusal of a part. Only the other crate can make one, so that of the empty string gets these values.
-fn refused<'a>(expected: Option<Field>, part: TextPart<'a>) -> Result<(), Refusal<'a>> {
-    TripleRef::from_str("").map(|_| ()).map_err(|refusal| {
-        let mut refusal: Refusal<'a> = refusal;
+/// The refusal of a part, which the caller knows. Only the other crate can make one, so that of the empty string gets the field.
+fn refused<'a>(expected: Option<Field>) -> Result<(), Refusal<'a>> {
+    TripleRef::from_str("").map(|_| ()).map_err(|mut refusal| {
         refusal.expected = expected;
-        refusal.part = part;
         refusal
     })
 }

@@ -2,9 +2,7 @@
 use super::first_part;
 use super::words::{FIRST_RULES, LATER_RULES};
 use core::str::FromStr as _;
-use target_lexicon::{
-    Architecture, BinaryFormat, DeploymentTarget, Environment, OperatingSystem, VendorRef,
-};
+use target_lexicon::{BinaryFormat, DeploymentTarget};
 
 /// Where a part stands.
 #[derive(Clone, Copy, Debug, PartialEq, Eq)]
@@ -120,22 +118,7 @@ pub fn fit<'a>(
     };
     let begins = |text: &str| text.as_bytes().first() == part.as_bytes().first();
     let mut rules = rules.iter().filter(|it| begins(it.1) && is_here(it.0));
-    let (place, fit) = rules.find_map(|rule| Some((rule.0, Fit::of(rule, part, rest)?)))?;
-    let is_known = match (place, fit.form) {
-        (Place::AfterHardFloats, _) | (_, Form::Pair | Form::PairWithin) => false,
-        (Place::First, _) => Architecture::from_str(part).is_ok(),
-        _ => is_known_name(part),
-    };
-    (!is_known).then_some(fit)
-}
-
-/// Whether a part is a name of any field. A custom vendor is none.
-fn is_known_name(part: &str) -> bool {
-    Architecture::from_str(part).is_ok()
-        || VendorRef::from_str(part).map_or(false, |it| !it.is_custom())
-        || OperatingSystem::from_str(part).is_ok()
-        || Environment::from_str(part).is_ok()
-        || BinaryFormat::from_str(part).is_ok()
+    rules.find_map(|rule| Fit::of(rule, part, rest))
 }
 
 /// What the first rule that fits a part by itself makes of it.
