@@ -6,7 +6,7 @@ use crate::spelled::may_be_versioned;
 use crate::suggestions::{machine_of, meant, Machine};
 use crate::table::SYSTEMS;
 use crate::{changes, read, Dialect, Evidence, FloatAbi, NameError};
-use target_lexicon::TripleRef;
+use target_lexicon::{PointerWidth, TripleRef};
 
 impl Dialect {
     /// The name that is suggested for an unknown one, of those without a version that [`read`](Dialect::read) knows. Nothing is
@@ -97,11 +97,10 @@ impl Dialect {
 }
 
 /// What the triple of a row says of the machine.
-fn said_of_machine(row: &Row) -> Option<(Machine, Option<FloatAbi>)> {
+fn said_of_machine(row: &Row) -> Option<(Machine, Option<PointerWidth>, Option<FloatAbi>)> {
     let triple = TripleRef::from_str(row.1).ok()?;
-    let (machine, _, order) = machine_of(triple.architecture);
-    let machine = (machine, triple.pointer_width().ok(), order);
-    Some((machine, FloatAbi::of(&triple)))
+    let (machine, width) = (machine_of(triple.architecture), triple.pointer_width().ok());
+    Some((machine, width, FloatAbi::of(&triple)))
 }
 
 /// Whether a string has digits after `gnu` that may be those of an ABI: `gnu.32` may be `gnux32`. A version of glibc is such as `.2.17`.

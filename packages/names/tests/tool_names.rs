@@ -382,7 +382,9 @@ i386=i368
 powerpc64le=ppc64el
 clever1.0=clever10
 x86_64h=xx86_64h
--=arm64e arm64ec riscv64im riscv32em thumbv8r armv7hl armv6hl mips32el iso17 arm6j wasm x86 x86_32 mipsel64
+armv6=armvj6
+thumbv7em=thumbve7m
+-=arme armv sparcv arm64e arm64ec riscv64im riscv32em thumbv8r armv7hl armv6hl mips32el iso17 arm6j wasm x86 x86_32 mipsel64
 -=arc arceb crisv32 m88k r600 s390 spir64 spirv64 z8k amr64 powerpcle mipsl mipse";
 
 const VENDORS: &str = "\
@@ -398,8 +400,9 @@ const ENVIRONMENTS: &str = "\
 android=android21
 musl=musl msul
 elf=efl
-gnu=gnuu
--=mingw32 gnuabi glibc gnuabi32 iso17 macos14 linux5.10 ela gnueabihff gnux3";
+gnu=gnuu gnus
+gnueabihf=gnueabihf2.31
+-=gnux ocos mingw32 gnuabi glibc gnuabi32 iso17 macos14 linux5.10 ela gnueabihff gnux3";
 
 const BINARY_FORMATS: &str = "\
 macho=mahco
@@ -450,6 +453,33 @@ fn an_environment_is_suggested_for_its_machines() {
         ("x86_64-unknown-linux-gnxu32", Some("gnux32")),
         ("aarch64-unknown-linux-gnxu32", None),
         ("mips64-unknown-linux-muslabii64", Some("muslabi64")),
+        ("x86_64-unknown-linux-muslabii64", None),
+        ("x86_64-unknown-linux-gnuabii64", None),
+        ("armv7-linux-androideab", Some("androideabi")),
+        ("x86_64-linux-androideab", None),
+        ("armv7-unknown-linux-musleabii", None),
+        ("armv7-unknown-linux-musleab", Some("musleabi")),
+        ("x86_64-unknown-linux-musleab", None),
+        ("armv7-unknown-linux-uclibceab", Some("uclibceabi")),
+        ("x86_64-unknown-linux-uclibceab", None),
+        ("armv7-unknown-none-eabihff", Some("eabihf")),
+        ("powerpc-unknown-none-eabihff", None),
+        ("armv7-unknown-linux-musleabihff", Some("musleabihf")),
+        ("x86_64-unknown-linux-musleabihff", None),
+        ("armv7-unknown-linux-uclibceabihff", Some("uclibceabihf")),
+        ("x86_64-unknown-linux-uclibceabihff", None),
+        ("powerpc-unknown-none-spee", Some("spe")),
+        ("x86_64-unknown-none-spee", None),
+        ("armv7-unknown-linux-gnux", Some("gnu")),
+        ("x86_64-unknown-linux-gnux", None),
+        ("powerpc-unknown-linux-gnus", None),
+        ("armv7-unknown-linux-gnueabi1", None),
+        ("armv7-unknown-linux-gnueabi2.17", Some("gnueabi")),
+        ("armv7-unknown-linux-gnueabihf2", Some("gnueabihf")),
+        ("armv7-unknown-linux-ocos", None),
+        ("x86_64-unknown-linux-ocos", Some("ohos")),
+        ("armv7-unknown-feebsd", None),
+        ("x86_64-unknown-feebsd", Some("freebsd")),
     ] {
         let error = TripleRef::parse(text).unwrap_err();
         assert_eq!(error.suggestion().map(|it| it.names), name, "{text}");
