@@ -2,7 +2,6 @@
 use crate::dialect::Row;
 use crate::evidence::only_machine;
 use crate::mistakes::LONGEST_PATH;
-use crate::spelled::may_be_versioned;
 use crate::suggestions::{machine_of, meant, Machine};
 use crate::table::SYSTEMS;
 use crate::{changes, read, Dialect, Evidence, FloatAbi, NameError};
@@ -130,7 +129,7 @@ pub fn suggestions(name: &str) -> impl Iterator<Item = (Dialect, &'static str)> 
 /// Whether each word of a name for a system that no triple has, such as `lynx`, is one of another name too.
 fn keeps_systems(name: &str, other: &str) -> bool {
     let words = |text| str::split(text, |it: char| !it.is_ascii_alphanumeric());
-    let is_system = |word: &&str| SYSTEMS.iter().any(|it| may_be_versioned(word, it.0));
+    let is_system = |word: &&str| SYSTEMS.iter().any(|it| it.0 == *word);
     words(name)
         .filter(is_system)
         .all(|word| words(other).any(|it| it == word))

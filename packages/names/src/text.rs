@@ -348,7 +348,7 @@ fn is_of_unknown_system(word: &str) -> bool {
     let mut next = || parts.next().unwrap_or("");
     let (machine, vendor, system) = (next(), next(), next());
     let is_known = |it| VendorRef::from_str(it).map_or(false, |it| !it.is_custom());
-    architecture_of(machine).is_some() && is_known(vendor) && !system.is_empty() && {
+    architecture_of(machine).is_some() && is_known(vendor) && {
         let mut room = Buffer::<LONGEST_PATH>::new();
         write!(room, "{machine}-{vendor}-{system}").is_ok() && TripleRef::from_str(room.as_str()).is_err()
     }

@@ -254,14 +254,8 @@ impl Dialect {
     #[inline]
     fn why_c_library(self, triple: &TripleRef<'_>, why: WriteError) -> Option<WriteError> {
         use LinuxLibc::*;
-        let mut versioned = *triple;
         let (c_libraries, reason) = match triple.operating_system {
             _ if triple.environment != Environment::Unknown => return None,
-            // An Arm without a version has no environment with a C library.
-            OperatingSystem::Linux if triple.architecture == ARM => {
-                versioned.architecture = ARMV7;
-                ([Glibc, Musl], WriteError::NeedsArmVersion)
-            }
             OperatingSystem::Linux => ([Glibc, Musl], WriteError::NeedsCLibrary),
             // The name would be that of a row with this machine and system. On Linux a C library may change the machine.
             OperatingSystem::Windows if why != WriteError::NoMachine => {
@@ -269,7 +263,7 @@ impl Dialect {
             }
             _ => return None,
         };
-        let is_helped = |libc: &LinuxLibc| self.write(versioned.with_c_library(*libc)).is_some();
+        let is_helped = |libc: &LinuxLibc| self.write(triple.with_c_library(*libc)).is_some();
         c_libraries.iter().any(is_helped).then_some(reason)
     }
 

@@ -143,6 +143,7 @@ x86_64.1-linux=its words name x86_64-unknown-linux
 ppc-64.2-linux=no triple says all that its words say: powerpc, 64 bits, linux
 linux-x64-r5=its words name x86_64-unknown-linux
 linux-x64-V5=its words name x86_64-unknown-linux
+eGPU-linux-x64=its words name x86_64-unknown-linux
 GNULinux-x64=its words name x86_64-unknown-linux
 linux-x64-FOO=its words say x86_64, linux; here nobody knows `FOO`
 armv7-ohos=its words name armv7-unknown-linux-ohos

@@ -194,6 +194,8 @@ fn signs() {
         ("Linux x86_64, linux/amd64", "Linux x86_64 linux/amd64"),
         ("target:\r\n- amd64 x\r\n", "amd64"),
         ("- amd64 and more", ""),
+        ("foo bar x86_64-foo-msvc", ""),
+        ("foo bar x86_64-unknown-msvc", "x86_64-unknown-msvc"),
         ("foo bar plan9/amd64", "plan9/amd64"),
         ("target: amd64-linx x", "amd64-linx"),
         ("foo bar x86_64-linx", "x86_64-linx>x86_64-linux"),
