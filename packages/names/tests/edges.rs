@@ -322,6 +322,7 @@ debian hello_1_armhf.deb=armv7-unknown-linux-gnueabihf
 debian hello-windows_1_amd64.deb=!
 debian binutils-mingw-w64-i686_2_amd64.deb=x86_64-unknown-linux-gnu
 debian newlib-none_1_amd64.deb=x86_64-unknown-linux-gnu
+debian amd64.deb=x86_64-unknown-linux-gnu
 debian x_1_arm.deb=!
 go linux_armhf=!
 go Linux_arm=arm-unknown-linux

@@ -225,6 +225,11 @@ fn signs() {
     ] {
         same(text, expected);
     }
+    same("linux/amd64,é,x86_64-linux", "linux/amd64 é! x86_64-linux");
+    // A name that is too long isn't looked at for a misspelling.
+    let long = |end| format!("x86_64-apple-ios17{}{end}", ".2".repeat(119));
+    same(&long(""), &format!("{}>x86_64-apple-ios", long("")));
+    same(&long("2"), &format!("{}!", long("2")));
     // Of a path that is too long only the end is given.
     let (end, folder) = ("aarch64-linux-gnu-gcc", |length| "q".repeat(length));
     let path = format!("{}/{end}", folder(256 - 1 - end.len()));
