@@ -229,8 +229,14 @@ riscv32i riscv32im riscv32ima riscv32imac riscv32imafc riscv32gc";
             // No machine has a higher level than some number.
             ("aarch64@v8.99", "aarch64@v8.4000000000"),
         ] {
-            assert!(is_at_most(machine(first), machine(second)), "{first} {second}");
-            assert!(is_at_most(machine(second), machine(first)), "{second} {first}");
+            assert!(
+                is_at_most(machine(first), machine(second)),
+                "{first} {second}"
+            );
+            assert!(
+                is_at_most(machine(second), machine(first)),
+                "{second} {first}"
+            );
         }
         let all = known_names(Field::Architecture)
             .iter()

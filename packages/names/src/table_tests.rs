@@ -317,9 +317,19 @@ fn each_rule_rewrites_an_unknown_part_once() {
 
 #[test]
 fn no_rule_fits_a_known_name() {
-    let fields = [Field::Architecture, Field::Vendor, Field::OperatingSystem, Field::Environment, Field::BinaryFormat];
+    let fields = [
+        Field::Architecture,
+        Field::Vendor,
+        Field::OperatingSystem,
+        Field::Environment,
+        Field::BinaryFormat,
+    ];
     let versioned = ["macosx10.7", "darwin20.1", "ios17.2.1", "arm64"];
-    for name in fields.iter().flat_map(|it| known_names(*it)).chain(&versioned) {
+    for name in fields
+        .iter()
+        .flat_map(|it| known_names(*it))
+        .chain(&versioned)
+    {
         for place in [Place::First, Place::Second, Place::AfterFirst] {
             assert!(fit_alone(place, name).is_none(), "{name}");
         }

@@ -29,6 +29,7 @@ use target_lexicon::{Architecture, OperatingSystem, Source, TextPart, TripleRef,
 /// Of a word that is none of these, a part between slashes is given, or else one between dots, if it is one: that of
 /// `target/wasm32-wasip1/release` or of `[target.wasm32-wasip1]`. A word is a part of a pattern, and isn't given, if
 /// one of `$*%<>{}` is next to a dash of it: `${ARCH}-linux`. So keys, versions and the labels of runners aren't given.
+/// Nor is a name of which no word says a machine or a system, such as `js/wasm`.
 ///
 /// Nothing is allocated, and the time is linear.
 ///

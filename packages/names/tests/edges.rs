@@ -2,8 +2,8 @@
 use std::fmt::{self, Display, Write};
 use target_lexicon::{Field, PointerWidth, TripleRef};
 use target_names::{
-    changes, meanings, read, targets_in, vendor_suggestion, visible, Dialect, Evidence, FloatAbi, LinuxLibc, Meaning, Mistake, NameError, Said, Suggest as _, TargetInfo,
-    WordIs, SHOWN,
+    changes, meanings, read, targets_in, vendor_suggestion, visible, Dialect, Evidence, FloatAbi, LinuxLibc, Meaning,
+    Mistake, NameError, Said, Suggest as _, TargetInfo, WordIs, SHOWN,
 };
 
 /// A writer with room for so many bytes.
@@ -145,6 +145,7 @@ linux-x64-r5=its words name x86_64-unknown-linux
 linux-x64-V5=its words name x86_64-unknown-linux
 eGPU-linux-x64=its words name x86_64-unknown-linux
 GNULinux-x64=its words name x86_64-unknown-linux
+linux-x64-FOOBar=its words say x86_64, linux; here nobody knows `FOO`
 linux-x64-FOO=its words say x86_64, linux; here nobody knows `FOO`
 armv7-ohos=its words name armv7-unknown-linux-ohos
 armhf-linux-uclibc-foo=its words say arm, hard-float, linux, uclibc; here nobody knows `foo`";
@@ -430,7 +431,8 @@ fn a_mistake_names_all_tools() {
 #[test]
 fn meanings_are_those_of_each_tool() {
     let meant = |text| {
-        let shown = |it: Meaning| format!("{} {}", it.of, it.triple.map_or_else(|why| format!("!{why}"), |it| it.to_string()));
+        let shown =
+            |it: Meaning| format!("{} {}", it.of, it.triple.map_or_else(|why| format!("!{why}"), |it| it.to_string()));
         meanings(text).map(shown).collect::<Vec<_>>().join(", ")
     };
     let horizon = meanings("armv7-nintendo-horizon-newlib").next().unwrap();

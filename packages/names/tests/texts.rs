@@ -201,8 +201,8 @@ fn signs() {
         ("foo #", "foo!"),
         ("target:\n- amd64 x", "amd64"),
         ("target:'amd64' x", "amd64"),
-        // Where no word is known it isn't taken for a misspelled name.
-        ("foo bar linu/am64", ""),
+        // Where no word is known it isn't told from prose.
+        ("foo bar js/wasm or linu/am64", ""),
         ("foo bar x86_64-foo-msvc", ""),
         ("foo bar x86_64-unknown-msvc", "x86_64-unknown-msvc"),
         ("foo bar plan9/amd64", "plan9/amd64"),

@@ -2,8 +2,8 @@
 use target_lexicon::{DeploymentTarget, Endianness, Field, PointerWidth, Triple, TripleRef};
 use target_lexicon::{Named as _, TripleExt as _};
 use target_names::{
-    known_names, suggestion, suggestions, visible, Dialect, LinuxLibc, Suggest as _, TargetInfo, TypeLayout,
-    TypeSizes,
+    known_names, suggestion, suggestions, visible, Dialect, LinuxLibc, Suggest as _, TargetInfo,
+    TypeLayout, TypeSizes,
 };
 
 /// A triple, and after `=` its C library, how floating-point arguments are passed, whether it is like Unix, and the size and alignment of
@@ -515,7 +515,9 @@ fn an_error_shows_printable_ascii() {
             "{shown}"
         );
     };
-    let all = ('\0'..='\u{700}').chain('\u{1100}'..='\u{1200}').chain('\u{2000}'..='\u{2100}');
+    let all = ('\0'..='\u{700}')
+        .chain('\u{1100}'..='\u{1200}')
+        .chain('\u{2000}'..='\u{2100}');
     for c in all.chain(['\u{3164}', '\u{feff}', '\u{e0001}']) {
         shows(visible(c).to_string());
         // Errors take long: of all of ASCII, and of others such as those that turn the direction.
