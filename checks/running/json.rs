@@ -105,14 +105,18 @@ pub fn list(r: &mut Report, value: &Value) {
     let readings: Vec<V> = elements.iter().filter_map(|it| if let V::C(s::Result__Ok, t) = s::reading(v(it.as_str()?)) { Some(t[0]) } else { None }).collect();
     unsafe { TRIED = Some(library::seq(&readings)) };
     let element = |(i, it): (usize, &Value)| error_of(it).map(|error| con(s::ListErrorValue__Element, &[N(i as u64), error]));
-    let errors: Vec<V> = elements.iter().enumerate().filter_map(element).chain([V::C(s::ListErrorValue__NotList, &[])]).collect();
+    let no_text = |i: usize| con(s::ListErrorValue__Element, &[N(i as u64), V::C(s::JsonErrorValue__NotText, &[])]);
+    let others = (0..elements.len()).filter(|i| elements[*i].is_string()).map(no_text);
+    let errors: Vec<V> = elements.iter().enumerate().filter_map(element).chain(others).chain([V::C(s::ListErrorValue__NotList, &[])]).collect();
     let errors: Vec<V> = errors.into_iter().filter(|it| s::IsListErrorOf(x, *it).yes()).collect();
     match from_value::<Vec<Triple>>(value.clone()) {
         Ok(triples) => {
             readings.iter().zip(&triples).for_each(|(t, triple)| r.same("ListParsesAs", *t, &triple.as_triple_ref(), value));
             r.holds("ListParsesAs", readings.len() == triples.len() && s::ListParsesAs(x, library::seq(&readings)).yes() && errors.is_empty(), value);
             let more = library::seq(&[&readings[..], &[s::unknown_values()]].concat());
-            r.holds("ListParsesAs of more triples", !s::ListParsesAs(x, more).yes(), value);
+            let others = library::seq(&vec![s::unknown_values(); readings.len()]);
+            let is_other = readings.is_empty() || !s::ListParsesAs(x, others).yes();
+            r.holds("ListParsesAs of other triples", is_other && !s::ListParsesAs(x, more).yes(), value);
         }
         Err(shown) => {
             r.holds("ListParsesAs of a list with an error", !s::ListParsesAs(x, library::seq(&readings)).yes() && errors.len() == 1, value);
