@@ -32,10 +32,9 @@ fn what_is_displayed_fails_as_its_writer_does() {
         fails(&triple(text).rustc_cfg());
         fails(&triple(text).llvm_target());
     }
-    for (dialect, name) in "debian linux/arm64,gnu bpfel-linux-gnu,go Linux/AMD64,gnu nios2-linux-gnu,uname Linux,oci linux/amd46,debian all"
-        .split(',')
-        .map(|it| it.split_once(' ').unwrap())
-    {
+    let unknown = "debian linux/arm64,gnu bpfel-linux-gnu,go Linux/AMD64,gnu nios2-linux-gnu,uname Linux,\
+                   oci linux/amd46,debian all";
+    for (dialect, name) in unknown.split(',').map(|it| it.split_once(' ').unwrap()) {
         let error = dialect.parse::<Dialect>().unwrap().parse(name).unwrap_err();
         fails(&error);
         error.mistake().iter().for_each(|it| fails(it));
