@@ -228,7 +228,7 @@ pub fn canonical_strings_are_keys()
 /// The headline, all of these laws in one: every string parses or is refused, in exactly one way. Each parsed triple
 /// has a plain vendor. A triple comes back if and only if none of the five exceptions applies. The round trip of each
 /// triple with a plain vendor succeeds, is the normal step, keeps the answers of the four queries, and gives the
-/// canonical form; and each canonical triple has a string of its own.
+/// canonical form; and each canonical form of a plain triple has a string of its own.
 pub fn round_trips_are_known()
     ensures { RoundTripsAreKnown }
 {

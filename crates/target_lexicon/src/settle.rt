@@ -59,8 +59,8 @@ impl Triple {
     /// The canonical form of the triple: it comes back. It is specified as two normal steps, of which the second
     /// changes nothing (law `second_step_changes_one`). There are two calls since one triple would take both steps if
     /// printing followed upstream's rules. The vendor must be plain, as for `normal`. A triple that comes back is
-    /// unchanged. No other canonical triple has the same string (law `canonical_strings_are_keys`), so the string
-    /// serves as a key. Nothing is allocated.
+    /// unchanged. A plain triple with another canonical form has another canonical string (law
+    /// `canonical_strings_are_keys`), so the string serves as a key. Nothing is allocated.
     // Not in Rust.
     pub fn settle(self) -> Triple
         requires { is_plain (vendor_value self.vendor) ≡ true }

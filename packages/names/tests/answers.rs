@@ -186,13 +186,37 @@ fn counted<const N: usize>(all: impl Iterator<Item = [(&'static str, String); N]
     counts.into_iter().map(line).collect()
 }
 
-/// Compares lines with those of answers.txt for the same facts.
+/// Compares lines with those of answers.txt for the same facts. With the variable ANSWERS it writes them there instead:
+/// `ANSWERS=write cargo test --test answers -- --test-threads=1`.
 fn compare(found: Vec<String>) {
-    let all = include_str!("answers.txt").replace("\n  ", " ");
-    for line in found {
-        let fact = line.split_inclusive(' ').next().unwrap();
-        assert_eq!(Some(&line[..]), all.lines().find(|it| it.starts_with(fact)));
+    let is_of = |fact: &str, line: &str| line.split(' ').next() == Some(fact);
+    let facts = |text: &str| text.replace("\n  ", " ").lines().map(String::from).collect::<Vec<_>>();
+    if std::env::var_os("ANSWERS").is_some() {
+        let path = concat!(env!("CARGO_MANIFEST_DIR"), "/tests/answers.txt");
+        let mut all = facts(&std::fs::read_to_string(path).unwrap());
+        for line in &mut all {
+            let now = found.iter().find(|it| is_of(it.split(' ').next().unwrap(), line));
+            *line = wrapped(now.unwrap_or(line));
+        }
+        return std::fs::write(path, all.join("\n") + "\n").unwrap();
     }
+    let all = facts(include_str!("answers.txt"));
+    let differs = |line: &&String| !all.contains(line);
+    let differing: Vec<_> = found.iter().filter(differs).cloned().collect();
+    assert!(differing.is_empty(), "lines that answers.txt doesn't have:\n{}", differing.join("\n"));
+}
+
+/// A line in pieces of at most 120 columns.
+fn wrapped(line: &str) -> String {
+    let mut width = 0;
+    let word = |word: &str| {
+        let is_first = width == 0;
+        width += 1 + word.chars().count();
+        let is_long = width > 121 && !is_first;
+        width = if is_long { 3 + word.chars().count() } else { width };
+        format!("{}{word}", if is_first { "" } else if is_long { "\n  " } else { " " })
+    };
+    line.split(' ').map(word).collect()
 }
 
 #[test]
