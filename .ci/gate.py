@@ -32,7 +32,7 @@ MODULES = {it: f"python3-{it}" for it in """hypothesis pip venv hatchling build 
     jsonschema markdown""".split()} | {"ensurepip": "python3-venv"}
 PACKAGES = {it: it for it in """git clang valgrind cmake meson cbindgen jq pkg-config mypy pypy3 shellcheck pyflakes3
     chromium npm esbuild lintian rpm makepkg zsh fish strace""".split()} | MODULES | {
-    "coqc": "coq", "cargo": "cargo-web", "rustc": "rustc-web", "rustfmt": "rustfmt-web",
+    "coqc": "coq", "ocamlopt": "ocaml", "cargo": "cargo-web", "rustc": "rustc-web", "rustfmt": "rustfmt-web",
     "cargo-clippy": "rust-web-clippy", "cc": "gcc", "c++": "g++", "nm": "binutils",
     "bwrap": "bubblewrap", "man": "man-db", "cram3": "python3-cram", "chromedriver": "chromium-driver",
     "node": "nodejs", "tsc": "node-typescript", "dpkg-buildpackage": "dpkg-dev",
@@ -67,11 +67,12 @@ COMMANDS = "packages/target/release"
 
 # Each step: what it is for, its command, and the tools without which it isn't run.
 FIRST = [
-    ("lists of names and the Rust source are what they are made from; what was reviewed of it, and of the statement, "
-     "is as it was", "tools/write --check", "rustfmt"),
-    ("the published table of names is what its schema says", "checks/names", "jsonschema"),
-    ("no script has a warning", "checks/scripts", "shellcheck pyflakes3"),
-    ("nothing that another user of the machine plants reaches the gate", "checks/planted", ""),
+    ("lists of names and the Rust source are what they are made from; what was reviewed of the statement is as it "
+     "was", "tools/write --check", "rustfmt"),
+    ("upstream's answers contradict each change of one cell of the table of names", "checks/upstream/cells", ""),
+    ("the published table of names is what its schema says", "checks/gate/table_of_names", "jsonschema"),
+    ("no script has a warning", "checks/gate/scripts", "shellcheck pyflakes3"),
+    ("nothing that another user of the machine plants reaches the gate", "checks/gate/planted", ""),
 ]
 PROOFS = ("all proofs, must-fail edits, tests and proved programs", "rt ci", "rt")
 # Two rows of steps: those that need nothing which the gate builds, and those that build something, or need what is
@@ -83,25 +84,24 @@ WITHOUT_PROOF = [[
     ("the crate of other tools' names: each row, shape and rule, laws over generated strings, samples of the "
      "documentation",
      "packages/names/test", "cargo"),
-    ("the definitions run, and say what the Rust crate answers; what they take from the kit's library, written again, "
-     "is the kit's; without something to compare that fails",
-     "checks/specification quick && checks/running/test && checks/mutants rust 12", "cargo"),
-    ("Coq proves the laws of the definitions, and of the Rust source, which is the proved source; twelve edits of "
-     "them, others on each day, are refused at their lemmas; bad input",
-     'checks/theorem --keep "$WORK/theorem" && checks/coq/edits "$WORK/theorem" 12 && checks/coq/test', "coqc"),
+    ("the definitions, as Coq extracts them, say what upstream and the Rust crate answer; bad input",
+     "checks/specification quick && checks/upstream/extracted/test", "cargo coqc ocamlopt"),
+    ("Coq proves the laws of the definitions, and of the Rust source, which is the proved source and what rustc "
+     "compiles; twelve edits of them, others on each day, are refused at their lemmas; bad input",
+     'checks/theorem --keep "$WORK/theorem" && checks/coq/edits "$WORK/theorem" 12 && checks/coq/test', "coqc rustc"),
     ("they, and the table of names, say what upstream's own crate answers",
-     'if [ "$UPSTREAM" ]; then tools/port "$UPSTREAM"; '
+     'if [ "$UPSTREAM" ]; then tools/port "$UPSTREAM" && checks/theorem upstream "$UPSTREAM"; '
      'else echo "left out: upstream\'s crate (UPSTREAM isn\'t set)"; fi',
-     "cargo"),
+     "cargo coqc ocamlopt"),
     ("the command `target-lexicon`: arguments, output and statuses", "packages/command/test", "cargo cram3 jq"),
     ("the library for C, header, packages and samples, as C and C++ users have them", "packages/c/test", "cargo cc"),
-    ("Debian's packages are built, and lintian finds no error", 'checks/planted packages/debian/build debian -d',
+    ("Debian's packages are built, and lintian finds no error", 'checks/gate/planted packages/debian/build debian -d',
      "cargo cc dpkg-buildpackage"),
 ], [
     ("the command `target-lexicon`, and a program to compare with, are built for the next steps",
-     "(cd packages/command && cargo build --quiet --locked --release --all-features) && "
+     "(cd packages/command && ../../tools/cargo build --quiet --locked --release --all-features) && "
      f'cp {COMMANDS}/lines {COMMANDS}/target-lexicon "$BUILT/bin"', "cargo"),
-    ("the library for C is built and installed for the next steps", 'checks/planted packages/c/install "$BUILT"',
+    ("the library for C is built and installed for the next steps", 'checks/gate/planted packages/c/install "$BUILT"',
      "cargo cc"),
     ("what other tools say of names and targets; suggestions keep the machine",
      "checks/compare elsewhere && checks/compare llvm && checks/compare edits", "cargo cc"),
@@ -110,20 +110,20 @@ WITHOUT_PROOF = [[
      "cargo cc hatchling"),
     ("a list of misspelled names takes at most ten times as long as one of right names",
      f"packages/command/tests/cost {COMMANDS}/target-lexicon", "cargo valgrind"),
-    ("what is released is made, and works in clean folders", 'umask 077; checks/planted tools/release release',
+    ("what is released is made, and works in clean folders", 'umask 077; checks/gate/planted tools/release release',
      "cargo cc"),
     ("the module, the package and the page for JavaScript are built",
-     'checks/planted packages/javascript/build --out "$WORK/web"', "cargo wasm32"),
+     'checks/gate/planted packages/javascript/build --out "$WORK/web"', "cargo wasm32"),
     ("the page and the package for JavaScript answer as the command does, in Node and in a browser",
      f'packages/javascript/test "$WORK/web" --command {COMMANDS}/target-lexicon', "cargo wasm32"),
 ]]
 LAST = [
-    ("links, names, samples, counts and versions of the pages, and the pictures", "checks/pages", "cargo"),
+    ("links, names, samples, counts and versions of the pages, and the pictures", "checks/gate/pages", "cargo"),
     ("the program `triples` and the command `target-lexicon`: stored rows, unusual streams, large inputs, samples "
-     "of the pages", "checks/rows/run", "cargo cram3"),
+     "of the pages", "checks/gate/rows/run", "cargo coqc cram3 ocamlopt"),
     ("no message and no output has what isn't printable ASCII of a hostile string; SECURITY's other promises",
-     "checks/visible && checks/security", "cargo cc strace"),
-    ("each allocation fails in turn", "checks/fail_allocations", "rt cc"),
+     "checks/gate/visible && checks/gate/security", "cargo cc strace"),
+    ("each allocation fails in turn", "checks/gate/fail_allocations", "rt cc"),
     ("names, rules and tables are upstream's, by its kept answers", "checks/compare answers", "cargo"),
     ("the mode json: the proved program answers as Rust's serde_json does",
      "/usr/bin/python3 checks/compare json --inputs 200",
@@ -234,9 +234,6 @@ def main():
     if has("/usr/share/cargo/registry/clap-4.0.32") and subprocess.run(
         ["tools/debian_crates", CARGO_HOME], cwd=TOP).returncode == 0:
         ENVIRONMENT["CARGO_HOME"] = CARGO_HOME
-    if "rt" not in WITHOUT:
-        first_page = subprocess.run(["rt", "doc"], capture_output=True, text=True).stdout.strip()
-        ENVIRONMENT["KIT"] = f"{os.path.dirname(first_page)}/rattle"
     with concurrent.futures.ThreadPoolExecutor(max(3, os.cpu_count())) as pool:
         if not in_turn(FIRST) or not all([*pool.map(in_turn, [[PROOFS], *WITHOUT_PROOF])]):
             return

@@ -6,18 +6,18 @@ import sys
 
 ROOT = os.path.dirname(os.path.dirname(os.path.realpath(__file__)))
 BUILT = os.environ.get("BUILT", "")
-# The tools that the caller names, as checks/left_out says.
+# The tools that the caller names, as checks/gate/left_out says.
 WITHOUT = os.environ.get("WITHOUT", "").split()
 # cargo takes crates from Debian's packages where these are installed, and then needs no network.
 DEBIAN_CRATES = f"{ROOT}/tools/debian.toml"
-CARGO = ["cargo", *(["--config", DEBIAN_CRATES, "--offline"] if os.path.isdir("/usr/share/cargo/registry") else [])]
+CARGO = [f"{ROOT}/tools/cargo", *(["--config", DEBIAN_CRATES, "--offline"] if os.path.isdir("/usr/share/cargo/registry") else [])]
 COMMANDS = f"{ROOT}/packages/command"
 COMMANDS_TARGET = f"{ROOT}/packages/target"
 
 
 def left_out(tool, what):
     """Says that a check leaves something out. Returns whether that is a failure."""
-    return subprocess.run([f"{ROOT}/checks/left_out", tool, what]).returncode != 0
+    return subprocess.run([f"{ROOT}/checks/gate/left_out", tool, what]).returncode != 0
 
 
 def made(check, command, folder, status, **environment):
@@ -40,7 +40,7 @@ def cargo_program(check, name, status=1):
     if os.path.isdir("/usr/share/cargo/registry/clap-4.0.32"):
         environment["CARGO_HOME"] = f"{COMMANDS_TARGET}/debian"
         made(check, [f"{ROOT}/tools/debian_crates", environment["CARGO_HOME"]], COMMANDS, status)
-    made(check, ["cargo", "build", "--quiet", "--release", "--locked", "--all-features"], COMMANDS, status,
+    made(check, [CARGO[0], "build", "--quiet", "--release", "--locked", "--all-features"], COMMANDS, status,
          **environment)
     return f"{os.environ.get('CARGO_TARGET_DIR', COMMANDS_TARGET)}/release/{name}"
 

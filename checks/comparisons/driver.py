@@ -1,5 +1,5 @@
 """Compares what the Rust crate says of C libraries, floating-point arguments and types of C with what rustc and clang
-say, the rules of packages/names/examples/linkers.rs with rustc's, variants and versions with LLVM's, and what the
+say, the rules of packages/names/examples/linkers.rs with rustc's, versions of macOS with LLVM's, and what the
 sample driver in C says of clang's triples with clang."""
 import concurrent.futures
 import re
@@ -37,13 +37,6 @@ int is_hard = 0;
 """
 
 
-# The variants of an architecture, and where LLVM's differ: in pointers of x32 and its like, in architectures that have
-# no name here, in extensions of RISC-V, which stay here, and in the byte order of Arm, of which clang is asked.
-VARIANTS = {"of 32 bits": "gnux32|gnu_ilp32|'nvptx'|'powerpcle'|riscv64a23",
-            "of 64 bits": "riscv32(i|im|ima|imafc|imc)-",
-            "little-endian": "'arm', '-'|'powerpcle'|'sparcel'", "big-endian": "'armeb', '-'"}
-
-
 def library_of_rustc(spec):
     """The C library by the environment of rustc's target, or nothing if that says none."""
     env, system = spec.get("env", ""), spec.get("os", "none")
@@ -65,57 +58,15 @@ def our_answers(targets):
     return {target: line.split() for target, line in zip(targets, lines, strict=True)}
 
 
-def clang_machine(target, option):
-    """The machine that clang compiles for with an option."""
-    return output("clang", "-target", target, option, "-print-effective-triple").partition("-")[0]
-
-
-def clang_environment(target, bits):
-    """The environment of the target with other pointers."""
-    option = f"-mabi={bits}" if target.startswith("mips") else f"-m{bits}"
-    return output("clang", "-target", target, option, "-print-target-triple").strip().rpartition("-")[2]
-
-
-def deployment_target(target):
-    """The version that `rustc --print deployment-target` prints for one of Apple's targets."""
-    return output("rustc", "--print", "deployment-target", "--target", target).strip().rpartition("=")[2]
-
-
-def check_variants(report, targets, asked):
-    """Compares the variants of the targets and of all architectures. `asked` returns what LLVM says of each string."""
+def check_versions(report, targets, asked):
+    """Compares the versions of macOS. `asked` returns what LLVM says of each string."""
     systems = [f"darwin{major}{minor}" for major in range(1, 25)
                for minor in ("", ".6")] + [f"macosx{version}" for version in ("10.7", "10.15.7", "11", "15.2")]
-    strings = [*targets, *(f"{it}-unknown-linux-gnu" for it in report.target_lexicon.Architecture),
-               *(f"x86_64-apple-{it}" for it in systems)]
-    ours = our_answers(strings)
-    theirs = asked(sorted({*strings, *(name for it in ours.values() for name in it[8:13])}))
-    known = [(string, it, theirs[it[8]]) for string, it in ours.items() if theirs[it[8]]["machine"] != "-"]
-    for i, (kind, but) in enumerate(VARIANTS.items(), 9):
-        report.fact(f"LLVM's variant {kind} is the same",
-                    ((string, theirs[it[i]]["machine"], llvm[kind]) for string, it, llvm in known), but)
-    if report.has("clang", shutil.which("clang")):
-        arm = [(string, option, order) for string, it, llvm in known if llvm["machine"].startswith("arm")
-               for option, order in (("-mlittle-endian", it[11]), ("-mbig-endian", it[12])) if order != "-"]
-        report.fact("clang's other byte order of Arm is the same", (
-            (string, order.startswith("armeb"), clang_machine(string, option).startswith("armeb"))
-            for string, option, order in arm))
-        changed = [(it[8], bits, variant.rpartition("-")[2]) for _, it, _ in known
-                   for bits, variant in ((32, it[9]), (64, it[10]))
-                   if "-linux-" in it[8] and variant.rpartition("-")[2] not in ("", it[8].rpartition("-")[2])]
-        report.fact("clang's environment on Linux with other pointers is the same", (
-            (target, bits, ours, clang_environment(target, bits)) for target, bits, ours in changed),
-                    "arm|aarch64|thumb|gnuspe")
+    ours = our_answers([*targets, *(f"x86_64-apple-{it}" for it in systems)])
+    theirs = asked([*ours])
     report.fact("LLVM's version of macOS is the same",
-                ((string, it[13], theirs[string]["version of macOS"]) for string, it, _ in known))
-    report.fact("LLVM's oldest version is the same",
-                ((string, it[14], llvm["oldest version"]) for string, it, llvm in known
-                 if llvm["oldest version"] != "-"))
-    apple = [target for target in targets if "-apple-" in target]
-    with concurrent.futures.ThreadPoolExecutor() as pool:
-        report.fact("rustc's oldest version is the same",
-                    zip(apple, (ours[target][14] for target in apple), pool.map(deployment_target, apple)))
-    report.fact("and no other system has one", ((string, it[14], "-") for string, it in ours.items()
-                                                if "-apple-" not in string))
+                ((string, it[9], theirs[string]["version of macOS"]) for string, it in ours.items()
+                 if theirs[string]["machine"] != "-"))
 
 
 def macros_of(target):
@@ -135,8 +86,6 @@ def clang_facts(target):
     size = {name: macros[f"__SIZEOF_{name.upper()}__"] for name in ("int", "long", "pointer")}
     return {"C types": "int {int}, long {long}, pointer {pointer} bytes".format(**size),
             "char": "unsigned" if "__CHAR_UNSIGNED__" in macros else "signed",
-            "-m": "".join(re.findall(r'"-m" "([^"]*)"', linked)[:1]),
-            "-dynamic-linker": "".join(re.findall(r'"--?dynamic-linker(?:=|" ")([^"]*)"', linked)[:1]),
             "linker": linker_of(linked), "macros": macros}
 
 
@@ -163,25 +112,19 @@ def check_clang(report, asked, folder):
                      {f"{it}-{of}" for it in everywhere for of in SYSTEMS[1].split()})
     ours = {}
     for triple in triples:
-        said = output(f"{folder}/driver", triple).replace("options  -m ",
-                                                          "-m       ").replace(
-            "options  -dynamic-linker ", "-dynamic-linker ")
+        said = output(f"{folder}/driver", triple)
         if not said.startswith("error: "):
-            ours[triple] = {key.strip(): value.strip()
-                            for key, value in re.findall(r"^  (-dynamic-linker|.{8}) (.*)", said, re.M)}
+            ours[triple] = {key.strip(): value.strip() for key, value in re.findall(r"^  (.{8}) (.*)", said, re.M)}
     versions = asked([*ours])
     with concurrent.futures.ThreadPoolExecutor() as pool:
         theirs = {triple: it for triple, it in zip(ours, pool.map(clang_facts, ours)) if it}
         for_llvm = dict(zip(theirs, pool.map(lambda it: macros_of(ours[it]["for LLVM"]), theirs)))
     report.fact(f"the driver in C answers of {len(theirs)} of clang's {len(triples)} triples, of 300 at least",
                 [(len(theirs) >= 300, True)])
-    for kind, but in {"C types": ILP32, "char": SIGNS, "-m": None, "-dynamic-linker": None, "linker": LINKED}.items():
+    for kind, but in {"C types": ILP32, "char": SIGNS, "linker": LINKED}.items():
         answered = [(triple, ours[triple].get(kind, "-"), it[kind]) for triple, it in theirs.items() if kind != "linker"
                     or it[kind]]
         report.fact(f"and clang has the same {kind}", (row for row in answered if row[1] != "-"), but)
-    for kind in ("system", "version"):
-        report.fact(f"LLVM has the same stated {kind}",
-                    ((triple, it.get(kind, "-"), versions[triple][kind]) for triple, it in ours.items()))
     report.fact("clang defines the same macros for the string for LLVM, where it drops no version", (
         (triple, sorted(name for name in {*it["macros"], *for_llvm[triple]}
                         if it["macros"].get(name) != for_llvm[triple].get(name))[:5], [])

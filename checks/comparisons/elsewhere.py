@@ -27,7 +27,7 @@ import shutil
 import subprocess
 
 import built
-import upstream
+from upstream import crates
 from comparisons import python_platforms, rustc_cfg
 from comparisons.tools import Report, order_and_width, output, rows_of_names, rustc_answers, rustc_specs
 
@@ -244,7 +244,7 @@ class Comparison(Report):
         newer = {row.name for row in self.rows if row.note.startswith("since")} | {"wasip1/wasm"}
         self.fact("Go's names are those of `go tool dist list`", (
             (name, name in ours, name in theirs) for name in {*ours, *theirs} - (newer - {*theirs})))
-        arch = upstream.read(f"{output(go, 'env', 'GOROOT').strip()}/src/cmd/internal/sys/arch.go")
+        arch = crates.read(f"{output(go, 'env', 'GOROOT').strip()}/src/cmd/internal/sys/arch.go")
         machines = {}
         for text in re.findall(r"= &Arch\{(.*?)\n\}", arch, re.S):
             width = 8 * int(re.search(r"PtrSize:\s+(\d)", text)[1])
@@ -256,7 +256,7 @@ class Comparison(Report):
         if not self.has("containerd",
                         os.path.isdir("/usr/share/gocode/src/github.com/containerd/containerd/platforms")):
             return
-        upstream.write(f"{self.folder}/platforms.go", PLATFORMS)
+        crates.write(f"{self.folder}/platforms.go", PLATFORMS)
         subprocess.run([go, "build", "-o", f"{self.folder}/platforms", f"{self.folder}/platforms.go"], env=environment,
                        check=True)
         meanings = {**self.meanings("oci"), **{name: self.read(name, "oci") for name in platforms()}}
@@ -273,7 +273,7 @@ class Comparison(Report):
         # Levels of x86-64 are newer than Debian's rpm.
         meanings = {name: it for name, it in self.meanings("rpm").items() if not name.startswith("x86_64_v")}
         asked = {name: output("rpm", f"--target={name}-linux", "--eval", "%{_lib} %{optflags}") for name in meanings}
-        known = re.findall(r"^arch_canon:\s*(\w+):", upstream.read("/usr/lib/rpm/rpmrc"), re.M)
+        known = re.findall(r"^arch_canon:\s*(\w+):", crates.read("/usr/lib/rpm/rpmrc"), re.M)
         self.fact("rpm has its architectures", ((name, name in known, True) for name in meanings))
         self.fact("rpm has 64-bit libraries for 64-bit machines", (
             (name, it.pointer_width, 64 if "lib64" in asked[name] else 32) for name, it in meanings.items()),
@@ -289,7 +289,7 @@ class Comparison(Report):
         guess = "/usr/share/misc/config.guess"
         if not self.has("config.guess", os.path.exists(guess)):
             return
-        upstream.write(f"{self.folder}/uname", UNAME)
+        crates.write(f"{self.folder}/uname", UNAME)
         os.chmod(f"{self.folder}/uname", 0o755)
         rows = []
         for row in self.rows_of("uname"):
@@ -321,7 +321,7 @@ class Comparison(Report):
         file = glob.glob("/usr/share/cmake-*/Modules/Platform/Android-Determine.cmake")
         if not self.has("cmake", file):
             return
-        text = upstream.read(file[0])
+        text = crates.read(file[0])
         prefixes, triples = (dict(re.findall(rf'set\(NDK_ABI_([\w-]+)(?<!_LLVM)_{word} +"([\w-]+)"\)', text))
                              for word in ("TRIPLE", "LLVM_TRIPLE"))
         names = {row.name for row in self.rows_of("gnu", ("rw",))}
@@ -337,7 +337,7 @@ class Comparison(Report):
     def check_sources(self):
         """Each source of the table that is a file or a command."""
         with open(f"{built.ROOT}/packages/names/names.json", encoding="utf-8") as file:
-            sources = {name: it for name, it in json.load(file)["sources"].items() if it["asked"]}
+            sources = {name: it for name, it in json.load(file)["sources"].items() if it["seen"]}
         there = {name: bool(glob.glob(it["where"])) if it["where"].startswith("/")
                  else bool(shutil.which(it["where"].strip("`").split()[0]))
                  for name, it in sources.items()}
@@ -356,7 +356,7 @@ class Comparison(Report):
         host = output("uname", "-m").strip()
         nix = shutil.which("nix-instantiate") and output("nix-instantiate", "--store", "dummy://", "--eval", "--expr",
                                                          "builtins.currentSystem").strip('"\n')
-        makepkg = re.search(r'^CARCH="(.*)"', upstream.read("/etc/makepkg.conf"),
+        makepkg = re.search(r'^CARCH="(.*)"', crates.read("/etc/makepkg.conf"),
                             re.M) if os.path.exists("/etc/makepkg.conf") else None
         for tool, dialect, name in (("nix-instantiate", "nix", nix), ("makepkg", "pacman", makepkg and makepkg[1])):
             if self.has(tool, name):
@@ -367,7 +367,7 @@ class Comparison(Report):
     def check_node(self):
         main = glob.glob("/usr/lib/*/nodejs/esbuild/lib/main.js")
         if self.has("esbuild", main):
-            found = re.findall(r'"(\w+) (\w+) ([LB]E)": "@esbuild/', upstream.read(main[0]))
+            found = re.findall(r'"(\w+) (\w+) ([LB]E)": "@esbuild/', crates.read(main[0]))
             rows = [(f"{system}-{machine}", {"LE": "little", "BE": "big"}[order]) for system, machine, order in found]
             self.fact("esbuild's platforms have its byte order", (
                 (name, str(getattr(self.read(name, "node"), "endianness", None)), order) for name, order in rows),
@@ -413,7 +413,7 @@ class Comparison(Report):
             self.try_words(sub)
         crate = glob.glob("/usr/share/cargo/registry/cc-1*/src/lib.rs")
         if self.has("librust-cc-dev", crate):
-            text = upstream.read(crate[0])
+            text = crates.read(crate[0])
             pairs = dict(re.findall(r'"([\w.-]+)" => Some\("([\w.-]+)"\)',
                                     text[text.index("fn prefix_for_target"):][:9000]))
             written = {name: it.name_in("gnu") for name, it in self.parsed(list(pairs)).items()}
@@ -426,7 +426,7 @@ class Comparison(Report):
     def try_words(self, sub):
         """What config.sub makes of each machine of the library with each word, of its own and of the library, in each
         place."""
-        text = upstream.read(sub)
+        text = crates.read(sub)
         lexicon = self.target_lexicon
         known = [str(it) for field in (lexicon.Vendor, lexicon.OperatingSystem, lexicon.Environment,
                                        lexicon.BinaryFormat) for it in known_names(field)]
@@ -480,7 +480,7 @@ class Comparison(Report):
         clang = shutil.which("clang")
         if not self.has("clang", clang):
             return
-        names = upstream.read(f"{built.ROOT}/checks/known_triples.txt").split()
+        names = crates.read(f"{built.ROOT}/checks/upstream/known_triples.txt").split()
         printed = {name: output(clang, "-target", name, "-print-target-triple").strip() for name in names}
         # clang has kernels as systems, and older versions print androideabi as android.
         self.fact("what clang prints for a known name is read as that name", (

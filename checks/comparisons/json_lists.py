@@ -11,7 +11,7 @@ import subprocess
 import sys
 
 import target_lines
-import upstream
+from upstream import crates
 
 try:
     import hypothesis
@@ -72,7 +72,7 @@ def add_arguments(parser):
 
 
 def main(options, folder):
-    compared = upstream.programs("proved", "cargo")
+    compared = crates.programs("proved", "cargo")
     kinds = collections.Counter()
 
     def compare(given):

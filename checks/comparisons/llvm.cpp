@@ -1,7 +1,6 @@
 // Writes what LLVM says of the triple on each line: byte order, pointer width, object format, the version and the profile of 32-bit
-// Arm, whether TLS is emulated, whether there is COMDAT, the architecture and its variants of 32 and 64 bits, little-endian and
-// big-endian, the version of macOS, the oldest version of its system that LLVM supports, and the versions that the system and the
-// environment state; or `-` for each that LLVM doesn't know.
+// Arm, whether TLS is emulated, whether there is COMDAT, the architecture, and the versions of macOS, of the system and of the
+// environment; or `-` for each that LLVM doesn't know.
 #if __has_include("llvm/TargetParser/Triple.h")
 #include "llvm/TargetParser/ARMTargetParser.h"
 #include "llvm/TargetParser/Triple.h"
@@ -36,10 +35,10 @@ static std::string shown(const llvm::VersionTuple &version) {
   return std::to_string(version.getMajor()) + "." + std::to_string(version.getMinor() ? *version.getMinor() : 0);
 }
 
-static std::string versionsOf(const Triple &triple) {
-  llvm::VersionTuple macos, minimum = triple.getMinimumSupportedOSVersion();
+static std::string macOsOf(const Triple &triple) {
+  llvm::VersionTuple macos;
   bool isStated = triple.isMacOSX() && triple.getOSMajorVersion() != 0 && triple.getMacOSXVersion(macos);
-  return (isStated ? shown(macos) : "-") + " " + (minimum.empty() ? "-" : shown(minimum));
+  return isStated ? shown(macos) : "-";
 }
 
 static std::string stated(const llvm::VersionTuple &version) {
@@ -52,14 +51,12 @@ int main() {
   for (std::string line; std::getline(std::cin, line);) {
     Triple triple(Triple::normalize(line));
     if (triple.getArch() == Triple::UnknownArch)
-      std::cout << "- - - - - - - - - - - - - - - -\n";
+      std::cout << "- - - - - - - - - - -\n";
     else
       std::cout << (triple.isLittleEndian() ? "little " : "big ")
                 << (triple.isArch64Bit() ? "64 " : triple.isArch32Bit() ? "32 " : triple.isArch16Bit() ? "16 " : "- ")
                 << formats[triple.getObjectFormat()] << ' ' << armOf(triple) << ' ' << shown(triple.hasDefaultEmulatedTLS()) << ' '
                 << shown(triple.supportsCOMDAT()) << ' ' << nameOf(triple) << ' '
-                << nameOf(triple.get32BitArchVariant()) << ' ' << nameOf(triple.get64BitArchVariant()) << ' '
-                << nameOf(triple.getLittleEndianArchVariant()) << ' ' << nameOf(triple.getBigEndianArchVariant()) << ' '
-                << versionsOf(triple) << ' ' << stated(triple.getOSVersion()) << ' ' << stated(triple.getEnvironmentVersion()) << '\n';
+                << macOsOf(triple) << ' ' << stated(triple.getOSVersion()) << ' ' << stated(triple.getEnvironmentVersion()) << '\n';
   }
 }

@@ -13,7 +13,7 @@ import concurrent.futures
 import shutil
 import subprocess
 
-import upstream
+from upstream import crates
 from comparisons import driver
 from comparisons.tools import Report, output, rustc_answers, rustc_specs
 
@@ -35,8 +35,8 @@ def our_answers(triple):
 def llvm_asked(folder):
     """What asks LLVM about strings. It returns the answers of each."""
     flags = output("llvm-config", "--cxxflags", "--ldflags", "--libs", "--system-libs").split()
-    subprocess.run(["c++", f"{upstream.SOURCES}/llvm.cpp", "-o", f"{folder}/llvm", *flags], check=True)
-    kinds = (*KINDS, "machine", *driver.VARIANTS, "version of macOS", "oldest version", "system", "version")
+    subprocess.run(["c++", f"{crates.SOURCES}/llvm.cpp", "-o", f"{folder}/llvm", *flags], check=True)
+    kinds = (*KINDS, "machine", "version of macOS", "system", "version")
 
     def asked(strings):
         lines = output(f"{folder}/llvm", input="".join(f"{string}\n" for string in strings)).splitlines()
@@ -75,7 +75,7 @@ def main(options, folder):
             theirs = {name: {kind: it[kind] for kind in KINDS} for name, it in asked([*parsed]).items()}
             compare("LLVM", parsed, theirs, width=NARROW, format="uefi|visionos", **{"emulated TLS": "ohos"},
                     COMDAT="visionos")
-            driver.check_variants(report, [*parsed], asked)
+            driver.check_versions(report, [*parsed], asked)
             driver.check_clang(report, asked, folder)
         if report.has("clang", shutil.which("clang")):
             compare("clang", parsed, dict(zip(parsed, pool.map(clang_answer, parsed))), width="gnu_ilp32",

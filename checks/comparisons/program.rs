@@ -13,7 +13,7 @@ mod linkers;
 use serde_json::Value;
 use std::io::{self, Read};
 use std::process::ExitCode;
-use target_lexicon::{DeploymentTarget, Endianness, PointerWidth, TripleExt, TripleRef};
+use target_lexicon::{DeploymentTarget, TripleExt, TripleRef};
 use target_names::{CLibrary, FloatAbi, TargetInfo, TypeLayout};
 
 /// What mode `json` writes, or why the input is no list.
@@ -44,14 +44,13 @@ fn each(show: fn(&TripleRef) -> String, end: &str) -> io::Result<()> {
 }
 
 /// The C library, how floating-point arguments are passed, and the size and alignment of `long double` and `wchar_t`;
-/// `-` where there is no answer. Then how the target is linked, its string for LLVM, those of its variants, and
-/// versions.
+/// `-` where there is no answer. Then how the target is linked, its string for LLVM, and
+/// the version of macOS.
 fn driver(triple: &TripleRef) -> String {
     let layout = |it: Option<TypeLayout>| it.map_or("- -".to_string(), |it| format!("{} {}", it.size, it.alignment));
-    let string = |it: Option<TripleRef>| it.map_or("-".to_string(), |it| it.llvm_target().to_string());
     let version = |it: Option<DeploymentTarget>| it.map_or("-".to_string(), |it| format!("{}.{}", it.major, it.minor));
     format!(
-        "{} {} {} {} {} program{} {} {} {} {} {} {} {}\n",
+        "{} {} {} {} {} program{} {} {}\n",
         triple.c_library().map_or("-", CLibrary::name),
         triple.float_abi().map_or("-", FloatAbi::name),
         layout(triple.long_double_layout()),
@@ -59,12 +58,7 @@ fn driver(triple: &TripleRef) -> String {
         linkers::linker(triple),
         triple.program_suffix(),
         triple.llvm_target(),
-        string(triple.with_pointer_width(PointerWidth::U32)),
-        string(triple.with_pointer_width(PointerWidth::U64)),
-        string(triple.with_endianness(Endianness::Little)),
-        string(triple.with_endianness(Endianness::Big)),
         version(triple.macos_version()),
-        version(triple.minimum_os_version()),
     )
 }
 

@@ -1,31 +1,38 @@
-//! The calls whose instructions `checks/compare speed` counts, of upstream's crate, of the Rust crate and of the
-//! library for C.
+//! The calls that `checks/compare speed` counts and times, of upstream's crate, of the Rust crate and of the library for
+//! C.
 //!
-//! usage: speed WHO WHAT < LINES   WHO is `upstream`, `ours` or `c`. Calls WHAT 200 times with each line, or with the
-//! triple that it parses as, and prints how many calls that were. `none` calls what does nothing: it shows what the
-//! program itself takes. With `, refused` after it a field has an `X` at its end.
+//! usage: speed WHO WHAT < LINES      calls WHAT 200 times with each line, or with the triple that it parses as, and prints
+//!                                    how many calls that were; WHO is `upstream`, `ours` or `c`
+//!        speed times WHO WHAT < LINES  prints the nanoseconds of such a call, WHO's and upstream's: medians of 1,000
+//!                                    rounds, in each of which both are timed, without what the loop itself takes
+//!
+//! `none` calls what does nothing: it shows what the program itself takes. With `, refused` after it a string has an `X`
+//! at its end.
 use std::hint::black_box;
+use std::time::Instant;
 
-fn each<T>(items: &[T], call: fn(&T)) -> usize {
-    for _ in 0..200 {
-        items.iter().for_each(|it| black_box(call)(black_box(it)));
-    }
-    200 * items.len()
+/// A call with each of some items, and how many these are.
+type Pass = (usize, Box<dyn Fn()>);
+
+fn each<T: 'static>(items: Vec<T>, call: fn(&T)) -> Pass {
+    (items.len(), Box::new(move || items.iter().for_each(|it| black_box(call)(black_box(it)))))
 }
 
 /// The lines that parse, those that are refused, and the triples.
 fn parsed<T>(lines: &[String], parse: fn(&str) -> Option<T>) -> (Vec<String>, Vec<String>, Vec<T>) {
     let (read, refused): (Vec<_>, Vec<_>) = lines.iter().cloned().partition(|it| parse(it).is_some());
-    let triples = read.iter().filter_map(|it| parse(it)).collect();
+    let triples = lines.iter().filter_map(|it| parse(it)).collect();
     (read, refused, triples)
 }
 
 macro_rules! calls {
     ($who:ident) => {
         mod $who {
-            use super::{black_box, each, parsed};
+            use super::{black_box, each, parsed, Pass};
             use std::io::Write;
-            use ::$who::{Architecture, BinaryFormat, Environment, OperatingSystem, Triple, Vendor};
+            use ::$who::*;
+            use std::collections::hash_map::DefaultHasher;
+            use std::hash::{Hash, Hasher};
 
             fn print(text: impl std::fmt::Display) {
                 let mut out = [0; 256];
@@ -44,28 +51,64 @@ macro_rules! calls {
                 black_box(matches!(triple.vendor, Vendor::Custom(_)));
             }
 
-            pub fn run(what: &str, lines: &[String]) -> usize {
+            pub fn pass(what: &str, lines: &[String]) -> Pass {
                 let (read, refused, triples) = parsed(lines, |it| it.parse::<Triple>().ok());
                 let (what, end) = what.strip_suffix(", refused").map_or((what, ""), |it| (it, "X"));
                 let shown = |field: fn(&Triple) -> String| triples.iter().map(|it| field(it) + end).collect::<Vec<_>>();
-                let (architecture, vendor) = (shown(|it| it.architecture.to_string()), shown(|it| it.vendor.to_string()));
-                let (operating_system, environment) = (shown(|it| it.operating_system.to_string()), shown(|it| it.environment.to_string()));
-                let binary_format = shown(|it| it.binary_format.to_string());
+                let architecture = || shown(|it| it.architecture.to_string());
                 match what {
-                    "none" => each(&read, |_| ()),
-                    "endianness" => each(&triples, |it| drop(black_box(it.endianness()))),
-                    "pointer_width" => each(&triples, |it| drop(black_box(it.pointer_width()))),
-                    "default_calling_convention" => each(&triples, |it| drop(black_box(it.default_calling_convention()))),
-                    "data_model" => each(&triples, |it| drop(black_box(it.data_model()))),
-                    "architecture" => each(&architecture, |it| drop(black_box(it.parse::<Architecture>()))),
-                    "vendor" => each(&vendor, |it| drop(black_box(it.parse::<Vendor>()))),
-                    "operating_system" => each(&operating_system, |it| drop(black_box(it.parse::<OperatingSystem>()))),
-                    "environment" => each(&environment, |it| drop(black_box(it.parse::<Environment>()))),
-                    "binary_format" => each(&binary_format, |it| drop(black_box(it.parse::<BinaryFormat>()))),
-                    "lexicon_parse, lexicon_print" => each(&read, |it| print(it.parse::<Triple>().expect("a triple"))),
-                    "lexicon_parse, lexicon_facts" => each(&read, |it| ask(&it.parse().expect("a triple"))),
-                    "lexicon_facts" => each(&triples, ask),
-                    "lexicon_parse, lexicon_error_line" => each(&refused, |it| print(it.parse::<Triple>().expect_err("a refusal"))),
+                    "none" => each(read, |_| ()),
+                    "parse" if end.is_empty() => each(read, |it| drop(black_box(it.parse::<Triple>()))),
+                    "parse" => each(
+                        read.into_iter().map(|it| it + "x").filter(|it| it.parse::<Triple>().is_err()).collect(),
+                        |it| drop(black_box(it.parse::<Triple>())),
+                    ),
+                    "parse, all targets" => each([read, refused].concat(), |it| drop(black_box(it.parse::<Triple>()))),
+                    "to_string" => each(triples, |it| drop(black_box(it.to_string()))),
+                    "print" => each(triples, |it| print(it)),
+                    "clone" => each(triples, |it| drop(black_box(it.clone()))),
+                    "==" => each(triples.windows(2).map(|it| (it[0].clone(), it[1].clone())).collect(), |(it, next)| {
+                        black_box(it == next);
+                        black_box(it == black_box(it));
+                    }),
+                    "hash" => each(triples, |it| {
+                        let mut hasher = DefaultHasher::new();
+                        it.hash(&mut hasher);
+                        black_box(hasher.finish());
+                    }),
+                    "endianness" => each(triples, |it| drop(black_box(it.endianness()))),
+                    "pointer_width" => each(triples, |it| drop(black_box(it.pointer_width()))),
+                    "default_calling_convention" => each(triples, |it| drop(black_box(it.default_calling_convention()))),
+                    "data_model" => each(triples, |it| drop(black_box(it.data_model()))),
+                    "is_like_darwin" => each(triples, |it| drop(black_box(it.operating_system.is_like_darwin()))),
+                    "architecture.into_str" => each(triples, |it| drop(black_box(it.architecture.into_str()))),
+                    "vendor.as_str" => each(triples, |it| drop(black_box(it.vendor.as_str()))),
+                    "operating_system.into_str" => each(triples, |it| drop(black_box(it.operating_system.into_str()))),
+                    "environment.into_str" => each(triples, |it| drop(black_box(it.environment.into_str()))),
+                    "binary_format.into_str" => each(triples, |it| drop(black_box(it.binary_format.into_str()))),
+                    "architecture" => each(architecture(), |it| drop(black_box(it.parse::<Architecture>()))),
+                    "vendor" => each(shown(|it| it.vendor.to_string()), |it| drop(black_box(it.parse::<Vendor>()))),
+                    "operating_system" => each(shown(|it| it.operating_system.to_string()), |it| {
+                        drop(black_box(it.parse::<OperatingSystem>()))
+                    }),
+                    "environment" => {
+                        each(shown(|it| it.environment.to_string()), |it| drop(black_box(it.parse::<Environment>())))
+                    }
+                    "binary_format" => {
+                        each(shown(|it| it.binary_format.to_string()), |it| drop(black_box(it.parse::<BinaryFormat>())))
+                    }
+                    "ArmArchitecture" => each(architecture(), |it| drop(black_box(it.parse::<ArmArchitecture>()))),
+                    "Aarch64Architecture" => each(architecture(), |it| drop(black_box(it.parse::<Aarch64Architecture>()))),
+                    "X86_32Architecture" => each(architecture(), |it| drop(black_box(it.parse::<X86_32Architecture>()))),
+                    "Mips32Architecture" => each(architecture(), |it| drop(black_box(it.parse::<Mips32Architecture>()))),
+                    "Mips64Architecture" => each(architecture(), |it| drop(black_box(it.parse::<Mips64Architecture>()))),
+                    "Riscv32Architecture" => each(architecture(), |it| drop(black_box(it.parse::<Riscv32Architecture>()))),
+                    "Riscv64Architecture" => each(architecture(), |it| drop(black_box(it.parse::<Riscv64Architecture>()))),
+                    "CleverArchitecture" => each(architecture(), |it| drop(black_box(it.parse::<CleverArchitecture>()))),
+                    "lexicon_parse, lexicon_print" => each(read, |it| print(it.parse::<Triple>().expect("a triple"))),
+                    "lexicon_parse, lexicon_facts" => each(read, |it| ask(&it.parse().expect("a triple"))),
+                    "lexicon_facts" => each(triples, ask),
+                    "lexicon_parse, lexicon_error_line" => each(refused, |it| print(it.parse::<Triple>().expect_err("a refusal"))),
                     _ => panic!("no call {what}"),
                 }
             }
@@ -78,7 +121,7 @@ calls! { upstream }
 
 /// The library for C, called as C programs do.
 mod c {
-    use super::{black_box, each, parsed};
+    use super::{black_box, each, parsed, Pass};
 
     /// struct lexicon_triple and lexicon_error, of which this program reads nothing, and how many bytes the first group
     /// of facts has, and all.
@@ -124,27 +167,56 @@ mod c {
         black_box((&out, length));
     }
 
-    pub fn run(what: &str, lines: &[String]) -> usize {
+    pub fn pass(what: &str, lines: &[String]) -> Pass {
         let (read, refused, triples) = parsed(lines, |it| parse(it).ok());
         match what {
-            "none" => each(&read, |_| ()),
-            "lexicon_parse, lexicon_print" => each(&read, |it| print(&parse(it).expect("a triple"))),
-            "lexicon_parse, lexicon_facts" => each(&read, |it| ask(&parse(it).expect("a triple"), QUERIES)),
-            "lexicon_facts" => each(&triples, |it| ask(it, QUERIES)),
-            "lexicon_facts, all groups" => each(&triples, |it| ask(it, ALL)),
-            "lexicon_parse, lexicon_error_line" => each(&refused, |it| error_line(it, &parse(it).expect_err("a refusal"))),
+            "none" => each(read, |_| ()),
+            "lexicon_parse, lexicon_print" => each(read, |it| print(&parse(it).expect("a triple"))),
+            "lexicon_parse, lexicon_facts" => each(read, |it| ask(&parse(it).expect("a triple"), QUERIES)),
+            "lexicon_facts" => each(triples, |it| ask(it, QUERIES)),
+            "lexicon_facts, all groups" => each(triples, |it| ask(it, ALL)),
+            "lexicon_parse, lexicon_error_line" => each(refused, |it| error_line(it, &parse(it).expect_err("a refusal"))),
             _ => panic!("no call {what}"),
         }
     }
 }
 
+/// The nanoseconds of a call of each pass, without what the last one takes.
+fn times(passes: [Pass; 3]) -> [f64; 2] {
+    let seconds = |(_, pass): &Pass, repeats: u32| {
+        let begun = Instant::now();
+        (0..repeats).for_each(|_| pass());
+        begun.elapsed().as_secs_f64() / f64::from(repeats)
+    };
+    let repeats = passes.each_ref().map(|it| (2e-5 / seconds(it, 9)).ceil() as u32);
+    let mut found = [const { Vec::new() }; 3];
+    for round in 0..1000 {
+        for i in 0..3 {
+            let which = (round + i) % 3;
+            found[which].push(seconds(&passes[which], repeats[which]) * 1e9 / passes[which].0 as f64);
+        }
+    }
+    let [its, upstreams, nothing] = found.map(|mut it| {
+        it.sort_by(f64::total_cmp);
+        it[it.len() / 2]
+    });
+    [its - nothing, upstreams - nothing]
+}
+
 fn main() {
     let words: Vec<String> = std::env::args().collect();
     let lines: Vec<String> = std::io::stdin().lines().map(|it| it.expect("a line")).collect();
-    let run = match words[1].as_str() {
-        "ours" => ours::run,
-        "upstream" => upstream::run,
-        _ => c::run,
+    let pass = |who: &str, what: &str| match who {
+        "ours" => ours::pass(what, &lines),
+        "upstream" => upstream::pass(what, &lines),
+        _ => c::pass(what, &lines),
     };
-    println!("{}", run(&words[2], &lines));
+    if words[1] == "times" {
+        let [its, upstreams] = times([pass(&words[2], &words[3]), pass("upstream", &words[3]), pass("ours", "none")]);
+        println!("{its:.1} {upstreams:.1}");
+    } else {
+        let (count, call) = pass(&words[1], &words[2]);
+        (0..200).for_each(|_| call());
+        println!("{}", 200 * count);
+    }
 }

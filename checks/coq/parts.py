@@ -4,11 +4,15 @@ import re
 import shutil
 from pathlib import Path
 
+import compiled
 import definitions
 import shipped
 import source
+from reading import Untranslated
 
 COQ = Path(__file__).resolve().parent
+# The files that are written, and that checks/coq has none of.
+WRITTEN = "Specs Code Configured Source Same Mir Same_mir Compiled UpstreamMir".split()
 # Each part, in order: the parts that it needs; its files in order, whose names are their own in all parts but that of
 # Configured; and the function of the root and the folder that writes the files that aren't in checks/coq, and returns
 # each theorem with the Coq name of its statement, or none.
@@ -17,7 +21,8 @@ for part, (_, proofs) in shipped.CONFIGURATIONS.items():
     needed = ["definitions"] + ["rust"] * (part != "rust")
     PARTS[part] = needed, ["Rust", "Code", "Configured", *proofs], functools.partial(shipped.write, part=part)
     if part == "rust":
-        PARTS["source"] = (needed + ["rust"], "Source Same".split(), source.write)
+        PARTS["mir"] = (needed + ["rust"], "Mir Bridge Same_mir Compiled".split(), compiled.write)
+        PARTS["source"] = (needed + ["rust"], "Source Halves Same".split(), source.write)
 
 
 def ordered(parts):
@@ -28,9 +33,32 @@ def ordered(parts):
 
 def text(folder, file):
     """The text of a file of Coq, in the folder, where it is put if it isn't written."""
-    if source := next(COQ.rglob(f"{file}.v"), None):
-        shutil.copyfile(source, folder / f"{file}.v")
+    found = [it for it in (COQ / of / f"{file}.v" for of in (".", "definitions", "rust", "mir", "upstream")) if it.exists()]
+    if len(found) > (file not in WRITTEN):
+        raise Untranslated(f"{found[-1]} is a second {file}.v")
+    if found:
+        shutil.copyfile(found[0], folder / f"{file}.v")
     return folder.joinpath(f"{file}.v").read_text(encoding="utf-8")
+
+
+def told(root, part, name):
+    """Where the statement of a theorem is; and the first sentence of its comment, or the calls that it is of."""
+    if part == "mir":  # the theorems of the source
+        return "", ""
+    title = definitions.PROPOSITIONS.get(name, "").rpartition(".")[2]
+    forms = {".v": f"Theorem {name} :", ".rt": f"pub fn {name}(", ".antt": f"pub record {title} :"}
+    for file in (*root.glob("crates/*/src/laws.rt"), *root.glob("crates/*/specs/*.antt"),
+                 *(it for of in ("rust", "upstream") for it in (COQ / of / f"{it}.v" for it in PARTS[part][1])
+                   if it.exists())):
+        before, found, _ = file.read_text(encoding="utf-8").partition("\n" + forms[file.suffix])
+        if found:
+            comment = re.search(r"((?:\n(?:///|--) .*)*|\n\(\* [^)]* \*\))\Z", before)[0]
+            sentence = re.split(r"[.;] |\.$", " ".join(re.sub(r"\n(///|--)|\(\*|\*\)", "", comment).split()))[0]
+            rows = (it.split("\t") for it in COQ.joinpath("calls.txt").read_text(encoding="utf-8").splitlines())
+            calls = ", ".join(it[0] for it in rows if it[-1] == name)
+            place = file.relative_to(root if file.is_relative_to(root) else COQ.parents[1])
+            return f"{place}:{before.count(chr(10)) + 2}", ": ".join(filter(None, (sentence, calls)))
+    return "checks/coq/source.py", "each function of crates is that of packages/rust/src/proved"
 
 
 def required(text):

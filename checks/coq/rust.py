@@ -5,6 +5,7 @@ may overflow) has an `option` for its result, and one that loops or calls itself
 little fuel. Variables keep their names: an assignment is a `let`. Rust.v says what loops, numbers and the methods of
 std mean. What isn't understood is an error with file and line."""
 import functools
+import re
 
 from rust_grammar import BOOL, BYTES, STR, T, UNIT, USIZE, Node, Unknown
 from rust_types import WIDTH, Function, Types
@@ -13,11 +14,13 @@ KEYWORDS = """fun let in if then else match with end forall exists return as fix
     S left right not"""
 ORDERING = {"Less": "Lt", "Equal": "Eq", "Greater": "Gt"}
 STD = {"Some": "Some", "None": "None", "Ok": "Result__Ok", "Err": "Result__Err"}
-OPERATIONS = {"+": "add_in", "-": "sub_in", "*": "mul_in", "<<": "shl_in"}
+OPERATIONS = {"+": "add_in", "-": "sub_in", "*": "mul_in", "<<": "shl_in", ">>": "shr_in"}
+BITWISE = {"^": "N.lxor", "&": "N.land", "|": "N.lor"}
 # Methods of std without an effect: the kind of the receiver, the function in Rust.v or Kit.v, and the result's type.
 OPTION, METHODS = lambda type: T("Option", type), {
     ("str", "len"): ("length", lambda t: USIZE), ("slice", "len"): ("length", lambda t: USIZE),
-    ("str", "is_empty"): ("is_empty", lambda t: BOOL), ("str", "strip_prefix"): ("strip_prefix", lambda t: OPTION(STR)),
+    ("str", "is_empty"): ("is_empty", lambda t: BOOL), ("slice", "is_empty"): ("is_empty", lambda t: BOOL),
+    ("str", "strip_prefix"): ("strip_prefix", lambda t: OPTION(STR)),
     ("str", "split_once"): ("split_once", lambda t: OPTION(("tuple", (STR, STR)))),
     ("str", "get"): ("str_get", lambda t: OPTION(STR)),
     ("slice", "split_first"): ("split_first", lambda t: OPTION(("tuple", (t[1], t)))),
@@ -31,6 +34,8 @@ OPTION, METHODS = lambda type: T("Option", type), {
 }
 SAME = {("slice", "iter"): None, ("str", "as_bytes"): BYTES, ("str", "as_str"): STR, ("str", "into"): STR,
         ("str", "to_string"): STR}
+
+WRAPPING = ("wrapping_mul", "wrapping_sub")
 
 def bits(name):
     return "usize_bits" if name == "usize" else WIDTH[name]
@@ -46,10 +51,10 @@ class Translation(Types):
         return name + "_" if name in self.taken else name
 
     def constant(self, name):
-        type, value = self.parts(self.crate.constants, name)
+        type, parser, parser.at = self.parts(self.crate.constants, name)
         if name not in self.done:
+            code = Body(self, Function(None, None, name, None, 0)).pure(parser.expression(), {})
             self.done[name] = f"{self.crate.prefix}_{name}"
-            code = Body(self, Function(None, None, name, None, 0)).pure(value, {})
             self.out.append(f"Definition {self.done[name]} : {self.type(type)} :=\n  {code}.\n")
         return self.others.get(self.done[name], self.done[name]), self.real(type)
 
@@ -60,16 +65,22 @@ class Translation(Types):
         f = self.crate.functions.get((owner, name))
         if not f or hasattr(f, "twice"):
             raise Unknown(f"the function {owner}::{name}" + " of two traits" * bool(f))
+        if f.problem:
+            raise f.problem
         if f.running:
             f.impure = f.fuel = f.recursive = True
         if f.done or f.running:
             return f
-        f.running, body = True, f.read()
-        while True:  # until it is known whether it may panic, loop or call itself
-            before = f.impure, f.fuel, f.recursive
-            code = Body(self, f).whole(body)
-            if (f.impure, f.fuel, f.recursive) == before:
-                break
+        try:
+            f.running, body = True, f.read()
+            while True:  # until it is known whether it may panic, loop or call itself
+                before = f.impure, f.fuel, f.recursive
+                code = Body(self, f).whole(body)
+                if (f.impure, f.fuel, f.recursive) == before:
+                    break
+        except Unknown as problem:
+            f.problem = problem
+            raise
         f.running, f.done = False, True
         of = " × ".join(self.type(t) for t in [f.result, *[t for _, t in f.parameters if t[0] == "mut"]])
         of = f"option ({of})" if f.impure else of
@@ -89,6 +100,20 @@ class Body:
         self.ret, self.mutable = self.ret_function, set(getattr(f, "mutable", ()))
         self.set_names, self.hidden, self.fresh = set(), set(), 0
 
+    def named(self, env, name):
+        """The Coq name of a variable: one that hides another has its own."""
+        return env.get("'" + name) or self.coq.local(name)
+
+    def checked(self, name):
+        if not re.fullmatch(r"_?(?!r[st]_)[a-z][a-z0-9]*(_[a-z0-9]+)*", name) or name in self.crate.constants:
+            raise Unknown(f"the variable {name}")
+        return name
+
+    @staticmethod
+    def base(it):
+        """What a field, an element or a method is of."""
+        return Node(it.place, "place", *it[1:]) if it[0] == "path" else it
+
     def new(self, name):
         """A name that no Rust has."""
         self.fresh += 1
@@ -96,7 +121,7 @@ class Body:
 
     def whole(self, body):
         self.mutable |= set(self.f.muts)
-        env = {it: self.real(t[1] if t[0] == "mut" else t) for it, t in self.f.parameters}
+        env = {self.checked(it): self.real(t[1] if t[0] == "mut" else t) for it, t in self.f.parameters}
         code = self.ex(body, env, lambda code, _: self.ret(code))
         if self.set_names & self.hidden:  # a branching would give the wrong one to what follows
             raise Unknown(f"{self.set_names & self.hidden} is assigned to, and hidden by another variable", body.place)
@@ -130,7 +155,7 @@ class Body:
         if len(types) < 2:
             return make(k)
         name, value = self.new("next"), self.new("it")
-        names = "".join(" " + self.coq.local(it) for it in changed)
+        names = "".join(" " + self.named(env, it) for it in changed)
         body = make(lambda code, _: f"({name} {code}{names})")
         return f"let {name} := λ {value}{names}, {k(value, type)} in\n  {body}"
 
@@ -151,15 +176,19 @@ class Body:
         except Unknown as problem:
             problem.place = problem.place or it.place
             raise
+        except (AttributeError, IndexError, KeyError, TypeError, ValueError) as problem:
+            raise Unknown(f"this {it[0]} ({problem!r})", it.place) from problem
 
     def all(self, items, env, k, found=()):
         """Some expressions one after the other; `k` gets their codes and types."""
         found = list(found)
         while items:  # without an effect, nothing must be written around what follows
-            before, outer, one = self.effects, set(self.assigned), []
-            self.ex(items[0], env, lambda *it: one.append(it) or "")
-            if self.effects != before:
-                self.assigned = outer
+            before, outer, one, self.assigned = self.effects, self.assigned, [], set()
+            around = self.ex(items[0], env, lambda *it: one.append(it) or "")
+            changed, self.assigned = [self.named(env, it) for it in self.assigned], outer
+            if any(re.search(rf"(?<![\w']){re.escape(it)}(?![\w'])", code) for it in changed for code, _ in found):
+                raise Unknown("an operand that a later one assigns to", items[0].place)
+            if self.effects != before or around:
                 break
             found, items = found + one, items[1:]
         if not items:
@@ -179,7 +208,8 @@ class Body:
             if code > 127:
                 raise Unknown(f"the literal {text}")
             return k(str(code), T("u8") if text[0] == "b" else T("char"))
-        return k(str(int(text.replace("_", ""), 0)), None)
+        number, type = re.fullmatch(r"(\w+?)(u8|u16|u32|u64|usize)?", text).groups()
+        return k(str(int(number.replace("_", ""), 0)), type and T(type))
 
     def ex_tuple(self, it, env, k):
         return self.all(it[1], env, lambda found: k(
@@ -195,14 +225,18 @@ class Body:
 
     def ex_path(self, it, env, k):
         path = it[1]
+        if len(path) == 1 and path[0] in env and it[0] == "path" and path[0] in self.f.muts:
+            raise Unknown(f"{path[0]}, which is &mut, as a value")
         if len(path) == 1 and path[0] in env:
-            return k(self.coq.local(path[0]), env[path[0]])
+            return k(self.named(env, path[0]), env[path[0]])
         if len(path) == 1 and path[0] in self.crate.constants:
             return k(*self.coq.constant(path[0]))
         if len(path) == 1 and path[0] in self.crate.structs and not self.crate.structs[path[0]]:
             return k(f"Build_{self.coq.need_type(path[0])}", T(path[0]))
         name, _, type = self.constructor(path)
         return k(name, type)
+
+    ex_place = ex_path
 
     def owner(self, path):
         return self.f.owner if path[0] == "Self" and len(path) == 2 else path[-2] if len(path) > 1 else None
@@ -228,12 +262,12 @@ class Body:
         path, args = it[1][1], it[2]
         owner = self.owner(path)
         if (owner, path[-1]) in self.crate.functions:
-            return self.call(owner, path[-1], args, env, k)
+            return self.call(owner, self.of_self((), owner, path[-1]), args, env, k)
         if owner in WIDTH and path[-1] == "from":
             return self.ex(args[0], env, lambda code, type: k(code, T(owner)) if type and WIDTH.get(
                 type[1], 99) <= WIDTH[owner] else self.fail(f"{owner}::from of {type}"))
-        if owner in WIDTH and path[-1] == "from_be_bytes":
-            return self.ex(args[0], env, lambda code, type: k(f"(from_be_bytes {code})", T(owner)))
+        if owner in WIDTH and path[-1] in ("from_be_bytes", "from_le_bytes"):
+            return self.ex(args[0], env, lambda code, type: k(f"({path[-1]} {code})", T(owner)))
         if "::".join(path[-2:]) in ("Box::new", "String::from", "Cow::Borrowed", "CowStr::Borrowed"):  # it succeeds
             return self.ex(args[0], env, k)
         if path[-1] == "from_utf8" and owner in (None, "String"):
@@ -253,7 +287,10 @@ class Body:
 
     def call(self, owner, name, args, env, k):
         f = self.coq.need(owner, name)
+        if not f.is_seen and f.module != self.f.module:  # Rust takes another of this name, if there is one
+            raise Unknown(f"a call of {owner}::{name}, which is private")
         args = [it[1] if it[0] == "borrow" and t[0] == "mut" else it for it, (_, t) in zip(args, f.parameters)]
+        args = [self.base(it) if t[0] == "mut" else it for it, (_, t) in zip(args, f.parameters)]
         places = [it for it, (_, t) in zip(args, f.parameters) if t[0] == "mut"]
 
         def made(found):
@@ -281,23 +318,23 @@ class Body:
     def set(self, place, code, env, then):
         """An assignment to a variable, a field or an element; or to a value that nothing names."""
         self.effects += 1
-        if place[0] == "path" and len(place[1]) == 1:
+        if place[0] in ("path", "place") and len(place[1]) == 1:
             name = place[1][0]
             if name not in self.mutable:  # it may be a reference to a part of another one
                 raise Unknown(f"an assignment to {name}, which isn't declared with mut")
             self.assigned.add(name)
             self.set_names.add(name)
-            return f"let {self.coq.local(name)} := {code} in\n  {then()}"
+            return f"let {self.named(env, name)} := {code} in\n  {then()}"
         if place[0] == "field":
             def made(whole, type):
                 fields = self.coq.fields(type)
                 title = self.coq.need_type(type[1])
                 found = [f"{title}__{it} := " + (code if it == place[2] else f"{title}__{it} {whole}") for it in fields]
                 return self.set(place[1], "{| " + "; ".join(found) + " |}", env, then)
-            return self.ex(place[1], env, made)
+            return self.ex(self.base(place[1]), env, made)
         if place[0] == "index" and place[2][0] != "range":
             new = self.new("it")
-            return self.all(place[1:], env, lambda found: self.bind(
+            return self.all([self.base(place[1]), place[2]], env, lambda found: self.bind(
                 f"set_at {found[0][0]} {found[1][0]} {code}", new, self.set(place[1], new, env, then)))
         if place[0] in ("repeat", "list"):
             return then()
@@ -325,7 +362,7 @@ class Body:
             if not of:
                 raise Unknown(f"the field {it[2]} of {type[1]}")
             return k(f"({self.coq.need_type(type[1])}__{it[2]} {code})", self.real(of))
-        return self.ex(it[1], env, made)
+        return self.ex(self.base(it[1]), env, made)
 
     def ex_range(self, it, env, k):
         return self.all(it[1:], env, lambda found: k(f"({found[0][0]}, {found[1][0]})", T("Range", USIZE)))
@@ -333,7 +370,7 @@ class Body:
     def ex_index(self, it, env, k):
         new = self.new("it")
         if it[2][0] != "range":
-            return self.all(it[1:], env, lambda found: self.bind(
+            return self.all([self.base(it[1]), it[2]], env, lambda found: self.bind(
                 f"slice_get {found[0][0]} {found[1][0]}", new, k(new, self.real(found[0][1][1]))))
         _, start, end = it[2]
 
@@ -341,7 +378,7 @@ class Body:
             (code, type), codes = found[0], [c for c, _ in found[1:]]
             low, high = codes[0] if start else "0", codes[-1] if end else f"(length {code})"
             return self.bind(f"{'str_between' if type == STR else 'between'} {code} {low} {high}", new, k(new, type))
-        return self.all([it[1], *[x for x in (start, end) if x]], env, ranged)
+        return self.all([self.base(it[1]), *[x for x in (start, end) if x]], env, ranged)
 
     def ex_cast(self, it, env, k):
         def made(code, type):
@@ -372,12 +409,16 @@ class Body:
                 return k(self.coq.equal(type, x, y) if sign == "==" else f"(negb {self.coq.equal(type, x, y)})", BOOL)
             if type == BOOL and sign == "|":
                 return k(f"({x} || {y})", BOOL)
-            if not type or type[1] not in WIDTH or sign == "<<" and not t:
+            if not type or type[1] not in WIDTH or sign in ("<<", ">>") and not t:
                 raise Unknown(f"{sign} of {type}")
             if sign in ("<", "<=", ">", ">="):
                 return k(f"({x} {sign}? {y})" if sign[0] == "<" else f"({y} {sign.replace('>', '<')}? {x})", BOOL)
             if sign in "/%" and y.isdigit() and int(y):
                 return k(f"({x} {'/' if sign == '/' else 'mod'} {y})", type)
+            if sign == ">>" and y.isdigit() and int(y) < WIDTH[type[1]] and type != USIZE:
+                return k(f"({x} / {2 ** int(y)})", type)
+            if sign in BITWISE:
+                return k(f"({BITWISE[sign]} {x} {y})", type)
             if sign not in OPERATIONS:
                 raise Unknown(f"the operator {sign} of {type}")
             new = self.new("n")
@@ -434,35 +475,40 @@ class Body:
     def test(self, p, code, type):
         if p[0] == "or":
             return "(" + " || ".join(self.test(it, code, type) for it in p[1]) + ")"
-        nodes = [Node(None, "path", [it]) if it.isidentifier() and it.isupper() else Node(None, "lit", it)
-                 for it in p[1:]]
-        value = [self.pure(it, {}) for it in nodes]
+        if any(it.isidentifier() and it.isupper() for it in p[1:]):  # or a variable, where that isn't imported
+            raise Unknown(f"the constant {p[1]} as a pattern")
+        value = [self.pure(Node(None, "lit", it), {}) for it in p[1:]]
         if p[0] == "range":
             return f"(({value[0]} <=? {code}) && ({code} <=? {value[1]}))"
         if p[0] != "lit":
             raise Unknown(f"the pattern {p[0]} beside a literal")
         return self.coq.equal(type, code, value[0])
 
-    def pattern(self, p, type, env):
+    def pattern(self, p, type, env, again=False):
         if p in (("_",), ("tuple", [])):
             return "_"
         if p[0] == "var":
+            if again:  # another way of an `or`
+                return self.named(env, p[1])
             self.hidden |= {p[1]} & set(env)
+            env.pop("'" + p[1], None)
+            if self.checked(p[1]) in env:
+                env["'" + p[1]] = self.new(p[1])
             self.mutable = self.mutable | {p[1]} if p[2] else self.mutable - {p[1]}
             env[p[1]] = type
-            return self.coq.local(p[1])
+            return self.named(env, p[1])
         if p[0] == "or":
-            return "(" + " | ".join(self.pattern(it, type, env) for it in p[1]) + ")"
+            return "(" + " | ".join(self.pattern(it, type, env, again or i > 0) for i, it in enumerate(p[1])) + ")"
         if p[0] in ("tuple", "list"):
             types = type[1] if p[0] == "tuple" and type and type[0] == "tuple" else [type and type[1]] * len(p[1])
-            codes = [self.pattern(it, self.real(t), env) for it, t in zip(p[1], types)]
+            codes = [self.pattern(it, self.real(t), env, again) for it, t in zip(p[1], types)]
             return "(" + ", ".join(codes) + ")" if p[0] == "tuple" else "[" + "; ".join(codes) + "]"
         if p[0] == "con":
             name, of, _ = self.constructor(p[1])
             if of is None:
                 args = type[2] if type and type[0] == "T" else ()
                 of = [args[name == "Result__Err"] if len(args) > (name == "Result__Err") else None] * len(p[2])
-            words = [name, *[self.pattern(it, self.real(t), env) for it, t in zip(p[2], of)]]
+            words = [name, *[self.pattern(it, self.real(t), env, again) for it, t in zip(p[2], of)]]
             return "(" + " ".join(words) + ")" if p[2] else name
         raise Unknown(f"the pattern {p[0]} inside another")
 
@@ -473,7 +519,7 @@ class Body:
         self.ret = lambda code: f"Some (Return {code})"
 
         def made():
-            changed = [self.coq.local(it) for it in sorted(self.assigned) if it in env]
+            changed = [self.named(env, it) for it in sorted(self.assigned) if it in env]
             state = "(" + ", ".join(changed) + ")" if len(changed) > 1 else (changed or ["tt"])[0]
             inner = dict(env)
 
@@ -517,6 +563,15 @@ class Body:
             raise Unknown(f"another name of {of[1][0]}, which is &mut")
         return self.ex(of, env, made)
 
+    def of_self(self, it, owner, name):
+        """The function that a method is, which in a trait's own body is that of the trait."""
+        if not self.f.is_default or owner != self.f.owner:
+            return name
+        found = self.crate.of_trait(owner, self.f.trait, name)
+        if not found or it[1:] != (["self"],):
+            raise Unknown(f"{owner}::{name} in a body that a trait has for all types")
+        return found.name
+
     def closure(self, it, type, env):
         inner = dict(env)
         name = self.pattern(it[1], type, inner) if it[0] == "closure" else self.fail("a function as a value")
@@ -526,8 +581,9 @@ class Body:
 
     def ex_method(self, it, env, k):
         _, of, name, args, generic = it
+        of = self.base(of)
         if name == "copy_from_slice" and of[0] == "index" and of[2][0] == "range":
-            place, (start, end), new = of[1], of[2][1:], self.new("it")
+            place, (start, end), new = self.base(of[1]), of[2][1:], self.new("it")
             return self.all([place, start, end, *args], env, lambda found: self.bind(
                 f"copy_into {' '.join(c for c, _ in found)}", new, self.set(place, new, env, lambda: k("tt", UNIT))))
 
@@ -535,8 +591,8 @@ class Body:
             type = self.real(type) or self.fail(f"the method {name} of a number without a type")
             kind = type[1] if type[0] == "T" and type[1] not in WIDTH else "number" if type[0] == "T" else type[0]
             if type[0] == "T" and (type[1], name) in self.crate.functions:
-                return self.call(type[1], name, [of, *args], env, k)
-            if kind == "Formatter" and name in ("write_str", "pad"):  # without flags, `pad` is `write_str`
+                return self.call(type[1], self.of_self(of, type[1], name), [of, *args], env, k)
+            if kind == "Formatter" and name == "write_str":
                 result, after = self.new("it"), self.new("it")
                 return self.ex(args[0], env, lambda text, _: (
                     f"let '({result}, {after}) := write_str {code} {text} in\n  "
@@ -545,13 +601,17 @@ class Body:
                 return k(code, type[1] if kind == "into" else SAME[kind, name] or type)
             if (kind, name) == ("str", "parse"):
                 return k(f"(parse_unsigned {2 ** WIDTH[generic[1]] - 1} {code})", T("Result", generic, UNIT))
-            if name == "to_string" and type[0] == "T" and (type[1], "fmt") in self.crate.functions:
-                f, result = self.coq.need(type[1], "fmt"), self.new("it")
+            if name == "to_string" and type[0] == "T" and (f := self.crate.of_trait(type[1], "Display", "fmt")):
+                f, result = self.coq.need(type[1], f.name), self.new("it")
                 self.f.fuel |= f.fuel
                 shown = f"{self.coq.called(f)}{' fuel' * f.fuel} {code} (formatter_of [])"
                 return self.bind(f"displayed ({shown if f.impure else f'Some ({shown})'})", result, k(result, STR))
             if kind == "number" and name == "saturating_add":
                 return self.ex(args[0], env, lambda more, _: k(f"(saturating_add {bits(type[1])} {code} {more})", type))
+            if kind == "number" and name == "trailing_zeros":
+                return k(f"(trailing_zeros {bits(type[1])} {code})", T("u32"))
+            if kind == "number" and name in WRAPPING:
+                return self.ex(args[0], env, lambda more, _: k(f"({name} {bits(type[1])} {code} {more})", type))
             if kind == "slice" and name in ("first_chunk", "last_chunk"):
                 return k(f"({name} {generic[1]} {code})", OPTION(type))
             if (kind, name) not in METHODS:

@@ -9,9 +9,15 @@ from reading import Untranslated
 TOKEN = re.compile(r"""(?P<skip>\s+|//[^\n]*)|b?"(?:\\.|[^"\\])*"|b?'(?:\\.|[^'\\])'|(?P<life>'\w+)|\d\w*"""
                    r"""|[A-Za-z_]\w*(?:!(?!=))?"""
                    r"""|\.\.=|\.\.|<<|=>|->|==|!=|<=|>=|&&|\|\||\+=|-=|::|.""", re.S)
-LEVELS = ["||", "&&", "== != < > <= >=", "|", "<<", "+ -", "* / %"]
+LEVELS = ["||", "&&", "== != < > <= >=", "|", "^", "&", "<< >>", "+ -", "* / %"]
 CLOSING = {"(": ")", "[": "]", "{": "}", "<": ">"}
-FEATURES = ("alloc", "upstream_printing")  # those that may change what a function does
+FEATURES = ("alloc",)  # those that may change what a function does
+OTHERS = ("std", "serde_support")  # those that only add impls of traits that nothing calls
+# Attributes that change no answer, and what of `cfg_attr` is one of them.
+ATTRIBUTES = "allow doc forbid inline macro_export must_use no_std non_exhaustive repr rustfmt warn".split()
+IF = re.compile(r"""docsrs , (feature|doc) .*
+    |not \( feature = "alloc" \) , (non_exhaustive|allow \( dead_code , unused_imports \))""".replace("\n    ", ""))
+DERIVED = "Clone Copy Debug PartialEq Eq PartialOrd Ord Hash".split()
 BINARY = {sign: level for level, signs in enumerate(LEVELS, 1) for sign in signs.split()}
 
 
@@ -39,14 +45,27 @@ def T(name, *args):
     return ("T", name, args)
 
 
+def both(found):
+    """Whether all of some conditions hold; None is one that isn't known."""
+    return False if False in found else None if None in found else True
+
+
+def either(found):
+    return True if True in found else None if None in found else False
+
+
 BOOL, STR, USIZE, BYTES, UNIT = T("bool"), T("str"), T("usize"), ("slice", T("u8")), ("tuple", ())
 
 
 class Parser:
+    strict = True
+
     def __init__(self, text, file, features):
         self.features, self.file, self.at, line = features, file, 0, 1
         found = []
         for it in TOKEN.finditer(text):
+            if self.strict and text[it.start():it.start() + 2] == "/*":
+                raise Unknown("a comment that isn't of one line", f"{file}:{line}")
             if it.lastgroup is None:
                 found.append((it[0], line))
             line += it[0].count("\n")
@@ -112,32 +131,46 @@ class Parser:
                 raise self.unknown(f"none of {ends} is left")
 
     def attributes(self):
-        """Whether the configuration keeps what follows, and the traits that it derives."""
+        """Whether the configuration keeps what follows, or None if each may; and the traits that it derives."""
         kept, derived = True, []
         while self.has("#"):
-            self.has("!")
-            start = self.at
+            is_inner, start = self.has("!"), self.at
             words = self.skip("[")
-            if words[0] == "cfg":
+            if words[0] == "cfg" and not is_inner:
                 end, self.at = self.at, start + 3
-                kept, self.at = self.condition() and kept, end
+                kept, self.at = both([kept, self.condition()]), end
             elif words[0] == "derive":
                 derived += words[2:-1]
+            elif self.strict and words[0] not in ATTRIBUTES and not (
+                    words[0] == "cfg_attr" and IF.fullmatch(" ".join(words[2:-1]))):
+                raise self.unknown(f"the attribute {words[0]}")
+        if self.strict and {*derived} - {*DERIVED, ","}:
+            raise self.unknown(f"the derived {' '.join(derived)}")
         return kept, derived
+
+    def certain(self):
+        """Whether the configuration keeps a part of an item."""
+        kept, derived = self.attributes()
+        if kept is None or derived:
+            raise self.unknown("what another feature changes")
+        return kept
 
     def condition(self):
         name = self.next()
         if self.has("("):
             found = self.many(")", self.condition)
-            return {"not": lambda: not found[0], "all": lambda: all(found), "any": lambda: any(found)}[name]()
+            return {"not": lambda: None if found[0] is None else not found[0], "all": lambda: both(found),
+                    "any": lambda: either(found)}[name]()
+        if name in ("test", "doctest", "core_error", "docsrs"):
+            return False if name[-4:] == "test" else None
         feature = self.next().strip('"') if name == "feature" and self.has("=") else ""
-        if feature not in FEATURES:
+        if feature not in (*FEATURES, *OTHERS):
             raise self.unknown(f"the configuration {feature or name}")
-        return feature in self.features
+        return feature in self.features if feature in FEATURES else None
 
     def visibility(self):
-        if self.has("pub") and self.peek() == "(":
-            self.skip("(")
+        """Whether the whole crate sees it."""
+        return self.has("pub") and (self.peek() != "(" or self.skip("(") == ["crate"])
 
     def path(self, first):
         """The names of a path that begins with one."""
@@ -220,10 +253,15 @@ class Parser:
         left = self.unary(struct)
         while self.has("as"):
             left = self.node("cast", left, self.type())
-        while BINARY.get(self.peek(), 0) >= least:
-            sign = self.next()
+        while BINARY.get(self.sign(), 0) >= least:
+            sign = self.sign()
+            self.at += 1 + (sign == ">>")
             left = self.node("op", sign, left, self.binary(struct, BINARY[sign] + 1))
         return left
+
+    def sign(self):
+        """The next token, or the two of a shift."""
+        return ">>" if self.peek() == self.peek(1) == ">" else self.peek()
 
     def unary(self, struct):
         if self.has("!"):
@@ -293,7 +331,7 @@ class Parser:
             of, arms = self.expression(False), []
             self.next("{")
             while not self.has("}"):
-                (kept, _), pattern = self.attributes(), self.pattern()
+                kept, pattern = self.certain(), self.pattern()
                 self.next("=>")
                 arm = (pattern, self.expression())
                 self.has(",")
@@ -314,7 +352,9 @@ class Parser:
             return self.node("panic")
         if token == "cfg!":
             self.next("(")
-            found = self.node("lit", "true" if self.condition() else "false")
+            if (found := self.condition()) is None:
+                raise self.unknown("what another feature changes")
+            found = self.node("lit", str(found).lower())
             self.next(")")
             return found
         if not re.fullmatch(r"\w+", token):

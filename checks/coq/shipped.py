@@ -14,16 +14,14 @@ PROOFS = "Finite Table Search Rows Round Read Sources Numbers Print Write Answer
 CONFIGURATIONS = {
     "rust": (("alloc",), [*PROOFS, "Owned", "Canonical", "Settle"]),
     "no_alloc": ((), [*PROOFS, "Canonical"]),
-    "upstream_printing": (("alloc", "upstream_printing"), [*PROOFS, "Owned", "UpstreamCanonical"]),
 }
-# The files that are translated beside those of `proved`.
-LAYER = "canonical conversions display explain extensions owned parse_error parse_triple_error queries".split()
-# The functions of these files that aren't, and why.
+# The functions that aren't translated, and why.
 LEFT_OUT = {
+    **{f"{it}::host": "the host is that of the build" for it in (
+        "Triple", "Architecture", "Vendor", "OperatingSystem", "Environment", "BinaryFormat")},
     "DefaultToHost::default": "the host is that of the build",
-    "CustomVendor::hash": "a hash of std",
     "NotPlain::fmt": "std's formatting of a debug string",
-    "ParseTripleError::fmt": "escapes of std", "write_visible": "escapes of std", "write_times": "escapes of std",
+    "ParseTripleError::fmt": "escapes of std", "visible": "escapes of std",
 }
 
 
@@ -50,32 +48,42 @@ def check(crate, problems, left_out):
             raise Untranslated(f"{owner}::{name} is left out, and could be written")
 
 
+# What of the crate's manifest decides what its source means: the edition, and that lib.rs is the library.
+MANIFEST = {
+    'edition = ".*"': 'edition = "2021"',
+    r"\[lib\]\n(?:[^\[].*\n)*": '[lib]\nname = "target_lexicon"\n',
+    r"\[(?:dependencies|target).*\]\n(?:[^\[].*\n)*":
+        '[dependencies]\nserde = { version = "1.0", optional = true }\n',
+}
+
+
 def read(root, features):
-    """The shipped source as these features have it."""
-    source = root / "packages/rust/src"
-    modules = source.joinpath("lib.rs").read_text(encoding="utf-8")
-    without = [] if "alloc" in features else re.findall(r'#\[cfg\(feature = "alloc"\)\]\nmod (\w+);', modules)
-    layer = LAYER + [it for it in ("upstream_printing",) if it in features]
-    files = sorted(source.joinpath("proved").rglob("*.rs")) + [source / f"{it}.rs" for it in layer if it not in without]
-    return Crate(texts(files, root), features)
+    """The shipped source as these features have it: lib.rs and each module."""
+    manifest = re.sub(r"\n+", "\n", root.joinpath("packages/rust/Cargo.toml").read_text(encoding="utf-8"))
+    for form, wanted in MANIFEST.items():
+        if re.findall(rf"^{form}", manifest, re.M) != [wanted]:
+            raise Untranslated(f"packages/rust/Cargo.toml has not only {wanted!r}")
+    return Crate(texts([root / "packages/rust/src/lib.rs"], root), features, root=root)
 
 
 @functools.cache
 def configurations(root, known):
-    """The Coq of each configuration, of which `known` is read before."""
+    """Each configuration's crate and its Coq, of which `known` is read before."""
     before = "".join(HERE.joinpath(it).read_text(encoding="utf-8") for it in ("Kit.v", "rust/Rust.v"))
     found = {}
     for name, (features, _) in CONFIGURATIONS.items():
         crate = read(root, features)
-        found[name], problems = translate(crate, known, titles(before))
+        code, problems = translate(crate, known, titles(before))
         check(crate, problems, LEFT_OUT)
+        found[name] = crate, code
     return found
 
 
 def write(root, folder, part="rust"):
     """Writes Code.v, the functions that are the same in all configurations, and Configured.v, the others as this one
     has them. Returns the theorems."""
-    written = configurations(root, folder.joinpath("Specs.v").read_text(encoding="utf-8"))
+    found = configurations(root, folder.joinpath("Specs.v").read_text(encoding="utf-8"))
+    written = {name: code for name, (_, code) in found.items()}
     shared, others = [], set()
     for it in written["rust"]:  # it is the same if its text is, and what this names
         words = {word.removeprefix("Build_").partition("__")[0] for word in re.findall(r"\w+", it)}
@@ -83,9 +91,8 @@ def write(root, folder, part="rust"):
             shared.append(it)
         else:
             others |= {*titles(it, "Definition|Fixpoint|Record|Inductive")}
-    features, proofs = CONFIGURATIONS[part]
-    prints = f"Definition upstream_printing : bool := {str('upstream_printing' in features).lower()}.\n"
-    own = [prints, *(it for it in written[part] if it not in shared)]
+    _, proofs = CONFIGURATIONS[part]
+    own = [it for it in written[part] if it not in shared]
     put(folder, "Code", "Kit Specs Rust", "packages/rust/src", shared)
     put(folder, "Configured", "Kit Specs Rust Code", f"packages/rust/src as {part} has it", own)
     proved = "".join(HERE.joinpath(f"rust/{it}.v").read_text(encoding="utf-8") for it in proofs)

@@ -9,26 +9,34 @@ from reading import Untranslated
 from rust import translate
 from rust_grammar import Parser
 from rust_types import Crate
-from shipped import check, put, texts, titles
+from shipped import check, configurations, put, texts, titles
 
 # Of the proved source: files that don't become Rust; functions that aren't translated, since they return what the kit's
-# allocator does, and that have no function of this name in Rust; those that have another name there; and one that has
-# another meaning, with the proof for the configuration.
+# allocator does, and that have no function of this name in Rust; and those that have another name there.
 NOT_ERASED = "laws steps json json_error list_error macros host parse_error round_trip lib tests".split()
 SOURCE_LEFT_OUT = {it: "an allocation" for it in """OperatingSystem::into_str CustomVendor::clone Vendor::from_str
+    CustomVendor::owned_copy TripleRef::to_triple Triple::clone TripleRef::to_text VendorRef::to_vendor
     Vendor::clone DefaultToHost::clone DefaultToUnknown::clone Triple::to_text Triple::to_upstream_text Triple::from_str
     Refusal::to_error""".split()} | {"CustomVendor::hash": "a hash", "DefaultToHost::default": "the host"}
 NOT_SHIPPED = """VendorError_eqb Architecture_host BinaryFormat_host decimal_text Environment_host OperatingSystem_host
     Vendor_host Triple_write_to Triple_normal TripleRef_normal Triple_round_trip_exception Triple_comes_back
-    Triple_settle TripleRef_settle Triple_settles_as""".split()
+    Triple_settle TripleRef_settle Triple_settles_as TripleRef_write_upstream_to prefix_key
+    row_order KEYS ROW_COUNT""".split()
 RENAMED = {"VendorRef_from_str": "VendorRef_from_text", **{f"TripleRef_{it}": f"TripleRef_known_{it}" for it in (
     "endianness", "pointer_width", "default_calling_convention", "data_model")}}
-CHANGED = {"TripleRef_shows_unknowns": ("∀ t, {} t = {} t", """intros t.
-  unfold rt_TripleRef_shows_unknowns, rs_TripleRef_shows_unknowns. cbn [negb]. now rewrite andb_true_r""")}
+# Functions in whose place the layer has one of its own: what Halves.v proves of both, which all others here call.
+REPLACED = {
+    "row_of": ("∀ n text, are_bytes text = true → {} (9 + n) text = {} text", "exact row_of_by_halves"),
+    **{f"{it}_from_str": ("∀ text, are_bytes text = true → {} text = Some ({} text)", f"exact {it}_by_a_row") for it in
+       """OperatingSystem Environment BinaryFormat ArmArchitecture Aarch64Architecture X86_32Architecture
+       Mips32Architecture Mips64Architecture Riscv32Architecture Riscv64Architecture CleverArchitecture
+       Z80Architecture""".split()}}
 COUNTER = [it.split() for it in (", steps : & mut Steps", ", steps", "steps . tick ( ) ;", ", & mut Steps :: new ( )")]
 
 
 class Proved(Parser):
+    strict = False
+
     def __init__(self, *of):
         super().__init__(*of)
         laws = set(re.findall(r"\w+", " ".join(re.findall(r"laws :: ((?:\w+|\{[^}]*\})) ;", " ".join(self.tokens)))))
@@ -57,15 +65,22 @@ def write(root, folder):
     known = "".join(folder.joinpath(f"{it}.v").read_text(encoding="utf-8") for it in files)
     folders = [root / f"crates/{it}/src" for it in ("lexicon_fields", "target_lexicon")]
     files = [it for of in folders for it in sorted(of.rglob("*.rt")) if it.stem not in NOT_ERASED]
-    erased = Crate(texts(sorted((root / "packages/rust/src/proved").rglob("*.rs")), root), {"alloc"})
+    rust = root / "packages/rust/src"
+    erased = Crate(texts([*sorted((rust / "proved").rglob("*.rs")), rust / "fields.rs"], root), {"alloc"})
     shipped = {f"rs_{it}" for it in erased.constants} | {f"rs_{it}_eqb" for it in erased.derived}
     shipped = {*shipped, *(f.title for f in erased.functions.values())} & {*titles(known)}
     others = {f"rt_{it[3:]}": it for it in shipped} | {f"rt_{it}": f"rs_{other}" for it, other in RENAMED.items()}
     crate = Crate(texts(files, root), {"alloc"}, "rt", Proved)
+    layer, _ = configurations(root, folder.joinpath("Specs.v").read_text(encoding="utf-8"))["rust"]
+    for it in REPLACED:
+        replaced = next(of for of in layer.functions if layer.functions[of].title == f"rs_{it}")
+        crate.functions["replaced", it] = crate.functions[replaced]
+        crate.functions[replaced] = layer.functions[replaced]
+        others[f"rt_{it}"] = f"rs_{it}"
     code, problems = translate(crate, known, titles(known), others)
     check(crate, problems, SOURCE_LEFT_OUT)
     ours = titles(put(folder, "Source", "Kit Specs Rust Code Configured", "crates", code))
-    same = {it: CHANGED.get(it[3:], ("{} = {}", "reflexivity")) for it in ours if it in others}
+    same = {it: REPLACED.get(it[3:], ("{} = {}", "reflexivity")) for it in ours if it in others}
     statements = {it: statement.format(it, others[it]) for it, (statement, _) in same.items()}
     proofs = [f"Lemma same_{it[3:]} : {statements[it]}. Proof. {proof}. Qed." for it, (_, proof) in same.items()]
     *most, last = [f"same_{it[3:]}" for it in same]
@@ -76,5 +91,6 @@ def write(root, folder):
         raise Untranslated(f"the proved source has no function {alone[0][3:]}")
     if alone := [it[3:] for it in ours if it not in others and it[3:] not in NOT_SHIPPED]:
         raise Untranslated(f"packages/rust has no function {', '.join(alone)}")
-    put(folder, "Same", "Kit Specs Rust Code Configured Source", "crates and packages/rust/src", proofs)
+    put(folder, "Same", "Kit Specs Rust Code Finite Table Configured Source Halves", "crates and packages/rust/src",
+        proofs)
     return {"the_proved_source_is_shipped": None}

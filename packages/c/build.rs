@@ -44,10 +44,11 @@ fn main() {
     };
     let commit = commit.map_or_else(String::new, |commit| format!(" ({commit})"));
     println!("cargo:rustc-env=LEXICON_COMMIT={commit}");
-    // as the Rust crate's build script finds its host
+    println!("cargo:rustc-env=LEXICON_TARGET={}", env::var("TARGET").unwrap());
+    // A target that the Rust crate's build script parses. Another text, such as one with a line for cargo, isn't used.
     println!("cargo:rerun-if-env-changed=TARGET_LEXICON_HOST");
-    let host = env::var("TARGET_LEXICON_HOST").or_else(|_| env::var("TARGET")).unwrap();
-    println!("cargo:rustc-env=LEXICON_HOST={host}");
+    let host = env::var("TARGET_LEXICON_HOST").unwrap_or_default();
+    println!("cargo:rustc-env=LEXICON_HOST={}", if host.bytes().all(|it| it.is_ascii_graphic()) { &host } else { "" });
 
     let version = |part| env::var(format!("CARGO_PKG_VERSION_{part}")).unwrap();
     let name = format!("{}.{}", version("MAJOR"), version("MINOR"));

@@ -36,6 +36,10 @@ in_struct && !/ written by tools| end of what is written/ { code($0) }
 /^};/ { in_statuses = in_struct = 0 }
 in_struct { next }
 in_statuses {
+    while (/\/\*/ && !/\*\// && (getline line) > 0) {
+        sub(/^ */, "", line)
+        $0 = $0 " " line
+    }
     split($0, parts, /\/\* | \*\//)
     statuses = statuses ".TP\n" escaped($1 " (" ($3 + 0) ")") "\n" (parts[2] == "" ? "\\&" : escaped(parts[2])) "\n"
     next

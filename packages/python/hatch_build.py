@@ -28,9 +28,9 @@ TABLES = ("names.json", "names.csv", "names.schema.json", "targets.csv")
 # licence.
 SOURCES = ("Cargo.toml", "Cargo.lock", *(f"packages/names/{name}" for name in ("Cargo.toml", "src", *TABLES)),
            *(f"packages/{package}/{name}" for package in ("c", "rust") for name in ("Cargo.toml", "build.rs", "src")))
-LISTS = ("packages/c/include", "tools/names/names.tsv", "tools/names/names_table.py", "checks/known_triples.txt",
+LISTS = ("packages/c/include", "tools/names/names.tsv", "tools/names/names_table.py", "checks/upstream/known_triples.txt",
          "checks/target_lines.py",
-         "checks/failing_allocator.c")
+         "checks/gate/failing_allocator.c")
 
 
 class CustomBuildHook(BuildHookInterface):
@@ -98,9 +98,13 @@ def read(path):
 def given_library(name):
     """The library that the variable names, and the platform that it is for."""
     path = os.path.realpath(name)
-    platform = linux_platform(read(path))
-    if not platform:
-        raise SystemExit("TARGET_LEXICON_LIBRARY isn't a shared library for Linux on x86-64 or 64-bit Arm")
+    try:
+        content = read(path)
+    except OSError as error:
+        raise SystemExit(f"TARGET_LEXICON_LIBRARY can't be read: {error}") from None
+    platform = linux_platform(content)
+    if not platform or b"\0lexicon_settle_lines\0" not in content:
+        raise SystemExit("TARGET_LEXICON_LIBRARY isn't libtarget_lexicon for Linux on x86-64 or 64-bit Arm")
     return path, platform
 
 

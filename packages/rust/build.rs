@@ -7,10 +7,14 @@ extern crate alloc;
 
 #[path = "src/compat.rs"]
 mod compat;
+#[path = "src/fields.rs"]
+mod fields;
 #[path = "src/hash.rs"]
 mod hash;
 #[path = "src/proved/mod.rs"]
 mod proved;
+#[path = "src/search.rs"]
+mod search;
 
 use proved::{TripleRef, VendorRef};
 use std::{env, fs, mem, path::Path, time::Duration};
@@ -50,7 +54,9 @@ fn main() {
 fn literal(triple: TripleRef<'_>) -> String {
     let architecture = format!("{:?}", triple.architecture);
     let architecture = match architecture.split_once('(') {
-        Some((exception, of_exception)) => format!("{exception}(crate::{exception}Architecture::{of_exception}"),
+        Some((exception, of_exception)) => {
+            format!("{exception}(crate::{exception}Architecture::{of_exception}")
+        }
         None => architecture,
     };
     let vendor = match triple.vendor {

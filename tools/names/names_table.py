@@ -73,8 +73,8 @@ def read_lines(name, text, wrong, read):
 
 
 def table_of(text):
-    """The values of the table, those of a field in the order of their numbers, its special strings, and what is wrong
-    in it."""
+    """The values of the table, those of a field in the order of upstream's declarations, its special strings, and what
+    is wrong in it."""
     values, specials, wrong = [], [], []
 
     def read(line):
@@ -84,7 +84,7 @@ def table_of(text):
             add_value(values, line)
     read_lines("names.tsv", text, wrong, read)
     wrong = wrong or [f"names.tsv: {it}" for it in number_faults(values)]
-    return values if wrong else sorted(values, key=lambda it: int(it.number or 0)), specials, wrong
+    return values, specials, wrong
 
 
 def special_of(values, earlier, line):
@@ -179,33 +179,34 @@ def number_faults(values):
 
 
 class Table:
-    """The values by field, in the order of their numbers, and by Rust type."""
+    """The values by field, in the order of their numbers, and by Rust type, in that of their declarations."""
 
     def __init__(self, values, specials):
         self.values, self.specials = values, specials
-        self.field = {field: [it for it in values if it.field == field] for field in (*FIELDS, "alias")}
+        declared = {field: [it for it in values if it.field == field] for field in (*FIELDS, "alias")}
+        self.field = {field: sorted(of, key=lambda it: int(it.number or 0)) for field, of in declared.items()}
         self.types = {}
-        self.add("Architecture", "architecture", self.architectures())
-        for family in dict.fromkeys(it.family for it in self.field["architecture"] if it.family):
-            members = [it for it in self.field["architecture"] if it.family == family]
+        self.add("Architecture", "architecture", architectures(declared["architecture"]))
+        for family in dict.fromkeys(it.family for it in declared["architecture"] if it.family):
+            members = [it for it in declared["architecture"] if it.family == family]
             self.add(f"{family}Architecture", family.lower(), variants_of(members))
         for field, name in TYPES.items():
-            self.add(name, "known_vendor" if field == "vendor" else field, variants_of(self.field[field]))
-        self.add("Vendor", "vendor", variants_of(self.field["vendor"]))
+            self.add(name, "known_vendor" if field == "vendor" else field, variants_of(declared[field]))
+        self.add("Vendor", "vendor", variants_of(declared["vendor"]))
 
     def add(self, name, word, variants):
         held = [it for it in variants if it.holds]
         self.types[name] = Type(name, word, variants, [it for it in variants if not it.holds], held)
 
-    def architectures(self):
-        """A variant for each architecture without a family, and one for each family, in the order of their first
-        numbers."""
-        found = {}
-        for it, plain in zip(self.field["architecture"], variants_of(self.field["architecture"])):
-            sub = f"{it.family}Architecture"
-            variant = Variant(it.family, "", sub, f"One of the architectures of [`{sub}`].") if it.family else plain
-            found.setdefault(variant.variant, variant)
-        return list(found.values())
+
+def architectures(values):
+    """A variant for each architecture without a family, and one for each family, in the order of their first lines."""
+    found = {}
+    for it, plain in zip(values, variants_of(values)):
+        sub = f"{it.family}Architecture"
+        variant = Variant(it.family, "", sub, f"One of the architectures of [`{sub}`].") if it.family else plain
+        found.setdefault(variant.variant, variant)
+    return list(found.values())
 
 
 def variants_of(values):

@@ -9,7 +9,8 @@ import re
 JSON, CSV = "packages/names/names.json", "packages/names/names.csv"
 COLUMNS = ["tool", "name", "triple", "read", "written", "other_names", "states_version_of", "reason", "note", "sources"]
 # What the CSV has of the first source of a row.
-OF_SOURCE = ["version", "where", "seen", "asked"]
+OF_SOURCE = ["version", "where", "seen", "recalled"]
+
 
 def sources_of(dialect, name, note, in_notes):
     """The names of the sources of a row: that of the first pattern that it has, or those of `in_notes` that its note
@@ -50,7 +51,7 @@ def as_json(tables, version, of_rows):
     tools = [{"tool": it.name, "also": it.other_names, "about": it.about, "read": it.is_read, "written": it.is_written}
              for it in tables.dialects.values()]
     sources = {it.name: {"version": it.version or None, "debian_package": it.package or None, "where": it.where,
-                         "seen": it.seen, "asked": it.is_asked}
+                         **it.days}
                for it in tables.sources.values()}
     parts = [{"place": place, "part": name, "read_as": meaning} for place, found in tables.parts.items()
              for name, meaning, _ in found]
@@ -77,7 +78,7 @@ def as_csv(tables, of_rows):
     for row in of_rows:
         it = tables.sources[row["sources"][0]]
         cells = [", ".join(cell) if isinstance(cell, list) else cell for cell in (row[name] for name in COLUMNS)]
-        cells += [it.version, it.where, it.seen, it.is_asked]
+        cells += [it.version, it.where, *it.days.values()]
         writer.writerow(["" if cell is None else str(cell).lower() if isinstance(cell, bool) else cell
                          for cell in cells])
     return out.getvalue()

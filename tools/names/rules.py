@@ -1,19 +1,20 @@
 """What code and definitions say of the rules that follow from a value alone, which are a column of names.tsv.
 
 Both are written from the same rows, in two ways: the code has each value in an arm, so that none is forgotten, and
-the definitions have a line for each that isn't the default. The proofs compare the two, and
-`checks/specification against` compares what the rows say with upstream.
+the definitions have a line for each that isn't the default. The proofs compare the two, and from_upstream.py compares
+what the rows say with upstream.
 
 Values keep the order in which they stand, and a new one is the last of its arm: a proof names a goal by the first.
 """
 import re
 from collections import namedtuple
 
+from names_table import CONVENTIONS
+
 # The families of architectures with queries of their own.
 WITH_QUERIES = ("Arm", "Aarch64")
 ORDERS = {"big": "Big", "little": "Little"}
 WIDTHS = {"16": "U16", "32": "U32", "64": "U64"}
-CONVENTIONS = ("SystemV", "WasmBasicCAbi", "WindowsFastcall")
 # The widest line of code that `rt fmt` leaves on one.
 CODE_COLUMNS = 100
 

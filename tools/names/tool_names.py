@@ -30,18 +30,19 @@ COLUMNS = {"why": ["the name of a reason", "the reason"], "note": ["the name of 
 
 @dataclass
 class Source:
-    """Where names can be seen again: its name, its version, Debian's package of it, a file, a command in backquotes or
-    a page's address, and when."""
+    """Where names can be seen: its name, its version, Debian's package of it, a file, a command in backquotes or a
+    page's address, and the day on which that was asked, or on which its rows were written from knowledge of the page."""
     name: str
     version: str
     package: str
     where: str
-    seen: str
+    day: str
 
     @property
-    def is_asked(self):
-        """Whether checks/compare elsewhere asks it."""
-        return not self.where.startswith("https:")
+    def days(self):
+        """The day as one on which somebody looked, as checks/compare elsewhere does; or on which nobody did."""
+        is_recalled = self.where.startswith("https:")
+        return {"seen": None if is_recalled else self.day, "recalled": self.day if is_recalled else None}
 
 
 @dataclass

@@ -49,6 +49,7 @@ impl BinaryFormat {
     }
 
     /// The binary format with the name `s`; `Err` if there is none.
+    // Not in Rust.
     pub fn from_str(s: &str) -> Result<Self, ()>
         ensures { MatchesLookup (binary_format_of s.now) result }
     {
@@ -95,6 +96,7 @@ impl FromStr for BinaryFormat {
 
     ghost from_str_gives = { λ s. MatchesLookup (binary_format_of s) };
 
+    // In Rust: #[inline].
     fn from_str(s: &str) -> Result<BinaryFormat, ()> {
         BinaryFormat::from_str(s)
     }

@@ -107,6 +107,7 @@ impl Environment {
     }
 
     /// The environment with the name `s`; `Err` if there is none.
+    // Not in Rust.
     pub fn from_str(s: &str) -> Result<Self, ()>
         ensures { MatchesLookup (environment_of s.now) result }
     {

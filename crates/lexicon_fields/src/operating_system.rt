@@ -126,6 +126,7 @@ impl OperatingSystem {
     ///
     /// A string is a fixed name, or the prefix of a system like Darwin with nothing or a version after it: one to three
     /// pieces between dots, each an optional plus and digits, the first at most 65535, the others at most 255.
+    // Not in Rust.
     #[inline(always)]
     pub fn from_str(s: &str) -> Result<Self, ()>
         ensures { MatchesLookup (spec.operating_system_of s.now) result }

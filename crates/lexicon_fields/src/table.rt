@@ -17,7 +17,7 @@ use crate::environment::Environment;
 use crate::known_vendor::KnownVendor;
 use crate::operating_system::OperatingSystem;
 use crate::steps::Steps;
-// In Rust: #[allow(unused_imports)], use crate::compat::Chunks as _.
+// In Rust: use crate::search::row_of.
 use std::cmp::Ordering;
 
 /// The number of rows.
@@ -40,6 +40,7 @@ pub struct FixedRow {
 /// to read than one that is folded into the values.
 #[derive(Clone, Copy)]
 #[repr(u8)]
+// In Rust instead: pub enum Meaning {
 enum Meaning {
     Architecture(Architecture),
     Vendor(KnownVendor),
@@ -53,9 +54,10 @@ enum Meaning {
 }
 
 /// A string and its meaning.
+// In Rust instead: pub type Row = (&'static str, Meaning);
 type Row = (&'static str, Meaning);
 
-/// The row of the string, or `None` if the string is neither a fixed name nor the alias `arm64`: a binary search.
+/// The row of the string, or `None` if the string is neither a fixed name nor the alias `arm64`.
 #[inline(always)]
 pub fn fixed_row(text: &str, steps: &mut Steps) -> Option<FixedRow>
     ensures row { MatchOption result (spec.has_row text.now ≡ false) (IsRowOf text.now) }
@@ -63,9 +65,9 @@ pub fn fixed_row(text: &str, steps: &mut Steps) -> Option<FixedRow>
     ensures few { steps.new.count ≤ steps.old.count + 8 }
     ensures exact { steps.new.count ≡ steps.old.count + search_steps text.now }
 {
-    let (text, meaning) = *row_of(text, steps)?;
+    let (text, meaning) = row_of(text, steps)?;
     let none = FixedRow {
-        text,
+        text: *text,
         architecture: None,
         vendor: None,
         operating_system: None,
@@ -74,23 +76,23 @@ pub fn fixed_row(text: &str, steps: &mut Steps) -> Option<FixedRow>
     };
     Some(match meaning {
         Meaning::Architecture(it) => FixedRow {
-            architecture: Some(it),
+            architecture: Some(*it),
             ..none
         },
         Meaning::Vendor(it) => FixedRow {
-            vendor: Some(it),
+            vendor: Some(*it),
             ..none
         },
         Meaning::OperatingSystem(it) => FixedRow {
-            operating_system: Some(it),
+            operating_system: Some(*it),
             ..none
         },
         Meaning::Environment(it) => FixedRow {
-            environment: Some(it),
+            environment: Some(*it),
             ..none
         },
         Meaning::BinaryFormat(it) => FixedRow {
-            binary_format: Some(it),
+            binary_format: Some(*it),
             ..none
         },
         Meaning::None => FixedRow {
@@ -99,7 +101,7 @@ pub fn fixed_row(text: &str, steps: &mut Steps) -> Option<FixedRow>
             ..none
         },
         Meaning::Unknown => FixedRow {
-            text,
+            text: *text,
             architecture: Some(Architecture::Unknown),
             vendor: Some(KnownVendor::Unknown),
             operating_system: Some(OperatingSystem::Unknown),
@@ -109,7 +111,8 @@ pub fn fixed_row(text: &str, steps: &mut Steps) -> Option<FixedRow>
     })
 }
 
-/// The string's row.
+/// The string's row, by a binary search.
+// Not in Rust.
 fn row_of(text: &str, steps: &mut Steps) -> Option<&'static Row>
     ensures row { MatchOption result (spec.has_row text.now ≡ false)
         (λ row. private.IsTheRow text.now row.now) }
@@ -130,6 +133,7 @@ fn row_of(text: &str, steps: &mut Steps) -> Option<&'static Row>
 }
 
 /// The order by bytes of the string of row `i`, counted from 0, relative to `text`.
+// Not in Rust.
 #[inline(always)]
 pub fn row_order(i: usize, text: &str, steps: &mut Steps) -> Ordering
     requires { i < spec.row_count }
@@ -160,6 +164,7 @@ pub fn row_order(i: usize, text: &str, steps: &mut Steps) -> Ordering
 }
 
 /// The prefix key of a string: its first eight bytes as a big-endian number, in which a missing byte is zero.
+// Not in Rust.
 #[inline(never)]
 fn prefix_key(text: &str) -> u64
     ensures { result ≡ private.prefix_key_of 8 text.now }
@@ -184,6 +189,7 @@ fn prefix_key(text: &str) -> u64
 
 /// The whole table.
 #[rattlefmt::skip]
+// In Rust instead: pub static ROWS: [Row; ROW_COUNT] = [
 static ROWS: [Row; ROW_COUNT] = [
     // written by tools/names/write: the rows
     ("aarch64", Meaning::Architecture(Architecture::Aarch64(Aarch64Architecture::Aarch64))),
@@ -382,6 +388,7 @@ static ROWS: [Row; ROW_COUNT] = [
 ];
 
 /// The prefix keys of the rows' strings. Only `row_order` reads them.
+// Not in Rust.
 #[rattlefmt::skip]
 static KEYS: [u64; ROW_COUNT] = [
     // written by tools/names/write: the keys

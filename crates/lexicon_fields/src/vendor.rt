@@ -188,6 +188,7 @@ impl Vendor {
     /// ```
     /// assert_eq!(rt; target_lexicon::Vendor::Nvidia.as_str(), "nvidia");
     /// ```
+    // In Rust: #[inline].
     pub fn as_str(&self) -> &str
         ensures { result.now ≡ spec.vendor_name (spec.vendor_value self.now) }
     {

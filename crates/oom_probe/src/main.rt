@@ -1,5 +1,5 @@
 //! Makes each call of the libraries that takes an allocator, and writes a line for each: its name, and after the call
-//! `ok` or its error. `checks/fail_allocations` makes each allocation of the program fail in turn. A call that should
+//! `ok` or its error. `checks/gate/fail_allocations` makes each allocation of the program fail in turn. A call that should
 //! allocate nothing has a line that begins with `no memory: `. If a call changed what it was given, which it must not
 //! even where it fails, there is a line more.
 #![tactic(auto)]

@@ -1,96 +1,109 @@
 -- Parsing as a function gives the triple that a string reads as by placements, and how it is refused.
-use Rattle.std.proofs.Common.{◌≡◌, ℕ, ◌≤◌, List, [], ◌∷◌, true, false, nat_eq, refl, sym, ◌∙◌, ap, subst, Option, Some, None, Result, Ok, Err, arith, inl, inr, ◌↔◌, ◌⊎◌}
-use Rattle.std.specs.Prelude.{MatchResult, is_some}
-use Rattle.lexicon_fields.specs.{declared.architecture.Architecture.Architecture as AnyArchitecture, declared.operating_system.OperatingSystem.OperatingSystem as AnySystem, Environment.environment_of}
-use Rattle.lexicon_fields.specs.{declared.environment.Environment.Environment as AnyEnvironment, Architecture.architecture_of, declared.known_vendor.KnownVendor.TheVariants.Unknown, Vendor.vendor_of, OperatingSystem.operating_system_of, BinaryFormat.binary_format_of}
-use Rattle.target_lexicon.specs.{Values.VendorValue, Values.Known, Values.Values, Values.values, ImpliedFormat.implied_format, Laws.EveryStringHasOneOutcome, Laws.ReadingIsComputed, SpecialStrings.special_values, Parsing.parts_of, Refusal.Refusal, Refusal.refusal_with}
-use Rattle.target_lexicon.specs.Field.{Field, Architecture, Vendor, OperatingSystem, Environment, BinaryFormat, field_number, parses_as}
+use Rattle.std.proofs.Common.{◌≡◌, ℕ, List, [], ◌∷◌, true, false, refl, sym, ◌∙◌, ap, subst, Option, Some, None, Result, Ok, Err, inl, inr, ◌↔◌, ◌⊎◌}
+use Rattle.std.specs.Prelude.{MatchResult, is_some, unwrap_or}
+use Rattle.std.specs.Option.{option_map_or}
+use Rattle.std.proofs.lemmas.Bool.{cases_Bool, false≢true}
+use Rattle.lexicon_fields.specs.{Architecture.architecture_of, Vendor.vendor_of, OperatingSystem.operating_system_of, Environment.environment_of, BinaryFormat.binary_format_of}
+use Rattle.target_lexicon.specs.{Values.Values, Values.unknown_values, ImpliedFormat.default_binary_format, Laws.EveryStringHasOneOutcome, Laws.ReadingIsComputed, SpecialStrings.special_values, Parsing.parts_of, Refusal.Refusal, Refusal.refusal_with}
+use Rattle.target_lexicon.specs.Field.{Field, Architecture, Vendor, OperatingSystem, Environment, BinaryFormat, parses_as}
 use Rattle.target_lexicon.specs.Parsing.{part_at, IsValueOf, HoldsParts, ParsesAs, IsRefusal, IsRefusedAs, IsRefused, expected_after, last_field}
-use Rattle.target_lexicon.specs.GreedyReading.{reading_of_parts, reading_unless_special, reading}
-use Rattle.target_lexicon.proofs.FieldReading.{by_fields, field_reading_by, field_reading, final_reading, reading_from_binary_format, reading_from_environment, reading_from_operating_system, reading_from_vendor, reading_after_architecture}
-use Rattle.target_lexicon.proofs.{PartLemmas.parts_of-are, PartLemmas.parts_of-some, GreedyPlacement.IsPlacedAfter, GreedyPlacement.Follows, GreedyPlacement.filled, GreedyPlacement.unread, GreedyPlacement.filled-placed, GreedyPlacement.after_architecture, GreedyPlacement.greedy-least, RefusalLemmas.refused_first, RefusalLemmas.left-refused, UniqueReading.values_unique, UniqueReading.refusal_unique, UniqueReading.read_not_refused}
-use Rattle.target_lexicon.specs.Values.operating_system
-use Rattle.target_lexicon.specs.Values.environment
+use Rattle.target_lexicon.specs.GreedyReading.{field_for, finished, reading_from, reading_of_parts, reading_unless_special, reading, with_value}
+use Rattle.target_lexicon.proofs.GreedyPlacement.{cases_Option, field-after, fields_from, greedy-least, left_from}
+use Rattle.target_lexicon.proofs.{PartLemmas.parts_of-are, PartLemmas.parts_of-some, ReadParts.absent, RefusalLemmas.refused_first, RefusalLemmas.left-refused, UniqueReading.values_unique, UniqueReading.refusal_unique, UniqueReading.read_not_refused}
 
--- what holds for the values, where these parts are of these fields
-abbrev Claim : Type 1
-Claim = List (List ℕ) → List Field → Values → Type 0
+-- the values that these parts give where this field is expected and those before have these
+abbrev fill : Option Field → Values → List (List ℕ) → Values
+fill expected t [] = finished expected t
+fill expected t (p ∷ ps) = option_map_or (λ f. fill (expected_after f) (with_value f p t) ps) (field_for expected p) t
 
--- what reading these fields after `last` gives: values for which the claim holds, where they take every part; or
--- the refusal of the first part that they leave
-abbrev Gives : List Field → Field → List (List ℕ) → Claim → Result Values Refusal → Type 0
-Gives fs last ps P (Ok t) = (unread fs ps ≡ []) × P ps (filled fs ps) t
-Gives fs last ps P (Err x) = (q : List ℕ) × (rest : List (List ℕ)) × (unread fs ps ≡ q ∷ rest) × (x ≡ refusal_with (expected_after (last_field last (filled fs ps))) q)
+read-filled : (expected : Option Field) (t : Values) (ps : List (List ℕ)) → left_from expected ps ≡ [] → reading_from expected t ps ≡ Ok (fill expected t ps)
+read-filled expected t [] done = refl
+read-filled expected t (p ∷ ps) done =
+    elim (cases_Option (field_for expected p)) [
+      | inl none ↦ absurd (let left = rw none at done in cc)
+      | inr some ↦ rw some.1 (read-filled (expected_after some.0) (with_value some.0 p t) ps (rw some.1 at done))
+    ]
 
--- the field has the value of its part, for which the rest holds
-abbrev HasValue : {A : Type 0} → Field → (List ℕ → Option A) → A → (A → Claim) → Claim
-HasValue {A} f find d P ps gs t = (x : A) × IsValueOf find d (part_at f ps gs) x × P x ps gs t
+-- or the refusal of the first part that is left
+read-left : (l : Field) (t : Values) (ps : List (List ℕ)) (q : List ℕ) (rest : List (List ℕ)) → left_from (expected_after l) ps ≡ q ∷ rest
+    → reading_from (expected_after l) t ps ≡ Err (refusal_with (expected_after (last_field l (fields_from (expected_after l) ps))) q)
+read-left l t [] q rest left = cc
+read-left l t (p ∷ ps) q rest left =
+    elim (cases_Option (field_for (expected_after l) p)) [
+      | inl none ↦
+          let all : p ∷ ps ≡ q ∷ rest = (rw none at left) in
+          let same : p ≡ q = cc in
+          rw none (ap (λ (r : List ℕ). Err (refusal_with (expected_after l) r)) same)
+      | inr some ↦ rw some.1 (read-left some.0 (with_value some.0 p t) ps q rest (rw some.1 at left))
+    ]
 
--- a field has no part in a placement after it
-part_at-after : (f l : Field) (ps : List (List ℕ)) (gs : List Field) → field_number f ≤ field_number l → IsPlacedAfter l ps gs → part_at f ps gs ≡ None
-part_at-after f l [] gs h w = refl
-part_at-after f l (p ∷ ps) [] h w = refl
-part_at-after f l (p ∷ ps) (g ∷ gs) h w =
-    let other : nat_eq (field_number g) (field_number f) ≡ false = grind (arith, h, w.0) in
-    let before : field_number f ≤ field_number g = omega (arith, h, w.0) in
-    rw other (part_at-after f g ps gs before w.2)
+-- each field has the value of its part, or without one the value before; while the format is open, the implied one
+record Fills (expected : Option Field) (t u : Values) (ps : List (List ℕ)) (fs : List Field) : Type 0 where
+  architecture : IsValueOf architecture_of t.architecture (part_at Architecture ps fs) u.architecture
+  vendor : IsValueOf vendor_of t.vendor (part_at Vendor ps fs) u.vendor
+  operating_system : IsValueOf operating_system_of t.operating_system (part_at OperatingSystem ps fs) u.operating_system
+  environment : IsValueOf environment_of t.environment (part_at Environment ps fs) u.environment
+  binary_format : IsValueOf binary_format_of (option_map_or (λ (x : Field). default_binary_format u) expected t.binary_format) (part_at BinaryFormat ps fs) u.binary_format
 
--- the step of a field, where `read` reads the fields after it
-module _ {A : Type 0} (f : Field) (find : List ℕ → Option A) (is_read : (p : List ℕ) → parses_as f p ≡ is_some (find p)) (fs : List Field) (in_order : Follows f fs) (d : A)
-    (P : A → Claim) (others : (x : A) (p : List ℕ) (ps : List (List ℕ)) (gs : List Field) (t : Values) → P x ps gs t → P x (p ∷ ps) (f ∷ gs) t)
-    (read : A → Field → List (List ℕ) → Result Values Refusal) (gives : (x : A) (last : Field) (ps : List (List ℕ)) → Gives fs last ps (P x) (read x last ps)) where
-  leaves : (last : Field) (ps : List (List ℕ)) (found : Result Values Refusal) → unread (f ∷ fs) ps ≡ unread fs ps → filled (f ∷ fs) ps ≡ filled fs ps
-      → Gives fs last ps (P d) found → Gives (f ∷ fs) last ps (HasValue f find d P) found
-  leaves last ps (Ok t) u e (done, h) =
-      let absent : part_at f ps (filled fs ps) ≡ None = part_at-after f f ps (filled fs ps) (omega arith) (filled-placed f fs ps in_order done) in
-      (u ∙ done, rw e (d, rw absent refl, h))
-  leaves last ps (Err x) u e (q, rest, left, same) = (q, rest, u ∙ left, rw e same)
+fills-end : (expected : Option Field) (t : Values) → Fills expected t (finished expected t) [] []
+fills-end None t = record { architecture = refl; vendor = refl; operating_system = refl; environment = refl; binary_format = refl }
+fills-end (Some x) t = record { architecture = refl; vendor = refl; operating_system = refl; environment = refl; binary_format = refl }
 
-  takes : (last : Field) (p : List ℕ) (ps : List (List ℕ)) (x : A) (found : Result Values Refusal) → find p ≡ Some x
-      → Gives fs f ps (P x) found → Gives (f ∷ fs) last (p ∷ ps) (HasValue f find d P) found
-  takes last p ps x (Ok t) is (done, h) =
-      let same : nat_eq (field_number f) (field_number f) ≡ true = grind arith in
-      rw (is_read p ∙ ap is_some is) (done, (x, rw same is, others x p ps (filled fs ps) t h))
-  takes last p ps x (Err y) is h = rw (is_read p ∙ ap is_some is) h
+value-taken : {A : Type 0} (find : List ℕ → Option A) (p : List ℕ) (d u : A) → is_some (find p) ≡ true → u ≡ unwrap_or (find p) d → find p ≡ Some u
+value-taken find p d u takes is =
+    elim (cases_Option (find p)) [
+      | inl none ↦ absurd (false≢true (rw none at takes))
+      | inr some ↦ let same : u ≡ some.0 = (rw some.1 at is) in some.1 ∙ ap Some (sym same)
+    ]
 
-  step : (last : Field) (ps : List (List ℕ)) → Gives (f ∷ fs) last ps (HasValue f find d P) (let v = field_reading f find d last ps in read v.0 v.1 v.2)
-  step last [] = leaves last [] _ refl refl (gives d last [])
-  step last (p ∷ ps) = by_found (find p) refl
-    where
-      by_found : (o : Option A) → find p ≡ o → Gives (f ∷ fs) last (p ∷ ps) (HasValue f find d P) (let v = field_reading_by f o d last p ps in read v.0 v.1 v.2)
-      by_found (Some x) is = takes last p ps x _ is (gives x f ps)
-      by_found None is =
-          let skips : parses_as f p ≡ false = is_read p ∙ ap is_some is in
-          leaves last (p ∷ ps) _ (rw skips refl) (rw skips refl) (gives d last (p ∷ ps))
-
--- the values of the fields after the architecture, from the last field backwards
-abbrev HasFormat : AnyArchitecture → VendorValue → AnySystem → AnyEnvironment → Claim
-HasFormat a v s e = HasValue BinaryFormat binary_format_of (implied_format a s e) (λ f ps gs t. t ≡ values a v s e f)
-
-abbrev HasEnvironment : AnyArchitecture → VendorValue → AnySystem → Claim
-HasEnvironment a v s = HasValue Environment environment_of environment.Unknown (HasFormat a v s)
-
-abbrev HasSystem : AnyArchitecture → VendorValue → Claim
-HasSystem a v = HasValue OperatingSystem operating_system_of operating_system.Unknown (HasEnvironment a v)
-
-abbrev HasVendor : AnyArchitecture → Claim
-HasVendor a = HasValue Vendor vendor_of (Known Unknown) (HasSystem a)
-
-final_reading-gives : (t : Values) (last : Field) (ps : List (List ℕ)) → Gives [] last ps (λ ps gs u. u ≡ t) (final_reading t last ps)
-final_reading-gives t last [] = (refl, refl)
-final_reading-gives t last (p ∷ ps) = (p, ps, refl, refl)
-
-vendor-gives : (a : AnyArchitecture) (ps : List (List ℕ)) → Gives after_architecture Architecture ps (HasVendor a) (reading_from_vendor a ps)
+fills-next : (p : List ℕ) (ps : List (List ℕ)) (t u : Values) (expected : Option Field) (f : Field) → field_for expected p ≡ Some f → parses_as f p ≡ true
+    → Fills (expected_after f) (with_value f p t) u ps (fields_from (expected_after f) ps) → Fills expected t u (p ∷ ps) (f ∷ fields_from (expected_after f) ps)
 unfolding parses_as
-vendor-gives a =
-    step Vendor vendor_of (λ p. refl) (OperatingSystem ∷ Environment ∷ BinaryFormat ∷ []) (refl, (refl, (refl, refl))) _ (HasSystem a)
-    (λ x p ps gs t h. h) (reading_from_operating_system a) (λ v.
-    step OperatingSystem operating_system_of (λ p. refl) (Environment ∷ BinaryFormat ∷ []) (refl, (refl, refl)) _ (HasEnvironment a v)
-    (λ x p ps gs t h. h) (reading_from_environment a v) (λ s.
-    step Environment environment_of (λ p. refl) (BinaryFormat ∷ []) (refl, refl) _ (HasFormat a v s)
-    (λ x p ps gs t h. h) (reading_from_binary_format a v s) (λ e.
-    step BinaryFormat binary_format_of (λ p. refl) [] refl _ (λ f ps gs t. t ≡ values a v s e f)
-    (λ x p ps gs t h. h) (λ f. final_reading (values a v s e f)) (λ f. final_reading-gives (values a v s e f))))) Architecture
+fills-next p ps t u None f found takes h = absurd cc
+fills-next p ps t u (Some x) Architecture found takes h = record {
+  architecture = value-taken architecture_of p t.architecture u.architecture takes (rw (absent Architecture ps ps) at h.architecture);
+  vendor = h.vendor;
+  operating_system = h.operating_system;
+  environment = h.environment;
+  binary_format = h.binary_format;
+}
+fills-next p ps t u (Some x) Vendor found takes h = record {
+  architecture = h.architecture;
+  vendor = value-taken vendor_of p t.vendor u.vendor takes (rw (absent Vendor ps ps) at h.vendor);
+  operating_system = h.operating_system;
+  environment = h.environment;
+  binary_format = h.binary_format;
+}
+fills-next p ps t u (Some x) OperatingSystem found takes h = record {
+  architecture = h.architecture;
+  vendor = h.vendor;
+  operating_system = value-taken operating_system_of p t.operating_system u.operating_system takes (rw (absent OperatingSystem ps ps) at h.operating_system);
+  environment = h.environment;
+  binary_format = h.binary_format;
+}
+fills-next p ps t u (Some x) Environment found takes h = record {
+  architecture = h.architecture;
+  vendor = h.vendor;
+  operating_system = h.operating_system;
+  environment = value-taken environment_of p t.environment u.environment takes (rw (absent Environment ps ps) at h.environment);
+  binary_format = h.binary_format;
+}
+fills-next p ps t u (Some x) BinaryFormat found takes h = record {
+  architecture = h.architecture;
+  vendor = h.vendor;
+  operating_system = h.operating_system;
+  environment = h.environment;
+  binary_format = value-taken binary_format_of p t.binary_format u.binary_format takes (rw (absent BinaryFormat ps ps) at h.binary_format);
+}
+
+fills : (l : Field) (t : Values) (ps : List (List ℕ)) → left_from (expected_after l) ps ≡ []
+    → Fills (expected_after l) t (fill (expected_after l) t ps) ps (fields_from (expected_after l) ps)
+fills l t [] done = fills-end (expected_after l) t
+fills l t (p ∷ ps) done =
+    elim (cases_Option (field_for (expected_after l) p)) [
+      | inl none ↦ absurd (let left = rw none at done in cc)
+      | inr some ↦ rw some.1 (fills-next p ps t _ (expected_after l) some.0 some.1 (field-after l p some.0 some.1).1 (fills some.0 (with_value some.0 p t) ps (rw some.1 at done)))
+    ]
 
 -- what holds for a string: the function gives what it reads as, or how it is refused
 abbrev pub Holds : List ℕ → Result Values Refusal → Type 0
@@ -100,21 +113,23 @@ module _ (text p : List ℕ) (ps : List (List ℕ)) (ordinary : special_values t
   is_refused : (x : Refusal) → IsRefusal (p ∷ ps) x → IsRefusedAs text x
   is_refused x h = (ordinary, (parts_of text, parts_of-are text, rw are h))
 
-  by_given : (a : AnyArchitecture) (found : Result Values Refusal) → architecture_of p ≡ Some a → parses_as Architecture p ≡ true
-      → Gives after_architecture Architecture ps (HasVendor a) found → Holds text found
-  by_given a (Ok t) first takes (done, (v, hv, (s, hs, (e, he, (f, hf, same))))) =
-      let holds : HoldsParts (p ∷ ps) (Architecture ∷ filled after_architecture ps) t =
-      rw same (record { architecture = first; vendor = hv; operating_system = hs; environment = he; binary_format = hf }) in
-      rw ordinary (parts_of text, parts_of-are text, rw are (Architecture ∷ filled after_architecture ps, greedy-least p ps takes done, holds))
-  by_given a (Err x) first takes (q, rest, left, same) = rw same (is_refused _ (left-refused p ps q rest takes left))
-
-  by_architecture : (o : Option AnyArchitecture) → architecture_of p ≡ o → Holds text (reading_after_architecture o p ps)
-  unfolding parses_as
-  by_architecture None h = is_refused _ (refused_first p ps (ap is_some h))
-  by_architecture (Some a) h = by_given a (reading_from_vendor a ps) h (ap is_some h) (vendor-gives a ps)
+  by_left : parses_as Architecture p ≡ true → (left : List (List ℕ)) → left_from (Some Vendor) ps ≡ left → Holds text (reading_from (Some Vendor) (with_value Architecture p unknown_values) ps)
+  by_left takes [] done =
+      let t = with_value Architecture p unknown_values in
+      let u = fill (Some Vendor) t ps in
+      let found : field_for (Some Architecture) p ≡ Some Architecture = rw takes refl in
+      let h = fills-next p ps unknown_values u (Some Architecture) Architecture found takes (fills Architecture t ps done) in
+      let holds : HoldsParts (p ∷ ps) (Architecture ∷ fields_from (Some Vendor) ps) u =
+      record { architecture = h.architecture; vendor = h.vendor; operating_system = h.operating_system; environment = h.environment; binary_format = h.binary_format } in
+      rw (read-filled (Some Vendor) t ps done) (rw ordinary (parts_of text, parts_of-are text, rw are (Architecture ∷ fields_from (Some Vendor) ps, greedy-least p ps takes done, holds)))
+  by_left takes (q ∷ rest) left = rw (read-left Architecture (with_value Architecture p unknown_values) ps q rest left) (is_refused _ (left-refused p ps q rest takes left))
 
   parts-hold : Holds text (reading_of_parts (p ∷ ps))
-  parts-hold = subst (Holds text) (sym (by_fields (p ∷ ps))) (by_architecture (architecture_of p) refl)
+  parts-hold =
+      elim (cases_Bool (parses_as Architecture p)) [
+        | inl takes ↦ rw takes (by_left takes (left_from (Some Vendor) ps) refl)
+        | inr skips ↦ rw skips (is_refused _ (refused_first p ps skips))
+      ]
 
 by_parts : (text : List ℕ) (parts : List (List ℕ)) → special_values text ≡ None → parts_of text ≡ parts → Holds text (reading_of_parts parts)
 by_parts text [] ordinary are = absurd (parts_of-some text are)

@@ -1,8 +1,12 @@
 -- The greedy placement: each part is assigned to the first remaining field that it parses as.
-use Rattle.std.proofs.Common.{◌≡◌, ◌≢◌, ℕ, zero, suc, ◌+◌, ◌<◌, ◌≤◌, List, [], ◌∷◌, map, take, get_or, true, refl, subst, cond, arith, inl, inr}
+use Rattle.std.proofs.Common.{◌≡◌, ◌≢◌, ℕ, zero, suc, ◌+◌, ◌<◌, ◌≤◌, List, [], ◌∷◌, map, take, get_or, true, Option, Some, None, ◌⊎◌, refl, subst, arith, inl, inr}
+use Rattle.std.specs.Prelude.{IfSome}
+use Rattle.std.specs.Option.{option_map_or}
+use Rattle.std.proofs.lemmas.Option.{IfSome_then}
 use Rattle.std.specs.{List.AllZip, List.Sorted.IsStrictlyIncreasing}
 use Rattle.target_lexicon.specs.Field.{Field, Architecture, Vendor, OperatingSystem, Environment, BinaryFormat, field_number, parses_as}
-use Rattle.target_lexicon.specs.{Laws.HasOneLeastPlacement, Parsing.IsPlacement, Parsing.AreNotAfter, Parsing.IsLeastPlacement, Parsing.HasPlacement}
+use Rattle.target_lexicon.specs.{Laws.HasOneLeastPlacement, Parsing.IsPlacement, Parsing.AreNotAfter, Parsing.IsLeastPlacement, Parsing.HasPlacement, Parsing.expected_after}
+use Rattle.target_lexicon.specs.GreedyReading.{field_for, first_field, open_fields}
 use Rattle.std.proofs.lemmas.Bool.{cases_Bool}
 
 -- the parts parse as these fields, which strictly increase and all come after `last`
@@ -12,22 +16,30 @@ IsPlacedAfter last [] (f ∷ fs) = ⊥
 IsPlacedAfter last (p ∷ ps) [] = ⊥
 IsPlacedAfter last (p ∷ ps) (f ∷ fs) = (field_number last < field_number f) × (parses_as f p ≡ true) × IsPlacedAfter f ps fs
 
+-- the fields that these parts fill where this one is expected, and the parts that are left
+abbrev pub fields_from : Option Field → List (List ℕ) → List Field
+fields_from expected [] = []
+fields_from expected (p ∷ ps) = option_map_or (λ f. f ∷ fields_from (expected_after f) ps) (field_for expected p) []
+
+abbrev pub left_from : Option Field → List (List ℕ) → List (List ℕ)
+left_from expected [] = []
+left_from expected (p ∷ ps) = option_map_or (λ f. left_from (expected_after f) ps) (field_for expected p) (p ∷ ps)
+
 -- the fields after `last`, in order
-abbrev pub Follows : Field → List Field → Type 0
+abbrev Follows : Field → List Field → Type 0
 Follows l [] = field_number l ≡ 4
 Follows l (f ∷ fs) = (field_number f ≡ field_number l + 1) × Follows f fs
 
--- the fields that are filled, each by the first remaining part if that parses as it
-abbrev pub filled : List Field → List (List ℕ) → List Field
-filled fs [] = []
-filled [] (p ∷ ps) = []
-filled (f ∷ fs) (p ∷ ps) = cond (parses_as f p) (f ∷ filled fs ps) (filled fs (p ∷ ps))
+pub open-follows : (l : Field) → Follows l (open_fields (expected_after l))
+open-follows Architecture = (refl, (refl, (refl, (refl, refl))))
+open-follows Vendor = (refl, (refl, (refl, refl)))
+open-follows OperatingSystem = (refl, (refl, refl))
+open-follows Environment = (refl, refl)
+open-follows BinaryFormat = refl
 
--- the parts that are left
-abbrev pub unread : List Field → List (List ℕ) → List (List ℕ)
-unread fs [] = []
-unread [] (p ∷ ps) = p ∷ ps
-unread (f ∷ fs) (p ∷ ps) = cond (parses_as f p) (unread fs ps) (unread fs (p ∷ ps))
+pub cases_Option : {A : Type 0} (o : Option A) → (o ≡ None) ⊎ ((x : A) × (o ≡ Some x))
+cases_Option None = inl refl
+cases_Option (Some x) = inr (x, refl)
 
 field_number-bound : (f : Field) → field_number f ≤ 4
 field_number-bound Architecture = omega arith
@@ -90,36 +102,46 @@ weaken : (l k : Field) (ps : List (List ℕ)) (gs : List Field) → field_number
 weaken l k (p ∷ ps) (g ∷ gs) h w = (omega (arith, w.0), w.1, w.2)
 weaken l k _ _ h w = w
 
-pub filled-placed : (l : Field) (fs : List Field) (ps : List (List ℕ)) → Follows l fs → unread fs ps ≡ [] → IsPlacedAfter l ps (filled fs ps)
-filled-placed l fs [] h e = tt
-filled-placed l [] (p ∷ ps) h e = cc
-filled-placed l (f ∷ fs) (p ∷ ps) h e =
+-- the first of the fields after `last` that takes a part comes after `last`, and no later than another that takes it
+first-after : (l : Field) (fs : List Field) (p : List ℕ) → Follows l fs → IfSome (first_field fs p) (λ f. (field_number l < field_number f) × (parses_as f p ≡ true))
+first-after l [] p h = tt
+first-after l (f ∷ fs) p h =
     elim (cases_Bool (parses_as f p)) [
-      | inl takes ↦
-          let rest : unread fs ps ≡ [] = (rw takes at e) in
-          rw takes (omega (arith, h.0), takes, filled-placed f fs ps h.1 rest)
+      | inl takes ↦ rw takes (omega (arith, h.0), takes)
+      | inr skips ↦ rw skips (IfSome_then (first_field fs p) (first-after f fs p h.1) (λ g w. (omega (arith, h.0, w.0), w.1)))
+    ]
+
+pub first-least : (l : Field) (fs : List Field) (p : List ℕ) (g : Field) → Follows l fs → field_number l < field_number g → parses_as g p ≡ true
+    → (f : Field) × (first_field fs p ≡ Some f) × (field_number f ≤ field_number g)
+first-least l [] p g h later takes = absurd (omega (arith, h, later, field_number-bound g))
+first-least l (f ∷ fs) p g h later takes =
+    elim (cases_Bool (parses_as f p)) [
+      | inl first ↦ rw first (f, refl, omega (arith, h.0, later))
       | inr skips ↦
-          let rest : unread fs (p ∷ ps) ≡ [] = (rw skips at e) in
-          rw skips (weaken f l (p ∷ ps) (filled fs (p ∷ ps)) (omega (arith, h.0)) (filled-placed f fs (p ∷ ps) h.1 rest))
+          let other : field_number g ≢ field_number f = λ e. let same : g ≡ f = field_number-injective g f e in cc in
+          rw skips (first-least f fs p g h.1 (omega (arith, h.0, later, other)) takes)
+    ]
+
+pub field-after : (l : Field) (p : List ℕ) (f : Field) → field_for (expected_after l) p ≡ Some f → (field_number l < field_number f) × (parses_as f p ≡ true)
+field-after l p f is = rw is at (first-after l (open_fields (expected_after l)) p (open-follows l))
+
+fields-placed : (l : Field) (ps : List (List ℕ)) → left_from (expected_after l) ps ≡ [] → IsPlacedAfter l ps (fields_from (expected_after l) ps)
+fields-placed l [] done = tt
+fields-placed l (p ∷ ps) done =
+    elim (cases_Option (field_for (expected_after l) p)) [
+      | inl none ↦ absurd (let left = rw none at done in cc)
+      | inr some ↦ let it = field-after l p some.0 some.1 in rw some.1 (it.0, it.1, fields-placed some.0 ps (rw some.1 at done))
     ]
 
 -- a placement after `last` is no earlier than the greedy one, which then assigns every part
-pub filled-least : (l : Field) (fs : List Field) (ps : List (List ℕ)) (gs : List Field) → Follows l fs → IsPlacedAfter l ps gs
-    → (unread fs ps ≡ []) × AreNotAfter (filled fs ps) gs
-filled-least l fs [] [] h w = (refl, tt)
-filled-least l [] (p ∷ ps) (g ∷ gs) h w = absurd (omega (arith, h, w.0, field_number-bound g))
-filled-least l (f ∷ fs) (p ∷ ps) (g ∷ gs) h w =
-    elim (cases_Bool (parses_as f p)) [
-      | inl takes ↦
-          let rest = filled-least f fs ps gs h.1 (weaken g f ps gs (omega (arith, h.0, w.0)) w.2) in
-          rw takes (rest.0, (omega (arith, h.0, w.0), rest.1))
-      | inr skips ↦
-          let other : field_number g ≢ field_number f = λ e. let same : g ≡ f = field_number-injective g f e in let takes = w.1 in cc in
-          let after : field_number f < field_number g = omega (arith, h.0, w.0, other) in
-          let rest = filled-least f fs (p ∷ ps) (g ∷ gs) h.1 (after, w.1, w.2) in
-          rw skips rest
-    ]
-filled-least l fs _ _ h w = absurd w
+fields-least : (l : Field) (ps : List (List ℕ)) (gs : List Field) → IsPlacedAfter l ps gs
+    → (left_from (expected_after l) ps ≡ []) × AreNotAfter (fields_from (expected_after l) ps) gs
+fields-least l [] [] w = (refl, tt)
+fields-least l (p ∷ ps) (g ∷ gs) w =
+    let first = first-least l (open_fields (expected_after l)) p g (open-follows l) w.0 w.1 in
+    let rest = fields-least first.0 ps gs (weaken g first.0 ps gs first.2 w.2) in
+    rw first.1 (rest.0, (first.2, rest.1))
+fields-least l _ _ w = absurd w
 
 -- two lists of fields, neither after the other, are the same
 pub AreNotAfter-antisymmetric : (fs gs : List Field) → AreNotAfter fs gs → AreNotAfter gs fs → fs ≡ gs
@@ -146,36 +168,21 @@ placement_prefix n (p ∷ ps) (f ∷ fs, w) =
     let from : IsPlacedAfter Architecture ps fs = subst (λ k. IsPlacedAfter k ps fs) v.0 v.2 in
     (Architecture ∷ take n fs, placement-of p (take n ps) (take n fs) takes (placed-prefix n Architecture ps fs from))
 
--- the fields after the architecture
-abbrev pub after_architecture : List Field
-after_architecture = Vendor ∷ OperatingSystem ∷ Environment ∷ BinaryFormat ∷ []
-
-in_order : Follows Architecture after_architecture
-in_order = (refl, (refl, (refl, (refl, refl))))
-
 -- the greedy placement of parts that begin with an architecture, if no part is left
-pub greedy-least : (p : List ℕ) (ps : List (List ℕ)) → parses_as Architecture p ≡ true → unread after_architecture ps ≡ []
-    → IsLeastPlacement (p ∷ ps) (Architecture ∷ filled after_architecture ps)
-greedy-least p ps takes done = record {
-  placed = placement-of p ps _ takes (filled-placed Architecture after_architecture ps in_order done);
-  least = least_of;
-}
+pub greedy-least : (p : List ℕ) (ps : List (List ℕ)) → parses_as Architecture p ≡ true → left_from (Some Vendor) ps ≡ []
+    → IsLeastPlacement (p ∷ ps) (Architecture ∷ fields_from (Some Vendor) ps)
+greedy-least p ps takes done = record { placed = placement-of p ps _ takes (fields-placed Architecture ps done); least = least_of }
   where
-    least_of : (others : List Field) → IsPlacement (p ∷ ps) others → AreNotAfter (Architecture ∷ filled after_architecture ps) others
+    least_of : (others : List Field) → IsPlacement (p ∷ ps) others → AreNotAfter (Architecture ∷ fields_from (Some Vendor) ps) others
     least_of [] w = absurd w.parsed
-    least_of (g ∷ gs) w =
-        let v = placement-first p ps g gs w in
-        let from : IsPlacedAfter Architecture ps gs = subst (λ k. IsPlacedAfter k ps gs) v.0 v.2 in
-        (omega arith, (filled-least Architecture after_architecture ps gs in_order from).1)
+    least_of (g ∷ gs) w = let v = placement-first p ps g gs w in (omega arith, (fields-least Architecture ps gs (subst (λ k. IsPlacedAfter k ps gs) v.0 v.2)).1)
 
 -- parts with a placement have the greedy one
-pub greedy-finds : (p : List ℕ) (ps : List (List ℕ)) → HasPlacement (p ∷ ps) → (parses_as Architecture p ≡ true) × (unread after_architecture ps ≡ [])
+pub greedy-finds : (p : List ℕ) (ps : List (List ℕ)) → HasPlacement (p ∷ ps) → (parses_as Architecture p ≡ true) × (left_from (Some Vendor) ps ≡ [])
 greedy-finds p ps ([], w) = absurd w.parsed
 greedy-finds p ps (g ∷ gs, w) =
     let v = placement-first p ps g gs w in
-    let from : IsPlacedAfter Architecture ps gs = subst (λ k. IsPlacedAfter k ps gs) v.0 v.2 in
-    let takes : parses_as Architecture p ≡ true = subst (λ k. parses_as k p ≡ true) v.0 v.1 in
-    (takes, (filled-least Architecture after_architecture ps gs in_order from).0)
+    (subst (λ k. parses_as k p ≡ true) v.0 v.1, (fields-least Architecture ps gs (subst (λ k. IsPlacedAfter k ps gs) v.0 v.2)).0)
 
 pub least-unique : (ps : List (List ℕ)) (fs gs : List Field) → IsLeastPlacement ps fs → IsLeastPlacement ps gs → fs ≡ gs
 least-unique ps fs gs a b = AreNotAfter-antisymmetric fs gs (a.least gs b.placed) (b.least fs a.placed)
@@ -186,4 +193,4 @@ placement_least [] (fs, w) = absurd (no-placement fs w)
 placement_least (p ∷ ps) some =
     let found = greedy-finds p ps some in
     let least = greedy-least p ps found.0 found.1 in
-    record { fields = Architecture ∷ filled after_architecture ps; least = least; only = λ others h. least-unique _ _ _ h least }
+    record { fields = Architecture ∷ fields_from (Some Vendor) ps; least = least; only = λ others h. least-unique _ _ _ h least }

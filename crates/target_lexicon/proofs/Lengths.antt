@@ -1,26 +1,25 @@
 -- Printed strings are at most so much longer than the string that was parsed, and the canonical form makes no string
 -- longer.
-use Rattle.std.proofs.Common.{◌≡◌, ◌∙◌, ℕ, zero, suc, ◌+◌, ◌≤◌, ◌<◌, ◌^◌, List, [], ◌∷◌, length, codes, Bool, true, false, true≢false, not, ◌&&◌, ◌||◌, Option, Some, None, Ok, is_some, unwrap_or, refl, sym, ap, subst, arith}
-use Rattle.std.specs.List.{join_with_byte, slice_get}
-use Rattle.std.proofs.{lemmas.List.length-append, lemmas.List.Splits.join_with_byte-slice_split, lemmas.Bool.and_parts, lemmas.Bool.not-true, Math.Bool.and-false, Math.Bool.or-true}
+use Rattle.std.proofs.Common.{◌≡◌, ◌≢◌, ◌∙◌, ℕ, zero, suc, ◌+◌, ◌≤◌, ◌<◌, ◌^◌, List, [], ◌∷◌, length, Bool, true, false, true≢false, not, ◌&&◌, ◌||◌, Option, Some, None, is_some, unwrap_or, refl, sym, ap, subst, arith, inl, inr}
+use Rattle.std.specs.{List.join_with_byte, List.slice_get, Prelude.MatchOption}
+use Rattle.std.proofs.{lemmas.List.length-append, lemmas.Bool.and_parts, lemmas.Bool.not-true, Math.Bool.and-false, Math.Bool.or-true}
 use Rattle.lexicon_fields.specs.Names.{dash}
 use Rattle.target_lexicon.specs.Values.{Architecture, OperatingSystem, Environment, BinaryFormat, VendorValue, Known, Values, values, is_unknown_vendor, is_clever_without_system, is_same_format}
-use Rattle.target_lexicon.specs.{Field.Field, ImpliedFormat.default_binary_format, ImpliedFormat.implied_format, Laws.ReadingIsComputed, Parsing.parts_of, NormalStep.normal_step, NormalStep.elf_if_unknown}
+use Rattle.target_lexicon.specs.{ImpliedFormat.default_binary_format, ImpliedFormat.implied_format, NormalStep.normal_step, NormalStep.elf_if_unknown}
 use Rattle.target_lexicon.specs.{FixedPoints.PrintedStringsGrowAtMost, FixedPoints.CanonicalStringsGrowAtMost, FixedPoints.RefusedPartsDoNotGrow}
 use Rattle.target_lexicon.specs.SpecialStrings.{SpecialRow, special_triple, special_string, special_values, implies_newlib}
 use Rattle.target_lexicon.specs.ExceptionFacts.{HasFieldsOf, HasSystemOf, HasSpecialFields, HidesNewlib, PrintsTheEspIdfString, ShowsOnlyNone}
 use Rattle.target_lexicon.specs.Printing.{architecture_implies_format, is_none_or_unknown, shows_vendor, shows_operating_system, shows_environment, shows_implied_format, shows_binary_format, shows_unknowns, shown_names, cons_if, string_of, text_with}
-use Rattle.target_lexicon.specs.GreedyReading.{reading_of_parts, reading_unless_special, reading}
-use Rattle.target_lexicon.proofs.FieldReading.{FieldReading, by_fields, field_reading_by, field_reading, final_reading, reading_after_architecture}
+use Rattle.target_lexicon.specs.{Field.Field, Field.field_number, Field.parses_as, GreedyReading.field_for, GreedyReading.open_fields}
+use Rattle.target_lexicon.specs.Parsing.{ArePartsOf, HoldsParts, IsLeastPlacement, IsValueOf, PartsParseAs, expected_after, part_at}
+use Rattle.target_lexicon.proofs.GreedyPlacement.{cases_Option, fields_from, first-least, greedy-finds, greedy-least, least-unique, left_from, open-follows}
 use Rattle.lexicon_fields.specs.{declared.architecture.clever.CleverArchitecture.CleverArchitecture, Architecture.architecture_name, Architecture.architecture_of, Laws.TextsAreNames, Laws.NamesGrowAtMost, Laws.NamesAreShort, Laws.max_name_length, Vendor.vendor_name, Vendor.known_vendor_name, Vendor.vendor_of}
 use Rattle.lexicon_fields.specs.declared.known_vendor.KnownVendor.TheVariants.{Unknown, Espressif}
 use Rattle.lexicon_fields.specs.{OperatingSystem.operating_system_name, OperatingSystem.operating_system_of, Environment.environment_name, Environment.environment_of, ArchitectureQueries.is_clever}
 use Rattle.lexicon_fields.specs.BinaryFormat.{binary_format_name, binary_format_of}
 use Rattle.target_lexicon.proofs.SpecialRows.{RowFacts, row_of_fields, row_of_system, row_of_text, fields_of_special, prints_row}
-use Rattle.target_lexicon.proofs.{NamesAcross.environment_of-format, PrintingLemmas.printed_names, RoundTrips.with_system, RoundTrips.without_system, StepCases.step_cases}
+use Rattle.target_lexicon.proofs.{NamesAcross.environment_of-format, PrintingLemmas.printed_names, ReadParts.absent, RoundTrips.is_same_format-is, RoundTrips.without_system, StepCases.step_cases}
 use Rattle.target_lexicon.specs.Values.architecture
-use Rattle.target_lexicon.specs.Values.arm
-use Rattle.target_lexicon.specs.Values.riscv32
 use Rattle.target_lexicon.specs.Values.operating_system
 use Rattle.target_lexicon.specs.Values.environment
 use Rattle.target_lexicon.specs.Values.binary_format
@@ -39,6 +38,9 @@ weight-cons_if : (b : Bool) (part : List ℕ) (parts : List (List ℕ)) → weig
 weight-cons_if true part parts = omega arith
 weight-cons_if false part parts = omega arith
 
+weight-hidden : (b : Bool) (part : List ℕ) (parts : List (List ℕ)) → weight (cons_if (b && false) part parts) ≡ weight parts
+weight-hidden b part parts = rw and-false refl
+
 -- the parts that are shown after the system
 abbrev after_system : Bool → Values → List (List ℕ)
 after_system b t = cons_if (b || shows_environment t) (environment_name t.environment) (cons_if (b || shows_binary_format t) (binary_format_name t.binary_format) [])
@@ -54,46 +56,68 @@ weight-shown : (t : Values) (b : Bool) → weight (shown_names b t) ≡ suc (len
 unfolding shown_names
 weight-shown t b = weight-joined _ _
 
--- the name of a field's value, and the parts that are left
-field_reading-max_growth : {A : Type 0} (f : Field) (name : A → List ℕ) (find : List ℕ → Option A) (unfilled : A) (bytes : ℕ) (last : Field) (parts : List (List ℕ))
-    → NamesGrowAtMost bytes name find → bytes ≤ 8 → length (name unfilled) ≤ 7
-    → let step = field_reading f find unfilled last parts in weight (name step.0 ∷ step.2) ≤ weight parts + 8
-field_reading-max_growth f name find unfilled bytes last [] max_growth small short = omega arith
-field_reading-max_growth {A} f name find unfilled bytes last (p ∷ ps) max_growth small short = by_reading (find p) refl
-  where
-    by_reading : (o : Option A) → find p ≡ o → let step = field_reading_by f o unfilled last p ps in weight (name step.0 ∷ step.2) ≤ weight (p ∷ ps) + 8
-    by_reading None is = omega arith
-    by_reading (Some x) is = omega (arith, max_growth p x is)
+-- a part with its dash, if there is one
+abbrev size_of : Option (List ℕ) → ℕ
+size_of None = 0
+size_of (Some part) = suc (length part)
 
--- an implied format that is shown is `elf`
+abbrev sizes_at : List (List ℕ) → List Field → ℕ
+sizes_at parts fields =
+    size_of (part_at field.Architecture parts fields) + (size_of (part_at field.Vendor parts fields) + (size_of (part_at field.OperatingSystem parts fields)
+    + (size_of (part_at field.Environment parts fields) + size_of (part_at field.BinaryFormat parts fields))))
+
+-- each part is that of a field
+weight-next : (p : List ℕ) (ps : List (List ℕ)) (f : Field) → weight ps ≡ sizes_at ps (fields_from (expected_after f) ps)
+    → weight (p ∷ ps) ≡ sizes_at (p ∷ ps) (f ∷ fields_from (expected_after f) ps)
+weight-next p ps field.Vendor is = omega (arith, is, ap size_of (absent field.Vendor ps ps))
+weight-next p ps f is = omega (arith, is, ap size_of (absent f ps ps))
+
+weight-fields : (l : Field) (ps : List (List ℕ)) → left_from (expected_after l) ps ≡ [] → weight ps ≡ sizes_at ps (fields_from (expected_after l) ps)
+weight-fields l [] done = omega arith
+weight-fields l (p ∷ ps) done =
+    elim (cases_Option (field_for (expected_after l) p)) [
+      | inl none ↦ absurd (let left = rw none at done in cc)
+      | inr some ↦ rw some.1 (weight-next p ps some.0 (weight-fields some.0 ps (rw some.1 at done)))
+    ]
+
+-- the name of a field's value, which grows at most so
+value-growth : {A : Type 0} (name : A → List ℕ) (find : List ℕ → Option A) (unfilled : A) (bytes : ℕ) (growth : A → ℕ)
+    → NamesGrowAtMost bytes name find → ((x : A) → bytes ≤ growth x) → suc (length (name unfilled)) ≤ growth unfilled
+    → (part : Option (List ℕ)) (x : A) → IsValueOf find unfilled part x → suc (length (name x)) ≤ size_of part + growth x
+value-growth name find unfilled bytes growth grows least short None x is = rw is (omega (arith, short))
+value-growth name find unfilled bytes growth grows least short (Some p) x is = omega (arith, grows p x is, least x)
+
+-- an unfilled system is unknown; the name of another grows less
+abbrev system_growth : OperatingSystem → ℕ
+system_growth operating_system.Unknown = 8
+system_growth _ = 4
+
+system_growth-within : (s : OperatingSystem) → (4 ≤ system_growth s) × (system_growth s ≤ 8)
+system_growth-within operating_system.Unknown = (omega arith, omega arith)
+system_growth-within _ = (omega arith, omega arith)
+
+-- an implied format that is shown is short if the system is unknown
 
 is_same_format-self : (f : BinaryFormat) → is_same_format f f ≡ true
 is_same_format-self binary_format.Unknown = refl
 is_same_format-self _ = refl
 
-unknown-hidden : (t : Values) → is_same_format t.binary_format binary_format.Unknown ≡ true → shows_implied_format t ≡ false
-unknown-hidden t unknown = rw (unknown, and-false) refl
+abbrev IsShort : Architecture → VendorValue → OperatingSystem → Environment → Type 0
+IsShort a v s e = weight (cons_if (shows_implied_format (values a v s e (implied_format a s e))) (binary_format_name (implied_format a s e)) []) + system_growth s ≤ 12
 
-abbrev ShowsAtMostElf : Architecture → VendorValue → OperatingSystem → Environment → Type 0
-ShowsAtMostElf a v s e = weight (cons_if (shows_implied_format (values a v s e (implied_format a s e))) (binary_format_name (implied_format a s e)) []) ≤ 4
-
-without_system-shown : (a : Architecture) (v : VendorValue) (e : Environment) → ShowsAtMostElf a v operating_system.None_ e
+-- each architecture by itself, as the table says
+unknown_system-short : (a : Architecture) (v : VendorValue) (e : Environment) → IsShort a v operating_system.Unknown e
 unfolding implied_format
-without_system-shown a v environment.Eabi = weight-cons_if _ (codes "elf") []
-without_system-shown a v environment.Eabihf = weight-cons_if _ (codes "elf") []
-without_system-shown a v e = rw (unknown-hidden (values a v operating_system.None_ e binary_format.Unknown) refl) (omega arith)
+unknown_system-short architecture.Unknown v e = first_of (omega (arith, weight-cons_if), omega (arith, weight-hidden))
+unknown_system-short _ v e = first_of (omega (arith, weight-cons_if), omega (arith, weight-hidden))
 
-unknown_system-shown : (a : Architecture) (v : VendorValue) (e : Environment) → ShowsAtMostElf a v operating_system.Unknown e
-unfolding implied_format
-unknown_system-shown architecture.Wasm32 v e = omega arith
-unknown_system-shown architecture.Wasm64 v e = omega arith
-unknown_system-shown architecture.Unknown v e = rw (unknown-hidden (values architecture.Unknown v operating_system.Unknown e binary_format.Unknown) refl) (omega arith)
-unknown_system-shown a v e = weight-cons_if (shows_implied_format (values a v operating_system.Unknown e binary_format.Elf)) (codes "elf") []
+format-short : (f : BinaryFormat) → length (binary_format_name f) ≤ 7
+format-short binary_format.Unknown = omega arith
+format-short _ = omega arith
 
-implied_format-shown : (a : Architecture) (v : VendorValue) (s : OperatingSystem) (e : Environment) → ShowsAtMostElf a v s e
-implied_format-shown a v operating_system.None_ e = without_system-shown a v e
-implied_format-shown a v operating_system.Unknown e = unknown_system-shown a v e
-implied_format-shown a v s e = rw (with_system (values a v s e (implied_format a s e)) refl) (omega arith)
+implied_format-short : (a : Architecture) (v : VendorValue) (s : OperatingSystem) (e : Environment) → IsShort a v s e
+implied_format-short a v operating_system.Unknown e = unknown_system-short a v e
+implied_format-short a v s e = omega (arith, weight-cons_if, format-short (implied_format a s e))
 
 shows_unknowns-implied : (f : BinaryFormat) → (is_same_format f binary_format.Unknown && not (is_same_format f f)) ≡ false
 shows_unknowns-implied binary_format.Unknown = refl
@@ -135,102 +159,103 @@ special-short t b n short = by_special (special_string t) refl
         let same : text ≡ at.0.text = cc in
         rw same (omega (arith, short, weight-row t b at.0 at.1 at.2))
 
-final_reading-ok : (t : Values) (last : Field) (left : List (List ℕ)) (u : Values) → final_reading t last left ≡ Ok u → (left ≡ []) × (t ≡ u)
-final_reading-ok t last [] u is = (refl, cc)
-final_reading-ok t last (p ∷ ps) u is = absurd cc
+unknown-environment : parses_as field.Environment (binary_format_name binary_format.Unknown) ≡ true
+unfolding parses_as
+unknown-environment = rw (environment_of-format binary_format.Unknown) refl
+
+-- a part that is an unknown format comes after an environment, since it would be an unknown environment
+abbrev HasUnknownLast : List (List ℕ) → List Field → Type 0
+HasUnknownLast ps fs = part_at field.BinaryFormat ps fs ≡ Some (binary_format_name binary_format.Unknown) → part_at field.Environment ps fs ≢ None
+
+unknown-next : (l : Field) (p : List ℕ) (ps : List (List ℕ)) (f : Field) (fs : List Field) → field_number l < 3 → field_for (expected_after l) p ≡ Some f
+    → (field_number f < 3 → HasUnknownLast ps fs) → HasUnknownLast (p ∷ ps) (f ∷ fs)
+unknown-next l p ps field.BinaryFormat fs near found later last none =
+    let same : p ≡ binary_format_name binary_format.Unknown = cc in
+    let first = first-least l (open_fields (expected_after l)) p field.Environment (open-follows l) near (rw same unknown-environment) in
+    let is : first.0 ≡ field.BinaryFormat = cc in
+    omega (arith, ap field_number is, first.2)
+unknown-next l p ps field.Environment fs near found later last none = cc
+unknown-next l p ps f fs near found later last none = later (omega arith) last none
+
+unknown-last : (l : Field) (ps : List (List ℕ)) → field_number l < 3 → HasUnknownLast ps (fields_from (expected_after l) ps)
+unknown-last l [] near = λ last none. cc
+unknown-last l (p ∷ ps) near =
+    elim (cases_Option (field_for (expected_after l) p)) [
+      | inl left ↦ rw left (λ last none. cc)
+      | inr some ↦ rw some.1 (unknown-next l p ps some.0 _ near some.1 (unknown-last some.0 ps))
+    ]
 
 module _ (formats : TextsAreNames binary_format_name binary_format_of) (environments : TextsAreNames environment_name environment_of) where
-  module _ (a : Architecture) (v : VendorValue) (s : OperatingSystem) where
-    abbrev format_shown : Environment → BinaryFormat → List (List ℕ)
-    format_shown e f = cons_if (shows_binary_format (values a v s e f)) (binary_format_name f) []
+  format-growth : (t : Values) (part : Option (List ℕ)) → IsValueOf binary_format_of (default_binary_format t) part t.binary_format
+      → weight (cons_if (shows_binary_format t) (binary_format_name t.binary_format) []) + system_growth t.operating_system ≤ size_of part + 12
+  unfolding shows_binary_format
+  format-growth t None is =
+      rw (is, is_same_format-self (default_binary_format t)) (omega (arith, implied_format-short t.architecture t.vendor t.operating_system t.environment))
+  format-growth t (Some p) is =
+      omega (arith, weight-cons_if (shows_binary_format t) (binary_format_name t.binary_format) [], ap length (formats p t.binary_format is), (system_growth-within t.operating_system).1)
 
-    abbrev format_taken : Environment → Field → List (List ℕ) → FieldReading BinaryFormat
-    format_taken e last parts = field_reading field.BinaryFormat binary_format_of (implied_format a s e) last parts
+  environment-growth : (t : Values) (part : Option (List ℕ)) (rest : List (List ℕ)) → IsValueOf environment_of environment.Unknown part t.environment
+      → weight (cons_if (shows_environment t) (environment_name t.environment) rest) ≤ size_of part + weight rest
+  unfolding shows_environment
+  environment-growth t None rest is = rw is (omega arith)
+  environment-growth t (Some p) rest is =
+      omega (arith, weight-cons_if (shows_environment t) (environment_name t.environment) rest, ap length (environments p t.environment is))
 
-    format-max_growth : (e : Environment) (last : Field) (parts : List (List ℕ)) → (format_taken e last parts).2 ≡ [] → weight (format_shown e (format_taken e last parts).0) ≤ weight parts + 4
-    unfolding shows_binary_format
-    format-max_growth e last [] none = rw (is_same_format-self (implied_format a s e)) (implied_format-shown a v s e)
-    format-max_growth e last (p ∷ ps) none = by_reading (binary_format_of p) refl none
-      where
-        by_reading : (o : Option BinaryFormat) → binary_format_of p ≡ o → (field_reading_by field.BinaryFormat o (implied_format a s e) last p ps).2 ≡ []
-            → weight (format_shown e (field_reading_by field.BinaryFormat o (implied_format a s e) last p ps).0) ≤ weight (p ∷ ps) + 4
-        by_reading None is none = absurd cc
-        by_reading (Some f) is none = omega (arith, weight-cons_if (shows_binary_format (values a v s e f)) (binary_format_name f) [], ap length (formats p f is))
-
-    -- an unfilled environment is not shown, since a part that is an unknown format would be an unknown environment
-    unfilled-hidden : (last : Field) (p : List ℕ) (ps : List (List ℕ)) → environment_of p ≡ None → (format_taken environment.Unknown last (p ∷ ps)).2 ≡ []
-        → shows_unknowns (values a v s environment.Unknown (format_taken environment.Unknown last (p ∷ ps)).0) ≡ false
-    unfilled-hidden last p ps unfilled none = by_reading (binary_format_of p) refl none
-      where
-        by_reading : (o : Option BinaryFormat) → binary_format_of p ≡ o → (field_reading_by field.BinaryFormat o (implied_format a s environment.Unknown) last p ps).2 ≡ []
-            → shows_unknowns (values a v s environment.Unknown (field_reading_by field.BinaryFormat o (implied_format a s environment.Unknown) last p ps).0) ≡ false
-        by_reading None is none = absurd cc
-        by_reading (Some binary_format.Unknown) is none =
-            absurd (let same = formats p binary_format.Unknown is in let reads = environment_of-format binary_format.Unknown in let fails = rw (sym same) at unfilled in cc)
-        by_reading (Some _) is none = refl
-
-    abbrev environment_growth : List (List ℕ) → FieldReading Environment → Type 0
-    environment_growth parts e =
-        let f = format_taken e.0 e.1 e.2 in let t = values a v s e.0 f.0 in f.2 ≡ [] → weight (after_system (shows_unknowns t) t) ≤ weight parts + 4
-
-    -- a part that is the environment, and the shown parts after it
-    shown-max_growth : (p : List ℕ) (ps : List (List ℕ)) (e : Environment) (f : BinaryFormat) (b : Bool) → environment_of p ≡ Some e → shows_unknowns (values a v s e f) ≡ b
-        → weight (format_shown e f) ≤ weight ps + 4 → weight (after_system b (values a v s e f)) ≤ weight (p ∷ ps) + 4
-    shown-max_growth p ps e f true is shown max_growth = omega (arith, rw (unknowns-shown (values a v s e f) shown) at max_growth, ap length (environments p e is))
-    shown-max_growth p ps e f false is shown max_growth = omega (arith, max_growth, weight-cons_if (shows_environment (values a v s e f)) (environment_name e) (format_shown e f), ap length (environments p e is))
-
-    environment-max_growth : (last : Field) (parts : List (List ℕ)) → environment_growth parts (field_reading field.Environment environment_of environment.Unknown last parts)
-    unfolding shows_environment
-    environment-max_growth last [] none = rw (shows_unknowns-implied (implied_format a s environment.Unknown)) (format-max_growth environment.Unknown last [] none)
-    environment-max_growth last (p ∷ ps) none = by_reading (environment_of p) refl none
-      where
-        by_reading : (o : Option Environment) → environment_of p ≡ o → environment_growth (p ∷ ps) (field_reading_by field.Environment o environment.Unknown last p ps)
-        by_reading None is none = rw (unfilled-hidden last p ps is none) (format-max_growth environment.Unknown last (p ∷ ps) none)
-        by_reading (Some e) is none = shown-max_growth p ps e _ _ is refl (format-max_growth e field.Environment ps none)
+  -- the parts that are shown after the system
+  after_system-growth : (t : Values) (e f : Option (List ℕ)) (b : Bool) → shows_unknowns t ≡ b → IsValueOf environment_of environment.Unknown e t.environment
+      → IsValueOf binary_format_of (default_binary_format t) f t.binary_format → (f ≡ Some (binary_format_name binary_format.Unknown) → e ≢ None)
+      → weight (after_system b t) + system_growth t.operating_system ≤ size_of e + (size_of f + 12)
+  after_system-growth t e f false shown is_e is_f last =
+      omega (arith, environment-growth t e (cons_if (shows_binary_format t) (binary_format_name t.binary_format) []) is_e, format-growth t f is_f)
+  after_system-growth t e None true shown is_e is_f last =
+      let differs : is_same_format t.binary_format (default_binary_format t) ≡ false = not-true _ (and_parts _ _ shown).1 in
+      absurd (true≢false (sym (is_same_format-self (default_binary_format t)) ∙ rw is_f at differs))
+  after_system-growth t None (Some p) true shown is_e is_f last =
+      let unknown : t.binary_format ≡ binary_format.Unknown = is_same_format-is _ _ (and_parts _ _ (and_parts _ _ shown).0).1 in
+      absurd (last (ap Some (sym (formats p t.binary_format is_f) ∙ ap binary_format_name unknown)) refl)
+  after_system-growth t (Some q) (Some p) true shown is_e is_f last =
+      omega (arith, ap length (formats p t.binary_format is_f), ap length (environments q t.environment is_e), (system_growth-within t.operating_system).1)
 
   module _ (architectures : NamesGrowAtMost 2 architecture_name architecture_of) (vendors : TextsAreNames vendor_name vendor_of) (systems : NamesGrowAtMost 4 operating_system_name operating_system_of) where
     abbrev GrowsAtMost : List ℕ → Values → Type 0
     GrowsAtMost text t = length (string_of t) ≤ length text + 22
 
-    by_architecture : (p : List ℕ) (ps : List (List ℕ)) (o : Option Architecture) (t : Values) → architecture_of p ≡ o → reading_after_architecture o p ps ≡ Ok t → GrowsAtMost (join_with_byte dash (p ∷ ps)) t
+    by_fields : (p : List ℕ) (ps : List (List ℕ)) (t : Values) → left_from (Some field.Vendor) ps ≡ [] → HoldsParts (p ∷ ps) (field.Architecture ∷ fields_from (Some field.Vendor) ps) t
+        → GrowsAtMost (join_with_byte dash (p ∷ ps)) t
     unfolding string_of
-    by_architecture p ps None t is read = absurd cc
-    by_architecture p ps (Some a) t is read =
-        let v = field_reading field.Vendor vendor_of (Known Unknown) field.Architecture ps in
-        let s = field_reading field.OperatingSystem operating_system_of operating_system.Unknown v.1 v.2 in
-        let e = field_reading field.Environment environment_of environment.Unknown s.1 s.2 in
-        let f = format_taken a v.0 s.0 e.0 e.1 e.2 in
-        let shown = values a v.0 s.0 e.0 f.0 in
-        let end = final_reading-ok shown f.1 f.2 t read in
-        subst (GrowsAtMost (join_with_byte dash (p ∷ ps))) end.1 (special-short shown (shows_unknowns shown) _ (omega (
+    by_fields p ps t done holds =
+        special-short t (shows_unknowns t) _ (omega (
           arith,
-          architectures p a is,
-          field_reading-max_growth field.Vendor vendor_name vendor_of (Known Unknown) 0 field.Architecture ps (λ text x found. omega (arith, ap length (vendors text x found))) (omega arith) (omega arith),
-          field_reading-max_growth field.OperatingSystem operating_system_name operating_system_of operating_system.Unknown 4 v.1 v.2 systems (omega arith) (omega arith),
-          environment-max_growth a v.0 s.0 s.1 s.2 end.0,
-          weight-parts shown (shows_unknowns shown),
-          weight-shown shown (shows_unknowns shown),
+          architectures p t.architecture holds.architecture,
+          value-growth vendor_name vendor_of (Known Unknown) 0 (λ _. 8) (λ text x found. omega (arith, ap length (vendors text x found))) (λ x. omega arith) (omega arith) _ t.vendor holds.vendor,
+          value-growth operating_system_name operating_system_of operating_system.Unknown 4 system_growth systems (λ s. (system_growth-within s).0) (omega arith) _ t.operating_system holds.operating_system,
+          after_system-growth t _ _ (shows_unknowns t) refl holds.environment holds.binary_format (unknown-last field.Architecture ps (omega arith)),
+          weight-parts t (shows_unknowns t),
+          weight-shown t (shows_unknowns t),
           weight-joined p ps,
-        )))
+          weight-next p ps field.Architecture (weight-fields field.Architecture ps done),
+        ))
 
-    by_parts : (parts : List (List ℕ)) (t : Values) → reading_of_parts parts ≡ Ok t → GrowsAtMost (join_with_byte dash parts) t
-    by_parts [] t read = absurd cc
-    by_parts (p ∷ ps) t read = by_architecture p ps (architecture_of p) t refl (sym (by_fields (p ∷ ps)) ∙ read)
+    by_placement : (parts : List (List ℕ)) (fs : List Field) (t : Values) → parts ≢ [] → IsLeastPlacement parts fs → HoldsParts parts fs t → GrowsAtMost (join_with_byte dash parts) t
+    by_placement [] fs t some least holds = absurd (some refl)
+    by_placement (p ∷ ps) fs t some least holds =
+        let found = greedy-finds p ps (fs, least.placed) in
+        let same = least-unique (p ∷ ps) fs _ least (greedy-least p ps found.0 found.1) in
+        by_fields p ps t found.1 (subst (λ gs. HoldsParts (p ∷ ps) gs t) same holds)
 
     row-grows : (row : SpecialRow) → RowFacts row → GrowsAtMost row.text (special_triple row)
     unfolding string_of
     row-grows row facts = rw (facts.prints environment.Newlib binary_format.Elf) (omega arith)
 
-    by_special : (text : List ℕ) (o : Option Values) (t : Values) → special_values text ≡ o → reading_unless_special o text ≡ Ok t → GrowsAtMost text t
-    by_special text None t is read = subst (λ (x : List ℕ). GrowsAtMost x t) (join_with_byte-slice_split dash text) (by_parts (parts_of text) t read)
-    by_special text (Some u) t is read =
+    by_special : (text : List ℕ) (t : Values) (o : Option Values) → special_values text ≡ o
+        → MatchOption o ((parts : List (List ℕ)) × ArePartsOf text parts × PartsParseAs parts t) (λ values. t ≡ values) → GrowsAtMost text t
+    by_special text t None is (parts, are, (fs, least, holds)) = subst (λ (x : List ℕ). GrowsAtMost x t) are.joined (by_placement parts fs t are.some least holds)
+    by_special text t (Some u) is same =
         let at = row_of_text text u is in
-        let same : special_triple at.0 ≡ t = (let of : u ≡ t = cc in sym at.2 ∙ of) in
-        subst (GrowsAtMost text) same (subst (λ (x : List ℕ). GrowsAtMost x (special_triple at.0)) (sym at.1) (row-grows at.0 at.3))
+        subst (GrowsAtMost text) (sym (same ∙ at.2)) (subst (λ (x : List ℕ). GrowsAtMost x (special_triple at.0)) (sym at.1) (row-grows at.0 at.3))
 
-    pub printed_max_growth : ReadingIsComputed → PrintedStringsGrowAtMost
-    unfolding reading
-    printed_max_growth computed text t reads = by_special text (special_values text) t refl (((computed text).read t).0 reads)
+    pub printed_max_growth : PrintedStringsGrowAtMost
+    printed_max_growth text t reads = by_special text t (special_values text) refl reads
 
 -- a refused part is a part of the string
 

@@ -3,8 +3,8 @@
 --
 -- Parsing, as the least placement: PartLemmas (a string's parts), NamesAcross (names of one field, parsed as another),
 -- GreedyPlacement, RefusalLemmas, UniqueReading, ComputedReading (one outcome, which the function `reading` gives).
--- Parsing, as the code does it: FieldReading (field by field), ReadParts (part by part), SourceLemmas (the source of
--- each field). All parsed triples: ReadValues, Vendors.
+-- Parsing, as the code does it: ReadParts (part by part), SourceLemmas (the source of each field). All parsed triples:
+-- ReadValues, Vendors.
 -- Printing: PrintingLemmas (pieces), Upstream, Lengths, WordLengths (how long strings and words are).
 -- Round trips: SpecialRows (facts of each special string), StepCases (facts of each exception), RoundTrips (the shown
 -- parts parse as the normal step), TextRoundTrips (so does the string), FixedPointLemmas (which triples the step leaves
@@ -13,7 +13,6 @@
 -- Equality and hashing: SameValues, HashInputPairs, VariantHashes. JSON lists: Elements. Callers' proofs: OnLiterals.
 pub mod ComputedReading
 pub mod Elements
-pub mod FieldReading
 pub mod FixedPointLemmas
 pub mod GreedyPlacement
 pub mod HashInputPairs

@@ -1,15 +1,13 @@
--- What is left of the parts of a string goes on as all of them began. The fields that the parts fill one after the
--- other are the greedy placement.
+-- What is left of the parts of a string goes on as all of them began.
 use Rattle.std.proofs.Common.{◌≡◌, ◌≢◌, ◌∙◌, ℕ, ◌+◌, ◌≤◌, List, [], ◌∷◌, ◌++◌, append_assoc, map, length, nat_eq, true, false, Option, Some, None, refl, sym, ap, arith, inl, inr}
 use Rattle.std.specs.Prelude.{IfSome, MatchOption}
 use Rattle.std.specs.Option.{option_map_or}
-use Rattle.std.proofs.lemmas.Bool.{cases_Bool}
 use Rattle.target_lexicon.specs.Field as field
 use Rattle.target_lexicon.specs.Field.{Field, field_number, parses_as}
 use Rattle.target_lexicon.specs.{declared.reading.Reading.Reading, Parsing.expected_after, Parsing.part_at, Values.unknown_values, Values.Values, ValuesRef.values_of_ref}
 use Rattle.target_lexicon.specs.Explanation.{PlacedPart, SourceValue, SourceValues, FromPart, Implied, NotGiven, same_sources, source_at, source_values, sources_at, sources_of, placed_from, with_source}
 use Rattle.target_lexicon.specs.GreedyReading.{HasFilled, IsTaken, field_for, finished_sources, first_field, open_fields, reading_from, reading_of_parts, with_value}
-use Rattle.target_lexicon.proofs.GreedyPlacement.{Follows, after_architecture, filled, unread}
+use Rattle.target_lexicon.proofs.GreedyPlacement.{cases_Option, field-after, fields_from, left_from}
 
 abbrev pub strings_of : List PlacedPart → List (List ℕ)
 strings_of parts = map (λ (part : PlacedPart). part.text) parts
@@ -22,95 +20,32 @@ pub placed-some : (start : ℕ) (ps : List (List ℕ)) → ps ≢ [] → placed_
 placed-some start [] some e = some refl
 placed-some start (p ∷ ps) some e = cc
 
--- the fields that these parts fill where this one is expected, and the parts that are left
-abbrev pub fields_from : Option Field → List (List ℕ) → List Field
-fields_from expected [] = []
-fields_from expected (p ∷ ps) = option_map_or (λ f. f ∷ fields_from (expected_after f) ps) (field_for expected p) []
+-- all parts, of which the first is an architecture or isn't
+pub all-fields : (p : List ℕ) (ps : List (List ℕ)) → parses_as field.Architecture p ≡ true → fields_from (Some field.Architecture) (p ∷ ps) ≡ field.Architecture ∷ fields_from (Some field.Vendor) ps
+all-fields p ps takes = rw takes refl
 
-abbrev pub left_from : Option Field → List (List ℕ) → List (List ℕ)
-left_from expected [] = []
-left_from expected (p ∷ ps) = option_map_or (λ f. left_from (expected_after f) ps) (field_for expected p) (p ∷ ps)
-
--- each of these fields has those after it that are open after it
-abbrev AreOpen : List Field → Type 0
-AreOpen [] = Unit {0}
-AreOpen (f ∷ fs) = (fs ≡ open_fields (expected_after f)) × AreOpen fs
-
-open-after : (f : Field) → AreOpen (open_fields (expected_after f))
-open-after field.Architecture = (refl, (refl, (refl, (refl, tt))))
-open-after field.Vendor = (refl, (refl, (refl, tt)))
-open-after field.OperatingSystem = (refl, (refl, tt))
-open-after field.Environment = (refl, tt)
-open-after field.BinaryFormat = tt
-
-follows-after : (f : Field) → Follows f (open_fields (expected_after f))
-follows-after field.Architecture = (refl, (refl, (refl, (refl, refl))))
-follows-after field.Vendor = (refl, (refl, (refl, refl)))
-follows-after field.OperatingSystem = (refl, (refl, refl))
-follows-after field.Environment = (refl, refl)
-follows-after field.BinaryFormat = refl
-
-first-filled : (fs : List Field) (p : List ℕ) (ps : List (List ℕ)) → AreOpen fs
-    → filled fs (p ∷ ps) ≡ option_map_or (λ f. f ∷ filled (open_fields (expected_after f)) ps) (first_field fs p) []
-first-filled [] p ps are = refl
-first-filled (f ∷ fs) p ps are =
-    elim (cases_Bool (parses_as f p)) [
-      | inl takes ↦ rw takes (ap (λ gs. f ∷ filled gs ps) are.0)
-      | inr skips ↦ rw skips (first-filled fs p ps are.1)
-    ]
-
-first-left : (fs : List Field) (p : List ℕ) (ps : List (List ℕ)) → AreOpen fs
-    → unread fs (p ∷ ps) ≡ option_map_or (λ f. unread (open_fields (expected_after f)) ps) (first_field fs p) (p ∷ ps)
-first-left [] p ps are = refl
-first-left (f ∷ fs) p ps are =
-    elim (cases_Bool (parses_as f p)) [
-      | inl takes ↦ rw takes (ap (λ gs. unread gs ps) are.0)
-      | inr skips ↦ rw skips (first-left fs p ps are.1)
-    ]
-
-filled-from : (f : Field) (ps : List (List ℕ)) → filled (open_fields (expected_after f)) ps ≡ fields_from (expected_after f) ps
-filled-from f [] = refl
-filled-from f (p ∷ ps) = first-filled (open_fields (expected_after f)) p ps (open-after f) ∙ by_field (λ g. filled-from g ps) (field_for (expected_after f) p)
-  where
-    by_field : ((g : Field) → filled (open_fields (expected_after g)) ps ≡ fields_from (expected_after g) ps) → (o : Option Field)
-        → option_map_or (λ g. g ∷ filled (open_fields (expected_after g)) ps) o [] ≡ option_map_or (λ g. g ∷ fields_from (expected_after g) ps) o []
-    by_field others (Some g) = ap (λ gs. g ∷ gs) (others g)
-    by_field others None = refl
-
-pub unread-from : (f : Field) (ps : List (List ℕ)) → unread (open_fields (expected_after f)) ps ≡ left_from (expected_after f) ps
-unread-from f [] = refl
-unread-from f (p ∷ ps) = first-left (open_fields (expected_after f)) p ps (open-after f) ∙ by_field (λ g. unread-from g ps) (field_for (expected_after f) p)
-  where
-    by_field : ((g : Field) → unread (open_fields (expected_after g)) ps ≡ left_from (expected_after g) ps) → (o : Option Field)
-        → option_map_or (λ g. unread (open_fields (expected_after g)) ps) o (p ∷ ps) ≡ option_map_or (λ g. left_from (expected_after g) ps) o (p ∷ ps)
-    by_field others (Some g) = others g
-    by_field others None = refl
-
--- all parts, of which the first is an architecture
-pub all-fields : (p : List ℕ) (ps : List (List ℕ)) → parses_as field.Architecture p ≡ true → fields_from (Some field.Architecture) (p ∷ ps) ≡ field.Architecture ∷ filled after_architecture ps
-all-fields p ps takes = rw takes (ap (λ gs. field.Architecture ∷ gs) (sym (filled-from field.Architecture ps)))
-
-pub all-left : (p : List ℕ) (ps : List (List ℕ)) → parses_as field.Architecture p ≡ true → left_from (Some field.Architecture) (p ∷ ps) ≡ unread after_architecture ps
-all-left p ps takes = rw takes (sym (unread-from field.Architecture ps))
+pub all-left : (p : List ℕ) (ps : List (List ℕ)) → parses_as field.Architecture p ≡ true → left_from (Some field.Architecture) (p ∷ ps) ≡ left_from (Some field.Vendor) ps
+all-left p ps takes = rw takes refl
 
 pub no-fields : (p : List ℕ) (ps : List (List ℕ)) → parses_as field.Architecture p ≡ false
     → (fields_from (Some field.Architecture) (p ∷ ps) ≡ []) × (left_from (Some field.Architecture) (p ∷ ps) ≡ p ∷ ps)
 no-fields p ps skips = rw skips (refl, refl)
 
 -- a field has no part in a placement of later fields
-absent-filled : (f l : Field) (fs : List Field) (ps : List PlacedPart) → field_number f ≤ field_number l → Follows l fs → part_at f ps (filled fs (strings_of ps)) ≡ None
-absent-filled f l fs [] h o = refl
-absent-filled f l [] (p ∷ ps) h o = refl
-absent-filled f l (g ∷ fs) (p ∷ ps) h o =
-    let other : nat_eq (field_number g) (field_number f) ≡ false = grind (arith, h, o.0) in
-    let after : field_number f ≤ field_number g = omega (arith, h, o.0) in
-    elim (cases_Bool (parses_as g p.text)) [
-      | inl takes ↦ rw (takes, other) (absent-filled f g fs ps after o.1)
-      | inr skips ↦ rw skips (absent-filled f g fs (p ∷ ps) after o.1)
+absent-after : {A : Type 0} (f l : Field) (xs : List A) (ps : List (List ℕ)) → field_number f ≤ field_number l → part_at f xs (fields_from (expected_after l) ps) ≡ None
+absent-after f l [] ps h = refl
+absent-after f l (x ∷ xs) [] h = refl
+absent-after f l (x ∷ xs) (p ∷ ps) h =
+    elim (cases_Option (field_for (expected_after l) p)) [
+      | inl none ↦ rw none refl
+      | inr some ↦
+          let later = (field-after l p some.0 some.1).0 in
+          let other : nat_eq (field_number some.0) (field_number f) ≡ false = grind (arith, h, later) in
+          rw (some.1, other) (absent-after f some.0 xs ps (omega (arith, h, later)))
     ]
 
-absent : (f : Field) (ps : List PlacedPart) → part_at f ps (fields_from (expected_after f) (strings_of ps)) ≡ None
-absent f ps = ap (part_at f ps) (sym (filled-from f (strings_of ps))) ∙ absent-filled f f (open_fields (expected_after f)) ps (omega arith) (follows-after f)
+pub absent : {A : Type 0} (f : Field) (xs : List A) (ps : List (List ℕ)) → part_at f xs (fields_from (expected_after f) ps) ≡ None
+absent f xs ps = absent-after f f xs ps (omega arith)
 
 -- these sources, and those of the parts that are assigned to these fields
 abbrev merged_sources : SourceValues → List PlacedPart → List Field → SourceValues
@@ -127,11 +62,11 @@ with_format unfilled (Some x) s = with_source field.BinaryFormat unfilled s
 sources-next : (unfilled : SourceValue) (x f : Field) (s : SourceValues) (p : PlacedPart) (ps : List PlacedPart)
     → merged_sources (with_format unfilled (expected_after f) (with_source f (FromPart p) s)) ps (fields_from (expected_after f) (strings_of ps))
     ≡ merged_sources (with_format unfilled (Some x) s) (p ∷ ps) (f ∷ fields_from (expected_after f) (strings_of ps))
-sources-next unfilled x field.Architecture s p ps = rw (absent field.Architecture ps) refl
-sources-next unfilled x field.Vendor s p ps = rw (absent field.Vendor ps) refl
-sources-next unfilled x field.OperatingSystem s p ps = rw (absent field.OperatingSystem ps) refl
-sources-next unfilled x field.Environment s p ps = rw (absent field.Environment ps) refl
-sources-next unfilled x field.BinaryFormat s p ps = rw (absent field.BinaryFormat ps) refl
+sources-next unfilled x field.Architecture s p ps = rw (absent field.Architecture ps (strings_of ps)) refl
+sources-next unfilled x field.Vendor s p ps = rw (absent field.Vendor ps (strings_of ps)) refl
+sources-next unfilled x field.OperatingSystem s p ps = rw (absent field.OperatingSystem ps (strings_of ps)) refl
+sources-next unfilled x field.Environment s p ps = rw (absent field.Environment ps (strings_of ps)) refl
+sources-next unfilled x field.BinaryFormat s p ps = rw (absent field.BinaryFormat ps (strings_of ps)) refl
 
 -- while a field is open, the format has no source yet
 abbrev pub HasOpenFormat : Option Field → SourceValues → Type 0

@@ -10,8 +10,8 @@ use Rattle.target_lexicon.specs.Explanation.{PlacedPart, part_from, placed_from,
 use Rattle.target_lexicon.specs.{Parsing.ArePartsOf, Parsing.IsLeastPlacement, Parsing.HasPlacement, Parsing.parts_of, SpecialStrings.special_values, Values.Values}
 use Rattle.target_lexicon.specs.Parsing.{IsRefusal, IsRefusedAs, PartsParseAs, ParsesAs, expected_after, last_field}
 use Rattle.target_lexicon.specs.Refusal.{Refusal, refusal_with}
-use Rattle.target_lexicon.proofs.GreedyPlacement.{filled, unread, after_architecture, greedy-finds, greedy-least, placement_prefix}
-use Rattle.target_lexicon.proofs.ReadParts.{all-fields, all-left, fields_from, left_from, no-fields, texts-placed, strings_of}
+use Rattle.target_lexicon.proofs.GreedyPlacement.{fields_from, left_from, greedy-finds, greedy-least, placement_prefix}
+use Rattle.target_lexicon.proofs.ReadParts.{all-fields, all-left, no-fields, texts-placed, strings_of}
 use Rattle.target_lexicon.proofs.{PartLemmas.parts_of-are, PartLemmas.parts_of-some, PartLemmas.parts-only, RefusalLemmas.stop, RefusalLemmas.refused_first, RefusalLemmas.refused-at, UniqueReading.refusal_at, UniqueReading.refusal_unique}
 
 -- what the parts of a string give, if a format without a part has this source
@@ -59,14 +59,14 @@ refused-first p ps q skips at =
 
 -- a later part is left
 refused-later : (p : List ℕ) (ps : List (List ℕ)) (r : List ℕ) (rest : List (List ℕ)) (q : PlacedPart) → parses_as Architecture p ≡ true
-    → unread after_architecture ps ≡ r ∷ rest → LeftAt (p ∷ ps) q
+    → left_from (Some Vendor) ps ≡ r ∷ rest → LeftAt (p ∷ ps) q
     → (y : Refusal) × IsRefusalAfter (p ∷ ps) y (all_sources NotGiven (p ∷ ps)) q
 refused-later p ps r rest q takes unplaced at =
-    let s = stop after_architecture ps r rest unplaced in
-    let fields = Architecture ∷ filled after_architecture s.prefix in
-    let y = refusal_with (expected_after (last_field Architecture (filled after_architecture s.prefix))) r in
+    let s = stop (Some Vendor) ps r rest unplaced in
+    let fields = Architecture ∷ fields_from (Some Vendor) s.prefix in
+    let y = refusal_with (expected_after (last_field Architecture (fields_from (Some Vendor) s.prefix))) r in
     let here = found-at (p ∷ ps) q at (p ∷ s.prefix) r rest (ap (λ qs. p ∷ qs) s.split) (all-left p ps takes ∙ unplaced) in
-    let Explained : List (List ℕ) → Type 0 = λ qs. filled after_architecture s.prefix ≡ filled after_architecture qs
+    let Explained : List (List ℕ) → Type 0 = λ qs. fields_from (Some Vendor) s.prefix ≡ fields_from (Some Vendor) qs
     → slice_get (placed_from 0 (p ∷ qs)) (suc (length s.prefix)) ≡ Some q
     → IsRefusalAfter (p ∷ qs) y (all_sources NotGiven (p ∷ qs)) q in
     let split : Explained (s.prefix ++ (r ∷ rest)) = λ same here. record {
@@ -93,7 +93,7 @@ module _ (text : List ℕ) (ordinary : special_values text ≡ None) where
             p ∷ ps,
             subst (ArePartsOf text) are (parts_of-are text),
             (
-              Architecture ∷ filled after_architecture ps,
+              Architecture ∷ fields_from (Some Vendor) ps,
               greedy-least p ps found.0 found.1,
               ap (sources_at Implied (placed_from 0 (p ∷ ps))) (all-fields p ps found.0),
             ),
@@ -108,7 +108,7 @@ module _ (text : List ℕ) (ordinary : special_values text ≡ None) where
       with_parts (p ∷ ps) are at =
           elim (cases_Bool (parses_as Architecture p)) [
             | inr skips ↦ as_refused _ (refused-first p ps q skips at)
-            | inl takes ↦ by_left (unread after_architecture ps) refl takes
+            | inl takes ↦ by_left (left_from (Some Vendor) ps) refl takes
           ]
         where
           of_parts : ArePartsOf text (p ∷ ps)
@@ -119,10 +119,10 @@ module _ (text : List ℕ) (ordinary : special_values text ≡ None) where
               subst (λ z. IsRefusedAfter text z (all_sources NotGiven (p ∷ ps)) q)
               (refusal_unique text y x (ordinary, (p ∷ ps, of_parts, stuck.refusal_holds)) refused) (p ∷ ps, of_parts, stuck)
 
-          by_left : (rest : List (List ℕ)) → unread after_architecture ps ≡ rest → parses_as Architecture p ≡ true → IsRefusedAfter text x (all_sources NotGiven (p ∷ ps)) q
+          by_left : (rest : List (List ℕ)) → left_from (Some Vendor) ps ≡ rest → parses_as Architecture p ≡ true → IsRefusedAfter text x (all_sources NotGiven (p ∷ ps)) q
           by_left [] done takes =
               let refusal = subst (λ parts. IsRefusal parts x) are (refusal_at text x refused) in
-              absurd (refusal.unplaced (placement_prefix refusal.count (p ∷ ps) (Architecture ∷ filled after_architecture ps, (greedy-least p ps takes done).placed)))
+              absurd (refusal.unplaced (placement_prefix refusal.count (p ∷ ps) (Architecture ∷ fields_from (Some Vendor) ps, (greedy-least p ps takes done).placed)))
           by_left (r ∷ rest) unplaced takes = let later = refused-later p ps r rest q takes unplaced at in as_refused later.0 later.1
 
 -- the sources are in the string

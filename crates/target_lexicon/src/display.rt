@@ -121,7 +121,7 @@ impl<'a> TripleRef<'a> {
     }
 
     /// Writes the string that upstream prints for the triple, as [`TripleRef::write_to`] writes the printed one.
-    // In Rust: pub(crate), #[inline].
+    // Not in Rust.
     pub fn write_upstream_to(&self, out: &mut [u8]) -> usize
         ensures { IsWritten (spec.upstream_string_of (values_of_ref self.now))
             out.old out.new result }
@@ -132,6 +132,7 @@ impl<'a> TripleRef<'a> {
     }
 
     /// The pieces by upstream's rules, or with the last three fields shown whatever these say.
+    // In Rust: pub(crate).
     #[inline(always)]
     fn pieces(&self, shows_last_three: bool) -> Pieces<'a>
         ensures text { pieces_text result
@@ -285,7 +286,6 @@ impl<'a> TripleRef<'a> {
         matches!(
             (self.environment, self.binary_format),
             (Environment::Unknown, BinaryFormat::Unknown)
-        // In Rust instead: ) && !cfg!(feature = "upstream_printing") && self.binary_format != self.default_binary_format()
         ) && self.binary_format != self.default_binary_format()
     }
 }
@@ -293,6 +293,7 @@ impl<'a> TripleRef<'a> {
 /// What is shown of a triple: the name of the architecture, or the special string; and each other field that is shown,
 /// after a dash. The name of the operating system is without its version, which follows it.
 #[derive(Clone, Copy)]
+// In Rust instead: pub(crate) struct Pieces<'a> {
 struct Pieces<'a> {
     first: &'static str,
     vendor: Option<&'a str>,

@@ -108,7 +108,6 @@ pub fn printed_strings_grow_at_most()
     ensures settled { CanonicalStringsGrowAtMost }
     ensures refused { RefusedPartsDoNotGrow }
 {
-    reading_is_computed();
     names_grow_at_most();
 }
 
@@ -197,7 +196,7 @@ pub fn exceptions_are_facts_of_fields()
 {}
 
 /// A triple comes back (it is printed and parsed again as itself) if and only if none of the five exceptions applies,
-/// also if its vendor is not plain.
+/// also if its vendor is not plain. The name calls an exception a family.
 pub fn fixed_exactly_outside_families()
     ensures { FixedExactlyOutsideExceptions }
 {

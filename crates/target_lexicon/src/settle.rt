@@ -105,7 +105,7 @@ impl<'a> TripleRef<'a> {
     /// assert!(rt; !TripleRef::from_str("armv7-nintendo-horizon-newlib").unwrap().comes_back());
     /// ```
     #[must_use]
-    // In Rust: #[inline], #[cfg(not(feature = "upstream_printing"))].
+    // In Rust: #[inline].
     pub fn comes_back(&self) -> bool
         ensures { IsTrue result ↔ ComesBack (values_of_ref self.now) }
     {

@@ -33,7 +33,7 @@ impl TripleRef<'_> {
     /// assert!(rt; one != other && one.settles_as(&other));
     /// ```
     #[must_use]
-    // In Rust: #[inline], #[cfg(not(feature = "upstream_printing"))].
+    // In Rust: #[inline].
     // In Rust instead: pub fn settles_as<'t>(&self, other: impl Into<TripleRef<'t>>) -> bool
     pub fn settles_as(&self, other: &TripleRef<'_>) -> bool
         ensures { IsTrue result

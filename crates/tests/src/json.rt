@@ -11,6 +11,11 @@ const VALUES: &str = "\
 \"x86_64-unknown-linux-gnu\"=X86_64 Unknown Linux Gnu Elf
 \"x86_64-customvendor-linux\"=X86_64 Custom(Owned(\"customvendor\")) Linux Unknown Elf
 \"foo\"=Unrecognized architecture: foo
+\"x86_64-A\"=Unrecognized vendor: A
+\"x86_64-pc-A\"=Unrecognized operating system: A
+\"x86_64-pc-linux-A\"=Unrecognized environment: A
+\"x86_64-pc-linux-gnu-A\"=Unrecognized binary format: A
+\"x86_64-pc-linux-gnu-elf-A\"=Unrecognized field: A
 null=Not a text
 true=Not a text
 7=Not a text
@@ -24,6 +29,24 @@ const LISTS: &str = "\
 [\"x86_64-unknown-linux-gnu\",\"i686-pc-windows-gnu\"]=[\"x86_64-unknown-linux-gnu\",\"i686-pc-windows-gnu\"]
 {}=Not a list
 [\"x86_64\",7,\"foo\"]=Element 1: Not a text";
+
+/// Whether an element that isn't a string is named, by an index of each length.
+fn elements_are_named(alloc: Global) -> bool {
+    let mut index = usize::MAX;
+    for _ in 0..21 {
+        let Ok(line) = format!(in alloc; "Element {index}: Not a text") else {
+            return false;
+        };
+        if !prints(
+            &ListError::Element(index, JsonError::NotText),
+            line.as_str(),
+        ) {
+            return false;
+        }
+        index = index / 10;
+    }
+    true
+}
 
 /// Whether the JSON source is a list with this result.
 fn is_list_answer(alloc: Global, text: &str, expected: &str) -> bool {
@@ -64,6 +87,7 @@ fn values_are_parsed_or_refused(rt: HostRuntime) {
                 "Element 0: Out of memory"
             )
     );
+    assert!(rt; elements_are_named(rt.alloc()));
     match Triple::host().to_json(rt.alloc()) {
         Ok(value) => assert!(rt; writes(&value, "\"x86_64-unknown-linux-gnu\"")),
         Err(_) => panic!(rt; "out of memory"),

@@ -34,6 +34,7 @@ riscv32imc-esp-espidf=riscv32imc-esp-espidf
 x86_64-unknown-linux-unknown-unknown=x86_64-unknown-linux-unknown-unknown
 arm64-apple-ios=aarch64-apple-ios
 aarch64-apple-ios17.2-macabi=aarch64-apple-ios17.2.0-macabi
+aarch64-pc-ios17.2-macabi-elf=aarch64-pc-ios17.2.0-macabi-elf
 x86_64-customvendor-linux=x86_64-customvendor-linux
 x86_64-fortanix-unknown-sgx=x86_64-fortanix-unknown-sgx
 hexagon-unknown-none-elf=hexagon-unknown-none-elf

@@ -1,10 +1,11 @@
 -- A filter between its reads, and its ends.
-use Rattle.std.proofs.Common.{◌≡◌, ◌∙◌, ℕ, ◌+◌, ◌-◌, ◌^◌, ◌<◌, ◌≤◌, ◌⊎◌, inl, inr, Bool, true, false, List, [], ◌∷◌, ◌++◌, length, take, drop, Option, Result, Ok, Err, refl, sym, ap, subst, append_assoc, arith, rules}
+use Rattle.std.proofs.Common.{◌≡◌, ◌↔◌, ◌∙◌, ℕ, ◌+◌, ◌-◌, ◌^◌, ◌<◌, ◌≤◌, ◌⊎◌, inl, inr, Bool, true, false, List, [], ◌∷◌, ◌++◌, length, take, drop, Option, Result, Ok, Err, refl, sym, ap, subst, append_assoc, arith, rules}
 use Rattle.std.proofs.lemmas.List.{append-nil, length-append, length-take, take-append-drop, take-append-le, take_all}
 use Rattle.std.proofs.Math.Seq.{take-append-add, take-append_seam}
 use Rattle.std.proofs.lemmas.List.{places, length-drop}
 use borrow.Rule.Slice.PartMut.{put_mid, post_of}
 use Rattle.std.specs.Io.KnownBytes.{IsAtEnd, Keeps}
+use Rattle.std.specs.Prelude.{IsErrOf, OnErr, OnOk}
 use Rattle.triples.specs.Calls.{Call, After, Ended, Failed, Moved, bytes_of, ends_last, stops_last}
 use Rattle.triples.specs.{Filter.AreFilterAnswers, Filter.FilterEndsAs, Filter.IsPrompt, Filter.ReadsPromptly, Filter.complete_lines, Lines.ended_lines_of}
 use Rattle.triples.specs.FilterSteps.{HasNoFeed, IsFilteredTo, IsKept, IsLate, LinesAnswered, RestAnswered}
@@ -60,8 +61,11 @@ module _ (mode : LineMode) (size : ℕ) (reader writer : Use) (input answers out
   all-begun : output ≡ answers → (n : ℕ) × (output ≡ take n answers)
   all-begun is = (length answers, is ∙ sym (take_all (length answers) answers (omega arith)))
 
-  pub as-ok : output ≡ answers → IsReadWhole reader → IsWrittenWhole writer → FilterEndsAs mode size reader writer (Ok tt)
-  as-ok is read written = record {
+  ends-with : (result : Result (Unit {0}) FilterError) → (n : ℕ) × (output ≡ take n answers) → (¬ (IsErrOf result filter_error.Write) → output ≡ answers)
+      → IsErrOf result filter_error.Read ↔ HasFailed reader → IsErrOf result filter_error.Write ↔ HasFailed writer → OnOk result (IsReadWhole reader × IsWrittenWhole writer)
+      → (IsErrOf result filter_error.Endless → OnlyMoves reader × (2 ^ 64 - 1 ≤ length input)) → StopsOnce reader → StopsOnce writer → OnErr result (OnlyMoves writer ⊎ HasFailed writer)
+      → FilterEndsAs mode size reader writer result
+  ends-with result begun whole read write ok endless reads writes unflushed = record {
     input = input;
     answers = answers;
     output = output;
@@ -69,77 +73,36 @@ module _ (mode : LineMode) (size : ℕ) (reader writer : Use) (input answers out
     takes = takes;
     answered = answered;
     prompt = prompt;
-    begun = all-begun is;
-    whole = λ _. is;
-    read = (λ bad. absurd cc, λ failed. absurd (not-both reader read.2 failed));
-    write = (λ bad. absurd cc, λ failed. absurd (not-both writer written.1 failed));
-    ok = (read, written);
-    endless = λ bad. absurd cc;
-    reads = inr read.3;
-    writes = inr written.2;
-    unflushed = tt;
+    begun = begun;
+    whole = whole;
+    read = read;
+    write = write;
+    ok = ok;
+    endless = endless;
+    reads = reads;
+    writes = writes;
+    unflushed = unflushed;
   }
+
+  -- an error that isn't the result, of a reader or writer that didn't fail
+  no-failure : {E : Type 0} (it : Use) → ¬ E → IsUnfailed it → E ↔ HasFailed it
+  no-failure it other unfailed = (λ is. absurd (other is), λ failed. absurd (not-both it unfailed failed))
+
+  pub as-ok : output ≡ answers → IsReadWhole reader → IsWrittenWhole writer → FilterEndsAs mode size reader writer (Ok tt)
+  as-ok is read written = ends-with (Ok tt) (all-begun is) (λ _. is) (no-failure reader (λ bad. cc) read.2) (no-failure writer (λ bad. cc) written.1) (read, written) (λ bad. absurd cc) (inr read.3) (inr written.2) tt
 
   pub as-read : output ≡ answers → HasFailed reader → StopsLast reader → IsUnfailed writer → OnlyMoves writer → FilterEndsAs mode size reader writer (Err filter_error.Read)
-  as-read is failed last unfailed moves = record {
-    input = input;
-    answers = answers;
-    output = output;
-    gives = gives;
-    takes = takes;
-    answered = answered;
-    prompt = prompt;
-    begun = all-begun is;
-    whole = λ _. is;
-    read = (λ _. failed, λ _. refl);
-    write = (λ bad. absurd cc, λ bad. absurd (not-both writer unfailed bad));
-    ok = tt;
-    endless = λ bad. absurd cc;
-    reads = inr last;
-    writes = inl moves;
-    unflushed = inl moves;
-  }
+  as-read is failed last unfailed moves =
+      ends-with (Err filter_error.Read) (all-begun is) (λ _. is) (λ _. failed, λ _. refl) (no-failure writer (λ bad. cc) unfailed) tt (λ bad. absurd cc) (inr last) (inl moves) (inl moves)
 
   pub as-write : (n : ℕ) → output ≡ take n answers → IsUnfailed reader → StopsOnce reader → HasFailed writer → StopsLast writer → FilterEndsAs mode size reader writer (Err filter_error.Write)
-  as-write n is unfailed once failed last = record {
-    input = input;
-    answers = answers;
-    output = output;
-    gives = gives;
-    takes = takes;
-    answered = answered;
-    prompt = prompt;
-    begun = (n, is);
-    whole = λ other. absurd (other refl);
-    read = (λ bad. absurd cc, λ bad. absurd (not-both reader unfailed bad));
-    write = (λ _. failed, λ _. refl);
-    ok = tt;
-    endless = λ bad. absurd cc;
-    reads = once;
-    writes = inr last;
-    unflushed = inr failed;
-  }
+  as-write n is unfailed once failed last =
+      ends-with (Err filter_error.Write) (n, is) (λ other. absurd (other refl)) (no-failure reader (λ bad. cc) unfailed) (λ _. failed, λ _. refl) tt (λ bad. absurd cc) once (inr last) (inr failed)
 
   pub as-endless : output ≡ answers → IsUnfailed reader → OnlyMoves reader → IsUnfailed writer → OnlyMoves writer → 2 ^ 64 - 1 ≤ length input
       → FilterEndsAs mode size reader writer (Err filter_error.Endless)
-  as-endless is read reads written writes many = record {
-    input = input;
-    answers = answers;
-    output = output;
-    gives = gives;
-    takes = takes;
-    answered = answered;
-    prompt = prompt;
-    begun = all-begun is;
-    whole = λ _. is;
-    read = (λ bad. absurd cc, λ bad. absurd (not-both reader read bad));
-    write = (λ bad. absurd cc, λ bad. absurd (not-both writer written bad));
-    ok = tt;
-    endless = λ _. (reads, many);
-    reads = inl reads;
-    writes = inl writes;
-    unflushed = inl writes;
-  }
+  as-endless is read reads written writes many =
+      ends-with (Err filter_error.Endless) (all-begun is) (λ _. is) (no-failure reader (λ bad. cc) read) (no-failure writer (λ bad. cc) written) tt (λ _. (reads, many)) (inl reads) (inl writes) (inl writes)
 
 module _ {A B : Type 0} (rem : A → Option (List ℕ)) (con : B → Option (List ℕ)) (mode : LineMode) (size : ℕ) where
   pub between-none : (r : Counted A) (w : Counted B) → IsBetweenReads mode size false [] (use_of rem r r) (use_of con w w) 0
@@ -322,25 +285,14 @@ searched-front n front more piece size is none =
 pub length-read : (held : ℕ) (xs ys : List ℕ) → held ≤ length xs → length ys ≡ length xs - held → length (put_mid held (length xs - held) xs ys) ≡ length xs
 length-read held xs ys within size = search (rules, places)
 
--- a read that gave some byte did not find the end, and one that gave none, with room for one, did
-pub some-is-no-end : (count : ℕ) (buffer : List ℕ) → (count ≡ 0 → ⊥) → finds_end {E = ⊥} (Ok count) buffer ≡ false
-some-is-no-end count buffer some = rw (ne_eqb count 0 some) refl
+-- a read that gave some byte moved it, and one that gave none, with room for one, found the end
+pub some-read : (count : ℕ) (buffer : List ℕ) → (count ≡ 0 → ⊥)
+    → (finds_end {E = ⊥} (Ok count) buffer ≡ false) × (stops_by {E = ⊥} (Ok count) buffer ≡ 0) × (read_call {E = ⊥} (Ok count) buffer ≡ Moved (take count buffer))
+some-read count buffer some = rw (ne_eqb count 0 some) (refl, refl, refl)
 
-pub none-is-end : (count : ℕ) (buffer : List ℕ) → count ≡ 0 → 0 < length buffer → finds_end {E = ⊥} (Ok count) buffer ≡ true
-none-is-end count buffer none room = rw (none, ne_eqb (length buffer) 0 (λ bad. omega (arith, bad, room))) refl
-
--- so the call is one that moved bytes, or the end
-pub some-is-move : (count : ℕ) (buffer : List ℕ) → (count ≡ 0 → ⊥) → read_call {E = ⊥} (Ok count) buffer ≡ Moved (take count buffer)
-some-is-move count buffer some = rw (ne_eqb count 0 some) refl
-
-pub none-ends : (count : ℕ) (buffer : List ℕ) → count ≡ 0 → 0 < length buffer → read_call {E = ⊥} (Ok count) buffer ≡ Ended
-none-ends count buffer none room = rw (none, ne_eqb (length buffer) 0 (λ bad. omega (arith, bad, room))) refl
-
-pub some-is-no-stop : (count : ℕ) (buffer : List ℕ) → (count ≡ 0 → ⊥) → stops_by {E = ⊥} (Ok count) buffer ≡ 0
-some-is-no-stop count buffer some = rw (ne_eqb count 0 some) refl
-
-pub none-stops : (count : ℕ) (buffer : List ℕ) → count ≡ 0 → 0 < length buffer → stops_by {E = ⊥} (Ok count) buffer ≡ 1
-none-stops count buffer none room = rw (none, ne_eqb (length buffer) 0 (λ bad. omega (arith, bad, room))) refl
+pub none-read : (count : ℕ) (buffer : List ℕ) → count ≡ 0 → 0 < length buffer
+    → (finds_end {E = ⊥} (Ok count) buffer ≡ true) × (stops_by {E = ⊥} (Ok count) buffer ≡ 1) × (read_call {E = ⊥} (Ok count) buffer ≡ Ended)
+none-read count buffer none room = rw (none, ne_eqb (length buffer) 0 (λ bad. omega (arith, bad, room))) (refl, refl, refl)
 
 -- the length of a slice from an index to the end
 pub part-length : (start : ℕ) (xs : List ℕ) → length (take (length xs - start) (drop start xs)) ≡ length xs - start

@@ -4,6 +4,7 @@ use Rattle.std.specs.Str.{IsUtf8}
 use Rattle.serde_json.specs.{Data.Data, Find.as_array, Read.read}
 use Rattle.target_lexicon.specs.Laws.{EveryStringHasOneOutcome}
 use Rattle.triples.specs.{JsonOutput.IsJsonInputErrorOf, Output.IsOutput, Run.Use, Run.Gives, Run.Takes, Run.TakesBeginning, Run.IsReadWhole, Run.IsUnfailed, Run.HasFailed, Run.RunEnds, Run.EndsAs, Run.IsUntouched, Run.StopsLast, Calls.ends_last, Calls.failures_in, Calls.stops_in}
+use Rattle.triples.specs.{Private.HasNoOutput}
 use Rattle.triples.specs.RunLaws.{RunGives, RunsEndOneWay, IsJudged, ErrorsOfRunsAreExact}
 use Rattle.triples.specs.declared.mode.Mode.{Mode}
 use Rattle.triples.specs.declared.mode.Mode.TheVariants.{Json}
@@ -98,67 +99,52 @@ runs_end_one_way one mode text x y a b first second =
     same-outcome one mode text x y a b (outcome mode text x a first) (outcome mode text y b second)
 
 -- each error is the result exactly in its case
+never : {A B : Type 0} → ¬ A → ¬ B → A ↔ B
+never no_a no_b = (λ a. absurd (no_a a), λ b. absurd (no_b b))
+
 module _ (mode : Mode) (reader writer : Use) (text output : List ℕ) where
-  read-exact : (result : Result (Unit {0}) RunError) → RunEnds mode reader writer text output result → IsErrOf result run_error.Read ↔ HasFailed reader
-  read-exact (Ok _) ends = (λ bad. absurd cc, λ failed. absurd (not-both reader ends.0.2 failed))
-  read-exact (Err run_error.Read) ends = (λ is. ends.0, λ failed. refl)
-  read-exact (Err run_error.Write) ends = (λ bad. absurd cc, λ failed. absurd (not-both reader ends.0.2 failed))
-  read-exact (Err run_error.NotUtf8) ends = (λ bad. absurd cc, λ failed. absurd (not-both reader ends.0.2 failed))
-  read-exact (Err run_error.NotJson) ends = (λ bad. absurd cc, λ failed. absurd (not-both reader ends.1.2 failed))
-  read-exact (Err run_error.NotList) ends = (λ bad. absurd cc, λ failed. absurd (not-both reader ends.1.2 failed))
-  read-exact (Err run_error.OutOfMemory) ends = (λ bad. absurd cc, λ failed. absurd (not-both reader ends.0 failed))
-
-  write-exact : (result : Result (Unit {0}) RunError) → RunEnds mode reader writer text output result → IsErrOf result run_error.Write ↔ HasFailed writer
-  write-exact (Ok _) ends = (λ bad. absurd cc, λ failed. absurd (not-both writer ends.1.1 failed))
-  write-exact (Err run_error.Read) ends = (λ bad. absurd cc, λ failed. absurd (not-both writer ends.1.0 failed))
-  write-exact (Err run_error.Write) ends = (λ is. ends.1, λ failed. refl)
-  write-exact (Err run_error.NotUtf8) ends = (λ bad. absurd cc, λ failed. absurd (not-both writer ends.1.0 failed))
-  write-exact (Err run_error.NotJson) ends = (λ bad. absurd cc, λ failed. absurd (not-both writer ends.2.0 failed))
-  write-exact (Err run_error.NotList) ends = (λ bad. absurd cc, λ failed. absurd (not-both writer ends.2.0 failed))
-  write-exact (Err run_error.OutOfMemory) ends = (λ bad. absurd cc, λ failed. absurd (not-both writer ends.1.0 failed))
-
-  utf8-exact : (result : Result (Unit {0}) RunError) → RunEnds mode reader writer text output result → IsUnfailed reader → result ≢ Err run_error.OutOfMemory
-      → IsErrOf result run_error.NotUtf8 ↔ ¬ (IsUtf8 text)
-  utf8-exact (Ok _) ends unfailed memory = (λ bad. absurd cc, λ differs. absurd (differs ends.2))
-  utf8-exact (Err run_error.Read) ends unfailed memory = (λ bad. absurd cc, λ differs. absurd (not-both reader unfailed ends.0))
-  utf8-exact (Err run_error.Write) ends unfailed memory = (λ bad. absurd cc, λ differs. absurd (differs ends.2))
-  utf8-exact (Err run_error.NotUtf8) ends unfailed memory = (λ is. ends.2, λ differs. refl)
-  utf8-exact (Err run_error.NotJson) ends unfailed memory = (λ bad. absurd cc, λ differs. absurd (differs ends.3))
-  utf8-exact (Err run_error.NotList) ends unfailed memory = (λ bad. absurd cc, λ differs. absurd (differs ends.3))
-  utf8-exact (Err run_error.OutOfMemory) ends unfailed memory = (λ bad. absurd cc, λ differs. absurd (memory refl))
+  failures-exact : (result : Result (Unit {0}) RunError) → RunEnds mode reader writer text output result
+      → (IsErrOf result run_error.Read ↔ HasFailed reader) × (IsErrOf result run_error.Write ↔ HasFailed writer)
+  failures-exact (Ok _) ends = (never (λ bad. cc) (not-both reader ends.0.2), never (λ bad. cc) (not-both writer ends.1.1))
+  failures-exact (Err run_error.Read) ends = ((λ _. ends.0, λ _. refl), never (λ bad. cc) (not-both writer ends.1.0))
+  failures-exact (Err run_error.Write) ends = (never (λ bad. cc) (not-both reader ends.0.2), (λ _. ends.1, λ _. refl))
+  failures-exact (Err run_error.NotUtf8) ends = (never (λ bad. cc) (not-both reader ends.0.2), never (λ bad. cc) (not-both writer ends.1.0))
+  failures-exact (Err run_error.NotJson) ends = (never (λ bad. cc) (not-both reader ends.1.2), never (λ bad. cc) (not-both writer ends.2.0))
+  failures-exact (Err run_error.NotList) ends = (never (λ bad. cc) (not-both reader ends.1.2), never (λ bad. cc) (not-both writer ends.2.0))
+  failures-exact (Err run_error.OutOfMemory) ends = (never (λ bad. cc) (not-both reader ends.0), never (λ bad. cc) (not-both writer ends.1.0))
 
   -- the input is UTF-8 in mode `json`, with this error
   abbrev HasJsonError : RunError → Type 0
   HasJsonError e = (mode ≡ Json) × IsUtf8 text × IsJsonInputErrorOf text e
 
-  json-exact : (result : Result (Unit {0}) RunError) → RunEnds mode reader writer text output result → IsUnfailed reader → result ≢ Err run_error.OutOfMemory
-      → IsErrOf result run_error.NotJson ↔ HasJsonError run_error.NotJson
-  json-exact (Ok _) ends unfailed memory = (λ bad. absurd cc, λ error. absurd (output-no-json-error mode text output ends.3 error.0 error.2))
-  json-exact (Err run_error.Read) ends unfailed memory = (λ bad. absurd cc, λ error. absurd (not-both reader unfailed ends.0))
-  json-exact (Err run_error.Write) ends unfailed memory = (λ bad. absurd cc, λ error. absurd (output-no-json-error mode text ends.3 ends.4 error.0 error.2))
-  json-exact (Err run_error.NotUtf8) ends unfailed memory = (λ bad. absurd cc, λ error. absurd (ends.2 error.1))
-  json-exact (Err run_error.NotJson) ends unfailed memory = (λ same. (ends.0, ends.3, ends.4), λ error. refl)
-  json-exact (Err run_error.NotList) ends unfailed memory = (λ bad. absurd cc, λ error. absurd (not-json-or-not-list text error.2 ends.4))
-  json-exact (Err run_error.OutOfMemory) ends unfailed memory = (λ bad. absurd cc, λ error. absurd (memory refl))
+  abbrev JudgesInput : Result (Unit {0}) RunError → Type 0
+  JudgesInput result = (IsErrOf result run_error.NotUtf8 ↔ ¬ (IsUtf8 text)) × (IsErrOf result run_error.NotJson ↔ HasJsonError run_error.NotJson)
+      × (IsErrOf result run_error.NotList ↔ HasJsonError run_error.NotList)
 
-  list-exact : (result : Result (Unit {0}) RunError) → RunEnds mode reader writer text output result → IsUnfailed reader → result ≢ Err run_error.OutOfMemory
-      → IsErrOf result run_error.NotList ↔ HasJsonError run_error.NotList
-  list-exact (Ok _) ends unfailed memory = (λ bad. absurd cc, λ error. absurd (output-no-list-error mode text output ends.3 error.0 error.2))
-  list-exact (Err run_error.Read) ends unfailed memory = (λ bad. absurd cc, λ error. absurd (not-both reader unfailed ends.0))
-  list-exact (Err run_error.Write) ends unfailed memory = (λ bad. absurd cc, λ error. absurd (output-no-list-error mode text ends.3 ends.4 error.0 error.2))
-  list-exact (Err run_error.NotUtf8) ends unfailed memory = (λ bad. absurd cc, λ error. absurd (ends.2 error.1))
-  list-exact (Err run_error.NotJson) ends unfailed memory = (λ bad. absurd cc, λ error. absurd (not-json-or-not-list text ends.4 error.2))
-  list-exact (Err run_error.NotList) ends unfailed memory = (λ same. (ends.0, ends.3, ends.4), λ error. refl)
-  list-exact (Err run_error.OutOfMemory) ends unfailed memory = (λ bad. absurd cc, λ error. absurd (memory refl))
+  with-output : (result : Result (Unit {0}) RunError) → ¬ (IsErrOf result run_error.NotUtf8) → ¬ (IsErrOf result run_error.NotJson) → ¬ (IsErrOf result run_error.NotList)
+      → IsUtf8 text → (whole : List ℕ) → IsOutput mode text whole → JudgesInput result
+  with-output result no_a no_b no_c utf8 whole is = (
+    never no_a (λ differs. differs utf8),
+    never no_b (λ error. output-no-json-error mode text whole is error.0 error.2),
+    never no_c (λ error. output-no-list-error mode text whole is error.0 error.2),
+  )
+
+  input-judged : (result : Result (Unit {0}) RunError) → RunEnds mode reader writer text output result → IsUnfailed reader → result ≢ Err run_error.OutOfMemory → JudgesInput result
+  input-judged (Ok u) ends unfailed memory = with-output (Ok u) (λ bad. cc) (λ bad. cc) (λ bad. cc) ends.2 output ends.3
+  input-judged (Err run_error.Read) ends unfailed memory = absurd (not-both reader unfailed ends.0)
+  input-judged (Err run_error.Write) ends unfailed memory = with-output (Err run_error.Write) (λ bad. cc) (λ bad. cc) (λ bad. cc) ends.2 ends.3 ends.4
+  input-judged (Err run_error.NotUtf8) ends unfailed memory = ((λ _. ends.2, λ _. refl), never (λ bad. cc) (λ error. ends.2 error.1), never (λ bad. cc) (λ error. ends.2 error.1))
+  input-judged (Err run_error.NotJson) ends unfailed memory =
+      (never (λ bad. cc) (λ differs. differs ends.3), (λ _. (ends.0, ends.3, ends.4), λ _. refl), never (λ bad. cc) (λ error. not-json-or-not-list text ends.4 error.2))
+  input-judged (Err run_error.NotList) ends unfailed memory =
+      (never (λ bad. cc) (λ differs. differs ends.3), never (λ bad. cc) (λ error. not-json-or-not-list text error.2 ends.4), (λ _. (ends.0, ends.3, ends.4), λ _. refl))
+  input-judged (Err run_error.OutOfMemory) ends unfailed memory = absurd (memory refl)
 
 pub errors_of_runs_are_exact : ErrorsOfRunsAreExact
-errors_of_runs_are_exact mode reader writer result ends = record {
-  read = read-exact mode reader writer ends.input ends.output result ends.by_result;
-  write = write-exact mode reader writer ends.input ends.output result ends.by_result;
-  not_utf8 = λ text it. utf8-exact mode reader writer text ends.output result (judged mode reader writer result text ends it) it.read_unfailed it.memory;
-  not_json = λ text it. json-exact mode reader writer text ends.output result (judged mode reader writer result text ends it) it.read_unfailed it.memory;
-  not_list = λ text it. list-exact mode reader writer text ends.output result (judged mode reader writer result text ends it) it.read_unfailed it.memory;
-}
+errors_of_runs_are_exact mode reader writer result ends =
+    let judge = λ (text : List ℕ) (it : IsJudged reader result text). input-judged mode reader writer text ends.output result (judged mode reader writer result text ends it) it.read_unfailed it.memory in
+    let failures = failures-exact mode reader writer ends.input ends.output result ends.by_result in
+    record { read = failures.0; write = failures.1; not_utf8 = λ text it. (judge text it).0; not_json = λ text it. (judge text it).1; not_list = λ text it. (judge text it).2 }
 
 -- how a run ends, from its steps
 module _ (mode : Mode) (reader writer : Use) (input : List ℕ) (gives : Gives reader input) (whole : IsReadWhole reader) (utf8 : IsUtf8 input) where
@@ -192,6 +178,11 @@ module _ (mode : Mode) (reader writer : Use) (input : List ℕ) (gives : Gives r
   pub memory-ends : Takes writer [] → writer.calls_after ≡ writer.calls_before → 0 < length input → EndsAs mode reader writer (Err run_error.OutOfMemory)
   memory-ends takes same some =
       record { input = input; output = []; gives = gives; takes = takes; reads = inr whole.3; writes = inl (ap stops_in same); by_result = (whole.2, untouched same, some) }
+
+  -- the input has no output
+  pub no-output-ends : (e : RunError) → HasNoOutput mode input e → Takes writer [] → writer.calls_after ≡ writer.calls_before → EndsAs mode reader writer (Err e)
+  no-output-ends e (inl json) takes same = json-error-ends e json.0 takes same json.1
+  no-output-ends e (inr memory) takes same = rw memory.0 (memory-ends takes same memory.1)
 
 -- the error of a step is that of the run
 pub as-error : (mode : Mode) (reader writer : Use) (found : Result (Unit {0}) RunError) (e : RunError) → IsErrAnd found (λ error. error ≡ e) → EndsAs mode reader writer (Err e) → EndsAs mode reader writer found

@@ -1,11 +1,15 @@
 -- Definitions for the contracts of private functions; no public contract cites them.
-use Rattle.std.specs.Prelude.{ℕ, ◌≡◌, ◌||◌, Bool, false, if◌then◌else◌, List, [], ◌∷◌, ◌++◌, codes, MatchOption, String}
+use Rattle.std.specs.Prelude.{ℕ, ◌≡◌, ◌<◌, ◌||◌, ◌⊎◌, Bool, false, if◌then◌else◌, List, [], ◌∷◌, ◌++◌, length, codes}
+use Rattle.std.specs.Prelude.{MatchOption, String}
 use Rattle.std.specs.declared.alloc.Global.{Global}
 use Rattle.std.specs.HashSet.{HashSet, contains_text}
 use Rattle.std.specs.declared.hash.{BuildHasherDefault.BuildHasherDefault, FoldHasher.FoldHasher}
 use Rattle.std.specs.Str.{bytes_eq}
 use Rattle.target_lexicon.specs.{FixedPoints.canonical_string, Refusal.Refusal, Refusal.refusal_line}
 use Rattle.target_lexicon.specs.{Refusal.refusal_of, declared.parse_error.ParseError.ParseError, Values.Values}
+use Rattle.triples.specs.{JsonOutput.IsJsonInputErrorOf, declared.mode.Mode.Mode, declared.mode.Mode.TheVariants.Json}
+use Rattle.triples.specs.{declared.run_error.RunError.RunError}
+use Rattle.triples.specs.declared.run_error.RunError.TheVariants as run_error
 use Rattle.triples.specs.Output.{Answer, Shown, Refused, IsAnswer, shows, written_lines}
 
 -- the printed triples that were seen
@@ -43,3 +47,8 @@ pub record AddsEntry (line old new : List ℕ) (seen_old seen_new : Seen) : Type
   pub is : IsAnswer canonical_string line answer
   pub grown : new ≡ old ++ written_lines (if is_repeated seen_old answer then [] else answer ∷ [])
   pub seen : (text : List ℕ) → contains_text seen_new text ≡ (contains_text seen_old text || shows text answer)
+
+-- why a mode has no output for an input: memory ran out, or in mode `json` also what that says
+abbrev pub HasNoOutput : Mode → List ℕ → RunError → Type 0
+HasNoOutput mode input e =
+    ((mode ≡ Json) × IsJsonInputErrorOf input e) ⊎ ((e ≡ run_error.OutOfMemory) × (0 < length input))

@@ -1,9 +1,10 @@
 -- What the program does for its arguments, and with its streams.
-use Rattle.std.specs.Prelude.{ℕ, ◌≡◌, List, Option, Some, None, Result, Ok, Err}
+use Rattle.std.specs.Prelude.{ℕ, ◌≡◌, List, Option, Some, None, Result, Ok, Err, IfSome, OnOk}
 use Rattle.triples.specs.{declared.counted.Counted.Counted, declared.filter_error.FilterError.FilterError}
 use Rattle.triples.specs.{declared.line_mode.LineMode.LineMode}
 use Rattle.triples.specs.{declared.request.Request.Request, declared.run_error.RunError.RunError}
-use Rattle.triples.specs.{Filter.FilterEndsAs, Run.EndsAs, Run.IsUnfailed, Run.Takes, Run.TakesBeginning, Run.Use}
+use Rattle.triples.specs.{Filter.FilterEndsAs, Run.EndsAs, Run.IsUnfailed, Run.Takes, Run.StopsOnce}
+use Rattle.triples.specs.{Run.TakesBeginning, Run.Use}
 use Rattle.triples.specs.{Run.use_of}
 use Rattle.triples.specs.Words.{End, closing_words, status_of}
 use Rattle.triples.specs.declared.filter_error.FilterError.TheVariants as filter_error
@@ -31,6 +32,9 @@ pub record Concludes (end : End) (writer : Use) (status : ℕ) : Type 0 where
   pub status_is : status ≡ status_of end
   pub said : IsUnfailed writer → Takes writer (closing_words end)
   pub begun : TakesBeginning writer (closing_words end)
+  -- nothing is called after a failure or the flush, and nothing at all after a success
+  pub once : StopsOnce writer
+  pub quiet : IfSome end (λ result. OnOk result (writer.calls_after ≡ writer.calls_before))
 
 -- What the program does to its reader, its writer and its writer of errors, and its exit status. Before it concludes,
 -- the writer is as the run left it.

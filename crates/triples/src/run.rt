@@ -1,7 +1,10 @@
 //! A run, from a reader to a writer, and the end of the program.
-ghost use Rattle.std.specs.Prelude.{◌≡◌, [], ◌∷◌, ◌++◌, IfErr, OnOk};
-ghost use Rattle.triples.specs.Run.{EndsAs, HasFailed, IsUnfailed, Takes, TakesBeginning, use_of};
+ghost use Rattle.std.specs.Prelude.{◌≡◌, [], ◌∷◌, ◌++◌, string_bytes, IfErr, IfOk, IfSome, OnOk};
+ghost use Rattle.triples.specs.Run.{EndsAs, HasFailed, IsUnfailed, StopsLast, StopsOnce, Takes, TakesBeginning, use_of};
+ghost use Rattle.triples.specs.Streams.{calls};
 ghost use Rattle.triples.specs.Lines.{line_feed};
+ghost use Rattle.triples.specs.Output.{IsOutput};
+ghost use Rattle.triples.specs.Private.{HasNoOutput};
 ghost use Rattle.triples.specs.Words.{status_of, closing_words};
 
 use crate::counted::Counted;
@@ -44,17 +47,25 @@ pub fn run<R: Read, W: Write>(
     let Ok(input) = str::from_utf8(&bytes) else {
         return Err(RunError::NotUtf8);
     };
-    let output = match mode {
-        Mode::Print => answers(alloc, LineMode::Print, input)?,
-        Mode::Show => answers(alloc, LineMode::Show, input)?,
-        Mode::Settle => answers(alloc, LineMode::Settle, input)?,
-        Mode::Matrix => matrix(alloc, input)?,
-        Mode::Json => json_output(alloc, input)?,
-    };
+    let output = output_of(alloc, mode, input)?;
     write_all(w, output.as_bytes())?;
     match w.flush() {
         Ok(()) => Ok(()),
         Err(_) => Err(RunError::Write),
+    }
+}
+
+/// The output of the mode for an input, or why there is none.
+fn output_of(alloc: Global, mode: Mode, input: &str) -> Result<String, RunError>
+    ensures output { IfOk result (λ output. IsOutput mode input.now (string_bytes output)) }
+    ensures err { IfErr result (λ e. HasNoOutput mode input.now e) }
+{
+    match mode {
+        Mode::Print => Ok(answers(alloc, LineMode::Print, input)?),
+        Mode::Show => Ok(answers(alloc, LineMode::Show, input)?),
+        Mode::Settle => Ok(answers(alloc, LineMode::Settle, input)?),
+        Mode::Matrix => Ok(matrix(alloc, input)?),
+        Mode::Json => json_output(alloc, input),
     }
 }
 
@@ -69,6 +80,8 @@ pub fn conclude<W: Write>(end: Option<Result<(), RunError>>, w: &mut Counted<W>)
     ensures said { IsUnfailed (use_of W.contents w.old w.new) →
         Takes (use_of W.contents w.old w.new) (closing_words end) }
     ensures begun { TakesBeginning (use_of W.contents w.old w.new) (closing_words end) }
+    ensures once { StopsOnce (use_of W.contents w.old w.new) }
+    ensures quiet { IfSome end (λ result. OnOk result (calls w.new ≡ calls w.old)) }
 {
     match end {
         Some(Ok(())) => 0,
@@ -94,6 +107,7 @@ fn write_line<W: Write>(writer: &mut Counted<W>, word: &str, rest: &str) -> Resu
         (word.now ++ (rest.now ++ line_feed ∷ [])) }
     ensures failed { IfErr result
         (λ e. (e ≡ RunError.Write) × HasFailed (use_of W.contents writer.old writer.new)) }
+    ensures stops { StopsLast (use_of W.contents writer.old writer.new) }
 {
     write_all(writer, word.as_bytes())?;
     write_all(writer, rest.as_bytes())?;

@@ -21,8 +21,8 @@
    it, and *length becomes the length of the whole string without that byte, even if the buffer is too small. Such a
    buffer is unchanged, except where a call says otherwise.
 
-   A string or a buffer of size 0 may be null, as with snprintf, and so may `length`, `error`, `reason` and `note`; no
-   other pointer may. What a call writes may not overlap any other argument, and no other byte is changed. No memory has
+   A string or a buffer of size 0 may be null, as with snprintf, and so may `length`, `error`, `reason`, `note` and
+   `versions`; no other pointer may. What a call writes may not overlap any other argument, and no other byte is changed. No memory has
    more than PTRDIFF_MAX bytes, so a larger size is a mistake: the status is LEXICON_TOO_LARGE whatever else is wrong,
    or the returned string is null. No call allocates, waits, or stops the program, and nothing is kept or shared between
    calls. So threads and signal handlers may make calls at any time.
@@ -86,16 +86,18 @@ enum lexicon_status {
   LEXICON_NO_SUCH_VALUE = 10, /* a number names no value; also a version of a system that has none */
   LEXICON_NO_SUCH_VENDOR = 11, /* a custom vendor that no string parses as */
   LEXICON_UNKNOWN_NAME = 12, /* the dialect has no such name */
-  LEXICON_NAME_WITHOUT_TRIPLE = 13, /* the dialect has the name, but no triple means the same; the error's reason says why */
+  LEXICON_NAME_WITHOUT_TRIPLE = 13, /* the dialect has the name, but no triple means the same; the error's reason says
+     why */
   LEXICON_TRIPLE_WITHOUT_NAME = 14, /* the dialect has no name for the triple; a reason says why */
   LEXICON_NO_SUCH_DIALECT = 15, /* the number of a dialect names none; where a name is written, also 0 */
   LEXICON_TOO_LARGE = 16, /* a size is above PTRDIFF_MAX; that of a custom vendor gives LEXICON_NO_SUCH_VENDOR */
-  LEXICON_NEEDS_C_LIBRARY = 17, /* the dialect has a name for it with glibc or musl, on Windows msvc or mingw, and none is said */
-  LEXICON_NO_SUCH_C_LIBRARY = 18, /* the number of a C library of Linux or Windows is above 5; for lexicon_complete also 0 */
+  LEXICON_NEEDS_C_LIBRARY = 17, /* the dialect has a name for it with glibc or musl, on Windows msvc or mingw, and
+     none is said */
+  LEXICON_NO_SUCH_C_LIBRARY = 18, /* the number of a C library of Linux or Windows is above 5; for lexicon_complete
+     also 0 */
   LEXICON_NO_SUCH_CHANGE = 19, /* the string has no change with this number */
   LEXICON_NO_SUGGESTION = 20, /* nothing else may have been meant */
   LEXICON_NO_ANSWER = 21, /* the triple has no such variant or version */
-  LEXICON_NO_SUCH_MEANING = 22, /* the string has no meaning with this number */
   /* end of what is written */
 };
 
@@ -106,16 +108,23 @@ enum lexicon_dialect {
   LEXICON_DIALECT_DEBIAN = 1, /* Debian's architectures, as dpkg names them: amd64, armhf, musl-linux-arm64 */
   LEXICON_DIALECT_GO = 2, /* Go's ports, as go tool dist list prints them: linux/amd64 */
   LEXICON_DIALECT_OCI = 3, /* Platforms of container images, as containerd writes them: linux/arm/v7 */
-  LEXICON_DIALECT_NODE = 4, /* Names of npm's packages for a platform: process.platform and process.arch of Node with a dash between them, some with a C library: linux-x64, linux-x64-musl */
-  LEXICON_DIALECT_GNU = 5, /* Prefixes of GNU's cross compilers, and strings that mean the same to config.sub: x86_64-w64-mingw32 */
-  LEXICON_DIALECT_PYTHON = 6, /* Platforms of Python, as tags of wheels such as macosx_11_0_arm64, and as sysconfig.get_platform() prints them */
-  LEXICON_DIALECT_RUST = 7, /* Targets of rustc, as rustc --print target-list lists them: riscv64gc-unknown-linux-gnu */
-  LEXICON_DIALECT_UNAME = 8, /* What uname -s and uname -m print, with a space between them, which is only read: Linux x86_64 */
+  LEXICON_DIALECT_NODE = 4, /* Names of npm's packages for a platform: process.platform and process.arch of Node with
+     a dash between them, some with a C library: linux-x64, linux-x64-musl */
+  LEXICON_DIALECT_GNU = 5, /* Prefixes of GNU's cross compilers, and strings that mean the same to config.sub:
+     x86_64-w64-mingw32 */
+  LEXICON_DIALECT_PYTHON = 6, /* Platforms of Python, as tags of wheels such as macosx_11_0_arm64, and as
+     sysconfig.get_platform() prints them */
+  LEXICON_DIALECT_RUST = 7, /* Targets of rustc, as rustc --print target-list lists them: riscv64gc-unknown-linux-gnu
+     */
+  LEXICON_DIALECT_UNAME = 8, /* What uname -s and uname -m print, with a space between them, which is only read: Linux
+     x86_64 */
   LEXICON_DIALECT_RPM = 9, /* Architectures of packages of RPM, whose distributions have glibc: x86_64, armv7hl */
   LEXICON_DIALECT_APK = 10, /* Architectures of Alpine's packages, which has musl: x86_64, armhf */
-  LEXICON_DIALECT_PACMAN = 11, /* Architectures of packages of Arch Linux and its ports, which have glibc: x86_64, armv7h */
+  LEXICON_DIALECT_PACMAN = 11, /* Architectures of packages of Arch Linux and its ports, which have glibc: x86_64,
+     armv7h */
   LEXICON_DIALECT_DOTNET = 12, /* Identifiers of .NET's runtimes, in its portable list: linux-x64, win-arm64 */
-  LEXICON_DIALECT_CONDA = 13, /* Subdirectories of conda's channels, whose packages for Linux have glibc: linux-64, osx-arm64 */
+  LEXICON_DIALECT_CONDA = 13, /* Subdirectories of conda's channels, whose packages for Linux have glibc: linux-64,
+     osx-arm64 */
   LEXICON_DIALECT_ZIG = 14, /* Zig's targets: x86_64-linux-musl, aarch64-macos */
   LEXICON_DIALECT_NIX = 15, /* Systems of Nix and nixpkgs: x86_64-linux, aarch64-darwin */
   /* end of what is written */
@@ -222,12 +231,15 @@ enum lexicon_architecture {
   LEXICON_ARCHITECTURE_RISCV32I = 75, /* The base integer instructions only */
   LEXICON_ARCHITECTURE_RISCV32IM = 76, /* The base instructions, with multiplication */
   LEXICON_ARCHITECTURE_RISCV32IMA = 77, /* The base instructions, with multiplication and atomics */
-  LEXICON_ARCHITECTURE_RISCV32IMAC = 78, /* The base instructions, with multiplication, atomics and compressed instructions */
-  LEXICON_ARCHITECTURE_RISCV32IMAFC = 79, /* The base instructions, with multiplication, atomics, single-precision floats and compressed instructions */
+  LEXICON_ARCHITECTURE_RISCV32IMAC = 78, /* The base instructions, with multiplication, atomics and compressed
+     instructions */
+  LEXICON_ARCHITECTURE_RISCV32IMAFC = 79, /* The base instructions, with multiplication, atomics, single-precision
+     floats and compressed instructions */
   LEXICON_ARCHITECTURE_RISCV32IMC = 80, /* The base instructions, with multiplication and compressed instructions */
   LEXICON_ARCHITECTURE_RISCV64 = 81, /* No stated extensions */
   LEXICON_ARCHITECTURE_RISCV64GC = 82, /* The general extensions, imafd, and compressed instructions */
-  LEXICON_ARCHITECTURE_RISCV64IMAC = 83, /* The base instructions, with multiplication, atomics and compressed instructions */
+  LEXICON_ARCHITECTURE_RISCV64IMAC = 83, /* The base instructions, with multiplication, atomics and compressed
+     instructions */
   LEXICON_ARCHITECTURE_RISCV64A23 = 84, /* The profile RVA23 */
   LEXICON_ARCHITECTURE_S390X = 85, /* IBM's z/Architecture */
   LEXICON_ARCHITECTURE_SPARC = 86, /* 32-bit SPARC */
@@ -327,7 +339,8 @@ enum lexicon_environment {
   LEXICON_ENVIRONMENT_ANDROID = 2, /* Android's C library, Bionic */
   LEXICON_ENVIRONMENT_ANDROIDEABI = 3, /* Android on 32-bit Arm, with Arm's embedded ABI */
   LEXICON_ENVIRONMENT_EABI = 4, /* Arm's embedded ABI, which passes floating-point arguments in integer registers */
-  LEXICON_ENVIRONMENT_EABIHF = 5, /* Arm's embedded ABI, which passes floating-point arguments in floating-point registers */
+  LEXICON_ENVIRONMENT_EABIHF = 5, /* Arm's embedded ABI, which passes floating-point arguments in floating-point
+     registers */
   LEXICON_ENVIRONMENT_GNU = 6, /* The GNU C library; on Windows, MinGW */
   LEXICON_ENVIRONMENT_GNUABI64 = 7, /* GNU, with the 64-bit ABI of MIPS */
   LEXICON_ENVIRONMENT_GNUEABI = 8, /* GNU, with Arm's embedded ABI without floating-point registers */
@@ -400,7 +413,8 @@ enum lexicon_calling_convention {
   /* written by tools/names/write: the answers of calling_convention for C */
   LEXICON_CALLING_CONVENTION_SYSTEM_V = 1,
   LEXICON_CALLING_CONVENTION_WASM_BASIC_C_ABI = 2,
-  LEXICON_CALLING_CONVENTION_WINDOWS_FASTCALL = 3, /* Upstream's name for what C has on Windows: Microsoft's x64 convention, and on i686 cdecl, which isn't __fastcall */
+  LEXICON_CALLING_CONVENTION_WINDOWS_FASTCALL = 3, /* Upstream's name for what C has on Windows: Microsoft's x64
+     convention, and on i686 cdecl, which isn't __fastcall */
   LEXICON_CALLING_CONVENTION_APPLE_AARCH64 = 4,
   /* end of what is written */
 };
@@ -503,32 +517,41 @@ struct lexicon_sources {
 struct lexicon_triple_facts {
   /* written by tools/names/write: the facts for C */
   uint8_t endianness; /* enum lexicon_endianness: the byte order */
-  uint8_t pointer_width; /* the bits of a pointer. They may be known where there is no data model, and the environment gnux32 counts */
+  uint8_t pointer_width; /* the bits of a pointer. They may be known where there is no data model, and the environment
+     gnux32 counts */
   uint8_t default_calling_convention; /* enum lexicon_calling_convention: the default calling convention of C */
   uint8_t data_model; /* enum lexicon_data_model: the data model of C. Sizes of C's types may be known without one */
   uint8_t short_size; /* the bytes of C's short */
   uint8_t int_size; /* the bytes of C's int */
-  uint8_t long_size; /* the bytes of C's long. On bare metal and Cygwin, which have no data model, the sizes are those of the compilers */
+  uint8_t long_size; /* the bytes of C's long. On bare metal and Cygwin, which have no data model, the sizes are those
+     of the compilers */
   uint8_t long_long_size; /* the bytes of C's long long */
   uint8_t float_size; /* the bytes of C's float */
   uint8_t double_size; /* the bytes of C's double */
   bool is_thumb; /* whether the architecture is one of 32-bit Arm whose name begins with thumb */
   bool is_like_darwin; /* whether the system is one of Apple's. Only these may have a version */
   bool has_custom_vendor; /* whether the vendor is a custom one */
-  uint8_t implied_format; /* enum lexicon_binary_format: the binary format that the other fields imply, as upstream has it */
-  uint8_t object_format; /* enum lexicon_binary_format: the format that toolchains write, where the triple leaves it open. It gives the linker */
-  uint8_t family; /* enum lexicon_family: the family of the architecture: all of 32-bit Arm, Thumb too, is arm; AArch64 is its own */
-  uint8_t c_library; /* enum lexicon_c_library: the C library that the triple states, by its environment or by a system that has only one */
-  uint8_t float_abi; /* enum lexicon_float_abi: how floating-point arguments are passed: known for 32-bit Arm, and where the triple says softfloat */
+  uint8_t implied_format; /* enum lexicon_binary_format: the binary format that the other fields imply, as upstream
+     has it */
+  uint8_t object_format; /* enum lexicon_binary_format: the format that toolchains write, where the triple leaves it
+     open. It gives the linker */
+  uint8_t family; /* enum lexicon_family: the family of the architecture: all of 32-bit Arm, Thumb too, is arm;
+     AArch64 is its own */
+  uint8_t c_library; /* enum lexicon_c_library: the C library that the triple states, by its environment or by a
+     system that has only one */
+  uint8_t float_abi; /* enum lexicon_float_abi: how floating-point arguments are passed: known for 32-bit Arm, and
+     where the triple says softfloat */
   bool is_unix; /* whether rustc counts the system to its family unix */
   uint8_t long_double_size; /* the bytes of C's long double */
   uint8_t long_double_alignment; /* the alignment of C's long double in bytes */
   uint8_t wchar_size; /* the bytes of C's wchar_t */
   uint8_t wchar_alignment; /* the alignment of C's wchar_t in bytes */
   uint8_t arm_version; /* the version of a 32-bit Arm architecture */
-  uint8_t arm_profile; /* enum lexicon_arm_profile: the profile of a 32-bit Arm architecture, where its name states one */
+  uint8_t arm_profile; /* enum lexicon_arm_profile: the profile of a 32-bit Arm architecture, where its name states
+     one */
   uint8_t char_signedness; /* enum lexicon_signedness: whether C's char has a sign, as clang has it */
-  bool has_emulated_tls; /* whether LLVM emulates thread-local storage: on OpenBSD, Cygwin, OpenHarmony, and Android before API level 29 */
+  bool has_emulated_tls; /* whether LLVM emulates thread-local storage: on OpenBSD, Cygwin, OpenHarmony, and Android
+     before API level 29 */
   bool has_comdat; /* whether the object format has COMDAT sections */
   /* end of what is written */
 };
@@ -539,18 +562,30 @@ struct lexicon_os_version {
   uint8_t minor, patch;
 };
 
-/* The versions that the operating system and the environment of a string state; three zeros are none. */
-struct lexicon_stated_version {
-  uint32_t major, minor, patch;
-};
+/* Versions that names state and triples don't have, each of a C library or a system; a major of 0 is none. Those of
+   Android are API levels, and those of Windows builds of Windows 10 or later. The third number isn't used. */
 struct lexicon_versions {
-  struct lexicon_stated_version operating_system, environment;
+  struct lexicon_os_version glibc, musl, macos, ios, android, freebsd, netbsd, openbsd, dragonfly, windows;
 };
 
 /* A part of a string, such as one that lexicon_read, without a dialect, reads as other names. */
 struct lexicon_change {
   size_t start, end;
 };
+
+/* What a string means to one of those who have it as a name: the canonical triple. Where the dialect has the name and
+   no triple means the same, the status is LEXICON_NAME_WITHOUT_TRIPLE, and the triple is the unknown one. */
+struct lexicon_meaning {
+  uint32_t dialect; /* LEXICON_DIALECT_NONE of a string that parses, or is spelled like a triple */
+  uint32_t status;
+  struct lexicon_triple triple;
+  /* At LEXICON_OK the level of the machine that the name says and the triple can't state, such as v3 of linux/amd64/v3:
+     then lexicon_translate has the names at this level. Else why no triple means the same. Null if there is neither. */
+  const char *note;
+};
+
+/* No string has more meanings. */
+#define LEXICON_MAX_MEANINGS 32
 
 /* A buffer of text_size + LEXICON_MAX_GROWTH + 1 bytes always has room for what lexicon_print writes for the triple
    that the string parses as, and for its canonical form. arm64 prints as aarch64-unknown-unknown-elf, and no string
@@ -611,21 +646,12 @@ enum lexicon_status lexicon_rustc_cfg(const struct lexicon_triple *triple, char 
 
 /* The string that LLVM and clang take for the target, which is rustc's llvm-target for each of its targets that parses:
    arm64-apple-macosx for aarch64-apple-darwin, x86_64-apple-macosx13.0.0 for x86_64-apple-darwin22. It has the versions
-   that a triple has, those of Apple's systems: lexicon_stated_versions gives the others of a string. */
+   that a triple has, those of Apple's systems. */
 LEXICON_CHECKED LEXICON_NONNULL(1)
 enum lexicon_status lexicon_llvm_target(const struct lexicon_triple *triple, char *out, size_t out_size,
                                         size_t *length);
 
-/* What clang passes to the linker for the target: the dynamic linker that programs name, and the emulation after -m;
-   and what ends the name of a program, as rustc has it, which may be nothing. /lib64/ld-linux-x86-64.so.2, elf_x86_64
-   and an empty string for x86_64-unknown-linux-gnu. LEXICON_NO_ANSWER where clang passes none, or the triple states no
-   C library. */
-LEXICON_CHECKED LEXICON_NONNULL(1)
-enum lexicon_status lexicon_dynamic_linker(const struct lexicon_triple *triple, char *out, size_t out_size,
-                                           size_t *length);
-LEXICON_CHECKED LEXICON_NONNULL(1)
-enum lexicon_status lexicon_linker_emulation(const struct lexicon_triple *triple, char *out, size_t out_size,
-                                             size_t *length);
+/* What ends the name of a program, as rustc has it, which may be nothing: .exe for x86_64-pc-windows-msvc. */
 LEXICON_CHECKED LEXICON_NONNULL(1)
 enum lexicon_status lexicon_program_suffix(const struct lexicon_triple *triple, char *out, size_t out_size,
                                            size_t *length);
@@ -642,9 +668,8 @@ enum lexicon_status lexicon_multiarch_tuple(const struct lexicon_triple *triple,
 
    With LEXICON_DIALECT_NONE, the string is spelled like a triple, as clang takes it after -target. Some parts are other
    spellings of known names: amd64 is x86_64, w64 is pc, mingw32 is windows-gnu, macos13 is macosx13; after armv7hl,
-   which is armv7, gnueabi is gnueabihf. Versions of systems other than Apple's are dropped: lexicon_stated_versions has
-   them. What parses without a custom vendor is read as it parses, and the status and the error are as those of
-   lexicon_parse.
+   which is armv7, gnueabi is gnueabihf. Versions of systems other than Apple's are dropped. What parses
+   without a custom vendor is read as it parses, and the status and the error are as those of lexicon_parse.
 
    With a dialect, the string is a name of that tool, and no other dialect is tried; what cc -dumpmachine prints is one
    of LEXICON_DIALECT_GNU. The triple is canonical, and what the name doesn't state is unknown: linux/arm64 is
@@ -655,14 +680,6 @@ enum lexicon_status lexicon_multiarch_tuple(const struct lexicon_triple *triple,
 LEXICON_CHECKED LEXICON_NONNULL(4)
 enum lexicon_status lexicon_read(uint32_t dialect, const char *text, size_t text_size, struct lexicon_triple *triple,
                                  struct lexicon_error *error);
-
-/* The versions that a string states which lexicon_read reads without a dialect: 14.0 of the system of
-   x86_64-unknown-freebsd14.0, 21 of the environment, the API level, of aarch64-linux-android21, 19.33.31629 of
-   x86_64-pc-windows-msvc19.33.31629. The version of one of Apple's systems is the triple's too. If the string is
-   refused, the status and the error are those of lexicon_read. */
-LEXICON_CHECKED LEXICON_NONNULL(3)
-enum lexicon_status lexicon_stated_versions(const char *text, size_t text_size, struct lexicon_versions *versions,
-                                            struct lexicon_error *error);
 
 /* The name of a triple in a dialect, which has at most 36 bytes. The vendor doesn't matter, nor what the dialect
    doesn't name; byte order, pointer width and object format do. Without a name, the status is LEXICON_NEEDS_C_LIBRARY
@@ -676,12 +693,12 @@ enum lexicon_status lexicon_write(uint32_t dialect, const struct lexicon_triple 
 
 /* The name of a triple in a dialect that states a version which triples don't have: manylinux_2_17_x86_64 of Python
    with glibc 2.17, musllinux_1_2_aarch64 with musl 1.2, macosx_11_0_arm64 with macOS 11.0, or android_21_x86_64 with
-   Android's API level 21, which has no second number: pass 0. LEXICON_TRIPLE_WITHOUT_NAME if the dialect has no such
-   name, or a number is too large for one: over 65535, or 255 for the second. */
+   Android's API level 21. A version of another system or C library than the triple's never applies: without one of its
+   own the name is that of lexicon_write. LEXICON_TRIPLE_WITHOUT_NAME if no name of the dialect has such a version. */
 LEXICON_CHECKED LEXICON_NONNULL(2)
-enum lexicon_status lexicon_write_versioned(uint32_t dialect, const struct lexicon_triple *triple, uint32_t major,
-                                            uint32_t minor, char *out, size_t out_size, size_t *length,
-                                            const char **reason);
+enum lexicon_status lexicon_write_versioned(uint32_t dialect, const struct lexicon_triple *triple,
+                                            const struct lexicon_versions *versions, char *out, size_t out_size,
+                                            size_t *length, const char **reason);
 
 /* Gives a triple of Linux or Windows, whose environment is unknown, the usual one of a C library: gnueabihf, gnu and so
    on. Only the environment changes. Any other triple stays as it is, and so does arm-unknown-linux, which may be
@@ -689,32 +706,21 @@ enum lexicon_status lexicon_write_versioned(uint32_t dialect, const struct lexic
 LEXICON_CHECKED LEXICON_NONNULL(1)
 enum lexicon_status lexicon_complete(struct lexicon_triple *triple, uint32_t linux_libc);
 
-/* Replaces a triple by the variant of its architecture whose pointers have 16, 32 or 64 bits, or that has a byte order
-   of enum lexicon_endianness: i686-unknown-linux-gnu for x86_64-unknown-linux-gnu and 32. With other pointers the
-   environment becomes the usual one of the same C library; all else stays. LEXICON_NO_ANSWER if no architecture is such
-   a variant, and LEXICON_NO_SUCH_VALUE for any other number. */
-LEXICON_CHECKED LEXICON_NONNULL(1)
-enum lexicon_status lexicon_set_pointer_width(struct lexicon_triple *triple, uint32_t bits);
-LEXICON_CHECKED LEXICON_NONNULL(1)
-enum lexicon_status lexicon_set_endianness(struct lexicon_triple *triple, uint32_t endianness);
-
-/* The version of macOS that a triple states, 10.15 for x86_64-apple-darwin19.6: that of darwin is the kernel's. And the
-   oldest version of one of Apple's systems that rustc builds programs for unless it is asked for another one, 11.0 for
-   aarch64-apple-darwin. LEXICON_NO_ANSWER if there is none. */
+/* The version of macOS that a triple states, 10.15 for x86_64-apple-darwin19.6: that of darwin is the kernel's.
+   LEXICON_NO_ANSWER if there is none. */
 LEXICON_CHECKED LEXICON_NONNULL(1, 2)
 enum lexicon_status lexicon_macos_version(const struct lexicon_triple *triple, struct lexicon_os_version *version);
-LEXICON_CHECKED LEXICON_NONNULL(1, 2)
-enum lexicon_status lexicon_minimum_os_version(const struct lexicon_triple *triple, struct lexicon_os_version *version);
 
 /* The name in a dialect of what a name of another one means, or a string that is spelled like a triple: it is read,
-   completed with a C library unless that is LEXICON_LINUX_LIBC_NONE, and written. The name has at most 36 bytes. If it
-   can't be read, the status and the error are those of lexicon_read. LEXICON_TRIPLE_WITHOUT_NAME and
+   completed with a C library unless that is LEXICON_LINUX_LIBC_NONE, and written, at the level of the machine that the
+   name says, such as v3, which the triple can't state, and with versions, as lexicon_write_versioned does. The name has
+   at most 36 bytes. If it can't be read, the status and the error are those of lexicon_read. LEXICON_TRIPLE_WITHOUT_NAME and
    LEXICON_NEEDS_C_LIBRARY say that what it means can't be written; the range of the error is that of the whole name. At
    any other status from 15 on the range is empty, and at LEXICON_TOO_SMALL no error is written. */
 LEXICON_CHECKED
 enum lexicon_status lexicon_translate(uint32_t from, const char *name, size_t name_size, uint32_t linux_libc,
-                                      uint32_t to, char *out, size_t out_size, size_t *length,
-                                      struct lexicon_error *error);
+                                      const struct lexicon_versions *versions, uint32_t to, char *out, size_t out_size,
+                                      size_t *length, struct lexicon_error *error);
 
 /* The change with this number, from 0, of those that lexicon_read, without a dialect, makes in a string: the range of a
    part, and the names that it is read as. Of amd64-unknown-freebsd13.2 the first is amd64, read as x86_64, and the
@@ -724,17 +730,23 @@ LEXICON_CHECKED LEXICON_NONNULL(4)
 enum lexicon_status lexicon_changes(const char *text, size_t text_size, size_t number, struct lexicon_change *change,
                                     char *out, size_t out_size, size_t *length);
 
-/* What a string means to those who have it as a name: the meaning with this number, from 0. If it parses, its triple
-   comes first, with LEXICON_DIALECT_NONE as the dialect; then the dialects, in the order of their numbers, where a name
-   of several machines has a meaning for each; otherwise, last and without a dialect, the string as one that is spelled
-   like a triple. A single word that some dialect has has no meaning without a dialect. The triple is canonical. Where
-   the dialect has the name and no triple means the same, the status is LEXICON_NAME_WITHOUT_TRIPLE, and no triple is
-   written. Unless `note` is null, *note becomes why, and at LEXICON_OK the level of the machine that the name says and
-   the triple can't state, such as v3 of linux/amd64/v3: then lexicon_translate has the names at this level. Else it
-   becomes null. After the last meaning the status is LEXICON_NO_SUCH_MEANING, and nothing is written. */
-LEXICON_CHECKED LEXICON_NONNULL(4, 5)
-enum lexicon_status lexicon_meaning(const char *text, size_t text_size, size_t number, uint32_t *dialect,
-                                    struct lexicon_triple *triple, const char **note);
+/* What a string means to those who have it as a name. If it parses, its triple comes first; then the dialects, in the
+   order of their numbers, where a name of several machines has a meaning for each; otherwise, last and without a
+   dialect, the string as one that is spelled like a triple. A single word that some dialect has has no meaning without
+   a dialect. The meanings are written into an array of so many elements, which may be null if that is 0, and in *count
+   is how many there are: with LEXICON_TOO_SMALL there are more, which with LEXICON_MAX_MEANINGS elements there never
+   are. */
+LEXICON_CHECKED LEXICON_NONNULL(5)
+enum lexicon_status lexicon_meanings(const char *text, size_t text_size, struct lexicon_meaning *parts, size_t most,
+                                     size_t *count);
+
+/* The meanings by which lexicon_read reads a string that is no triple, or one with a custom vendor: without a dialect,
+   if that gives a known vendor and a system; else, if it is no triple, with each dialect that means one triple by it,
+   except GNU's, whose names are spelled like triples. If there is none, the first dialect that has it as a name says
+   why no triple means the same. */
+LEXICON_CHECKED LEXICON_NONNULL(5)
+enum lexicon_status lexicon_readers(const char *text, size_t text_size, struct lexicon_meaning *parts, size_t most,
+                                    size_t *count);
 
 /* The targets in any text, such as a list, a workflow in YAML, or a page in Markdown: the ranges of the words that are
    a name of a machine and a system, of any tool or as a triple, or are with a name that is suggested; and of all items
@@ -807,7 +819,7 @@ LEXICON_NAMES(lexicon_status_name, "ok", "unrecognized architecture", "unrecogni
   "unrecognized operating system", "unrecognized environment", "unrecognized binary format", "unrecognized field",
   "not UTF-8", "too small a buffer", "no such field", "no such value", "no such vendor", "unknown name",
   "name without a triple", "triple without a name", "no such dialect", "too large a size", "needs a C library",
-  "no such C library", "no such change", "no suggestion", "no answer", "no such meaning")
+  "no such C library", "no such change", "no suggestion", "no answer")
 LEXICON_NAMES(lexicon_field_name, "architecture", "vendor", "operating system", "environment", "binary format")
 LEXICON_NAMES(lexicon_family_name,
   /* written by tools/names/write: the names of families for C */

@@ -11,7 +11,7 @@
 // A Triple is a value: it owns the name of a custom vendor, can be copied, compared, printed and hashed. Each is one of
 // the library's triples: what would make another, such as a number that is no enumerator, gives std::nullopt. So does a
 // query without an answer. Nothing here throws an exception of its own. The names are in an inline namespace of this
-// version, so that libraries of one program may be compiled with headers of different versions.
+// version, patch included, so that libraries of one program may be compiled with headers of different versions.
 //
 // SPDX-License-Identifier: Apache-2.0 WITH LLVM-exception
 #ifndef TARGET_LEXICON_VERIFIED_HPP
@@ -36,7 +36,7 @@
 #include "target_lexicon.h"
 
 namespace lexicon {
-inline namespace v0_5 {
+inline namespace v0_5_0 {
 
 enum class Field : std::uint8_t { Architecture, Vendor, OperatingSystem, Environment, BinaryFormat };
 
@@ -319,14 +319,25 @@ struct Version {
   }
 };
 
+// The struct of target_lexicon.h, as long as this version has it: a type of its own in each version.
+struct Facts : lexicon_triple_facts {};
+
+// Part of a string as it was given, perhaps with what a terminal obeys: no stream takes it. ParseError::text is escaped.
+struct Raw {
+  std::string raw;
+
+  friend bool operator==(const Raw& a, std::string_view b) { return a.raw == b; }
+  friend bool operator!=(const Raw& a, std::string_view b) { return !(a == b); }
+};
+
 // Why a string is refused, or a name isn't translated.
 struct ParseError {
   // From LEXICON_UNRECOGNIZED_ARCHITECTURE to LEXICON_NOT_UTF8; of a dialect's name LEXICON_UNKNOWN_NAME or
   // ..WITHOUT_TRIPLE; of one that is read and not written LEXICON_TRIPLE_WITHOUT_NAME or LEXICON_NEEDS_C_LIBRARY.
   lexicon_status status = LEXICON_OK;
   std::size_t start = 0, end = 0;  // the refused part, in bytes
-  std::string part;
-  std::string line;        // Unrecognized operating system: linx
+  Raw part;
+  Raw line;                // Unrecognized operating system: linx
   std::string text;        // the line, the string with carets under the part, and the suggestion or the reason
   std::string suggestion;  // the name that may have been meant; empty if there is none
   std::string reason;      // why a name has no triple, or isn't translated, and what would help; empty if none
@@ -343,7 +354,7 @@ struct ParseError {
 // freebsd.
 struct Change {
   std::size_t start = 0, end = 0;  // the part, in bytes
-  std::string part;
+  Raw part;
   std::string names;  // one, or more with dashes between them
 };
 
@@ -383,7 +394,7 @@ class Triple {
 
   // The triple of a struct of target_lexicon.h, if it is one.
   static std::optional<Triple> from_c(const lexicon_triple& triple) {
-    lexicon_triple_facts facts;
+    Facts facts;
     return lexicon_facts(&triple, &facts, 0) == LEXICON_OK ? std::optional<Triple>(Triple(triple)) : std::nullopt;
   }
 
@@ -441,15 +452,8 @@ class Triple {
     return read_in(static_cast<std::uint32_t>(dialect), name, error);
   }
 
-  // The versions that such a string states: those of systems other than Apple's aren't the triple's.
-  static std::optional<lexicon_versions> stated_versions(std::string_view text) {
-    lexicon_versions versions;
-    if (lexicon_stated_versions(text.data(), text.size(), &versions, nullptr) != LEXICON_OK) return std::nullopt;
-    return versions;
-  }
-
   // What a string means to each dialect that has it as a name, and as one that is spelled like a triple, as
-  // `lexicon_meaning` says.
+  // `lexicon_meanings` says.
   static std::vector<Meaning> meanings(std::string_view text);
 
   // The name in a dialect, if there is one. If there is none, `reason` says why, and what would help.
@@ -457,10 +461,11 @@ class Triple {
     return named(lexicon_write, dialect, reason);
   }
 
-  // Likewise the name that states a version which triples don't have, as `lexicon_write_versioned` writes it.
-  std::optional<std::string> versioned_name_in(Dialect dialect, std::uint32_t major, std::uint32_t minor = 0,
+  // Likewise the name that states a version which triples don't have, as `lexicon_write_versioned` writes it:
+  // `lexicon_versions versions = {}; versions.glibc = {2, 17, 0};`.
+  std::optional<std::string> versioned_name_in(Dialect dialect, const lexicon_versions& versions,
                                                std::string* reason = nullptr) const {
-    return named(lexicon_write_versioned, dialect, reason, major, minor);
+    return named(lexicon_write_versioned, dialect, reason, &versions);
   }
 
   // The triple with the usual environment of a C library, if it is of Linux and states none; else this one.
@@ -468,25 +473,17 @@ class Triple {
     return variant(lexicon_complete, static_cast<std::uint32_t>(libc)).value_or(*this);
   }
 
-  // The triple with the variant of its architecture whose pointers have so many bits, or that has a byte order, if
-  // there is one: with 32 bits i686-pc-windows-msvc for x86_64-pc-windows-msvc. With other pointers the environment is
-  // the usual one of the same C library.
-  std::optional<Triple> with_pointer_width(unsigned bits) const { return variant(lexicon_set_pointer_width, bits); }
-  std::optional<Triple> with_endianness(Endianness value) const {
-    return variant(lexicon_set_endianness, static_cast<std::uint32_t>(value));
-  }
-
   // The name in the dialect `to` of what a name of the dialect `from` means, with a C library of Linux if one is said.
   // Without `from`, the string is spelled like a triple. If there is none, `error` says why.
   static std::optional<std::string> translate(std::string_view name, std::optional<Dialect> from, Dialect to,
                                               std::optional<LinuxLibc> libc = std::nullopt,
-                                              ParseError* error = nullptr) {
+                                              ParseError* error = nullptr, const lexicon_versions& versions = {}) {
     std::uint32_t dialect = from ? static_cast<std::uint32_t>(*from) : std::uint32_t(LEXICON_DIALECT_NONE);
     std::uint32_t number = libc ? static_cast<std::uint32_t>(*libc) : std::uint32_t(LEXICON_LINUX_LIBC_NONE);
     lexicon_error found = {};
     auto into = static_cast<std::uint32_t>(to);
     std::string translated = detail::written([&](auto... out) {
-      return lexicon_translate(dialect, name.data(), name.size(), number, into, out..., &found);
+      return lexicon_translate(dialect, name.data(), name.size(), number, &versions, into, out..., &found);
     });
     if (!translated.empty()) return translated;
     if (error) *error = error_of(name, found, dialect);
@@ -500,10 +497,8 @@ class Triple {
   Environment environment() const { return static_cast<Environment>(numbers_.environment); }
   BinaryFormat binary_format() const { return static_cast<BinaryFormat>(numbers_.binary_format); }
 
-  // The name of the vendor, also of a custom one. It stays as long as the triple.
-  std::string_view vendor_name() const {
-    return has_custom_vendor() ? std::string_view(custom_vendor_) : name(vendor());
-  }
+  // The name of the vendor, also of a custom one.
+  std::string vendor_name() const { return has_custom_vendor() ? custom_vendor_ : std::string(name(vendor())); }
   // The name that may have been meant by a custom vendor; empty if there is none.
   std::string vendor_suggestion() const { return text(lexicon_vendor_suggestion); }
   std::optional<Version> version() const {
@@ -512,8 +507,6 @@ class Triple {
   }
   // The version of macOS that the triple states, 10.15 for darwin19.6: that of darwin is the kernel's.
   std::optional<Version> macos_version() const { return version_by(lexicon_macos_version); }
-  // The oldest version of one of Apple's systems that rustc builds programs for, unless it is asked for another one.
-  std::optional<Version> minimum_os_version() const { return version_by(lexicon_minimum_os_version); }
 
   // What a compiler and its driver ask, as struct lexicon_triple_facts says of each. Sizes of C's types are in bytes.
   // written by tools/names/write: the facts for C++
@@ -558,10 +551,7 @@ class Triple {
   // The string that LLVM and clang take for the target: arm64-apple-macosx for aarch64-apple-darwin.
   std::string llvm_target() const { return text(lexicon_llvm_target); }
 
-  // What clang passes to the linker: the dynamic linker that programs name, and the emulation after -m. And what ends
-  // the name of a program, as rustc has it.
-  std::optional<std::string> dynamic_linker() const { return text_if_any(lexicon_dynamic_linker); }
-  std::optional<std::string> linker_emulation() const { return text_if_any(lexicon_linker_emulation); }
+  // What ends the name of a program, as rustc has it.
   std::string program_suffix() const { return text(lexicon_program_suffix); }
 
   // Debian's multiarch tuple, if it has one.
@@ -571,7 +561,7 @@ class Triple {
   std::string rustc_cfg() const { return text(lexicon_rustc_cfg); }
 
   // All of the facts at once.
-  lexicon_triple_facts facts() const { return facts_up_to(sizeof(lexicon_triple_facts)); }
+  Facts facts() const { return facts_up_to(sizeof(Facts)); }
 
   // The printed triple, and that of the canonical form, which is a key.
   std::string printed() const { return text(lexicon_print); }
@@ -643,13 +633,13 @@ class Triple {
   }
 
   // The facts that lie in the first bytes of the struct: the others aren't computed.
-  lexicon_triple_facts facts_up_to(std::size_t size) const {
-    lexicon_triple_facts facts = {};
+  Facts facts_up_to(std::size_t size) const {
+    Facts facts = {};
     lexicon_triple triple = c_triple();
-    return lexicon_facts(&triple, &facts, size) == LEXICON_OK ? facts : lexicon_triple_facts{};
+    return lexicon_facts(&triple, &facts, size) == LEXICON_OK ? facts : Facts{};
   }
-  lexicon_triple_facts queries() const { return facts_up_to(offsetof(lexicon_triple_facts, implied_format)); }
-  lexicon_triple_facts formats() const { return facts_up_to(offsetof(lexicon_triple_facts, c_library)); }
+  Facts queries() const { return facts_up_to(offsetof(lexicon_triple_facts, implied_format)); }
+  Facts formats() const { return facts_up_to(offsetof(lexicon_triple_facts, c_library)); }
   static std::optional<TypeLayout> layout(unsigned size, unsigned alignment) {
     return size == 0 ? std::nullopt : std::make_optional(TypeLayout{size, alignment});
   }
@@ -744,11 +734,11 @@ class Triple {
     error.status = static_cast<lexicon_status>(found.status);
     error.start = found.start;
     error.end = found.end;
-    error.part = std::string(text.substr(found.start, found.end - found.start));
+    error.part.raw = text.substr(found.start, found.end - found.start);
     auto written_by = [&](auto call) {
       return detail::written([&](auto... out) { return call(text.data(), text.size(), &found, out...); });
     };
-    error.line = written_by(lexicon_error_line);
+    error.line.raw = written_by(lexicon_error_line);
     error.text = written_by(lexicon_error_text);
     error.suggestion = written_by(lexicon_suggestion);
     error.reason = detail::text_of(found.reason);
@@ -791,18 +781,19 @@ struct Meaning {
 };
 
 inline std::vector<Meaning> Triple::meanings(std::string_view text) {
+  lexicon_meaning meanings[LEXICON_MAX_MEANINGS];
+  std::size_t count = 0;
   std::vector<Meaning> found;
-  for (lexicon_triple triple = {};;) {
-    std::uint32_t number = LEXICON_DIALECT_NONE;
-    const char* note = nullptr;
-    lexicon_status status = lexicon_meaning(text.data(), text.size(), found.size(), &number, &triple, &note);
-    if (status != LEXICON_OK && status != LEXICON_NAME_WITHOUT_TRIPLE) return found;
+  if (lexicon_meanings(text.data(), text.size(), meanings, LEXICON_MAX_MEANINGS, &count) != LEXICON_OK) return found;
+  for (std::size_t at = 0; at < count; at++) {
+    const lexicon_meaning& meant = meanings[at];
     Meaning it;
-    if (number != LEXICON_DIALECT_NONE) it.dialect = static_cast<Dialect>(number);
-    if (status == LEXICON_OK) it.triple = Triple(triple);
-    (status == LEXICON_OK ? it.level : it.reason) = detail::text_of(note);
+    if (meant.dialect != LEXICON_DIALECT_NONE) it.dialect = static_cast<Dialect>(meant.dialect);
+    if (meant.status == LEXICON_OK) it.triple = Triple(meant.triple);
+    (meant.status == LEXICON_OK ? it.level : it.reason) = detail::text_of(meant.note);
     found.push_back(std::move(it));
   }
+  return found;
 }
 
 // What `Triple::read` reads as other names in a string that is spelled like a triple, from its start to its end.
@@ -812,7 +803,7 @@ inline std::vector<Change> changes(std::string_view text) {
     std::string names = detail::written(
         [&](auto... out) { return lexicon_changes(text.data(), text.size(), found.size(), &it, out...); });
     if (names.empty()) return found;
-    found.push_back({it.start, it.end, std::string(text.substr(it.start, it.end - it.start)), std::move(names)});
+    found.push_back({it.start, it.end, {std::string(text.substr(it.start, it.end - it.start))}, std::move(names)});
   }
 }
 
@@ -848,7 +839,7 @@ inline std::string settle_lines(std::string_view text) {
 // The version and the commit of the library.
 inline std::string_view version() { return lexicon_version(); }
 
-}  // namespace v0_5
+}  // namespace v0_5_0
 }  // namespace lexicon
 
 template <> struct std::hash<lexicon::Triple> {

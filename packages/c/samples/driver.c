@@ -1,6 +1,5 @@
 /* A cross driver: for each target that its arguments name, as clang takes it after -target, the linker of LLVM's lld
-   that links for it and its options, the sizes of C's types, and the versions that are stated. A refused target is
-   shown with a caret under the refused part.
+   that links for it, and the sizes of C's types. A refused target is shown with a caret under the refused part.
 
    With P the folder where the library is installed, and PKG_CONFIG_PATH=$P/lib/pkgconfig:
    cc driver.c $(pkg-config --cflags --libs target-lexicon) -Wl,-rpath,$P/lib -o driver
@@ -29,16 +28,10 @@ static const char *linker(const struct lexicon_triple *triple, const struct lexi
   return "-";
 }
 
-static void show_version(const char *what, struct lexicon_stated_version version) {
-  if (version.major)
-    printf("  %s  %u.%u.%u\n", what, (unsigned)version.major, (unsigned)version.minor, (unsigned)version.patch);
-}
-
 static bool show(const char *text) {
   struct lexicon_triple triple;
   struct lexicon_error error;
   struct lexicon_triple_facts facts;
-  struct lexicon_versions versions;
   char out[256];
   if (lexicon_read(LEXICON_DIALECT_NONE, LEXICON_Z(text), &triple, &error) != LEXICON_OK) {
     lexicon_error_text(LEXICON_Z(text), &error, out, sizeof out, NULL);
@@ -51,18 +44,11 @@ static bool show(const char *text) {
     return false;
   }
   printf("%s\n  for LLVM %s\n  linker   %s\n", text, out, linker(&triple, &facts));
-  if (lexicon_linker_emulation(&triple, out, sizeof out, NULL) == LEXICON_OK) printf("  options  -m %s\n", out);
-  if (lexicon_dynamic_linker(&triple, out, sizeof out, NULL) == LEXICON_OK)
-    printf("  options  -dynamic-linker %s\n", out);
   if (facts.int_size == 0)
     printf("  C types  -\n");
   else
     printf("  C types  int %u, long %u, pointer %u bytes\n", facts.int_size, facts.long_size, facts.pointer_width / 8u);
   if (facts.char_signedness) printf("  char     %s\n", lexicon_signedness_name(facts.char_signedness));
-  if (lexicon_stated_versions(LEXICON_Z(text), &versions, NULL) == LEXICON_OK) {
-    show_version("system ", versions.operating_system);
-    show_version("version", versions.environment);
-  }
   return true;
 }
 

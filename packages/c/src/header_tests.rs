@@ -92,7 +92,7 @@ fn the_pointers_that_may_not_be_null_are_marked() {
     for (before, given) in declared.filter(|(before, _)| before.contains("lexicon_")) {
         let marked = before.split_once("LEXICON_NONNULL(").map_or("", |(_, after)| after.split_once(')').expect("an end").0);
         let pointers = (1..).zip(given.split(',')).filter_map(|(number, it)| Some((number, it.rsplit_once('*')?.1)));
-        let needed = pointers.filter(|(_, name)| !["text", "name", "out", "parts", "length", "error", "reason", "note"].contains(name));
+        let needed = pointers.filter(|(_, name)| !["text", "name", "out", "parts", "length", "error", "reason", "note", "versions"].contains(name));
         assert_eq!(marked, needed.map(|(number, _)| i32::to_string(&number)).collect::<Vec<_>>().join(", "), "{before}");
         count += 1;
     }
@@ -102,4 +102,11 @@ fn the_pointers_that_may_not_be_null_are_marked() {
 /// The text without its comments.
 fn uncommented(text: &str) -> String {
     text.split("/*").map(|it| it.split_once("*/").map_or(it, |(_, after)| after)).collect()
+}
+
+/// Whatever the variable `TARGET_LEXICON_HOST` is, of which only a target that doesn't parse makes something.
+#[test]
+fn the_host_is_that_of_the_rust_crate() {
+    let host = unsafe { core::ffi::CStr::from_ptr(crate::lexicon_host().cast()) }.to_str().expect("names are ASCII");
+    assert_eq!(target_lexicon::TripleRef::from_str(host), Ok(target_lexicon::TripleRef::from(&target_lexicon::HOST)));
 }

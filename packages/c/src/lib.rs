@@ -40,8 +40,10 @@ use lines::settle_lines;
 use names::{c_name, c_reason};
 use numbers::*;
 use sources::FieldSources;
-use target_lexicon::{DeploymentTarget, Endianness, PointerWidth, TripleRef};
-use target_names::{vendor_suggestion, Dialect, Name, NameError, Suggestion, TargetInfo, TranslateError, WriteError};
+use target_lexicon::{DeploymentTarget, TripleRef};
+use target_names::{
+    vendor_suggestion, Dialect, Name, NameError, Suggestion, TargetInfo, TranslateError, VersionOf, Versions, WriteError,
+};
 use text::{shown, write_text, written, Text};
 use triple::{NumberedTriple, TripleNumbers};
 use values::{c_library_at, dialect_at, field_at, name_at, name_of_number, number_in, CUSTOM_VENDOR};
@@ -76,26 +78,24 @@ pub struct Version {
     patch: u8,
 }
 
-/// `struct lexicon_stated_version`.
+/// `struct lexicon_versions`: those of [`VersionOf::ALL`], where a first number of 0 is none.
 #[repr(C)]
-pub struct StatedVersion {
-    major: u32,
-    minor: u32,
-    patch: u32,
-}
-
-/// `struct lexicon_versions`.
-#[repr(C)]
-pub struct StatedVersions {
-    operating_system: StatedVersion,
-    environment: StatedVersion,
-}
+pub struct NamedVersions([Version; VersionOf::ALL.len()]);
 
 /// `struct lexicon_change`.
 #[repr(C)]
 pub struct Change {
     start: usize,
     end: usize,
+}
+
+/// `struct lexicon_meaning`.
+#[repr(C)]
+pub struct Meaning {
+    dialect: u32,
+    status: Status,
+    triple: Triple,
+    note: *const u8,
 }
 
 /// The sizes that the structs of target_lexicon.h have, with words of 64 bits or of 32.
@@ -106,6 +106,7 @@ const _: () = {
     assert!(size_of::<Version>() == 4);
     assert!(size_of::<TextError>() == 4 * word);
     assert!(size_of::<FieldSources>() == 15 * word);
+    assert!(size_of::<Meaning>() == if word == 8 { 48 } else { 32 });
     assert!(ALL == FACT_COUNT);
 };
 
@@ -123,12 +124,16 @@ impl From<DeploymentTarget> for Version {
     }
 }
 
-impl From<target_names::StatedVersions> for StatedVersions {
-    fn from(it: target_names::StatedVersions) -> StatedVersions {
-        let numbers = |it: Option<target_names::StatedVersion>| {
-            it.map_or(StatedVersion { major: 0, minor: 0, patch: 0 }, |it| StatedVersion { major: it.major, minor: it.minor, patch: it.patch })
-        };
-        StatedVersions { operating_system: numbers(it.operating_system), environment: numbers(it.environment) }
+impl From<target_names::Meaning<'_>> for Meaning {
+    fn from(it: target_names::Meaning<'_>) -> Meaning {
+        let dialect = name_of_number(it.of);
+        match it.triple {
+            Ok(triple) => Meaning { dialect, status: OK, triple: triple.into(), note: it.level.map_or(null(), c_name) },
+            Err(why) => {
+                let triple = TripleRef::unknown().into();
+                Meaning { dialect, status: NAME_WITHOUT_TRIPLE, triple, note: c_reason(why) }
+            }
+        }
     }
 }
 
@@ -289,18 +294,6 @@ pub unsafe extern "C" fn lexicon_multiarch_tuple(triple: *const Triple, out: *mu
 }
 
 #[no_mangle]
-pub unsafe extern "C" fn lexicon_dynamic_linker(triple: *const Triple, out: *mut u8, out_size: usize, length: *mut usize) -> Status {
-    let found = unsafe { answer_of(triple, |it| it.dynamic_linker()) };
-    unsafe { write_text(out, out_size, length, |out| Ok(written(found?, out))) }
-}
-
-#[no_mangle]
-pub unsafe extern "C" fn lexicon_linker_emulation(triple: *const Triple, out: *mut u8, out_size: usize, length: *mut usize) -> Status {
-    let found = unsafe { answer_of(triple, |it| it.linker_emulation()) };
-    unsafe { write_text(out, out_size, length, |out| Ok(written(found?, out))) }
-}
-
-#[no_mangle]
 pub unsafe extern "C" fn lexicon_program_suffix(triple: *const Triple, out: *mut u8, out_size: usize, length: *mut usize) -> Status {
     let triple = unsafe { Triple::read(triple) };
     unsafe { write_text(out, out_size, length, |out| Ok(written(triple?.program_suffix(), out))) }
@@ -380,34 +373,8 @@ pub unsafe extern "C" fn lexicon_complete(triple: *mut Triple, linux_libc: u32) 
 }
 
 #[no_mangle]
-pub unsafe extern "C" fn lexicon_set_pointer_width(triple: *mut Triple, bits: u32) -> Status {
-    let width = match bits {
-        16 => PointerWidth::U16,
-        32 => PointerWidth::U32,
-        64 => PointerWidth::U64,
-        _ => return NO_SUCH_VALUE,
-    };
-    unsafe { answer(triple, answer_of(triple, |it| it.with_pointer_width(width))) }
-}
-
-#[no_mangle]
-pub unsafe extern "C" fn lexicon_set_endianness(triple: *mut Triple, endianness: u32) -> Status {
-    let order = match endianness {
-        1 => Endianness::Little,
-        2 => Endianness::Big,
-        _ => return NO_SUCH_VALUE,
-    };
-    unsafe { answer(triple, answer_of(triple, |it| it.with_endianness(order))) }
-}
-
-#[no_mangle]
 pub unsafe extern "C" fn lexicon_macos_version(triple: *const Triple, version: *mut Version) -> Status {
     unsafe { answer(version, answer_of(triple, |it| it.macos_version())) }
-}
-
-#[no_mangle]
-pub unsafe extern "C" fn lexicon_minimum_os_version(triple: *const Triple, version: *mut Version) -> Status {
-    unsafe { answer(version, answer_of(triple, |it| it.minimum_os_version())) }
 }
 
 /// The answer of a call of the caller's triple, if there is one.
@@ -436,13 +403,6 @@ fn meant(dialect: Option<Dialect>, text: &str) -> Result<TripleRef<'_>, TextErro
 }
 
 #[no_mangle]
-pub unsafe extern "C" fn lexicon_stated_versions(
-    text: *const u8, text_size: usize, versions: *mut StatedVersions, error: *mut TextError,
-) -> Status {
-    unsafe { answer_or_error(versions, text_at(text, text_size).and_then(|text| Ok(target_names::stated_versions(text)?)), error) }
-}
-
-#[no_mangle]
 pub unsafe extern "C" fn lexicon_write(
     dialect: u32, triple: *const Triple, out: *mut u8, out_size: usize, length: *mut usize, reason: *mut *const u8,
 ) -> Status {
@@ -452,16 +412,21 @@ pub unsafe extern "C" fn lexicon_write(
 
 #[no_mangle]
 pub unsafe extern "C" fn lexicon_write_versioned(
-    dialect: u32, triple: *const Triple, major: u32, minor: u32, out: *mut u8, out_size: usize, length: *mut usize,
-    reason: *mut *const u8,
+    dialect: u32, triple: *const Triple, versions: *const NamedVersions, out: *mut u8, out_size: usize,
+    length: *mut usize, reason: *mut *const u8,
 ) -> Status {
-    // No version has numbers that are larger than those of Rust's call.
-    let version = u16::try_from(major).ok().zip(u8::try_from(minor).ok());
-    let find = |dialect: Dialect, triple: &TripleRef<'_>| {
-        let (major, minor) = version.ok_or(WriteError::OtherVersion)?;
-        dialect.write_with_version(triple, major, minor)
-    };
+    let versions = unsafe { versions_at(versions) };
+    let find = |dialect: Dialect, triple: &TripleRef<'_>| dialect.write_with_versions(triple, None, &versions);
     unsafe { write_name(dialect, triple, find, out, out_size, length, reason) }
+}
+
+/// The versions that the caller says: none of a null pointer.
+unsafe fn versions_at(versions: *const NamedVersions) -> Versions {
+    let of = |it: &NamedVersions| {
+        let said = VersionOf::ALL.into_iter().zip(&it.0).filter(|it| it.1.major != 0);
+        said.fold(Versions::none(), |all, (of, it)| all.with(of, it.major, it.minor))
+    };
+    unsafe { versions.as_ref() }.map_or(Versions::none(), of)
 }
 
 /// Writes the name of a triple that is found in a dialect, or why there is none if the caller wants it.
@@ -484,9 +449,10 @@ unsafe fn write_name(
 
 #[no_mangle]
 pub unsafe extern "C" fn lexicon_translate(
-    from: u32, name: *const u8, name_size: usize, linux_libc: u32, to: u32, out: *mut u8, out_size: usize,
-    length: *mut usize, error: *mut TextError,
+    from: u32, name: *const u8, name_size: usize, linux_libc: u32, versions: *const NamedVersions, to: u32, out: *mut u8,
+    out_size: usize, length: *mut usize, error: *mut TextError,
 ) -> Status {
+    let versions = unsafe { versions_at(versions) };
     let find = || {
         let no_range = TextError::without_part;
         let bytes = unsafe { bytes_at(name, name_size) }?;
@@ -498,8 +464,8 @@ pub unsafe extern "C" fn lexicon_translate(
         let c_library = c_library_at(linux_libc).ok_or(no_range(NO_SUCH_C_LIBRARY))?;
         let text = text_of(bytes)?;
         let found = match from {
-            Some(from) => from.translate(text, c_library, to),
-            None => to.write_with(meant(None, text)?, c_library).map_err(TranslateError::Write),
+            Some(from) => from.translate_with(text, c_library, &versions, to),
+            None => to.write_with_versions(meant(None, text)?, c_library, &versions).map_err(TranslateError::Write),
         };
         found.map_err(|error| TextError::of_name(error, text))
     };
@@ -528,37 +494,44 @@ pub unsafe extern "C" fn lexicon_changes(
 }
 
 #[no_mangle]
-pub unsafe extern "C" fn lexicon_meaning(
-    text: *const u8, text_size: usize, number: usize, dialect: *mut u32, triple: *mut Triple, note: *mut *const u8,
+pub unsafe extern "C" fn lexicon_meanings(
+    text: *const u8, text_size: usize, parts: *mut Meaning, most: usize, count: *mut usize,
 ) -> Status {
-    let find = || {
-        let text = unsafe { text_at(text, text_size) }?;
-        let found = target_names::meanings(text).nth(number).ok_or(NO_SUCH_MEANING)?;
-        unsafe { dialect.write(name_of_number(found.of)) }
-        if !note.is_null() {
-            let level = || found.level.map_or(null(), c_name);
-            unsafe { note.write(found.triple.map_or_else(c_reason, |_| level())) }
-        }
-        found.triple.map_err(|_| NAME_WITHOUT_TRIPLE)
-    };
-    unsafe { answer(triple, find()) }
+    unsafe { each_of(text, text_size, parts, most, count, |text| target_names::meanings(text).map(Meaning::from)) }
+}
+
+#[no_mangle]
+pub unsafe extern "C" fn lexicon_readers(
+    text: *const u8, text_size: usize, parts: *mut Meaning, most: usize, count: *mut usize,
+) -> Status {
+    unsafe { each_of(text, text_size, parts, most, count, |text| target_names::readers(text).map(Meaning::from)) }
 }
 
 #[no_mangle]
 pub unsafe extern "C" fn lexicon_targets(
     text: *const u8, text_size: usize, parts: *mut Change, most: usize, count: *mut usize,
 ) -> Status {
+    let range = |word: target_names::Word<'_>| {
+        let start = word.start();
+        Change { start, end: start + word.text().len() }
+    };
+    unsafe { each_of(text, text_size, parts, most, count, |text| target_names::targets_in(text).map(range)) }
+}
+
+/// Writes what is found in a text into an array of so many elements, and how many there are.
+unsafe fn each_of<'a, T, F: Iterator<Item = T>>(
+    text: *const u8, text_size: usize, parts: *mut T, most: usize, count: *mut usize, find: impl Fn(&'a str) -> F,
+) -> Status {
     let text = match unsafe { text_at(text, text_size) } {
-        Ok(_) if most > MAX_SIZE / size_of::<Change>() => return TOO_LARGE,
+        _ if most > MAX_SIZE / size_of::<T>() => return TOO_LARGE,
         Ok(text) => text,
         Err(error) => return error.into(),
     };
     let mut found = 0;
-    for word in target_names::targets_in(text) {
+    for it in find(text) {
         if found < most {
-            let (start, end) = (word.start(), word.start() + word.text().len());
             // SAFETY: the caller's array has `most` elements.
-            unsafe { parts.add(found).write(Change { start, end }) }
+            unsafe { parts.add(found).write(it) }
         }
         found += 1;
     }
@@ -643,5 +616,7 @@ pub extern "C" fn lexicon_version() -> *const u8 {
 
 #[no_mangle]
 pub extern "C" fn lexicon_host() -> *const u8 {
-    concat!(env!("LEXICON_HOST"), "\0").as_ptr()
+    // as the Rust crate's build script finds `HOST`
+    let is_parsed = TripleRef::from_str(env!("LEXICON_TARGET")).is_ok();
+    if is_parsed { concat!(env!("LEXICON_TARGET"), "\0") } else { concat!(env!("LEXICON_HOST"), "\0") }.as_ptr()
 }

@@ -18,7 +18,6 @@ pub(crate) const NO_SUCH_C_LIBRARY: Status = 18;
 pub(crate) const NO_SUCH_CHANGE: Status = 19;
 pub(crate) const NO_SUGGESTION: Status = 20;
 pub(crate) const NO_ANSWER: Status = 21;
-pub(crate) const NO_SUCH_MEANING: Status = 22;
 
 pub(crate) const FACT_COUNT: usize = 28;
 

@@ -41,7 +41,7 @@ struct asked {
   size_t size;
   struct lexicon_triple triple;
   struct lexicon_error error;
-  uint32_t numbers[3];
+  uint32_t numbers[4];
 };
 
 #define WRITES(name) static enum lexicon_status name(const struct asked *it, char *out, size_t size, size_t *length)
@@ -83,11 +83,28 @@ TEXT(print, lexicon_print(&it->triple, out, size, length))
 TEXT(rustc_cfg, lexicon_rustc_cfg(&it->triple, out, size, length))
 TEXT(llvm_target, lexicon_llvm_target(&it->triple, out, size, length))
 TEXT(multiarch_tuple, lexicon_multiarch_tuple(&it->triple, out, size, length))
-TEXT(dynamic_linker, lexicon_dynamic_linker(&it->triple, out, size, length))
-TEXT(linker_emulation, lexicon_linker_emulation(&it->triple, out, size, length))
 TEXT(program_suffix, lexicon_program_suffix(&it->triple, out, size, length))
 TEXT(written, lexicon_write(n[0], &it->triple, out, size, length, NULL))
-TEXT(versioned, lexicon_write_versioned(n[0], &it->triple, n[1], n[2], out, size, length, NULL))
+
+/* The version of the C library or system with a number, in the order of the struct. */
+static struct lexicon_versions versions_of(const uint32_t *n) {
+  struct lexicon_versions versions;
+  struct lexicon_os_version all[10] = {{0, 0, 0}};
+  all[n[1]].major = (uint16_t)n[2];
+  all[n[1]].minor = (uint8_t)n[3];
+  memcpy(&versions, all, sizeof versions);
+  return versions;
+}
+static enum lexicon_status versioned_name(const struct asked *it, char *out, size_t size, size_t *length,
+    const char **why) {
+  struct lexicon_versions versions = versions_of(it->numbers);
+  return lexicon_write_versioned(it->numbers[0], &it->triple, &versions, out, size, length, why);
+}
+TEXT(versioned, versioned_name(it, out, size, length, NULL))
+static const struct lexicon_versions GLIBC_AND_MACOS = {{2, 17, 0}, {0, 0, 0}, {11, 0, 0}, {0, 0, 0}, {0, 0, 0},
+                                                        {0, 0, 0}, {0, 0, 0}, {0, 0, 0}, {0, 0, 0}, {0, 0, 0}};
+TEXT(translated_versioned, lexicon_translate(LEXICON_DIALECT_OCI, it->text, it->size, LEXICON_LINUX_LIBC_GLIBC,
+    &GLIBC_AND_MACOS, LEXICON_DIALECT_PYTHON, out, size, length, NULL))
 TEXT(vendor_suggestion, lexicon_vendor_suggestion(&it->triple, out, size, length))
 TEXT(settled_lines, lexicon_settle_lines(it->text, it->size, out, size, length))
 TEXT(error_line, lexicon_error_line(it->text, it->size, &it->error, out, size, length))
@@ -101,8 +118,6 @@ TRIPLE(parsed, lexicon_parse(it->text, it->size, &made, NULL))
 TRIPLE(strict, lexicon_parse_strict(it->text, it->size, &made, NULL))
 TRIPLE(settled, lexicon_settle(&made))
 TRIPLE(completed, lexicon_complete(&made, n[0]))
-TRIPLE(of_width, lexicon_set_pointer_width(&made, n[0]))
-TRIPLE(of_order, lexicon_set_endianness(&made, n[0]))
 TRIPLE(read, lexicon_read(n[0], it->text, it->size, &made, NULL))
 
 /* The line and the carets of the error of reading a name. */
@@ -112,18 +127,24 @@ WRITES(read_error) {
   return error_text(&other, out, size, length);
 }
 
+typedef enum lexicon_status call_of_meanings(const char *, size_t, struct lexicon_meaning *, size_t, size_t *);
+
 /* The meaning with a number, whose dialect is the second one, and whose note has the length of the third. */
-WRITES(meaning) {
-  struct lexicon_triple made;
-  const char unwritten[] = "", *note = unwritten;
-  uint32_t dialect = it->numbers[1];
-  enum lexicon_status status = lexicon_meaning(it->text, it->size, it->numbers[0], &dialect, &made, &note);
-  bool is_written = status == LEXICON_OK || status == LEXICON_NAME_WITHOUT_TRIPLE;
-  EXPECT(dialect == it->numbers[1] && is_written == (note != unwritten) &&
-      (!is_written || (note ? strlen(note) : 0) == it->numbers[2]));
-  EXPECT(lexicon_meaning(it->text, it->size, it->numbers[0], &dialect, &made, NULL) == status);
-  return status == LEXICON_OK ? lexicon_print(&made, out, size, length) : status;
+static enum lexicon_status meaning_by(call_of_meanings *call, const struct asked *it, char *out, size_t size,
+                                      size_t *length) {
+  struct lexicon_meaning found[LEXICON_MAX_MEANINGS];
+  size_t many = 0, number = it->numbers[0];
+  enum lexicon_status status = call(it->text, it->size, found, LEXICON_MAX_MEANINGS, &many);
+  if (status != LEXICON_OK || number >= many) return status == LEXICON_OK ? LEXICON_NO_ANSWER : status;
+  EXPECT(found[number].dialect == it->numbers[1] &&
+      (found[number].note ? strlen(found[number].note) : 0) == it->numbers[2]);
+  EXPECT(call(it->text, it->size, NULL, 0, &many) == LEXICON_TOO_SMALL && many > number);
+  return found[number].status == LEXICON_OK ? lexicon_print(&found[number].triple, out, size, length)
+      : (enum lexicon_status)found[number].status;
 }
+
+WRITES(meaning) { return meaning_by(lexicon_meanings, it, out, size, length); }
+WRITES(reader) { return meaning_by(lexicon_readers, it, out, size, length); }
 
 /* The change with a number, whose part begins and ends at the others. */
 WRITES(change) {
@@ -152,7 +173,7 @@ WRITES(target) {
 
 static enum lexicon_status translated_with(const struct asked *it, char *out, size_t size, size_t *length,
     struct lexicon_error *error) {
-  return lexicon_translate(it->numbers[0], it->text, it->size, it->numbers[1], it->numbers[2], out, size, length,
+  return lexicon_translate(it->numbers[0], it->text, it->size, it->numbers[1], NULL, it->numbers[2], out, size, length,
       error);
 }
 
@@ -166,7 +187,7 @@ static const char *unwritten(const struct asked *it, bool is_versioned) {
   const char *why = NULL;
   const uint32_t *n = it->numbers;
   enum lexicon_status status = is_versioned
-      ? lexicon_write_versioned(n[0], &it->triple, n[1], n[2], NULL, 0, NULL, &why)
+      ? versioned_name(it, NULL, 0, NULL, &why)
       : lexicon_write(n[0], &it->triple, NULL, 0, NULL, &why);
   EXPECT((why != NULL) == (status == LEXICON_TRIPLE_WITHOUT_NAME || status == LEXICON_NEEDS_C_LIBRARY));
   return why;
@@ -195,19 +216,6 @@ static enum lexicon_status version_by(enum lexicon_status call(const struct lexi
   return status == LEXICON_OK ? copied(shown, out, size, length) : status;
 }
 TEXT(macos_version, version_by(lexicon_macos_version, it, out, size, length))
-TEXT(minimum_version, version_by(lexicon_minimum_os_version, it, out, size, length))
-
-WRITES(stated_versions) {
-  struct lexicon_versions found;
-  char shown[99];
-  enum lexicon_status status = lexicon_stated_versions(it->text, it->size, &found, NULL);
-  if (status != LEXICON_OK) return status;
-  struct lexicon_stated_version system = found.operating_system, environment = found.environment;
-  snprintf(shown, sizeof shown, "%u.%u.%u %u.%u.%u", (unsigned)system.major, (unsigned)system.minor,
-      (unsigned)system.patch,
-           (unsigned)environment.major, (unsigned)environment.minor, (unsigned)environment.patch);
-  return copied(shown, out, size, length);
-}
 
 WRITES(comes_back) {
   bool answer = false;
@@ -277,7 +285,7 @@ enum {
 static const struct row {
   writes *call;
   const char *text;
-  uint32_t numbers[3];
+  uint32_t numbers[4];
   enum lexicon_status status;
   const char *expected;
 } rows[] = {
@@ -339,29 +347,12 @@ static const struct row {
   {llvm_target, "x86_64-apple-darwin22", {0}, LEXICON_OK, "x86_64-apple-macosx13.0.0"},
   {multiarch_tuple, "i686-pc-linux-gnu", {0}, LEXICON_OK, "i386-linux-gnu"},
   {multiarch_tuple, "x86_64-linux", {0}, LEXICON_TRIPLE_WITHOUT_NAME, NULL},
-  {dynamic_linker, "i686-pc-linux-gnu", {0}, LEXICON_OK, "/lib/ld-linux.so.2"},
-  {dynamic_linker, "x86_64-linux", {0}, LEXICON_NO_ANSWER, NULL},
-  {linker_emulation, "i686-pc-linux-gnu", {0}, LEXICON_OK, "elf_i386"},
-  {linker_emulation, "arm64-apple-darwin", {0}, LEXICON_NO_ANSWER, NULL},
   {program_suffix, "i686-pc-linux-gnu", {0}, LEXICON_OK, ""},
   {program_suffix, "x86_64-pc-windows-msvc", {0}, LEXICON_OK, ".exe"},
-  {stated_versions, "aarch64-linux-android21", {0}, LEXICON_OK, "0.0.0 21.0.0"},
-  {stated_versions, "armv7-unknown-freebsd14.1-gnueabihf", {0}, LEXICON_OK, "14.1.0 0.0.0"},
-  {stated_versions, "x86_64-pc-windows-msvc19.33.31629", {0}, LEXICON_OK, "0.0.0 19.33.31629"},
-  {stated_versions, "avr-\xff", {0}, LEXICON_NOT_UTF8, NULL},
   {macos_version, "x86_64-apple-darwin19.6", {0}, LEXICON_OK, "10.15.0"},
   {macos_version, "x86_64-apple-macosx10.15.7", {0}, LEXICON_OK, "10.15.7"},
   {macos_version, "x86_64-apple-darwin", {0}, LEXICON_NO_ANSWER, NULL},
-  {minimum_version, "x86_64-apple-darwin19.6", {0}, LEXICON_OK, "10.12.0"},
-  {minimum_version, "x86_64-linux", {0}, LEXICON_NO_ANSWER, NULL},
 
-  {of_width, "x86_64-pc-windows-msvc", {32}, LEXICON_OK, "i686-pc-windows-msvc"},
-  {of_width, "avr-none", {16}, LEXICON_OK, "avr-unknown-none"},
-  {of_width, "avr-none", {32}, LEXICON_NO_ANSWER, NULL},
-  {of_order, "powerpc64-linux-musl", {LEXICON_ENDIANNESS_LITTLE}, LEXICON_OK, "powerpc64le-unknown-linux-musl"},
-  {of_order, "arm64-apple-ios17", {LEXICON_ENDIANNESS_BIG}, LEXICON_OK, "aarch64_be-apple-ios17.0.0"},
-  {of_order, "avr-none", {LEXICON_ENDIANNESS_BIG}, LEXICON_NO_ANSWER, NULL},
-  {of_order, "avr-none", {0}, LEXICON_NO_SUCH_VALUE, NULL},
   {completed, "armv7-acme-linux", {GLIBC}, LEXICON_OK, "armv7-acme-linux-gnueabihf"},
   {completed, "x86_64-windows", {MSVC}, LEXICON_OK, "x86_64-unknown-windows-msvc"},
 
@@ -398,12 +389,20 @@ static const struct row {
   {written, "x86_64-linux", {0}, LEXICON_NO_SUCH_DIALECT, NULL},
   {write_reason, "avr-none", {GO}, LEXICON_OK, "the tool has no name for this machine on any system"},
   {write_reason, "x86_64-linux", {0}, LEXICON_NO_ANSWER, NULL},
-  {versioned, "x86_64-acme-linux-gnu", {PYTHON, 2, 17}, LEXICON_OK, "manylinux_2_17_x86_64"},
-  {versioned, "x86_64-unknown-linux-gnu", {PYTHON, 65538, 17}, LEXICON_TRIPLE_WITHOUT_NAME, NULL},
-  {versioned, "x86_64-unknown-linux-gnu", {PYTHON, 2, 273}, LEXICON_TRIPLE_WITHOUT_NAME, NULL},
-  {versioned, "x86_64-unknown-linux", {PYTHON, 2, 17}, LEXICON_NEEDS_C_LIBRARY, NULL},
-  {versioned_reason, "x86_64-unknown-linux-gnu", {PYTHON, 11, 0}, LEXICON_OK, NO_VERSION},
-  {versioned_reason, "x86_64-unknown-linux", {PYTHON, 2, 17}, LEXICON_OK, SAY_LIBRARY},
+  {versioned, "x86_64-acme-linux-gnu", {PYTHON, 0, 2, 17}, LEXICON_OK, "manylinux_2_17_x86_64"},
+  {versioned, "aarch64-linux-musl", {PYTHON, 1, 1, 2}, LEXICON_OK, "musllinux_1_2_aarch64"},
+  {versioned, "aarch64-apple-darwin", {PYTHON, 2, 11, 0}, LEXICON_OK, "macosx_11_0_arm64"},
+  {versioned, "aarch64-apple-ios", {PYTHON, 3, 17, 1}, LEXICON_OK, "ios_17_1_arm64_iphoneos"},
+  {versioned, "aarch64-linux-android", {PYTHON, 4, 21, 0}, LEXICON_OK, "android_21_arm64_v8a"},
+  {versioned, "x86_64-unknown-freebsd", {PYTHON, 5, 14, 1}, LEXICON_OK, "freebsd_14_1_RELEASE_amd64"},
+  {versioned, "x86_64-unknown-freebsd", {PYTHON, 0, 2, 17}, LEXICON_TRIPLE_WITHOUT_NAME, NULL},
+  {versioned, "x86_64-unknown-linux-gnu", {PYTHON, 2, 11, 0}, LEXICON_OK, "linux_x86_64"},
+  {versioned, "x86_64-unknown-linux-gnu", {PYTHON, 0, 65535, 255}, LEXICON_TRIPLE_WITHOUT_NAME, NULL},
+  {versioned, "x86_64-unknown-linux", {PYTHON, 0, 2, 17}, LEXICON_NEEDS_C_LIBRARY, NULL},
+  {versioned_reason, "x86_64-unknown-linux-gnu", {PYTHON, 0, 11, 0}, LEXICON_OK, NO_VERSION},
+  {versioned_reason, "x86_64-unknown-linux", {PYTHON, 0, 2, 17}, LEXICON_OK, SAY_LIBRARY},
+  {translated_versioned, "linux/amd64", {0}, LEXICON_OK, "manylinux_2_17_x86_64"},
+  {translated_versioned, "darwin/arm64", {0}, LEXICON_OK, "macosx_11_0_arm64"},
 
   {translated, "linux/arm64/v8", {OCI, GLIBC, RUST}, LEXICON_OK, "aarch64-unknown-linux-gnu"},
   {translated, "linux/amd64/v3", {OCI, GLIBC, DEBIAN}, LEXICON_OK, "amd64v3"},
@@ -426,9 +425,14 @@ static const struct row {
   {target, "\xff", {0}, LEXICON_NOT_UTF8, NULL},
   {meaning, "armhf", {0, DEBIAN}, LEXICON_OK, "armv7-unknown-linux-gnueabihf"},
   {meaning, "armhf", {1, APK}, LEXICON_OK, "armv6-unknown-linux-musleabihf"},
-  {meaning, "armhf", {2}, LEXICON_NO_SUCH_MEANING, NULL},
+  {meaning, "armhf", {2}, LEXICON_NO_ANSWER, NULL},
   {meaning, "amd64", {1, GO, 26}, LEXICON_NAME_WITHOUT_TRIPLE, NULL},
   {meaning, "linux/arm64/v8.1", {0, OCI, 4}, LEXICON_OK, "aarch64-unknown-linux"},
+  {reader, "linux/amd64", {1, OCI}, LEXICON_OK, "x86_64-unknown-linux"},
+  {reader, "linux/amd64", {2}, LEXICON_NO_ANSWER, NULL},
+  {reader, "aarch64--netbsd", {0}, LEXICON_OK, "aarch64-unknown-netbsd"},
+  {reader, "plan9/amd64", {0, GO, 23}, LEXICON_NAME_WITHOUT_TRIPLE, NULL},
+  {reader, "x86_64-linux", {0}, LEXICON_NO_ANSWER, NULL},
 };
 
 static struct asked asked_of(const char *text) {
@@ -519,7 +523,7 @@ static void try_bad_errors(void) {
    written. */
 static void try_too_large(void) {
   static writes *const calls[] = {settled_lines, error_line, error_text, suggestion, parsed, strict, read, meaning,
-      change, translated, stated_versions, number};
+      change, translated, number};
   static writes *const strings[] = {reason, translate_reason, name_suggestion};
   const size_t sizes[] = {(size_t)PTRDIFF_MAX + 1, (size_t)PTRDIFF_MAX + 5, SIZE_MAX};
   struct asked it = asked_of("x86_64-linux"), other = it;
@@ -545,7 +549,8 @@ static void try_too_large(void) {
   }
   it.size = 12; /* of an array */
   for (size_t most = PTRDIFF_MAX / sizeof(struct lexicon_change) + 1; most; most <<= 1)
-    EXPECT(lexicon_targets(it.text, it.size, (struct lexicon_change *)(void *)out, most, &length) == LEXICON_TOO_LARGE);
+    EXPECT(lexicon_targets(it.text, it.size, (struct lexicon_change *)(void *)out, most, &length) == LEXICON_TOO_LARGE &&
+        lexicon_targets("\xff", 1, (struct lexicon_change *)(void *)out, most, &length) == LEXICON_TOO_LARGE);
   it.size = SIZE_MAX;
   it.numbers[0] = it.numbers[2] = 77;
   EXPECT(written(&it, out, SIZE_MAX, &length) == LEXICON_TOO_LARGE &&
@@ -599,8 +604,8 @@ static void try_struct(void) {
 }
 
 static void try_names(void) {
-  EXPECT(strcmp(lexicon_status_name(LEXICON_NO_SUCH_MEANING), "no such meaning") == 0 &&
-      lexicon_status_name(LEXICON_NO_SUCH_MEANING + 1) == NULL);
+  EXPECT(strcmp(lexicon_status_name(LEXICON_NO_ANSWER), "no answer") == 0 &&
+      lexicon_status_name(LEXICON_NO_ANSWER + 1) == NULL);
   EXPECT(strcmp(lexicon_field_name(LEXICON_FIELD_BINARY_FORMAT), "binary format") == 0 &&
       lexicon_field_name(LEXICON_FIELD_BINARY_FORMAT + 1) == NULL);
   EXPECT(strcmp(lexicon_origin_name(LEXICON_ORIGIN_ALIAS), "alias") == 0 &&

@@ -119,8 +119,8 @@ static void try_names(const struct lexicon_triple *triple) {
     CHECK(status == LEXICON_OK || error.reason != NULL);
     if (status != LEXICON_OK) continue;
     CHECK(lexicon_write(dialect, &shape, again, sizeof again, NULL, NULL) == LEXICON_OK && strcmp(again, name) == 0);
-    CHECK(lexicon_translate(dialect, name, length, LEXICON_LINUX_LIBC_NONE, dialect, again, sizeof again, NULL, NULL) ==
-        LEXICON_OK);
+    CHECK(lexicon_translate(dialect, name, length, LEXICON_LINUX_LIBC_NONE, NULL, dialect, again, sizeof again, NULL,
+        NULL) == LEXICON_OK);
     CHECK(strcmp(again, name) == 0);
   }
 }
@@ -131,7 +131,8 @@ static enum lexicon_status go_name(const struct lexicon_triple *triple, char *ou
 }
 static enum lexicon_status versioned_name(const struct lexicon_triple *triple, char *out, size_t out_size,
     size_t *length) {
-  return lexicon_write_versioned(LEXICON_DIALECT_PYTHON, triple, 2, 17, out, out_size, length, NULL);
+  struct lexicon_versions versions = {.glibc = {2, 17, 0}};
+  return lexicon_write_versioned(LEXICON_DIALECT_PYTHON, triple, &versions, out, out_size, length, NULL);
 }
 
 /* The calls that write a text, and the status where there is none. */
@@ -140,7 +141,6 @@ static const struct { text_call *call; uint32_t none; } texts[] = {
     {lexicon_program_suffix, LEXICON_OK},
     {go_name, LEXICON_TRIPLE_WITHOUT_NAME}, {versioned_name, LEXICON_TRIPLE_WITHOUT_NAME},
     {lexicon_multiarch_tuple, LEXICON_TRIPLE_WITHOUT_NAME},
-    {lexicon_dynamic_linker, LEXICON_NO_ANSWER}, {lexicon_linker_emulation, LEXICON_NO_ANSWER},
     {lexicon_vendor_suggestion, LEXICON_NO_SUGGESTION}};
 
 /* What is written is ASCII without controls, except line feeds. */
@@ -163,18 +163,16 @@ static void try_versions(const struct lexicon_triple *triple) {
   enum lexicon_status status = lexicon_macos_version(triple, &version);
   CHECK(status == LEXICON_OK ? triple->has_version == 1
                              : status == LEXICON_NO_ANSWER && is_unchanged(&version, sizeof version));
-  memset(&version, 0xa5, sizeof version);
-  status = lexicon_minimum_os_version(triple, &version);
-  CHECK(status == LEXICON_OK || (status == LEXICON_NO_ANSWER && is_unchanged(&version, sizeof version)));
-  static const uint32_t numbers[][2] = {{2, 17}, {11, 0}, {21, 0}, {65535, 255}, {65536, 0}, {2, 256}};
+  static const struct lexicon_os_version numbers[] = {{2, 17, 0}, {11, 0, 1}, {21, 0, 0}, {65535, 255, 255}, {0, 1, 0}};
   for (uint32_t dialect = LEXICON_DIALECT_NONE; dialect <= LAST_DIALECT + 1; dialect++) {
     for (size_t i = 0; i < sizeof numbers / sizeof *numbers; i++) {
       char name[64];
       size_t length = 77;
       const char *why = NULL;
-      uint32_t major = numbers[i][0], minor = numbers[i][1];
+      struct lexicon_versions all = {numbers[i], numbers[i], numbers[i], numbers[i], numbers[i], numbers[i], numbers[i],
+          numbers[i], numbers[i], numbers[i]};
       memset(name, 0xa5, sizeof name);
-      status = lexicon_write_versioned(dialect, triple, major, minor, name, sizeof name, &length, &why);
+      status = lexicon_write_versioned(dialect, triple, &all, name, sizeof name, &length, &why);
       bool has_none = status == LEXICON_TRIPLE_WITHOUT_NAME || status == LEXICON_NEEDS_C_LIBRARY;
       CHECK((status == LEXICON_NO_SUCH_DIALECT) == (dialect == LEXICON_DIALECT_NONE || dialect > LAST_DIALECT));
       CHECK((why != NULL) == has_none);
@@ -196,7 +194,7 @@ static void try_translations(const char *text, size_t size) {
       struct lexicon_error error;
       memset(name, 0xa5, sizeof name);
       memset(&error, 0xa5, sizeof error);
-      uint32_t status = lexicon_translate(from, text, size, libc, to, name, sizeof name, &length, &error);
+      uint32_t status = lexicon_translate(from, text, size, libc, NULL, to, name, sizeof name, &length, &error);
       bool has_reason = status == LEXICON_TRIPLE_WITHOUT_NAME || status == LEXICON_NEEDS_C_LIBRARY ||
           status == LEXICON_NAME_WITHOUT_TRIPLE;
       bool has_dialects = from <= LAST_DIALECT && to != LEXICON_DIALECT_NONE && to <= LAST_DIALECT;
@@ -213,22 +211,10 @@ static void try_translations(const char *text, size_t size) {
   }
 }
 
-/* The calls that give a variant, and the fact that becomes the number. */
-static const struct {
-  enum lexicon_status (*call)(struct lexicon_triple *, uint32_t);
-  size_t fact;
-  uint32_t number;
-} variants[] = {
-    {lexicon_set_pointer_width, offsetof(struct lexicon_triple_facts, pointer_width), 16},
-    {lexicon_set_pointer_width, offsetof(struct lexicon_triple_facts, pointer_width), 32},
-    {lexicon_set_pointer_width, offsetof(struct lexicon_triple_facts, pointer_width), 64},
-    {lexicon_set_endianness, offsetof(struct lexicon_triple_facts, endianness), LEXICON_ENDIANNESS_LITTLE},
-    {lexicon_set_endianness, offsetof(struct lexicon_triple_facts, endianness), LEXICON_ENDIANNESS_BIG}};
-
 /* What holds of each triple that is well. */
 static void try_triple(const struct lexicon_triple *triple) {
   struct lexicon_triple settled = *triple, again;
-  struct lexicon_triple_facts facts, of_variant;
+  struct lexicon_triple_facts facts;
   bool comes_back = false, same = false;
   char *text, *settled_text;
   CHECK(lexicon_settle(&settled) == LEXICON_OK && has_zeros(&settled));
@@ -261,18 +247,7 @@ static void try_triple(const struct lexicon_triple *triple) {
   settled = *triple;
   CHECK(lexicon_complete(&settled, LEXICON_LINUX_LIBC_NONE) == LEXICON_NO_SUCH_C_LIBRARY &&
       lexicon_complete(&settled, 6) == LEXICON_NO_SUCH_C_LIBRARY);
-  CHECK(lexicon_set_pointer_width(&settled, 8) == LEXICON_NO_SUCH_VALUE &&
-      lexicon_set_endianness(&settled, 3) == LEXICON_NO_SUCH_VALUE);
   CHECK(are_equal(&settled, triple));
-  for (size_t i = 0; i < sizeof variants / sizeof *variants; i++) {
-    struct lexicon_triple variant = *triple;
-    uint32_t number = variants[i].number, before = ((const uint8_t *)&facts)[variants[i].fact];
-    uint32_t status = variants[i].call(&variant, number);
-    CHECK(status == LEXICON_OK ? has_zeros(&variant) : status == LEXICON_NO_ANSWER && before != number);
-    CHECK(lexicon_all_facts(&variant, &of_variant) == LEXICON_OK);
-    CHECK((((const uint8_t *)&of_variant)[variants[i].fact] == number) == (status == LEXICON_OK));
-    CHECK(before != number || are_equal(&variant, triple));
-  }
   try_names(triple);
   try_texts(triple);
   try_versions(triple);
@@ -330,12 +305,9 @@ static void try_bad(const struct lexicon_triple *bad, const struct lexicon_tripl
   CHECK(lexicon_facts(bad, &facts, sizeof facts) == status && is_unchanged(&facts, sizeof facts));
   CHECK(lexicon_settle(&copy) == status && memcmp(&copy, bad, sizeof copy) == 0);
   CHECK(lexicon_complete(&copy, LEXICON_LINUX_LIBC_MUSL) == status && memcmp(&copy, bad, sizeof copy) == 0);
-  CHECK(lexicon_set_pointer_width(&copy, 32) == status && memcmp(&copy, bad, sizeof copy) == 0);
-  CHECK(lexicon_set_endianness(&copy, LEXICON_ENDIANNESS_BIG) == status && memcmp(&copy, bad, sizeof copy) == 0);
   struct lexicon_os_version version;
   memset(&version, 0xa5, sizeof version);
-  CHECK(lexicon_macos_version(bad, &version) == status && lexicon_minimum_os_version(bad, &version) == status &&
-      is_unchanged(&version, sizeof version));
+  CHECK(lexicon_macos_version(bad, &version) == status && is_unchanged(&version, sizeof version));
   CHECK(lexicon_comes_back(bad, &answer) == status && lexicon_equal(bad, other, &answer) == status && answer);
   CHECK(lexicon_equal(other, bad, &answer) == (other_status ? other_status : status) && answer);
   CHECK(lexicon_same_target(other, bad, &answer) == (other_status ? other_status : status) && answer);
@@ -474,31 +446,35 @@ static void try_targets(const char *text, size_t size, uint32_t parsed) {
 /* The meanings of a text are that of the triple that it parses as, then those that the dialects read, in their order, a
    name of several machines once for each, and otherwise at the end at most one without a dialect. */
 static void try_meanings(const char *text, size_t size, uint32_t parsed) {
-  struct lexicon_triple triple, read;
-  uint32_t dialect, last = 0, status;
-  size_t number = 0;
-  for (bool is_last = false;; number++) {
-    memset(&triple, 0xa5, sizeof triple);
-    memset(&dialect, 0xa5, sizeof dialect);
-    const char *note = NULL;
-    status = lexicon_meaning(text, size, number, &dialect, &triple, &note);
-    CHECK(status != LEXICON_NAME_WITHOUT_TRIPLE || note != NULL);
-    if (status != LEXICON_OK && status != LEXICON_NAME_WITHOUT_TRIPLE) break;
-    const bool is_own = dialect == LEXICON_DIALECT_NONE;
-    const uint32_t said = lexicon_read(dialect, text, size, &read, NULL);
-    const bool is_of_several = !is_own && status == LEXICON_OK && said == LEXICON_NAME_WITHOUT_TRIPLE;
-    CHECK(!is_last && (is_own || ((dialect > last || (is_of_several && dialect == last)) && dialect <= LAST_DIALECT)));
-    is_last = is_own && !(number == 0 && parsed == LEXICON_OK);
-    if (!is_own) last = dialect;
-    CHECK(said == status || is_of_several || (is_own && parsed == LEXICON_OK));
-    if (status == LEXICON_OK)
-      CHECK(expected_status(&triple) == LEXICON_OK && has_zeros(&triple) &&
-          (is_own || is_of_several || are_equal(&triple, &read)));
-    else CHECK(is_unchanged(&triple, sizeof triple) && !is_own);
+  struct lexicon_meaning found[LEXICON_MAX_MEANINGS + 1];
+  struct lexicon_triple read;
+  size_t count = 77;
+  memset(found, 0xa5, sizeof found);
+  const uint32_t status = lexicon_meanings(text, size, found, LEXICON_MAX_MEANINGS, &count);
+  CHECK(is_unchanged(&found[LEXICON_MAX_MEANINGS], sizeof *found) &&
+      status == (parsed == LEXICON_NOT_UTF8 ? (uint32_t)LEXICON_NOT_UTF8 : (uint32_t)LEXICON_OK));
+  if (status != LEXICON_OK) return;
+  CHECK(is_unchanged(&found[count], sizeof *found));
+  uint32_t last = 0;
+  for (size_t number = 0; number < count; number++) {
+    const struct lexicon_meaning *it = &found[number];
+    const bool is_own = it->dialect == LEXICON_DIALECT_NONE;
+    const uint32_t said = lexicon_read(it->dialect, text, size, &read, NULL);
+    const bool is_of_several = !is_own && it->status == LEXICON_OK && said == LEXICON_NAME_WITHOUT_TRIPLE;
+    CHECK(is_own ? number == (parsed == LEXICON_OK ? 0 : count - 1)
+        : (it->dialect > last || (is_of_several && it->dialect == last)) && it->dialect <= LAST_DIALECT);
+    if (!is_own) last = it->dialect;
+    CHECK(said == it->status || is_of_several || (is_own && parsed == LEXICON_OK));
+    CHECK(expected_status(&it->triple) == LEXICON_OK && has_zeros(&it->triple));
+    if (it->status == LEXICON_OK) CHECK(is_own || is_of_several || are_equal(&it->triple, &read));
+    else CHECK(it->status == LEXICON_NAME_WITHOUT_TRIPLE && it->note != NULL && !is_own);
   }
-  CHECK(status == LEXICON_NO_SUCH_MEANING || (status == LEXICON_NOT_UTF8 && number == 0));
-  CHECK(is_unchanged(&triple, sizeof triple) && is_unchanged(&dialect, sizeof dialect) &&
-      (parsed == LEXICON_NOT_UTF8) == (status == LEXICON_NOT_UTF8));
+  CHECK(lexicon_readers(text, size, found, LEXICON_MAX_MEANINGS, &count) == LEXICON_OK);
+  for (size_t number = 0; number < count; number++) {
+    const struct lexicon_meaning *it = &found[number];
+    CHECK(lexicon_read(it->dialect, text, size, &read, NULL) == it->status && (it->status == LEXICON_OK
+        ? lexicon_settle(&read) == LEXICON_OK && are_equal(&it->triple, &read) : count == 1 && it->note != NULL));
+  }
 }
 
 /* A text as a name of each dialect, and of none, where parsing it gave this status and, if that is LEXICON_OK, this
@@ -536,13 +512,6 @@ static void try_read(const char *text, size_t size, uint32_t parsed, const struc
       CHECK(status == LEXICON_OK || status == LEXICON_NOT_UTF8 || status >= LEXICON_UNKNOWN_NAME);
       continue;
     }
-    struct lexicon_versions versions;
-    struct lexicon_error again = error;
-    memset(&versions, 0xa5, sizeof versions);
-    CHECK((uint32_t)lexicon_stated_versions(text, size, &versions, &again) == status);
-    CHECK(again.status == error.status && again.start == error.start && again.end == error.end);
-    if (status != LEXICON_OK) CHECK(is_unchanged(&versions, sizeof versions));
-    else CHECK(versions.operating_system.major == triple.major || !triple.has_version);
     if (parsed == LEXICON_OK && same->vendor != LEXICON_VENDOR_CUSTOM) {
       CHECK(status == LEXICON_OK && are_equal(&triple, same));
     } else {
@@ -651,7 +620,7 @@ int LLVMFuzzerTestOneInput(const uint8_t *data, size_t data_size) {
   CHECK((status == LEXICON_NO_SUCH_FIELD) == (word % 7 > 4));
   if (status == LEXICON_OK) CHECK(has_name(word % 7, number) || number == LEXICON_VENDOR_CUSTOM);
   has_name(word % 7, how);
-  CHECK((lexicon_status_name(word) == NULL) == (word > LEXICON_NO_SUCH_MEANING) &&
+  CHECK((lexicon_status_name(word) == NULL) == (word > LEXICON_NO_ANSWER) &&
       (lexicon_family_name(word) == NULL) == (word > LEXICON_FAMILY_Z80));
   struct lexicon_error error = {word & 15u, how & 15u, word >> 3, NULL};
   try_error(text, size, &error);

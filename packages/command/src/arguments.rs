@@ -31,7 +31,9 @@ pub fn libc() -> Arg {
             "glibc", "musl", "msvc", "mingw", "gnullvm",
         ]))
         .action(ArgAction::Append)
-        .help("The C library of targets on Linux or Windows that state none: one of each may be given")
+        .hide_possible_values(true)
+        .help("The C library if none is stated: glibc, musl, msvc, mingw, gnullvm")
+        .long_help(wrapped("The C library of targets that state none: on Linux glibc or musl, on Windows msvc, mingw or gnullvm. One of each system may be given"))
 }
 
 /// Whether a C library is one of Windows.
@@ -68,16 +70,8 @@ pub fn words(dialects: impl Iterator<Item = Dialect>) -> impl Iterator<Item = &'
 }
 
 /// An option for one of the dialects.
-pub fn dialect(
-    name: &'static str,
-    words: impl Iterator<Item = &'static str>,
-    help: &'static str,
-) -> Arg {
-    Arg::new(name)
-        .long(name)
-        .value_name("DIALECT")
-        .value_parser(PossibleValuesParser::new(words))
-        .help(help)
+pub fn dialect(name: &'static str, words: impl Iterator<Item = &'static str>, help: &'static str) -> Arg {
+    Arg::new(name).long(name).value_name("DIALECT").value_parser(PossibleValuesParser::new(words)).help(help)
 }
 
 /// The names that all dialects have in arguments.
@@ -90,28 +84,41 @@ pub const SPELLED: &str = "llvm";
 
 /// An option for the dialect whose names are read.
 pub fn from() -> Arg {
-    dialect(
-        "from",
-        dialects().chain([SPELLED]),
-        "The tool whose names are read, instead of triples; `llvm` is for what is spelled like one, as clang takes it after -target",
-    )
+    dialect("from", dialects().chain([SPELLED]), "The tool whose names are read, instead of triples")
+        .hide_possible_values(true)
+        .long_help(wrapped(&format!(
+            "The tool whose names are read, instead of triples: {}; or {SPELLED} for what is spelled like a triple, as clang takes it after -target",
+            dialects().collect::<Vec<_>>().join(", ")
+        )))
+}
+
+/// A text in lines that fit 100 columns with the indent of the long help.
+pub fn wrapped(text: &str) -> String {
+    let mut lines = vec![String::new()];
+    for word in text.split(' ') {
+        let line = lines.last_mut().expect("there is a line");
+        match line.len() + word.len() {
+            0..=88 if line.is_empty() => *line += word,
+            0..=88 => *line += &format!(" {word}"),
+            _ => lines.push(word.into()),
+        }
+    }
+    lines.join("\n")
 }
 
 pub fn flag(name: &'static str, help: &'static str) -> Arg {
-    Arg::new(name)
-        .long(name)
-        .action(ArgAction::SetTrue)
-        .help(help)
+    Arg::new(name).long(name).action(ArgAction::SetTrue).help(help)
 }
 
 /// A call that answers for targets.
 pub fn of_targets(name: &'static str, about: &'static str, example: &'static str) -> Command {
-    Command::new(name).about(about).after_help(example).args([
+    Command::new(name).about(about).after_long_help(example).args([
         Arg::new("target")
             .value_name("TARGET")
             .action(ArgAction::Append)
             .value_hint(ValueHint::AnyPath)
-            .help("Targets, also with commas between; or files of any kind, such as workflows, in whose texts they are found; `-` is the lines of standard input, which are read without a TARGET or FILE too"),
+            .help("Targets, or files and folders, in whose texts they are found")
+            .long_help(wrapped("Targets, also with commas between; or files of any kind, such as workflows, and folders, in whose texts they are found; `-` is the lines of standard input, which are read without a TARGET or FILE too")),
         Arg::new("file")
             .short('f')
             .long("file")
@@ -119,43 +126,49 @@ pub fn of_targets(name: &'static str, about: &'static str, example: &'static str
             .action(ArgAction::Append)
             .value_parser(value_parser!(PathBuf))
             .value_hint(ValueHint::FilePath)
-            .help("Answer for the lines of FILE too, which are all targets, blank lines and comments apart; `-` is standard input. May be given more than once"),
+            .help("Answer for each line of FILE too; `-` is standard input")
+            .long_help(wrapped("Answer for the lines of FILE too, which are all targets, blank lines and comments apart; `-` is standard input. May be given more than once")),
         Arg::new("first-line")
             .long("first-line")
             .value_name("N")
             .value_parser(value_parser!(NonZeroUsize))
-            .help("The number of the first line of FILE or of standard input, such as where it is one part of a longer list"),
-        flag("comments", "").hide(true), // which are always skipped now
+            .hide_short_help(true)
+            .help("The number of the first line, such as where FILE is one part of a longer list"),
         flag("null", "End targets in files, and answers, with a zero byte instead of a line feed")
-            .short('0'),
-        flag("quiet", "Write nothing, and end at the first target that is refused: the status says it")
+            .short('0')
+            .hide_short_help(true),
+        flag("quiet", "Write nothing, and end at the first refused target: see the status")
             .short('q')
             .conflicts_with_all(["json", "json-lines"]),
         Arg::new("max-errors")
             .long("max-errors")
             .value_name("N")
             .value_parser(value_parser!(NonZeroUsize))
+            .hide_short_help(true)
             .help("End after N targets were refused, at least one"),
-        flag("strict", "Refuse custom vendors, which may be any lower-case word, except rustc's"),
+        flag("strict", "Refuse custom vendors, except rustc's, and what `check` can't judge"),
         Arg::new("vendors")
             .long("vendors")
             .value_name("LIST")
             .action(ArgAction::Append)
             .value_delimiter(',')
-            .help("Custom vendors that are meant, such as `sony,acme`: neither a warning nor `--strict` is about them"),
+            .hide_short_help(true)
+            .help("Custom vendors that are meant, such as `sony,acme`"),
         flag("json", "Write one JSON array on one line").conflicts_with("json-lines"),
-        flag("json-lines", "Write one JSON object per line").conflicts_with("format"),
+        flag("json-lines", "Write one JSON object per line").conflicts_with("format").hide_short_help(true),
         Arg::new("format")
             .long("format")
             .value_name("FORMAT")
             .value_parser(PossibleValuesParser::new(["human", "json", "json-lines", "github"]))
             .conflicts_with("json")
-            .help("How to write; `github` writes what is refused as annotations of a workflow"),
+            .hide_possible_values(true)
+            .help("How to write: human, json, json-lines, or github's annotations"),
         Arg::new("color")
             .long("color")
             .value_name("WHEN")
             .value_parser(PossibleValuesParser::new(["auto", "always", "never"]))
             .default_value("auto")
+            .hide_short_help(true)
             .help("Colour what is refused; `auto` does on a terminal, unless NO_COLOR is set"),
     ])
 }

@@ -1,6 +1,6 @@
 //! What ends a run early.
-use crate::refusal::visible;
-use std::io::{self, ErrorKind, Write};
+use crate::shown::{show, visible, Page};
+use std::io::{self, ErrorKind};
 
 pub enum Fault {
     /// A stream can't be read or written.
@@ -24,29 +24,23 @@ impl Fault {
     pub fn of_output(name: &str, why: io::Error) -> Self {
         match why.kind() {
             ErrorKind::BrokenPipe => Fault::Closed,
-            _ => Fault::Stream {
-                name: name.into(),
-                why,
-            },
+            _ => Fault::Stream { name: name.into(), why },
         }
     }
 
     /// Says what went wrong, if nothing has said it. Returns the status.
     pub fn report(self) -> i32 {
-        let why = match self {
+        let mut errors = io::stderr();
+        let mut page = Page::new(&mut errors);
+        let _ = match self {
             Fault::Closed => return CLOSED,
             Fault::Refused => return 1,
-            Fault::Stream { name, why } => format!("{}: {why}", visible(&name)),
+            Fault::Stream { name, why } => show!(page, "target-lexicon: ", name, ": ", visible(why), "\n"),
             Fault::NotText { place, is_utf16 } => {
-                let found = if is_utf16 {
-                    "UTF-16, not UTF-8"
-                } else {
-                    "not a text in UTF-8"
-                };
-                format!("{}: {found}", visible(&place))
+                let found = if is_utf16 { "UTF-16, not UTF-8" } else { "not a text in UTF-8" };
+                show!(page, "target-lexicon: ", place, ": ", found, "\n")
             }
         };
-        let _ = io::stderr().write_all(format!("target-lexicon: {why}\n").as_bytes());
         3
     }
 }

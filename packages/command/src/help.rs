@@ -1,14 +1,12 @@
 //! What the user may have meant by a target that is refused.
 use crate::calls::Call;
 use crate::input::{end_of_line, Place, Target};
-use crate::reader::{note_of_others, Reader, Takes};
+use crate::reader::{Reader, Takes};
 use crate::refusal::{Names, Refusal};
 use clap::ArgMatches;
 use std::collections::HashMap;
 use target_lexicon::TripleRef;
-use target_names::{
-    suggestions, vendor_suggestion, Dialect, Evidence, Mistake, NameError, Said, Suggest as _,
-};
+use target_names::{meanings, readers, vendor_suggestion, Dialect, Evidence, Meant, Mistake, NameOf, Suggest as _};
 
 #[derive(Clone)]
 pub struct Help {
@@ -49,26 +47,20 @@ impl Helper {
             return help.clone();
         }
         let Help { suggestion, note } = help_of_names(refusal, target.text);
-        let note = note.or_else(|| self.note(target));
+        let note = note.or_else(|| if refusal.has_reason() { None } else { self.note(target) });
         let note = self.triple_note(target.text, refusal, note);
         let help = Help { suggestion, note };
         if self.remembered.len() < REMEMBERED
             && target.text.len() <= REMEMBERED_LENGTH
             && matches!(target.place, Place::Line { .. })
         {
-            self.remembered
-                .insert(target.text.to_string(), help.clone());
+            self.remembered.insert(target.text.to_string(), help.clone());
         }
         help
     }
 
     /// A note, and which command takes a triple, if that is what isn't a tool's name.
-    fn triple_note(
-        &self,
-        text: &str,
-        refusal: &Refusal<'_>,
-        note: Option<String>,
-    ) -> Option<String> {
+    fn triple_note(&self, text: &str, refusal: &Refusal<'_>, note: Option<String>) -> Option<String> {
         let is_triple = || TripleRef::from_str(text).map_or(false, |it| !it.vendor.is_custom());
         if !refusal.is_unknown_name() || !text.contains('-') || !is_triple() {
             return note;
@@ -80,32 +72,36 @@ impl Helper {
     /// What is known of the target, whatever names it resembles.
     fn note(&self, target: Target<'_>) -> Option<String> {
         let text = target.text.trim();
-        let parses = TripleRef::from_str(text).is_ok();
         let of_other_tools = match self.takes {
-            Takes::Triples if !parses => {
-                let command = format!("target-lexicon {} ", self.command);
-                note_of_others(text).or_else(|| dialects_note(&command, text))
+            Takes::Triples if TripleRef::from_str(text).is_err() => {
+                readers_note(&format!("target-lexicon {} ", self.command), text)
             }
-            Takes::Spellings => dialects_note("", text),
+            Takes::Spellings => readers_note("", text),
             _ => None,
         };
         if of_other_tools.is_some() {
             return of_other_tools;
         }
+        if let Some(plain) = ascii_form(text) {
+            return Some(format!("with the dashes and quotes of ASCII it is `{plain}`"));
+        }
         let note = match target.place {
             _ if text.contains('\0') && !self.has_zero_bytes => {
                 "it has zero bytes: a file in UTF-16 has them, which must be UTF-8 here"
             }
-            _ if self.takes == Takes::Spellings && text.contains('/') => {
-                "a name of another tool needs `--from`"
-            }
-            Place::Argument(_) if self.takes == Takes::Triples && has_extension(text) => {
-                "no file has this name either"
-            }
+            _ if self.takes == Takes::Spellings && text.contains('/') => "a name of another tool needs `--from`",
+            Place::Argument(_) if self.takes == Takes::Triples && has_extension(text) => "no file has this name either",
             _ => return None,
         };
         Some(note.into())
     }
+}
+
+/// A name with the dashes that a word processor made of `-`, and without its quotes, if some tool has that.
+fn ascii_form(text: &str) -> Option<String> {
+    let plain = text.replace(|it| ('\u{2010}'..='\u{2015}').contains(&it) || it == '\u{2212}', "-");
+    let plain = plain.trim_matches(|it| ('\u{2018}'..='\u{201f}').contains(&it));
+    (plain != text && meanings(plain).next().is_some()).then(|| plain.into())
 }
 
 /// Whether a string ends as the name of a file.
@@ -114,53 +110,19 @@ fn has_extension(text: &str) -> bool {
     !end.is_empty() && end.bytes().all(|it| it.is_ascii_lowercase())
 }
 
-/// How a name is read that isn't spelled like a triple, if it is one of another tool; or why that tool's name has no
-/// triple. `command` comes before the option.
-fn dialects_note(command: &str, name: &str) -> Option<String> {
-    // GNU's names are spelled like triples.
-    let dialects = || Dialect::ALL.iter().filter(|it| **it != Dialect::Gnu);
-    let options: Vec<_> = dialects()
-        .filter(|dialect| dialect.read_loosely(name).is_ok())
-        .map(|dialect| format!("`{command}--from {dialect}`"))
-        .collect();
-    if options.is_empty() {
-        return dialects().find_map(|dialect| match dialect.read_loosely(name) {
-            Err(NameError::WithoutTriple(why)) => {
-                Some(format!("it is a name of {dialect} without a triple: {why}"))
+/// How others read a string, or why no triple means the same. `command` comes before the option.
+pub fn readers_note(command: &str, text: &str) -> Option<String> {
+    let mut options = Vec::new();
+    for meaning in readers(text) {
+        match (meaning.of, meaning.triple) {
+            (NameOf::Dialect(dialect), Ok(_)) => options.push(format!("`{command}--from {dialect}`")),
+            (_, Ok(meant)) => {
+                return Some(format!("other tools mean `{meant}`, which `target-lexicon settle --from llvm` gives"));
             }
-            _ => None,
-        });
+            (tool, Err(why)) => return Some(format!("it is a name of {} without a triple: {why}", tool.name())),
+        }
     }
-    Some(format!(
-        "it is a name of another tool: use {}",
-        options.join(" or ")
-    ))
-}
-
-/// The name that the first dialect suggests that suggests one, and what is wrong with the unknown one, as far as it
-/// says more. A name after another is none if all the words together name a triple.
-fn nearest<'a>(name: &'a str, evidence: &Evidence<'_>) -> Option<(&'static str, Option<Mistake<'a>>)> {
-    let of_words = evidence.triple();
-    let has_triple = of_words.is_some();
-    let mut found = suggestions(name).filter_map(|(dialect, suggestion)| {
-        // What all words say is a triple.
-        let named = dialect.write(of_words.unwrap_or_else(TripleRef::unknown));
-        if named.map_or(false, |it| it == suggestion) {
-            return None;
-        }
-        match dialect.mistake(name) {
-            Some(Mistake::Prefix) if has_triple => None,
-            Some(Mistake::NoTriple(_)) => Some((suggestion, None)),
-            mistake => Some((suggestion, mistake)),
-        }
-    });
-    found.next()
-}
-
-/// Whether a name has parts, of which the first is no known word.
-fn may_be_triple(name: &str) -> bool {
-    let (first, _) = name.split_once('-').unwrap_or_default();
-    !first.is_empty() && Evidence::of(first).is_empty()
+    (!options.is_empty()).then(|| format!("it is a name of another tool: use {}", options.join(" or ")))
 }
 
 /// What the words of a name say, if they say something of a target.
@@ -174,14 +136,13 @@ fn help_of_names(refusal: &Refusal<'_>, target: &str) -> Help {
         Names::OfParts(refusal) => (shown(refusal.suggestion_in(target)), None),
         Names::OfVendors(triple) => (shown(vendor_suggestion(triple)), None),
         Names::OfAll(name) => {
-            let evidence = Evidence::of(name);
-            let has_no_machine = evidence.machine() == Said::Unsaid;
-            match (nearest(name, &evidence), evidence.triple()) {
-                (Some((name, mistake)), _) => (shown(Some(name)), shown(mistake)),
-                (None, None) if has_no_machine && may_be_triple(name) => {
-                    (None, shown(Dialect::Gnu.mistake(name)))
-                }
-                (None, triple) => (shown(triple), said(&evidence)),
+            let meant = Meant::by(name).map(|it| it.to_string());
+            let has = |it: &&Dialect| meant.as_deref() == it.suggestion(name);
+            let mistake = Dialect::ALL.iter().find(has).filter(|_| meant.is_some()).and_then(|it| it.mistake(name));
+            let mistake = mistake.filter(|it| !matches!(it, Mistake::NoTriple(_)));
+            match meant {
+                Some(meant) => (Some(meant), shown(mistake)),
+                None => (None, said(&Evidence::of(name))),
             }
         }
         Names::OfDialect(dialect, name) => {

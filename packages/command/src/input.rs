@@ -2,15 +2,15 @@
 use crate::fault::Fault;
 use crate::json::Object;
 use crate::output::say_what_is_read;
-use crate::refusal::visible;
+use crate::shown::visible;
 use crate::streams::{self, Input};
 use clap::ArgMatches;
-use std::fmt;
-use std::io::{self, BufRead, BufReader, ErrorKind, Read as _};
+use std::fs::{self, DirEntry};
+use std::io::{self, BufRead, BufReader, ErrorKind};
 use std::num::NonZeroUsize;
 use std::path::{Path, PathBuf};
-use std::str;
-use target_names::{meanings, targets_in, Word};
+use std::{fmt, str};
+use target_names::{meanings, targets_in, words_in, Evidence, Said, Word, WordIs};
 
 pub const STANDARD_INPUT: &str = "<stdin>";
 
@@ -51,11 +51,7 @@ impl<'a> Target<'a> {
             Place::Argument(_) => (None, None),
             Place::Line { file, number, .. } => (Some(file), Some(number)),
         };
-        vec![
-            ("target", self.text.into()),
-            ("file", file.into()),
-            ("line", line.into()),
-        ]
+        vec![("target", self.text.into()), ("file", file.into()), ("line", line.into())]
     }
 }
 
@@ -83,21 +79,84 @@ fn each_of_list(list: Target<'_>, answers: &mut impl Answers) -> Result<(), Faul
     Ok(())
 }
 
+/// Folders whose files nobody wrote: those of tools, and of what they fetch or build.
+const NO_SOURCES: [&str; 9] =
+    [".git", ".hg", ".svn", ".tox", ".venv", "__pycache__", "node_modules", "site-packages", "venv"];
+
+/// Answers each target in the text of a file, or in those of the files of a folder, from the first name to the last.
+/// There links and devices aren't followed, nor folders of [`NO_SOURCES`], nor those that say by a `CACHEDIR.TAG` that a
+/// tool fills them, as cargo does.
+fn each_in_texts(path: &Path, answers: &mut impl Answers) -> Result<(), Fault> {
+    let fault = |why| Fault::Stream { name: path.display().to_string(), why };
+    if !fs::metadata(path).map_err(fault)?.is_dir() {
+        return each_in_text(path, answers);
+    }
+    let mut entries = fs::read_dir(path).map_err(fault)?.collect::<Result<Vec<_>, _>>().map_err(fault)?;
+    entries.sort_by_key(DirEntry::file_name);
+    for entry in entries {
+        let (kind, path) = (entry.file_type().map_err(fault)?, entry.path());
+        let is_source = || !NO_SOURCES.iter().any(|it| entry.file_name() == *it) && !path.join("CACHEDIR.TAG").exists();
+        if kind.is_file() || kind.is_dir() && is_source() {
+            each_in_texts(&path, answers)?;
+        }
+    }
+    Ok(())
+}
+
+/// The bytes of a file, unless one of them is zero: then it is no text, and isn't read further.
+fn text_of(path: &Path, file: &str) -> Result<Option<Vec<u8>>, Fault> {
+    let fault = |why| Fault::Stream { name: file.into(), why };
+    if !fs::metadata(path).map_err(fault)?.is_file() {
+        let why = "is neither a file nor a folder; `-f` reads its lines";
+        return Err(fault(io::Error::new(ErrorKind::Other, why)));
+    }
+    let mut reader = BufReader::with_capacity(1 << 16, opened(path, file)?.reader);
+    let mut bytes = Vec::new();
+    loop {
+        let read = match reader.fill_buf() {
+            Err(why) if why.kind() == ErrorKind::Interrupted => continue,
+            read => read.map_err(fault)?,
+        };
+        let count = read.len();
+        if count == 0 {
+            return Ok(Some(bytes));
+        }
+        if read.contains(&0) {
+            return Ok(None);
+        }
+        bytes.try_reserve(count).map_err(|_| fault(ErrorKind::OutOfMemory.into()))?;
+        bytes.extend_from_slice(read);
+        reader.consume(count);
+    }
+}
+
+/// How many items of a file say whether it is a list.
+const ENOUGH_ITEMS: usize = 100;
+
+/// Whether a text is a list of targets: at least half of its first items are names, or may be misspelled ones. Otherwise
+/// it has single words of other things, such as a `.gitignore` or the number of a version.
+fn is_list(text: &str) -> bool {
+    let (mut items, mut named) = (0, 0);
+    for word in targets_in(text).take_while(|it| it.is_item()).take(ENOUGH_ITEMS) {
+        items += 1;
+        let says_machine = || Evidence::of(word.text()).machine() != Said::Unsaid;
+        named += usize::from(word.is() != WordIs::Unknown && says_machine());
+    }
+    items > 0 && items <= 2 * named
+}
+
 /// Answers each target in the text of a file.
 fn each_in_text(path: &Path, answers: &mut impl Answers) -> Result<(), Fault> {
     let file = &path.display().to_string();
-    let fault = |why| Fault::Stream { name: file.clone(), why };
-    let mut bytes = Vec::new();
     answers.pause()?;
-    opened(path, file)?.reader.read_to_end(&mut bytes).map_err(fault)?;
-    if let Some(at) = bytes.iter().position(|it| *it == 0) {
-        let line = bytes[..at].iter().filter(|it| **it == b'\n').count() + 1;
-        return Err(Fault::NotText { place: format!("{file}:{line}"), is_utf16: is_utf16(&bytes) });
-    }
+    let Some(bytes) = text_of(path, file)? else {
+        return Ok(answers.skip_binary());
+    };
     let text = String::from_utf8_lossy(&bytes);
     let text = text.strip_prefix(BYTE_ORDER_MARK).unwrap_or(&text);
+    let words = if is_list(text) { targets_in(text) } else { words_in(text) };
     let (mut at, mut number, mut indent) = (0, 1, 0);
-    for word in targets_in(text) {
+    for word in words {
         let before = &text[at..word.start()];
         number += before.matches('\n').count();
         let (start, characters) = before.rsplit_once('\n').map_or((indent, before), |it| (0, it.1));
@@ -122,6 +181,12 @@ pub trait Answers {
     /// Refuses a line that isn't UTF-8 from a byte on, and has U+FFFD there.
     fn refuse_bytes(&mut self, target: Target<'_>, start: usize) -> Result<(), Fault>;
 
+    /// A line has no target.
+    fn skip_line(&mut self) -> Result<(), Fault>;
+
+    /// Counts a file that is no text.
+    fn skip_binary(&mut self);
+
     /// The next target may take a while, so what was answered is better written now.
     fn pause(&mut self) -> Result<(), Fault>;
 }
@@ -130,9 +195,8 @@ pub trait Answers {
 pub fn each_target(arguments: &ArgMatches, answers: &mut impl Answers) -> Result<(), Fault> {
     let lines = Lines {
         end: end_of_line(arguments),
-        first: arguments
-            .get_one("first-line")
-            .map_or(1, |it: &NonZeroUsize| it.get()),
+        first: arguments.get_one("first-line").map_or(1, |it: &NonZeroUsize| it.get()),
+        are_kept: keeps_lines(arguments),
     };
     let targets = arguments.get_many::<String>("target").unwrap_or_default();
     let files = arguments.get_many::<PathBuf>("file").unwrap_or_default();
@@ -145,7 +209,7 @@ pub fn each_target(arguments: &ArgMatches, answers: &mut impl Answers) -> Result
     for (text, number) in targets.zip(1..) {
         match text.as_str() {
             "-" => each_line(Path::new("-"), lines, answers)?,
-            text if is_path(text) => each_in_text(Path::new(text), answers)?,
+            text if is_path(text) => each_in_texts(Path::new(text), answers)?,
             text => {
                 let place = Place::Argument(number);
                 each_of_list(Target { text, place, word: None }, answers)?;
@@ -172,12 +236,19 @@ pub fn end_of_line(arguments: &ArgMatches) -> u8 {
     }
 }
 
+/// Whether each line has a line of the answer.
+pub fn keeps_lines(arguments: &ArgMatches) -> bool {
+    matches!(arguments.try_get_one("keep-lines"), Ok(Some(true)))
+}
+
 /// How lines are read.
 #[derive(Clone, Copy)]
 struct Lines {
     end: u8,
     /// The number of the first.
     first: usize,
+    /// Whether each has one answer, also if it is a list.
+    are_kept: bool,
 }
 
 /// A file, or standard input.
@@ -214,9 +285,7 @@ fn each_line(path: &Path, lines: Lines, answers: &mut impl Answers) -> Result<()
             if count == 0 {
                 break;
             }
-            bytes
-                .try_reserve(count)
-                .map_err(|_| fault(ErrorKind::OutOfMemory.into()))?;
+            bytes.try_reserve(count).map_err(|_| fault(ErrorKind::OutOfMemory.into()))?;
             bytes.extend_from_slice(&read[..count]);
             reader.consume(count);
         }
@@ -235,11 +304,7 @@ fn each_line(path: &Path, lines: Lines, answers: &mut impl Answers) -> Result<()
             }
             Err(error) => {
                 let line = String::from_utf8_lossy(&bytes);
-                let place = Place::Line {
-                    file: &name,
-                    number,
-                    indent: 0,
-                };
+                let place = Place::Line { file: &name, number, indent: 0 };
                 let text = line.trim_end_matches(['\r', char::from(lines.end)]);
                 let target = Target { text, place, word: None };
                 answers.refuse_bytes(target, error.valid_up_to())?;
@@ -251,13 +316,13 @@ fn each_line(path: &Path, lines: Lines, answers: &mut impl Answers) -> Result<()
             text = text.strip_prefix(BYTE_ORDER_MARK).unwrap_or(text);
         }
         let place = Place::Line { file: &name, number, indent: 0 };
-        if lines.end == 0 {
-            answers.answer(Target { text, place, word: None })?;
-            continue;
-        }
-        text = text.strip_suffix('\r').unwrap_or(text);
-        if !matches!(text.trim_start().bytes().next(), None | Some(b'#')) {
-            each_of_list(Target { text, place, word: None }, answers)?;
+        let is_list = lines.end != 0;
+        text = text.strip_suffix('\r').filter(|_| is_list).unwrap_or(text);
+        let is_empty = is_list && matches!(text.trim_start().bytes().next(), None | Some(b'#'));
+        match (Target { text, place, word: None }) {
+            _ if is_empty => answers.skip_line()?,
+            target if is_list && !lines.are_kept => each_of_list(target, answers)?,
+            target => answers.answer(target)?,
         }
     }
     Ok(())

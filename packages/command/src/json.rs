@@ -51,9 +51,7 @@ impl Serialize for Json<'_> {
             Json::Number(number) => number.serialize(to),
             Json::Text(text) => to.serialize_str(text),
             Json::List(items) => to.collect_seq(items),
-            Json::Object(members) => {
-                to.collect_map(members.iter().map(|(key, value)| (key, value)))
-            }
+            Json::Object(members) => to.collect_map(members.iter().map(|(key, value)| (key, value))),
         }
     }
 }
@@ -80,11 +78,7 @@ impl Json<'_> {
 struct Ascii;
 
 impl Formatter for Ascii {
-    fn write_string_fragment<W: ?Sized + Write>(
-        &mut self,
-        out: &mut W,
-        fragment: &str,
-    ) -> io::Result<()> {
+    fn write_string_fragment<W: ?Sized + Write>(&mut self, out: &mut W, fragment: &str) -> io::Result<()> {
         for part in fragment.split_inclusive(|c: char| !(' '..='~').contains(&c)) {
             let plain = part.trim_end_matches(|c: char| !(' '..='~').contains(&c));
             CompactFormatter.write_string_fragment(out, plain)?;

@@ -14,6 +14,7 @@ mod progress;
 mod reader;
 mod refusal;
 mod run;
+mod shown;
 mod streams;
 mod usage;
 
@@ -26,7 +27,7 @@ use std::process;
 /// Runs what the arguments say. Returns the status.
 fn run(arguments: &ArgMatches) -> Result<i32, Fault> {
     if arguments.get_flag("manual") {
-        return write_only(|out| out.write_all(include_bytes!("../man/target-lexicon.1")));
+        return write_only(|page| page.put(include_str!("../man/target-lexicon.1")));
     }
     match arguments.subcommand() {
         Some((name, arguments)) => {

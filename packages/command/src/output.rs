@@ -1,6 +1,7 @@
 //! The two outputs. What is written to one appears before what is written to the other later.
 use crate::fault::Fault;
 use crate::json::{Json, Object};
+use crate::shown::Page;
 use crate::streams;
 use clap::ArgMatches;
 use std::env;
@@ -46,13 +47,11 @@ pub fn say_what_is_read() {
 /// Whether that terminal takes escape sequences, and the user wants them.
 pub fn takes_escapes() -> bool {
     let is_unset = |name| env::var_os(name).map_or(true, |it| it.is_empty());
-    is_terminal()
-        && is_unset("NO_COLOR")
-        && env::var_os("TERM").map_or(cfg!(windows), |it| it != "dumb")
+    is_terminal() && is_unset("NO_COLOR") && env::var_os("TERM").map_or(cfg!(windows), |it| it != "dumb")
 }
 
 /// Writes a text that answers for no target. Returns the status.
-pub fn write_only(text: impl FnOnce(&mut dyn Write) -> io::Result<()>) -> Result<i32, Fault> {
+pub fn write_only(text: impl FnOnce(&mut Page<'_>) -> io::Result<()>) -> Result<i32, Fault> {
     let mut outputs = Outputs::plain();
     outputs.write(text)?;
     outputs.flush()?;
@@ -83,23 +82,15 @@ impl Outputs {
             Some("never") => false,
             _ => takes_escapes(),
         };
-        Outputs {
-            layout,
-            has_color,
-            ..Outputs::plain()
-        }
+        Outputs { layout, has_color, ..Outputs::plain() }
     }
 
     fn flush_out(&mut self) -> Result<(), Fault> {
-        self.out
-            .flush()
-            .map_err(|why| Fault::of_output("standard output", why))
+        self.out.flush().map_err(|why| Fault::of_output("standard output", why))
     }
 
     fn flush_errors(&mut self) -> Result<(), Fault> {
-        self.errors
-            .flush()
-            .map_err(|why| Fault::of_output("standard error", why))
+        self.errors.flush().map_err(|why| Fault::of_output("standard error", why))
     }
 
     /// Whether answers are objects in JSON.
@@ -116,40 +107,29 @@ impl Outputs {
         self.flush_errors()
     }
 
-    pub fn write(
-        &mut self,
-        text: impl FnOnce(&mut dyn Write) -> io::Result<()>,
-    ) -> Result<(), Fault> {
+    pub fn write(&mut self, text: impl FnOnce(&mut Page<'_>) -> io::Result<()>) -> Result<(), Fault> {
         self.flush_errors()?;
-        text(&mut self.out).map_err(|why| Fault::of_output("standard output", why))
+        text(&mut Page::new(&mut self.out)).map_err(|why| Fault::of_output("standard output", why))
     }
 
     /// Writes an answer, a text of lines, after which `end` comes instead of the last line feed.
-    pub fn answer(
-        &mut self,
-        end: u8,
-        text: impl FnOnce(&mut dyn Write) -> io::Result<()>,
-    ) -> Result<(), Fault> {
+    pub fn answer(&mut self, end: u8, text: impl FnOnce(&mut Page<'_>) -> io::Result<()>) -> Result<(), Fault> {
         if end == b'\n' {
             return self.write(text);
         }
-        self.write(|out| {
-            let mut answer = Vec::new();
-            text(&mut answer)?;
-            answer.pop();
-            answer.push(end);
-            out.write_all(&answer)
-        })
+        let mut answer = Vec::new();
+        let shown = text(&mut Page::new(&mut answer));
+        answer.pop();
+        answer.push(end);
+        self.flush_errors()?;
+        let written = shown.and_then(|()| self.out.write_all(&answer));
+        written.map_err(|why| Fault::of_output("standard output", why))
     }
 
     /// Writes a refusal to standard error. `text` gets whether it has colours.
-    pub fn refuse(
-        &mut self,
-        text: impl FnOnce(&mut dyn Write, bool) -> io::Result<()>,
-    ) -> Result<(), Fault> {
+    pub fn refuse(&mut self, text: impl FnOnce(&mut Page<'_>, bool) -> io::Result<()>) -> Result<(), Fault> {
         self.flush_out()?;
-        text(&mut self.errors, self.has_color)
-            .map_err(|why| Fault::of_output("standard error", why))
+        text(&mut Page::new(&mut self.errors), self.has_color).map_err(|why| Fault::of_output("standard error", why))
     }
 
     pub fn object(&mut self, object: Object) -> Result<(), Fault> {
@@ -159,10 +139,10 @@ impl Outputs {
             (_, true) => (",", ""),
         };
         self.has_object = true;
-        self.write(|out| {
-            out.write_all(begin.as_bytes())?;
-            Json::Object(object).write(out)?;
-            out.write_all(end.as_bytes())
+        self.write(|page| {
+            page.put(begin)?;
+            page.put(Json::Object(object))?;
+            page.put(end)
         })
     }
 
@@ -170,7 +150,7 @@ impl Outputs {
     pub fn end(&mut self, has_array: bool) -> Result<(), Fault> {
         if has_array && self.layout == Some(Layout::Array) {
             let end = if self.has_object { "]\n" } else { "[]\n" };
-            self.write(|out| out.write_all(end.as_bytes()))?;
+            self.write(|page| page.put(end))?;
         }
         self.flush()
     }

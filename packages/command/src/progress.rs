@@ -8,6 +8,8 @@ use std::time::{Duration, Instant};
 pub struct Progress {
     pub targets: usize,
     pub refused: usize,
+    /// How many files are no text.
+    pub binary: usize,
     is_shown: bool,
     next: Option<Instant>,
 }
@@ -17,6 +19,7 @@ impl Progress {
         Progress {
             targets: 0,
             refused: 0,
+            binary: 0,
             is_shown: false,
             next: takes_escapes().then(|| Instant::now() + Duration::from_secs(2)),
         }
@@ -51,11 +54,7 @@ impl Progress {
 /// A number with commas between thousands.
 pub fn with_commas(number: usize) -> String {
     let digits = number.to_string();
-    let groups: Vec<&str> = digits
-        .as_bytes()
-        .rchunks(3)
-        .rev()
-        .map(|group| std::str::from_utf8(group).expect("digits are ASCII"))
-        .collect();
+    let groups: Vec<&str> =
+        digits.as_bytes().rchunks(3).rev().map(|group| std::str::from_utf8(group).expect("digits are ASCII")).collect();
     groups.join(",")
 }

@@ -1,11 +1,14 @@
 //! What a target means, by the options of the call.
 use crate::arguments::{dialect_of, is_of_windows, libcs_of, SPELLED};
-use crate::fields::canonical;
+use crate::input::Target;
 use crate::refusal::Refusal;
 use clap::ArgMatches;
 use std::cell::Cell;
 use target_lexicon::{OperatingSystem, Source, Sources, TripleRef, VendorRef};
-use target_names::{is_vendor_of_rustc, read, vendor_suggestion, Dialect, LinuxLibc, TargetInfo};
+use target_names::{
+    is_near_name, is_vendor_of_rustc, meanings, read, vendor_suggestion, Dialect, LinuxLibc, Meaning, NameError,
+    NameOf, TargetInfo, WordIs,
+};
 
 /// How targets are given.
 #[derive(Clone, Copy, PartialEq, Eq)]
@@ -29,8 +32,16 @@ pub struct Reader {
     /// Whether an answer differs from that without it.
     needs_libc: Cell<bool>,
     is_strict: bool,
+    /// How many words of texts may be targets, and aren't understood.
+    pub unclear: Cell<usize>,
     /// The custom vendors that are meant.
     vendors: Vec<String>,
+}
+
+/// What a target means: a triple, and a warning; or none, and why, unless it isn't understood.
+pub enum Meant<'a> {
+    Triple(TripleRef<'a>, Option<Refusal<'a>>),
+    NoTriple(Option<Refusal<'a>>),
 }
 
 /// What a target parses as, and from where.
@@ -52,6 +63,7 @@ impl Reader {
             libc: libcs.first().copied(),
             libcs,
             needs_libc: Cell::new(false),
+            unclear: Cell::new(0),
             is_strict: arguments.get_flag("strict"),
             vendors: vendors.cloned().collect(),
         }
@@ -77,18 +89,11 @@ impl Reader {
             }
             _ => None,
         };
-        Ok(Parsed {
-            triple,
-            sources,
-            warning,
-        })
+        Ok(Parsed { triple, sources, warning })
     }
 
     /// The triple that a target means, with the C library that the user says; and a warning.
-    pub fn meaning<'a>(
-        &self,
-        text: &'a str,
-    ) -> Result<(TripleRef<'a>, Option<Refusal<'a>>), Refusal<'a>> {
+    pub fn meaning<'a>(&self, text: &'a str) -> Result<(TripleRef<'a>, Option<Refusal<'a>>), Refusal<'a>> {
         let (triple, warning) = match self.from {
             None => self.stated(text)?,
             Some(dialect) => match dialect.read_loosely(text) {
@@ -97,6 +102,53 @@ impl Reader {
             },
         };
         Ok((self.completed(triple), warning))
+    }
+
+    /// What a target means, which is any tool's name if it is a word of a text.
+    pub fn meaning_of<'a>(&self, target: Target<'a>) -> Result<Meant<'a>, Refusal<'a>> {
+        let text = target.text;
+        let Some(word) = target.word.filter(|_| self.from.is_none() && !self.is_spelled) else {
+            return self.meaning(text).map(|(triple, warning)| Meant::Triple(triple, warning));
+        };
+        let (own, is) = (TripleRef::from_str(text), word.is());
+        let is_known = own.as_ref().map_or(false, |it| !it.vendor.is_custom());
+        // GNU takes any vendor.
+        let is_of_tool = |it: &Meaning<'_>| match it.of {
+            NameOf::Triple => false,
+            NameOf::Dialect(Dialect::Gnu) => own.is_err() && matches!(is, WordIs::Name(_)),
+            NameOf::Dialect(_) | NameOf::Spelling => true,
+        };
+        let tool = meanings(text).filter(|_| !is_known).find(is_of_tool);
+        match (tool, is) {
+            (Some(Meaning { of: NameOf::Dialect(dialect), triple: Err(why), .. }), _) => {
+                Ok(Meant::NoTriple(Some(Refusal::of_name(text, dialect, NameError::WithoutTriple(why)))))
+            }
+            (Some(Meaning { of: NameOf::Dialect(_) | NameOf::Spelling, triple: Ok(triple), .. }), _) => {
+                Ok(Meant::Triple(self.completed(triple), None))
+            }
+            _ if word.is_unclear() && !self.is_strict => {
+                self.unclear.set(self.unclear.get() + 1);
+                Ok(Meant::NoTriple(None))
+            }
+            (_, WordIs::Misspelled(it)) if it.part.text == text => Err(Refusal::unknown_to_all(text)),
+            (_, is) => {
+                let parsed = self.parse(text);
+                let is_clear = match &parsed {
+                    Ok(it) => it.warning.is_some() || !self.is_custom(&it.triple),
+                    Err(refusal) => refusal.has_begun(),
+                };
+                if !is_clear && !matches!(is, WordIs::Misspelled(_)) && is_near_name(text) {
+                    return Err(Refusal::unknown_to_all(text));
+                }
+                parsed.map(|it| Meant::Triple(self.completed(it.triple), it.warning))
+            }
+        }
+    }
+
+    /// Whether a triple has a custom vendor that isn't meant.
+    fn is_custom(&self, triple: &TripleRef<'_>) -> bool {
+        let is_meant = |it: &str| is_vendor_of_rustc(it) || self.vendors.iter().any(|of| of == it);
+        matches!(triple.vendor, VendorRef::Custom(it) if !is_meant(it))
     }
 
     /// The triple of a string that is one, or is spelled like one if that is asked; and a warning.
@@ -120,9 +172,7 @@ impl Reader {
     pub fn libc_for(&self, triple: TripleRef<'_>) -> Option<LinuxLibc> {
         let is_windows = triple.operating_system == OperatingSystem::Windows;
         let mut libcs = self.libcs.iter().copied();
-        libcs
-            .find(|it| is_of_windows(it.name()) == is_windows)
-            .or(self.libc)
+        libcs.find(|it| is_of_windows(it.name()) == is_windows).or(self.libc)
     }
 
     /// Remembers that the C library is needed, which is only asked as long as it wasn't.
@@ -136,13 +186,4 @@ impl Reader {
     pub fn needless_libc(&self) -> Option<LinuxLibc> {
         self.libc.filter(|_| !self.needs_libc.get())
     }
-}
-
-/// That other tools mean a target by a string, as GNU and LLVM tools print it, if that has a known vendor and a system.
-pub fn note_of_others(text: &str) -> Option<String> {
-    let triple = read(text).ok()?;
-    let is_target =
-        !triple.vendor.is_custom() && triple.operating_system != OperatingSystem::Unknown;
-    let meant = canonical(triple);
-    is_target.then(|| format!("other tools mean `{meant}`, which `target-lexicon settle --from llvm` gives"))
 }

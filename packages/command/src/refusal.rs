@@ -3,10 +3,10 @@ use crate::fields::key_of;
 use crate::help::Help;
 use crate::input::{Place, Target};
 use crate::json::{Json, Object};
+use crate::shown::{show, visible, Page};
 use std::fmt;
-use std::io::{self, Write};
+use std::io;
 use target_lexicon::{Field, TextPart, TripleRef};
-pub use target_names::visible;
 use target_names::{Dialect, NameError, WriteError, SHOWN};
 
 pub struct Refusal<'a> {
@@ -34,26 +34,15 @@ pub enum Names<'a> {
 /// Why a tool has no name for a triple, with the option that would help.
 pub fn reason(error: WriteError) -> &'static str {
     match error {
-        WriteError::NeedsCLibrary => {
-            "it depends on the C library: use `--libc glibc` or `--libc musl`"
-        }
-        WriteError::NeedsWindowsAbi => {
-            "it depends on the ABI of Windows: use `--libc msvc`, `mingw` or `gnullvm`"
-        }
+        WriteError::NeedsCLibrary => "it depends on the C library: use `--libc glibc` or `--libc musl`",
+        WriteError::NeedsWindowsAbi => "it depends on the ABI of Windows: use `--libc msvc`, `mingw` or `gnullvm`",
         other => other.reason(),
     }
 }
 
 impl<'a> Refusal<'a> {
     fn new(error: impl Into<String>, part: TextPart<'a>) -> Self {
-        Refusal {
-            is_warning: false,
-            error: error.into(),
-            field: None,
-            part,
-            names: Names::No,
-            reason: None,
-        }
+        Refusal { is_warning: false, error: error.into(), field: None, part, names: Names::No, reason: None }
     }
 
     fn of_all(error: impl Into<String>, text: &'a str) -> Self {
@@ -65,19 +54,12 @@ impl<'a> Refusal<'a> {
         Refusal {
             field: refusal.expected,
             names: Names::OfParts(refusal),
-            ..Refusal::new(
-                format!("unrecognized {}", name.replace('_', " ")),
-                refusal.part,
-            )
+            ..Refusal::new(format!("unrecognized {}", name.replace('_', " ")), refusal.part)
         }
     }
 
     pub fn of_vendor(triple: TripleRef<'a>, part: TextPart<'a>) -> Self {
-        Refusal {
-            field: Some(Field::Vendor),
-            names: Names::OfVendors(triple),
-            ..Refusal::new("custom vendor", part)
-        }
+        Refusal { field: Some(Field::Vendor), names: Names::OfVendors(triple), ..Refusal::new("custom vendor", part) }
     }
 
     /// A line with bytes that aren't UTF-8. It is shown with U+FFFD for them, of which the first is where it ends to be
@@ -89,10 +71,11 @@ impl<'a> Refusal<'a> {
     }
 
     pub fn into_warning(self) -> Self {
-        Refusal {
-            is_warning: true,
-            ..self
-        }
+        Refusal { is_warning: true, ..self }
+    }
+
+    pub fn into_error(self) -> Self {
+        Refusal { is_warning: false, ..self }
     }
 
     /// A name that a dialect doesn't have, or that has no triple.
@@ -104,101 +87,84 @@ impl<'a> Refusal<'a> {
             },
             NameError::WithoutTriple(why) => Refusal {
                 reason: Some(why),
-                ..Refusal::of_all(
-                    format!("no triple means the same as the name of {dialect}"),
-                    text,
-                )
+                ..Refusal::of_all(format!("no triple means the same as the name of {dialect}"), text)
             },
         }
     }
 
     /// A target that has no name in a dialect.
     pub fn of_written(text: &'a str, dialect: Dialect, error: WriteError) -> Self {
-        Refusal {
-            reason: Some(reason(error)),
-            ..Refusal::of_all(format!("no name of {dialect} for"), text)
-        }
+        Refusal { reason: Some(reason(error)), ..Refusal::of_all(format!("no name of {dialect} for"), text) }
     }
 
     /// A name that no tool has.
     pub fn unknown_to_all(text: &'a str) -> Self {
-        Refusal {
-            names: Names::OfAll(text),
-            ..Refusal::of_all("no tool has the name", text)
-        }
+        Refusal { names: Names::OfAll(text), ..Refusal::of_all("no tool has the name", text) }
     }
 }
 
 impl Refusal<'_> {
+    pub fn has_reason(&self) -> bool {
+        self.reason.is_some()
+    }
+
+    /// Whether the string is right up to a part.
+    pub fn has_begun(&self) -> bool {
+        self.part.start > 0
+    }
+
     /// Whether it is a name that a dialect doesn't have.
     pub fn is_unknown_name(&self) -> bool {
         matches!(self.names, Names::OfDialect(..))
     }
 
     /// The place, what is wrong, the target, and carets below the part.
-    pub fn write(
-        &self,
-        out: &mut dyn Write,
-        target: Target<'_>,
-        has_color: bool,
-        help: &Help,
-    ) -> io::Result<()> {
-        let color = |code: &str, text: &str| {
-            if has_color {
-                format!("\x1b[{code}m{text}\x1b[0m")
-            } else {
-                text.to_string()
-            }
-        };
+    pub fn write(&self, page: &mut Page<'_>, target: Target<'_>, has_color: bool, help: &Help) -> io::Result<()> {
+        let color = |code: &'static str| if has_color { (code, "\x1b[0m") } else { ("", "") };
+        let (bold, plain) = color("\x1b[1m");
         let (before, after) = target.text.split_at(self.part.start);
         let column = before.chars().count() + 1;
         let before = last(before);
         let part = visible(self.part.text).shortened().to_string();
         let after = visible(&after[self.part.text.len()..]).shortened();
-        if let Place::Line {
-            file,
-            number,
-            indent,
-        } = target.place
-        {
-            let place = format!("{}:{number}:{}: ", visible(file), indent + column);
-            write!(out, "{}", color("1", &place))?;
+        if let Place::Line { file, number, indent } = target.place {
+            show!(page, bold, visible(file), ":", number, ":", indent + column, ": ", plain)?;
         }
-        let (code, kind) = match self.is_warning {
-            false => ("1;31", "error:"),
-            true => ("1;35", "warning:"),
+        let ((code, _), kind) = match self.is_warning {
+            false => (color("\x1b[1;31m"), "error:"),
+            true => (color("\x1b[1;35m"), "warning:"),
         };
-        writeln!(out, "{} {} `{part}`", color(code, kind), self.error)?;
-        writeln!(out, "  {before}{part}{after}")?;
-        let carets = color(code, &"^".repeat(part.len().max(1))); // all shown is ASCII
-        write!(out, "  {}{carets}", " ".repeat(before.len()))?;
+        show!(page, code, kind, plain, " ", visible(&self.error), " `", visible(&part), "`\n")?;
+        show!(page, "  ", visible(&before), visible(&part), after, "\n")?;
+        let carets = "^".repeat(part.len().max(1)); // all shown is ASCII
+        show!(page, "  ", " ".repeat(before.len()), code, carets, plain)?;
         match (&help.suggestion, self.reason) {
             (Some(name), _) => {
-                let name = visible(name).to_string();
-                write!(out, " did you mean `{}`?", color("1;32", &name))?;
+                let (green, plain) = color("\x1b[1;32m");
+                show!(page, " did you mean `", green, visible(name), plain, "`?")?;
             }
-            (None, Some(reason)) => write!(out, " {reason}")?,
+            (None, Some(reason)) => show!(page, " ", reason)?,
             (None, None) => {}
         }
-        writeln!(out)?;
+        page.put("\n")?;
         match &help.note {
-            Some(note) => writeln!(out, "  {} {}", color("1", "note:"), visible(note)),
+            Some(note) => show!(page, "  ", bold, "note:", plain, " ", visible(note), "\n"),
             None => Ok(()),
         }
     }
 
     /// An annotation of a workflow of GitHub, which has the place in its properties.
-    pub fn annotate(&self, out: &mut dyn Write, target: Target<'_>, help: &Help) -> io::Result<()> {
+    pub fn annotate(&self, page: &mut Page<'_>, target: Target<'_>, help: &Help) -> io::Result<()> {
         let escaped = |text: &dyn fmt::Display| {
             let text = visible(text).shortened().to_string();
             text.replace('%', "%25").replace(':', "%3A").replace(',', "%2C")
         };
-        write!(out, "::{}", if self.is_warning { "warning" } else { "error" })?;
+        show!(page, "::", if self.is_warning { "warning" } else { "error" })?;
         if let Place::Line { file, number, indent } = target.place {
             let columns = |text: &str| text.chars().count();
             let column = indent + columns(&target.text[..self.part.start]) + 1;
             let end = column + columns(self.part.text);
-            write!(out, " file={},line={number},col={column},endColumn={end}", escaped(&file))?;
+            show!(page, " file=", escaped(&file), ",line=", number, ",col=", column, ",endColumn=", end)?;
         }
         let (part, text) = (visible(self.part.text).shortened(), visible(target.text).shortened());
         let mut said = format!("{} `{part}` of `{text}`", self.error);
@@ -211,7 +177,7 @@ impl Refusal<'_> {
             said += &format!(": {reason}");
         }
         said += &help.note.as_ref().map_or(String::new(), |note| format!(" ({})", visible(note)));
-        writeln!(out, "::{}", said.replace('%', "%25"))
+        show!(page, "::", said.replace('%', "%25"), "\n")
     }
 
     /// What is wrong, as the members of an object.

@@ -2,12 +2,13 @@
 use crate::calls::{Answer, Answered, Call};
 use crate::fault::Fault;
 use crate::help::Helper;
-use crate::input::{each_target, end_of_line, Answers, Target};
+use crate::input::{each_target, end_of_line, keeps_lines, Answers, Target};
 use crate::json::Json;
 use crate::output::Outputs;
 use crate::progress::{with_commas, Progress};
 use crate::reader::Reader;
 use crate::refusal::Refusal;
+use crate::shown::show;
 use clap::ArgMatches;
 use std::num::NonZeroUsize;
 
@@ -19,6 +20,7 @@ pub struct Run<'a> {
     progress: Progress,
     is_quiet: bool,
     end_of_line: u8,
+    keeps_lines: bool,
     /// How many targets are refused at most, before the run ends.
     max_errors: Option<NonZeroUsize>,
 }
@@ -29,10 +31,7 @@ impl Answers for Run<'_> {
         match self.call.answer(target, &self.reader) {
             Ok(_) if self.is_quiet => Ok(()),
             Err(_) if self.is_quiet => Err(Fault::Refused),
-            Ok(Answered {
-                answer,
-                warning: Some(warning),
-            }) => self.warn(target, &warning, answer.as_deref()),
+            Ok(Answered { answer, warning: Some(warning) }) => self.warn(target, &warning, answer.as_deref()),
             Ok(Answered { answer, .. }) => answer.map_or(Ok(()), |it| self.write(target, &*it)),
             Err(refusal) => self.refuse(target, &refusal),
         }
@@ -44,6 +43,18 @@ impl Answers for Run<'_> {
             return Err(Fault::Refused);
         }
         self.refuse(target, &Refusal::not_utf8(target.text, start))
+    }
+
+    fn skip_line(&mut self) -> Result<(), Fault> {
+        if !self.keeps_lines {
+            return Ok(());
+        }
+        let end = self.end_of_line;
+        self.outputs.write(|page| page.put(if end == 0 { "\0" } else { "\n" }))
+    }
+
+    fn skip_binary(&mut self) {
+        self.progress.binary += 1;
     }
 
     fn pause(&mut self) -> Result<(), Fault> {
@@ -63,6 +74,7 @@ impl<'a> Run<'a> {
             progress: Progress::new(),
             is_quiet: arguments.get_flag("quiet"),
             end_of_line: end_of_line(arguments),
+            keeps_lines: keeps_lines(arguments),
             max_errors: arguments.get_one("max-errors").copied(),
         }
     }
@@ -73,17 +85,11 @@ impl<'a> Run<'a> {
             members.extend(answer.members());
             return self.outputs.object(members);
         }
-        self.outputs
-            .answer(self.end_of_line, |out| answer.write(out))
+        self.outputs.answer(self.end_of_line, |page| answer.write(page))
     }
 
     /// Shows a warning before the answer; in an object, it is the last member.
-    fn warn(
-        &mut self,
-        target: Target<'_>,
-        warning: &Refusal<'_>,
-        answer: Option<&dyn Answer>,
-    ) -> Result<(), Fault> {
+    fn warn(&mut self, target: Target<'_>, warning: &Refusal<'_>, answer: Option<&dyn Answer>) -> Result<(), Fault> {
         if self.outputs.has_objects() && self.call.has_refused_objects() {
             let help = self.helper.help(target, warning);
             let mut members = target.members();
@@ -99,10 +105,9 @@ impl<'a> Run<'a> {
     fn show(&mut self, target: Target<'_>, refusal: &Refusal<'_>) -> Result<(), Fault> {
         let help = self.helper.help(target, refusal);
         if self.outputs.has_annotations() {
-            return self.outputs.write(|out| refusal.annotate(out, target, &help));
+            return self.outputs.write(|page| refusal.annotate(page, target, &help));
         }
-        self.outputs
-            .refuse(|out, has_color| refusal.write(out, target, has_color, &help))
+        self.outputs.refuse(|page, has_color| refusal.write(page, target, has_color, &help))
     }
 
     fn refuse(&mut self, target: Target<'_>, refusal: &Refusal<'_>) -> Result<(), Fault> {
@@ -112,8 +117,12 @@ impl<'a> Run<'a> {
             let mut members = target.members();
             members.extend(refusal.members(&help));
             self.outputs.object(members)?;
-        } else {
+        }
+        if !self.outputs.has_objects() || !self.call.has_refused_objects() || self.call.shows_refused() {
             self.show(target, refusal)?;
+        }
+        if !self.outputs.has_objects() {
+            self.skip_line()?;
         }
         match self.max_errors {
             Some(count) if self.progress.refused >= count.get() => Err(Fault::Refused),
@@ -130,44 +139,45 @@ impl<'a> Run<'a> {
             return Err(fault);
         }
         let is_refused = self.progress.refused > 0;
-        self.call
-            .end(&mut self.outputs, !is_refused && !self.is_quiet)?;
-        self.note_libc()?;
+        self.call.end(&mut self.outputs, !is_refused && !self.is_quiet)?;
+        self.note()?;
         self.summarize(false)?;
         Ok(i32::from(is_refused))
     }
 
-    /// Says so if each answer is the same without the C library that the user says.
-    fn note_libc(&mut self) -> Result<(), Fault> {
-        let has_answer = self.progress.targets > self.progress.refused && !self.is_quiet;
-        let Some(libc) = self.reader.needless_libc().filter(|_| has_answer) else {
-            return Ok(());
-        };
-        let note =
-            format!("note: `--libc {libc}` isn't needed: without it the answers are the same");
-        self.outputs.refuse(|out, _| writeln!(out, "{note}"))?;
+    /// Says what wasn't understood or read, and whether each answer is the same without the C library that is said.
+    fn note(&mut self) -> Result<(), Fault> {
+        let has_answer = self.progress.targets > self.progress.refused;
+        let libc = self.reader.needless_libc().filter(|_| has_answer);
+        let libc = libc.map(|it| format!("`--libc {it}` isn't needed: without it the answers are the same"));
+        let binary = self.progress.binary;
+        let files = (binary > 0).then(|| format!("{binary} binary file{} not read", if binary > 1 { "s" } else { "" }));
+        let unclear = self.reader.unclear.get();
+        let words = (unclear > 0).then(|| {
+            let (words, are) = match unclear {
+                1 => ("word that may be a target", "isn't"),
+                _ => ("words that may be targets", "aren't"),
+            };
+            format!("{unclear} {words} {are} understood: --strict shows each")
+        });
+        for note in words.into_iter().chain(files).chain(libc).filter(|_| !self.is_quiet) {
+            self.outputs.refuse(|page, _| show!(page, "note: ", note, "\n"))?;
+        }
         self.outputs.flush()
     }
 
     /// Of many targets, how many were refused, as the last line of the messages; and whether there may be more, since
     /// the run ended with the last of `--max-errors`.
     fn summarize(&mut self, is_cut: bool) -> Result<(), Fault> {
-        let Progress {
-            targets, refused, ..
-        } = self.progress;
+        let Progress { targets, refused, .. } = self.progress;
         self.progress.end()?;
         let in_json = self.outputs.has_objects() && self.call.has_refused_objects();
         if self.is_quiet || refused == 0 || !is_cut && (targets < 2 || in_json) {
             return Ok(());
         }
         let (refused, targets) = (with_commas(refused), with_commas(targets));
-        let cut = if is_cut {
-            "; ended there, as --max-errors says"
-        } else {
-            ""
-        };
-        self.outputs
-            .refuse(|out, _| writeln!(out, "{refused} of {targets} targets refused{cut}"))?;
+        let cut = if is_cut { "; ended there, as --max-errors says" } else { "" };
+        self.outputs.refuse(|page, _| show!(page, refused, " of ", targets, " targets refused", cut, "\n"))?;
         self.outputs.flush()
     }
 }

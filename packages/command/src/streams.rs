@@ -19,10 +19,7 @@ pub fn file(path: &Path) -> io::Result<Input> {
 }
 
 fn of_file(file: File) -> Input {
-    Input {
-        is_output: system::is_output(&file),
-        reader: Box::new(file),
-    }
+    Input { is_output: system::is_output(&file), reader: Box::new(file) }
 }
 
 pub use system::{standard_error, standard_input, standard_output};
@@ -86,10 +83,7 @@ mod system {
     use std::io::{self, Write};
 
     pub fn standard_input() -> io::Result<Input> {
-        Ok(Input {
-            is_output: false,
-            reader: Box::new(io::stdin()),
-        })
+        Ok(Input { is_output: false, reader: Box::new(io::stdin()) })
     }
 
     pub fn standard_output() -> Box<dyn Write> {

@@ -2,7 +2,7 @@
 use crate::arguments::command;
 use crate::fault::Fault;
 use crate::output::{write_only, Outputs};
-use crate::refusal::visible;
+use crate::shown::visible;
 use clap::error::{ContextKind, ContextValue, ErrorKind};
 use std::env;
 use target_lexicon::TripleRef;
@@ -11,15 +11,15 @@ use target_lexicon::TripleRef;
 pub fn show(error: &clap::Error) -> Result<i32, Fault> {
     let note = target_note(error);
     let mut text = usage_text(error);
-    if note.contains("use `") || note.contains(" now") {
+    if note.contains("use `") {
         text = without_guess(&text);
     }
     text += &note;
     if !error.use_stderr() {
-        return write_only(|out| out.write_all(text.as_bytes()));
+        return write_only(|page| page.lines(&text));
     }
     let mut outputs = Outputs::plain();
-    outputs.refuse(|out, _| out.write_all(text.as_bytes()))?;
+    outputs.refuse(|page, _| page.lines(&text))?;
     outputs.flush()?;
     Ok(2)
 }
@@ -38,13 +38,10 @@ fn usage_text(error: &clap::Error) -> String {
 /// The text without the name that is spelled most like the wrong one, where the note says what is meant.
 fn without_guess(text: &str) -> String {
     let lines = text.split_inclusive('\n');
-    lines
-        .filter(|line| !line.trim_start().starts_with("Did you mean"))
-        .collect()
+    lines.filter(|line| !line.trim_start().starts_with("Did you mean")).collect()
 }
 
-/// What does now what a word did that was a subcommand before, or what else the user may have meant by one that is
-/// none.
+/// What the user may have meant by a word that isn't one of the command's.
 fn target_note(error: &clap::Error) -> String {
     let context = |kind| match error.get(kind) {
         Some(ContextValue::String(text)) => text.as_str(),
@@ -57,16 +54,7 @@ fn target_note(error: &clap::Error) -> String {
         ErrorKind::UnknownArgument => ("option", option),
         _ => return String::new(),
     };
-    let now = match (kind, word) {
-        ("", "write") => "translate --to DIALECT",
-        ("", "elsewhere") => "what",
-        ("", "read") => "settle --from llvm",
-        ("", "host") => "settle --from gnu \"$(cc -dumpmachine)\"",
-        ("", "manual") => "--manual",
-        ("--from <DIALECT>", "any") => "what",
-        _ => return other_note(kind, word),
-    };
-    format!("\n`{word}` is `target-lexicon {now}` now\n")
+    other_note(kind, word)
 }
 
 /// The dialect that a word means, though it isn't its name.
@@ -102,7 +90,7 @@ fn other_note(kind: &str, word: &str) -> String {
         ("--to <DIALECT>", "clang" | "llvm") => "`target-lexicon facts`, whose `llvm_target` it is",
         ("--from <DIALECT>" | "--to <DIALECT>", tool) => dialect_meant(tool),
         ("option", "--from") => "`what`, or `check`, `facts`, `matrix`, `settle` or `translate`, which have it",
-        ("option", "--field" | "--fields") => "`--json`, and a tool such as jq for one member",
+        ("option", "--field" | "--fields") => "`--get` of `facts`",
         _ => "",
     };
     let mut note = String::new();

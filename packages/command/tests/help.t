@@ -24,20 +24,6 @@ Arguments that are wrong have the status 2, and say what is right:
   $ target-lexicon -- > /dev/null
   [2]
 
-An old word is answered with the new one:
-
-  $ for word in write read elsewhere host manual; do target-lexicon $word avr | tail -n 1; done
-  ! `write` is `target-lexicon translate --to DIALECT` now
-  ! `read` is `target-lexicon settle --from llvm` now
-  ! `elsewhere` is `target-lexicon what` now
-  ! `host` is `target-lexicon settle --from gnu "$(cc -dumpmachine)"` now
-  ! `manual` is `target-lexicon --manual` now
-  $ target-lexicon settle --from any avr | tail -n 1
-  ! `any` is `target-lexicon what` now
-  $ target-lexicon names any | grep -c now
-  0
-  [1]
-
 A word that people try has the right one, and the subcommands follow; nothing is suggested that only looks like it:
 
   $ for word in parse info show list validate lint normalize canonical convert version; do target-lexicon $word avr | grep '^! For `'; done
@@ -71,7 +57,7 @@ A word that people try has the right one, and the subcommands follow; nothing is
   $ said explain --from go linux/amd64
   ! For `--from` use `what`, or `check`, `facts`, `matrix`, `settle` or `translate`, which have it
   $ said facts --field pointer_width avr
-  ! For `--field` use `--json`, and a tool such as jq for one member
+  ! For `--field` use `--get` of `facts`
 
 ## The manual and the completions have the commands and their options, and the help of each has an example
 

@@ -58,6 +58,9 @@ What is read as other names is shown if it is asked, and always in JSON:
   x86_64-unknown-linux-gnu
   $ target-lexicon settle --changes --json x86_64-mingw32 amd64-pc-foo
   [{"target":"x86_64-mingw32","file":null,"line":null,"canonical":"x86_64-unknown-windows-gnu","changes":[{"part":"mingw32","start":7,"end":14,"read_as":"windows-gnu"}]},{"target":"amd64-pc-foo","file":null,"line":null,"error":"unrecognized operating system","part":"foo","start":9,"end":12,"field":"operating_system","suggestion":null,"note":null}]
+  ! error: unrecognized operating system `foo`
+  !   amd64-pc-foo
+  !            ^^^
   [1]
   $ target-lexicon settle --from oci --changes linux/arm > /dev/null
   [2]
@@ -175,31 +178,36 @@ The names of each dialect are listed, and are read:
   $ target-lexicon translate --to go --json x86_64-apple-darwin
   [{"target":"x86_64-apple-darwin","file":null,"line":null,"name":"darwin/amd64"}]
 
-A version is one or two numbers, and of several each target gets the one that fits, of which there are no two:
+A version is one or two numbers, of a C library or a system by its name; one of another system never applies:
 
   $ python() { target-lexicon translate --to python "$@"; }
-  $ python --with-version 2.17,1.2,11 x86_64-unknown-linux-gnu aarch64-unknown-linux-musl arm64-apple-darwin i686-pc-windows-msvc
+  $ versions='--glibc 2.17 --musl 1.2 --macos 11 --ios 17 --android 21 --freebsd 14.1'
+  $ python $versions x86_64-unknown-linux-gnu aarch64-unknown-linux-musl arm64-apple-darwin arm64-apple-ios aarch64-linux-android x86_64-unknown-freebsd i686-pc-windows-msvc
   manylinux_2_17_x86_64
   musllinux_1_2_aarch64
   macosx_11_0_arm64
+  ios_17_0_arm64_iphoneos
+  android_21_arm64_v8a
+  freebsd_14_1_RELEASE_amd64
   win32
-  $ for versions in 2.17,2.28 '2.17 --with-version 2.28' 1.1,11,1.2 11,21,21.0; do python --with-version $versions avr | head -n 1; done
-  ! error: `--with-version 2.17` and `--with-version 2.28` can't be used together
-  ! error: `--with-version 2.17` and `--with-version 2.28` can't be used together
-  ! error: `--with-version 1.1` and `--with-version 1.2` can't be used together
-  ! error: `--with-version 11.0` and `--with-version 21.0` can't be used together
-  $ python --with-version 2.17 --with-version 2.17 x86_64-unknown-linux-gnu
-  manylinux_2_17_x86_64
-  $ python --with-version 2.17 --libc glibc aarch64-linux
+  $ python --glibc 2.17 --glibc 2.28 avr | head -n 1
+  ! error: `--glibc 2.17` and `--glibc 2.28` can't be used together
+  $ python --macos 11 --musl 1.2 x86_64-unknown-linux-gnu
+  linux_x86_64
+  $ python --glibc 2.17 x86_64-unknown-freebsd aarch64-apple-ios | grep -c 'the name states a version'
+  2
+  $ python --glibc 2.17 --libc glibc aarch64-linux
   manylinux_2_17_aarch64
-  $ python --with-version 2.17 --from rust x86_64-unknown-linux-gnu
+  $ python --glibc 2.17 --from rust x86_64-unknown-linux-gnu
   manylinux_2_17_x86_64
-  $ python --with-version 2.17 aarch64-linux | tail -n 1
+  $ python --glibc 2.17 --from oci --libc glibc linux/amd64
+  manylinux_2_17_x86_64
+  $ python --glibc 2.17 aarch64-linux | tail -n 1
   !   ^^^^^^^^^^^^^ it depends on the C library: use `--libc glibc` or `--libc musl`
   $ python arm64-apple-macosx11
   macosx_11_0_arm64
   $ for version in 2.17.1 2. '' x 65536 2.256 +2.17; do
-  >   python --with-version "$version" avr | grep -c 'a version has one or two numbers, such as 2.17 or 21: the first up to 65535, the second up to 255'
+  >   python --glibc "$version" avr | grep -c 'a version has one or two numbers, such as 2.17 or 21: the first up to 65535, the second up to 255'
   > done | uniq -c
         7 1
 
@@ -218,7 +226,7 @@ A C library that changes nothing is noted, unless nothing is answered or asked:
   > facts --libc glibc x86_64-linux-gnu
   > translate --from oci --to rust --libc glibc darwin/arm64 linux/amd64
   > translate --to node --libc musl x86_64-linux
-  > translate --to python --with-version 2.17 --libc glibc aarch64-linux
+  > translate --to python --glibc 2.17 --libc glibc aarch64-linux
   > settle --from go --libc msvc windows/amd64
   > what --libc musl linux/amd64
   > settle --quiet --libc glibc x86_64-linux-gnu
@@ -278,7 +286,7 @@ A C library that changes nothing is noted, unless nothing is answered or asked:
   >   target-lexicon what --json $name | jq -r '.[].meanings[0].note'
   > done
   `appel` is a custom vendor; did you mean `apple`?
-  `osx` is a custom vendor; did you mean `aarch64-apple-darwin`?
+  `osx` is a custom vendor
   `redhat` is a custom vendor
   null
 
@@ -297,7 +305,7 @@ Targets of rustc are meant as they are:
   !   note: capital letters matter
   [1]
   $ said() { jq -r '.[] | "\(.suggestion // "-")|\(.note // "-")"'; }
-  $ mistake() { echo "$1|$2|$(target-lexicon settle --json --from "$1" "$2" | said | sed 's/it is a triple, which .* take/TRIPLE/')"; }
+  $ mistake() { echo "$1|$2|$(command target-lexicon settle --json --from "$1" "$2" 2> /dev/null | said | sed 's/it is a triple, which .* take/TRIPLE/')"; }
   $ cat > mistakes << 'END'
   > go|Linux/AMD64|linux/amd64|capital letters matter
   > go|./linux/amd64|linux/amd64|it has a path
@@ -318,7 +326,6 @@ Targets of rustc are meant as they are:
   > rust|target/x86_64-unknown-linux-gnu/release|x86_64-unknown-linux-gnu|it has a path
   > rust|x86_64|-|it is a part of a name, such as `x86_64-unknown-linux-gnu`
   > node|linux/amd64|linux-x64|it is a name of go and oci
-  > node|turbo-linux-arm64|linux-arm64|another name comes before it
   > node|@foo/bar|-|-
   > node|win32-amd64|win32-x64|-
   > uname|Linux|-|it is a part of a name, such as `Linux x86_64`
@@ -334,17 +341,58 @@ Of names that no tool has:
 
   $ unknown() { echo "$1|$(target-lexicon what --json "$1" | said)"; }
   $ cat > unknown << 'END'
-  > Linux-AMD65|-|it names a system, and no single machine known here
   > linux/amd46|linux/amd64|-
   > x86_64-linux-gnuu|x86_64-linux-gnu|-
-  > macosArm64|aarch64-apple-darwin|its words name aarch64-apple-darwin
-  > alpine-linux-x64|x86_64-unknown-linux-musl|its words name x86_64-unknown-linux-musl
-  > FreeBSD:14:amd64|x86_64-unknown-freebsd|its words name x86_64-unknown-freebsd
-  > turbo-darwin-64|darwin-64|another name comes before it
-  > windows-11-arm|-|it names a system, and no single machine known here
-  > aarch64_cortex-a53|-|it names a machine, and no system known here
-  > ios-arm64_x86_64-simulator|-|it names several machines
-  > nios2-linux-gnu|-|as a triple: Unrecognized architecture: nios2
   > java|-|-
   > END
   $ same unknown unknown
+
+Names that no tool has, and what their words say:
+
+  $ cat > words << 'END'
+  > macosArm64
+  > alpine-linux-x64
+  > FreeBSD:14:amd64
+  > foo_linux_amd64v3.zip
+  > go1.22.1.darwin-arm64.pkg
+  > arm64-osx
+  > turbo-darwin-64
+  > Linux-AMD65
+  > linux/amr64
+  > windows-11-arm
+  > aarch64_cortex-a53
+  > ios-arm64_x86_64-simulator
+  > nios2-linux-gnu
+  > dotnet-sdk-8.0-linux-x64-foo
+  > END
+  $ target-lexicon what -f words | grep -v '^    '
+  macosArm64
+    is aarch64-apple-darwin, by its words
+  alpine-linux-x64
+    is x86_64-unknown-linux-musl, by its words
+  FreeBSD:14:amd64
+    is x86_64-unknown-freebsd, by its words
+  foo_linux_amd64v3.zip
+    is x86_64-unknown-linux of the level v3, by its words
+  go1.22.1.darwin-arm64.pkg
+    is aarch64-apple-darwin, by its words
+  arm64-osx
+    is aarch64-osx-unknown-elf, as triple
+    is aarch64-apple-darwin, by its words
+    is a name of gnu without a triple: triples have no system osx
+  turbo-darwin-64
+    is x86_64-apple-darwin, as node
+  Linux-AMD65
+    is known in part: it names a system, and no single machine known here
+  linux/amr64
+    is known in part: it names a system, and no single machine known here
+  windows-11-arm
+    is known in part: it names a system, and no single machine known here
+  aarch64_cortex-a53
+    is known in part: it names a machine, and no system known here
+  ios-arm64_x86_64-simulator
+    is known in part: it names several machines
+  nios2-linux-gnu
+    is known in part: it names a system, and no single machine known here
+  dotnet-sdk-8.0-linux-x64-foo
+    is known in part: its words say x86_64, linux; here nobody knows `foo`

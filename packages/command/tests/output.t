@@ -71,8 +71,11 @@ It is an array, or lines:
   $ printf 'z80\nfoo\nx86_64-linux\n' > lines
   $ target-lexicon settle --json -f lines
   [{"target":"z80","file":"lines","line":1,"canonical":"z80-unknown-unknown-elf"},{"target":"foo","file":"lines","line":2,"error":"unrecognized architecture","part":"foo","start":0,"end":3,"field":"architecture","suggestion":null,"note":null},{"target":"x86_64-linux","file":"lines","line":3,"canonical":"x86_64-unknown-linux"}]
+  ! lines:2:1: error: unrecognized architecture `foo`
+  !   foo
+  !   ^^^
   [1]
-  $ target-lexicon settle --json-lines -f lines | jq -c '[.line, .canonical]'
+  $ command target-lexicon settle --json-lines -f lines 2> /dev/null | jq -c '[.line, .canonical]'
   [1,"z80-unknown-unknown-elf"]
   [2,null]
   [3,"x86_64-unknown-linux"]
@@ -98,13 +101,31 @@ It is whole where the run ends early, too:
 
 A warning is a member of the object:
 
-  $ target-lexicon check --json aarch64-aple-darwin avr
-  [{"target":"aarch64-aple-darwin","file":null,"line":null,"warning":{"error":"custom vendor","part":"aple","start":8,"end":12,"field":"vendor","suggestion":"apple","note":null}}]
   $ target-lexicon settle --json aarch64-aple-darwin avr | jq -c '.[] | [.canonical, .warning.suggestion]'
   ["aarch64-aple-darwin","apple"]
   ["avr-unknown-unknown",null]
   $ target-lexicon matrix --json aarch64-aple-darwin | grep -c warning
   1
+
+`settle` can keep a line for each line:
+
+  $ printf 'z80\nfoo\n\n# all\navr\n' > kept; command target-lexicon settle --keep-lines -f kept 2> /dev/null | paste kept -
+  z80\tz80-unknown-unknown-elf (esc)
+  foo\t (esc)
+  \t (esc)
+  # all\t (esc)
+  avr\tavr-unknown-unknown (esc)
+
+One fact of each target:
+
+  $ target-lexicon facts --get pointer_width x86_64-linux avr hexagon wasm32-wasip1
+  64
+  16
+  32
+  32
+  $ target-lexicon facts --get c_library avr x86_64-linux-gnu
+  
+  glibc
 
 ## A matrix
 
@@ -153,7 +174,7 @@ If a target is refused or can't be read, there is none:
 
 ## Hostile targets
 
-What isn't printable ASCII is escaped, and doesn't change where carets are; `checks/visible` tries each character in all that is written:
+What isn't printable ASCII is escaped, and doesn't change where carets are; `checks/gate/visible` tries each character in all that is written:
 
   $ hostile=$(printf 'x86_64-\x1b[2J\xe2\x80\xaeb\xc2\x9b\x7f\xe2\x80\x8b\t\x27\\-linux')
   $ target-lexicon check "$hostile"
@@ -204,7 +225,7 @@ Time grows with the length of a list, and a name that is longer than any has no 
   $ timeout 60 "$(type -P target-lexicon)" settle --from debian < list | uniq -c
      2000 x86_64-unknown-linux-gnu
   $ { head -c 100000 /dev/zero | sed 's/\x00/-a_/g'; echo /linux-x46; } > name
-  $ timeout 60 "$(type -P target-lexicon)" what < name 2>&1 | grep -c 'no tool has the name\|did you mean'
+  $ timeout 60 "$(type -P target-lexicon)" what < name 2>&1 | grep -c 'is known in part'
   1
   $ yes z80 2> /dev/null | head -n 100000 | target-lexicon settle | uniq -c
    100000 z80-unknown-unknown-elf

@@ -31,6 +31,11 @@ A refused target is shown, with its place if it is a line. A byte order mark and
   !   ^^^
   [1]
 
+Dashes and quotes of a word processor have their form in ASCII:
+
+  $ target-lexicon settle '“x86_64‑linux–gnu”' | tail -n 1
+  !   note: with the dashes and quotes of ASCII it is `x86_64-linux-gnu`
+
 What was answered stays if another file isn't there:
 
   $ echo z80 > list
@@ -100,7 +105,7 @@ An argument that is the path of a file is a text, in which targets are found. A 
   > END
   $ printf '\xef\xbb\xbf# \xe9\r\n[toolchain]\r\ntargets = ["wasm32-wasip1", "x86_64-linux-gnuu"]\r\n' > rust-toolchain.toml
   $ target-lexicon check .github/workflows/*.yml rust-toolchain.toml
-  ! .github/workflows/release.yml:7:31: warning: custom vendor `aple`
+  ! .github/workflows/release.yml:7:31: error: custom vendor `aple`
   !   aarch64-aple-darwin
   !           ^^^^ did you mean `apple`?
   ! .github/workflows/release.yml:8:41: error: unrecognized environment `mscv`
@@ -112,15 +117,15 @@ An argument that is the path of a file is a text, in which targets are found. A 
   ! rust-toolchain.toml:3:43: error: unrecognized environment `gnuu`
   !   x86_64-linux-gnuu
   !                ^^^^ did you mean `gnu`?
-  ! 3 of 7 targets refused
+  ! 4 of 7 targets refused
   [1]
   $ target-lexicon check --format github .github/workflows/*.yml rust-toolchain.toml foo
-  ::warning file=.github/workflows/release.yml,line=7,col=31,endColumn=35::custom vendor `aple` of `aarch64-aple-darwin`: did you mean `apple`?
+  ::error file=.github/workflows/release.yml,line=7,col=31,endColumn=35::custom vendor `aple` of `aarch64-aple-darwin`: did you mean `apple`?
   ::error file=.github/workflows/release.yml,line=8,col=41,endColumn=45::unrecognized environment `mscv` of `x86_64-pc-windows-mscv`: did you mean `msvc`?
   ::error file=.github/workflows/release.yml,line=11,col=41,endColumn=52::no tool has the name `linux/amd46`: did you mean `linux/amd64`?
   ::error file=rust-toolchain.toml,line=3,col=43,endColumn=47::unrecognized environment `gnuu` of `x86_64-linux-gnuu`: did you mean `gnu`?
   ::error::unrecognized architecture `foo`
-  ! 4 of 8 targets refused
+  ! 5 of 8 targets refused
   [1]
   $ printf 'x86_64-linux\nfoo\n' > '100%:,'; target-lexicon check --format github '100%:,'; rm '100%:,'
   ::error file=100%25%3A%2C,line=2,col=1,endColumn=4::unrecognized architecture `foo`
@@ -133,13 +138,56 @@ An argument that is the path of a file is a text, in which targets are found. A 
   ! rust-toolchain.toml:3:30: error: unknown name of rust `x86_64-linux-gnuu`
   $ target-lexicon check nowhere.yml | tail -n 1
   !   note: no file has this name either
-  $ target-lexicon matrix .github | head -n 1
-  ! target-lexicon: .github: Is a directory (os error 21)
   $ printf 'x86_64-linux\n\0\n' > bytes; target-lexicon check bytes
-  ! target-lexicon: bytes:2: not a text in UTF-8
-  [3]
+  ! note: 1 binary file not read
   $ printf 'caf\xe9: x86_64-linux-gnuu\n' > bytes; target-lexicon check bytes | head -n 1
   ! bytes:1:20: error: unrecognized environment `gnuu`
+
+An unknown environment after a machine and a system is wrong, and so is what is one edit from any tool's name. What may be a target is counted. Names of tools are right, with something after them too, and labels of runners are no targets:
+
+  $ cat > words.yml << 'END'
+  > target: [arm-unknown-linux-gnueabhif, x86_64-unknown-linux-foo, x86_64-windwos-gnu, x86_64-pcc-cygwin]
+  > targets: [aarch64-macos, thumbv7em-none-eabi, x86_64-unknown-helenos]
+  > platform: [linux/aarch46, macos-14-large, "linux/am6d4"]
+  > x86_64-apple-darwin.runner = "qemu"
+  > END
+  $ target-lexicon check words.yml | grep -v '^!   '
+  ! words.yml:1:28: error: unrecognized environment `gnueabhif`
+  ! words.yml:1:60: error: unrecognized environment `foo`
+  ! words.yml:1:72: error: custom vendor `windwos`
+  ! words.yml:1:85: error: no tool has the name `x86_64-pcc-cygwin`
+  ! words.yml:3:44: error: no tool has the name `linux/am6d4`
+  ! note: 1 word that may be a target isn't understood: --strict shows each
+  ! 5 of 10 targets refused
+
+Of a folder the files are read, except links and what tools make. A list is what has targets in half of its lines:
+
+  $ mkdir -p repository/target; cd repository; touch target/CACHEDIR.TAG; ln -s /dev/zero zero; mkfifo pipe
+  $ printf 'x86_64-linux-gnuu\n' | tee target/built > made; printf 'dist\n*.o\nout\n' > .gitignore; echo 0.5.0 > VERSION
+  $ target-lexicon check . | grep error
+  ! ./made:1:14: error: unrecognized environment `gnuu`
+  $ target-lexicon check zero pipe
+  ! target-lexicon: zero: is neither a file nor a folder; `-f` reads its lines
+  [3]
+  $ cd ..
+
+`settle` and `matrix` of a text take what `check` takes:
+
+  $ target-lexicon settle words.yml | grep -v '^!  '
+  x86_64-windwos-unknown-gnu-elf
+  aarch64-apple-darwin
+  thumbv7em-none-eabi
+  x86_64-apple-darwin
+  ! words.yml:1:28: error: unrecognized environment `gnueabhif`
+  ! words.yml:1:60: error: unrecognized environment `foo`
+  ! words.yml:1:72: warning: custom vendor `windwos`
+  ! words.yml:1:85: error: no tool has the name `x86_64-pcc-cygwin`
+  ! words.yml:2:47: error: no triple means the same as the name of rust `x86_64-unknown-helenos`
+  ! words.yml:3:44: error: no tool has the name `linux/am6d4`
+  ! note: 1 word that may be a target isn't understood: --strict shows each
+  ! 5 of 10 targets refused
+  $ printf 'platform: linux/amd64\n' > one.yml; target-lexicon matrix one.yml | cut -f 1,2
+  x86_64-unknown-linux\tlinux/amd64 (esc)
 
 ## Comments
 
@@ -266,7 +314,7 @@ One that resembles a name is a warning of three calls, and refused if that is as
   settle: ! warning: custom vendor `linx`
   !   x86_64-linx
   !          ^^^^ did you mean `linux`?
-  check: ! warning: custom vendor `linx`
+  check: ! error: custom vendor `linx`
   !   x86_64-linx
   !          ^^^^ did you mean `linux`?
   matrix: ! warning: custom vendor `linx`

@@ -61,11 +61,23 @@ export function namesAtLevel({ ParseError, translate }, text, { triple, tools: [
   return { names, reasons };
 }
 
+/** What a name means: each triple at a level, with those that mean it, and the reasons of those that mean none. */
+export function meaningsOf({ Triple, meanings }, text) {
+  const found = new Map(), withoutTriple = {};
+  for (const { dialect, triple, reason, level } of meanings(text)) {
+    if (triple === null) withoutTriple[dialect] = reason;
+    else {
+      const key = `${triple} ${level}`, tool = dialect ?? (Triple.tryParse(text) ? "triple" : "spelling");
+      found.set(key, { triple, level, tools: [...found.get(key)?.tools ?? [], tool] });
+    }
+  }
+  return { found: [...found.values()], withoutTriple };
+}
+
 /** Of what a name means; `libcs` are the chosen C libraries, of Linux and of Windows. */
 export function namesEntry(lexicon, text, written, libcs) {
-  const { DIALECTS, meanings } = lexicon, hasChosenLibc = libcs.some((it) => ["glibc", "musl"].includes(it)),
-    { meanings: found, withoutTriple } = meanings(text), merged = new Map(),
-    order = ["triple", ...DIALECTS, "spelling"];
+  const hasChosenLibc = libcs.some((it) => ["glibc", "musl"].includes(it)), merged = new Map(),
+    { found, withoutTriple } = meaningsOf(lexicon, text), order = ["triple", ...lexicon.DIALECTS, "spelling"];
   for (const meaning of found) {
     const { triple, level, tools } = meaning, it = libcs.reduce((it, libc) => it.complete(libc), triple),
       { canonical } = it, key = `${canonical} ${level}`;

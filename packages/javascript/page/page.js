@@ -2,7 +2,7 @@
 // entries.mjs and this file into one script.
 import { DIALECTS, FIELDS, WRITTEN } from "../src/names.js";
 import { ParseError, Triple, load, meanings, targetsIn, translate } from "../src/target-lexicon.js";
-import { factsEntry, namesAndReasons, namesAtLevel, namesEntry, versionOf } from "./entries.mjs";
+import { factsEntry, meaningsOf, namesAndReasons, namesAtLevel, namesEntry, versionOf } from "./entries.mjs";
 import { found } from "./search.mjs";
 
 const LABELS = {
@@ -190,8 +190,8 @@ function detailCells(triple, text, meaning) {
 }
 
 /** What a name means. That a single word is a bare machine to GNU nobody means who has the name from another tool. */
-function meaningsOf(text) {
-  const { meanings: found, withoutTriple } = meanings(text),
+function meantBy(text) {
+  const { found, withoutTriple } = meaningsOf({ Triple, meanings }, text),
     isBare = ({ tools }) => !text.includes("-") && tools.every((it) => it === "gnu");
   const isNamed = Object.keys(withoutTriple).length > 0 || found.some((it) => !isBare(it));
   return { found: isNamed ? found.filter((it) => !isBare(it)) : found, withoutTriple };
@@ -340,7 +340,7 @@ function refusedRow({ text, error, fields, suggestion }, meant) {
 }
 
 function rowOf(text) {
-  const explained = Triple.explain(text), meant = meaningsOf(text);
+  const explained = Triple.explain(text), meant = meantBy(text);
   const row = !explained.error ? parsedRow(explained, meant) : meant.found.length ? namedRow(text, meant)
     : refusedRow(explained, meant);
   row.target = text;
@@ -367,7 +367,10 @@ async function replaceTarget(text, fixed) {
   const item = targetsIn(field.value).find((it) => it.text === text);
   if (!item) return;
   const place = rowsInSight().findIndex((row) => row.target === text);
-  field.setRangeText(fixed, item.start, item.end);
+  field.focus();
+  field.setSelectionRange(item.start, item.end);
+  // By typing, so that undo takes it back; an engine that can't leaves undo with what it was.
+  if (!document.execCommand("insertText", false, fixed)) field.setRangeText(fixed, item.start, item.end);
   await edited(true);
   const rows = rowsInSight(), next = rows[Math.min(place, rows.length - 1)];
   const head = (next && next.kind !== "other" ? next : rows.find((row) => row.target === fixed))?.firstChild;
@@ -528,7 +531,14 @@ function followLink() {
     if (byId(id).selectedIndex < 0) byId(id).value = "";
   }
   unread = [];
-  if (isLongLink()) return;
+  if (query.has("q")) {
+    byId("search").value = query.get("q");
+    search();
+  }
+  if (isLongLink()) {
+    field.value = history.state?.text ?? ""; // then what is shown is why
+    return;
+  }
   for (const item of location.hash.slice(1).split(",").filter(Boolean)) {
     try {
       lines.push(decodeURIComponent(item));
@@ -536,7 +546,7 @@ function followLink() {
       unread.push(item);
     }
   }
-  field.value = location.href.includes("#") ? lines.join("\n") : field.defaultValue;
+  field.value = history.state?.text ?? (location.href.includes("#") ? lines.join("\n") : field.defaultValue);
   linked = location.href;
 }
 
@@ -557,12 +567,12 @@ function edited(isPage = false) {
   stopLinking();
   linked = linkOf(linesOf(field.value)) ?? pageUrl() + chosen();
   if (isPage) {
-    if (isWaiting) history.replaceState(null, "", before);
-    history.pushState(null, "", linked);
+    if (isWaiting) history.replaceState(history.state, "", before);
+    history.pushState({ text: field.value }, "", linked);
   } else {
     linking = setTimeout(() => {
       stopLinking();
-      history.replaceState(null, "", linked);
+      history.replaceState({ text: field.value }, "", linked);
     }, 400);
   }
   return show();
@@ -573,7 +583,7 @@ let known; // the targets, with their names in all tools
 /** Shows the targets that the words of the search are about, which a click adds to the list. */
 function search() {
   known ??= new Map(TARGETS.map((target) => [target, Object.values(Triple.parse(target).names()).filter(Boolean)]));
-  const all = found(byId("search").value, known);
+  const { targets: all, unknown } = found(byId("search").value, known);
   const offers = all.slice(0, MOST_FOUND).map((target) => {
     const button = element("button", { type: "button", class: "offer", "aria-label": `Add ${target}` }, target);
     button.addEventListener("click", () => {
@@ -584,7 +594,8 @@ function search() {
   });
   const more = all.length - offers.length;
   const none = !all.length && byId("search").value.trim() ? [dim("no target has all these words")] : [];
-  byId("found").replaceChildren(...offers, ...(more > 0 ? [dim(`and ${more} more`)] : none));
+  const words = unknown.map((word) => dim(`no target is about ${shown(word)}`));
+  byId("found").replaceChildren(...offers, ...(more > 0 ? [dim(`and ${more} more`)] : none), ...words);
 }
 
 async function copy(button, text, said) {
@@ -615,8 +626,9 @@ function copyLink(button) {
 
 /** Empties the text field, where the focus then is. */
 function clear() {
-  field.value = "";
   field.focus();
+  field.select();
+  if (!document.execCommand("delete")) field.value = "";
   return edited(true);
 }
 

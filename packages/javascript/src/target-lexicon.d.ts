@@ -28,6 +28,10 @@ export interface Version {
 }
 
 /** A version as an argument. */
+/** Versions that names state, of a C library or a system: of Android its API level, of Windows its build. */
+export type NamedVersions = Partial<Record<"glibc" | "musl" | "macos" | "ios" | "android" | "freebsd" | "netbsd" |
+  "openbsd" | "dragonfly" | "windows", GivenVersion>>;
+
 export type GivenVersion = {
   readonly major: number;
   readonly minor?: number | undefined;
@@ -88,10 +92,7 @@ export class ParseError extends Error {
   readonly part: string;
   readonly start: number;
   readonly end: number;
-  /**
-   * The known name that the part may mean; of an unknown name in a dialect, the nearest of its names. It is looked for
-   * when it is read.
-   */
+  /** The known name that the part may mean; of an unknown name in a dialect, the nearest of its names. */
   readonly suggestion: string | null;
   /** Why a name of a dialect means no triple, or isn't translated, and what would help; null for any other string. */
   readonly reason: string | null;
@@ -99,8 +100,7 @@ export class ParseError extends Error {
   readonly needsLibc: boolean;
   /**
    * What was expected, the string below it, and carets below the refused part, with the suggestion or the reason. What
-   * isn't printable ASCII is escaped. The `message` is this, and which call reads a name of another tool; it is made
-   * when it is read.
+   * isn't printable ASCII is escaped. The `message` is this, and which call reads a name of another tool.
    */
   readonly report: string;
   /** All of the above except the report, and `name` and `message`: what `JSON.stringify` writes. */
@@ -153,15 +153,15 @@ export class Triple {
   toJSON(): string;
   /**
    * The name in a dialect, or null if it has none. The vendor doesn't matter, nor what the dialect doesn't name; byte
-   * order, pointer width and object format do. With a version, the name states it, as some of Python's do: of glibc,
-   * musl, macOS, or Android's API level. `manylinux_2_17_x86_64` has the version `{ major: 2, minor: 17 }`.
+   * order, pointer width and object format do. Versions are those that names state, as some of Python's do:
+   * `manylinux_2_17_x86_64` has `{ glibc: { major: 2, minor: 17 } }`. One of another system never applies.
    */
-  nameIn(dialect: Dialect, version?: GivenVersion): string | null;
+  nameIn(dialect: Dialect, versions?: NamedVersions): string | null;
   /**
    * Why `nameIn` has no name for these arguments, and what would help: `it depends on the C library: say glibc or
    * musl`. Null if it has one.
    */
-  reasonWithoutName(dialect: Dialect, version?: GivenVersion): string | null;
+  reasonWithoutName(dialect: Dialect, versions?: NamedVersions): string | null;
   /** The names in all dialects, with null for those that have none. */
   names(): Record<(typeof DIALECTS)[number], string | null>;
   /**
@@ -195,31 +195,28 @@ export class Triple {
  * Python don't: from one of the latter to one of the former, say `libc`. Throws a ParseError if the name isn't read, or
  * what it means has no name.
  */
-export function translate(name: string, from: Dialect | null, to: Dialect, libc?: LinuxLibc | null): string;
+export function translate(name: string, from: Dialect | null, to: Dialect, libc?: LinuxLibc | null,
+  versions?: NamedVersions | null): string;
 
-/**
- * What a name means: each triple, with those that mean it, and the reason of each dialect that has the name for no
- * triple.
- */
-export interface Meanings {
+/** What a string means to a tool that has it as a name; without a dialect, as a triple or as one that is spelled so. */
+export interface Meaning {
+  readonly dialect: (typeof DIALECTS)[number] | null;
+  /** The canonical triple, or null if no triple means the same. */
+  readonly triple: Triple | null;
+  /** Why no triple means the same, or null. */
+  readonly reason: string | null;
   /**
-   * `triple` is a string that parses, and `spelling` one that is spelled like a triple, as `Triple.read` reads it.
-   * `level` is that of the machine, which a triple can't state, such as `v3` of `linux/amd64/v3`: then `translate` has
-   * the other tools' names.
+   * The level of the machine, which a triple can't state, such as `v3` of `linux/amd64/v3`, or null: then `translate`
+   * has the other tools' names.
    */
-  readonly meanings: readonly {
-    readonly triple: Triple;
-    readonly level: string | null;
-    readonly tools: readonly ((typeof DIALECTS)[number] | "triple" | "spelling")[];
-  }[];
-  readonly withoutTriple: Readonly<Partial<Record<(typeof DIALECTS)[number], string>>>;
+  readonly level: string | null;
 }
 
 /**
- * What a name of any tool means, in canonical form; a string that nobody knows has no meaning. `triple.names()` has the
- * other tools' names.
+ * What a name of any tool means: as a triple, to each dialect that has it, and then as it is spelled. A string that
+ * nobody knows has no meaning. `triple.names()` has the other tools' names.
  */
-export function meanings(text: string): Meanings;
+export function meanings(text: string): Meaning[];
 
 /**
  * The targets in any text, such as a list, a workflow in YAML or a page in Markdown, each with its place: the words

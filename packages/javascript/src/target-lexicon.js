@@ -16,6 +16,7 @@ const FIRST = 0, SECOND = 20, LENGTH = 40, ANSWER = 44, ERROR = 48, FACTS = 64, 
 const SOURCE_TABLE = FACTS + ((FACTS_SIZE + 3) & ~3), TEXTS = SOURCE_TABLE + FIELDS.length * SOURCE_SIZE;
 const RANGE = ERROR + 4; // that of an error, or of a change
 const REASON = ERROR + 12; // why a name isn't read or translated
+const MAX_MEANINGS = 32, MEANING_SIZE = 32, MEANING_NOTE = 28; // of a struct after a dialect, a status and a triple
 const PAGE = 65536;
 const SHORT = 64; // up to here a loop over ASCII is faster than the encoder and the decoder
 const ROOM = 128; // the first try for a string that the module writes, beside a custom vendor
@@ -156,9 +157,9 @@ class Instance {
     return { start, used: at + size };
   }
 
-  /** The triple in the first struct. */
-  tripleAt() {
-    const { bytes, names, view } = this, start = this.base + FIRST;
+  /** The triple in the struct at a place, the first one. */
+  tripleAt(place = FIRST) {
+    const { bytes, names, view } = this, start = this.base + place;
     const numbers = {
       architecture: view.getUint16(start, true),
       vendor: bytes[start + 2],
@@ -168,7 +169,7 @@ class Instance {
     };
     const values = {
       architecture: names[0][numbers.architecture],
-      vendor: numbers.vendor === CUSTOM ? this.read(this.number(VENDOR), this.number(VENDOR + 4))
+      vendor: numbers.vendor === CUSTOM ? this.read(this.number(place + VENDOR), this.number(place + VENDOR + 4))
         : names[1][numbers.vendor],
       operatingSystem: names[2][numbers.operatingSystem],
       environment: names[3][numbers.environment],
@@ -279,11 +280,23 @@ function fullVersion(value) {
   return version;
 }
 
-/** The two numbers of a version that a name states. */
-function statedVersion(value) {
-  const { major, minor, patch } = fullVersion(value);
-  if (patch !== 0) throw new RangeError("a name states at most two numbers of a version");
-  return [major, minor];
+/** Of what names state versions, in the order of the struct. */
+const VERSIONS_OF = ["glibc", "musl", "macos", "ios", "android", "freebsd", "netbsd", "openbsd", "dragonfly",
+  "windows"];
+
+/** Where the versions that a name states are in the memory; 0 if there are none. Facts aren't needed meanwhile. */
+function versionsAt(it, values) {
+  if (values === undefined || values === null) return 0;
+  const given = Object.entries(givenValues(values)), start = it.base + FACTS;
+  for (const [name] of given) if (!VERSIONS_OF.includes(name)) throw new TypeError(`there are no versions of ${name}`);
+  it.bytes.fill(0, start, start + 4 * VERSIONS_OF.length);
+  for (const [name, value] of given) {
+    const { major, minor, patch } = fullVersion(value), place = start + 4 * VERSIONS_OF.indexOf(name);
+    if (patch !== 0) throw new RangeError("a name states at most two numbers of a version");
+    it.view.setUint16(place, major, true);
+    it.bytes[place + 2] = minor;
+  }
+  return start;
 }
 
 /** The values of an argument, of which those that are undefined are as if left out. */
@@ -301,102 +314,24 @@ function tripleOf(value) {
   return value;
 }
 
-/** Makes a property that was looked up a plain one, with this value. */
-const setOwn = (it, name, value) => Object.defineProperty(it, name, { value, writable: true, configurable: true });
-
 export class ParseError extends Error {
-  #status;
-  #range; // in bytes
-  #dialect;
-  #suggestion;
-  #thrown; // has the stack, where the engine gives one
-
-  constructor(status, range, text, start, end, dialect, reason) {
-    const { stackTraceLimit } = Error;
-    Error.stackTraceLimit = 0; // the one that is taken below is enough
-    super();
-    Error.stackTraceLimit = stackTraceLimit;
-    Object.assign(this, { name: "ParseError", field: FIELDS[status - 1] ?? null, text, part: text.slice(start, end),
-      start, end, reason, needsLibc: status === NEEDS_C_LIBRARY });
-    this.#status = status;
-    this.#range = range;
-    this.#dialect = dialect;
-    if (!Error.captureStackTrace) return;
-    delete this.stack; // so that the one below is asked
-    Error.captureStackTrace((this.#thrown = {}), ParseError);
-  }
-
-  /**
-   * What Node shows of an error that nobody catches: the report, and where it was thrown. It is made when somebody
-   * asks.
-   */
-  get stack() {
-    if (!this.#thrown) return super.stack;
-    const { stack } = this.#thrown;
-    return `${this.name}: ${this.message}${stack.slice(stack.indexOf("\n"))}`;
-  }
-
-  set stack(value) {
-    setOwn(this, "stack", value);
-  }
-
-  /** The report, and which call reads a name of another tool. It is made when somebody asks. */
-  get message() {
-    const note = this.#note();
-    return (this.message = note === null ? this.report : `${this.report}\n  note: ${note}`);
-  }
-
-  set message(value) {
-    setOwn(this, "message", value);
+  constructor(message, members) {
+    super(message);
+    Object.assign(this, { name: "ParseError", ...members });
   }
 
   toJSON() {
     const { name, message, field, text, part, start, end, suggestion, reason, needsLibc } = this;
     return { name, message, field, text, part, start, end, suggestion, reason, needsLibc };
   }
-
-  /**
-   * By which calls a refused string is read that other tools have as a name, or why no triple means it; null if nobody
-   * has it.
-   */
-  #note() {
-    // What begins with an architecture has a suggestion.
-    if (this.#dialect || this.start > 0 || this.#status > REFUSED) return null;
-    const { meanings: found, withoutTriple: reasons } = meanings(this.text), calls = [];
-    const tools = found.flatMap((it) => it.tools).filter((it) => it !== "gnu"); // whose names are spelled like triples
-    for (const tool of [...DIALECTS, "spelling"].filter((it) => tools.includes(it))) {
-      const reason = tool === "spelling" ? null : reasonOf(this.text, tool); // of a name that means several triples
-      if (reason === null) calls.push(tool === "spelling" ? "Triple.read(text)" : `Triple.read(text, "${tool}")`);
-      else reasons[tool] = reason;
-    }
-    if (calls.length) return `it is a name of another tool: use ${calls.join(" or ")}`;
-    const [[dialect, reason] = []] = Object.entries(reasons);
-    return dialect ? `it is a name of ${dialect} without a triple: ${reason}` : null;
-  }
-
-  get suggestion() {
-    if (this.#suggestion === undefined) {
-      const it = instance(), given = it.text(this.text);
-      this.#suggestion = this.#status === UNKNOWN_NAME ? it.string(it.call("name_suggestion", this.#dialect, ...given))
-        : it.written("suggestion", given[1], ...given, it.error(this.#status, ...this.#range));
-    }
-    return this.#suggestion;
-  }
-
-  get report() {
-    const it = instance(), given = it.text(this.text);
-    const lines = it.written("error_text", given[1], ...given, it.error(this.#status, ...this.#range));
-    if (this.reason !== null) return `${lines} ${this.reason}`;
-    return this.#status === UNKNOWN_NAME && this.suggestion !== null ? `${lines} did you mean \`${this.suggestion}\`?`
-      : lines;
-  }
 }
 
-/** Why a name of a dialect means no single triple, or null. */
-function reasonOf(text, dialect) {
-  const it = instance();
-  return it.call("read", dialectOf(dialect), ...it.text(text), it.base + FIRST, it.base + ERROR) === OK ? null
-    : it.string(it.number(REASON));
+/** By which calls a refused string is read, or why no triple means it; null if nobody has it as a name. */
+function noteOf(text) {
+  const readers = meaningsBy("readers", text), without = readers.find((it) => it.triple === null);
+  if (without) return `it is a name of ${without.dialect} without a triple: ${without.reason}`;
+  const calls = readers.map(({ dialect }) => dialect ? `Triple.read(text, "${dialect}")` : "Triple.read(text)");
+  return calls.length ? `it is a name of another tool: use ${calls.join(" or ")}` : null;
 }
 
 /** The range of a string at a place in the memory: in bytes, and in units of UTF-16. */
@@ -411,8 +346,18 @@ function rangesAt(it, place, text, size) {
 function errorAt(it, status, text, given, dialect = 0) {
   if (status > REFUSED && ![UNKNOWN_NAME, NAME_WITHOUT_TRIPLE, TRIPLE_WITHOUT_NAME, NEEDS_C_LIBRARY].includes(status))
     return failure(status);
-  const [range, [start, end]] = rangesAt(it, RANGE, text, given[1]);
-  return new ParseError(status, range, text, start, end, dialect, it.string(it.number(REASON)));
+  const [range, [start, end]] = rangesAt(it, RANGE, text, given[1]), reason = it.string(it.number(REASON));
+  const written = (name) => it.written(name, given[1], ...given, it.error(status, ...range));
+  const suggestion = status === UNKNOWN_NAME ? it.string(it.call("name_suggestion", dialect, ...given))
+    : written("suggestion");
+  let report = written("error_text");
+  if (reason !== null) report += ` ${reason}`;
+  else if (status === UNKNOWN_NAME && suggestion !== null) report += ` did you mean \`${suggestion}\`?`;
+  // To ask each tool takes twice the time of all else, and a suggestion after a known machine says enough.
+  const note = dialect || status > REFUSED || (start > 0 && suggestion !== null) ? null : noteOf(text);
+  return new ParseError(note === null ? report : `${report}\n  note: ${note}`, { field: FIELDS[status - 1] ?? null,
+    text, part: text.slice(start, end), start, end, suggestion, reason, needsLibc: status === NEEDS_C_LIBRARY,
+    report });
 }
 
 /** Where the value of a field comes from. */
@@ -527,17 +472,15 @@ export class Triple {
     return Object.fromEntries(DIALECTS.map((dialect) => [dialect, this.nameIn(dialect)]));
   }
 
-  nameIn(dialect, version) {
+  nameIn(dialect, versions) {
     const it = instance(), number = dialectOf(dialect);
-    return version === undefined ? it.writtenOf(this, "write", [number])
-      : it.writtenOf(this, "write_versioned", [number], statedVersion(version));
+    return it.writtenOf(this, "write_versioned", [number], [versionsAt(it, versions)]);
   }
 
-  reasonWithoutName(dialect, version) {
-    const it = instance(), number = dialectOf(dialect), { start } = it.triple(this);
+  reasonWithoutName(dialect, versions) {
+    const it = instance(), number = dialectOf(dialect), said = versionsAt(it, versions), { start } = it.triple(this);
     it.view.setUint32(it.base + ANSWER, 0, true);
-    if (version === undefined) it.call("write", number, start, 0, 0, 0, it.base + ANSWER);
-    else it.call("write_versioned", number, start, ...statedVersion(version), 0, 0, 0, it.base + ANSWER);
+    it.call("write_versioned", number, start, said, 0, 0, 0, it.base + ANSWER);
     return it.string(it.number(ANSWER));
   }
 
@@ -587,36 +530,30 @@ export class Triple {
   }
 }
 
-export function translate(name, from, to, libc = null) {
+export function translate(name, from, to, libc = null, versions = null) {
   const it = instance(), source = from === null ? 0 : dialectOf(from), target = dialectOf(to),
-    number = libc === null ? 0 : libcOf(libc);
+    number = libc === null ? 0 : libcOf(libc), said = versionsAt(it, versions);
   const given = it.text(stringOf(name)), out = it.base + TEXTS + given[1];
-  const status = it.call("translate", source, ...given, number, target, out, ROOM, it.base + LENGTH, it.base + ERROR);
+  const status = it.call("translate", source, ...given, number, said, target, out, ROOM, it.base + LENGTH,
+    it.base + ERROR);
   if (status === OK) return it.read(out, it.number(LENGTH));
   throw errorAt(it, status, name, given, source);
 }
 
-export function meanings(text) {
-  const it = instance(), found = new Map(), withoutTriple = {};
-  const meaning = (number) => {
-    const given = it.text(stringOf(text));
-    return it.call("meaning", ...given, number, it.base + LENGTH, it.base + FIRST, it.base + ANSWER);
-  };
-  for (let number = 0, status; (status = meaning(number)) !== NO_SUCH_MEANING; number++) {
-    const dialect = it.number(LENGTH), note = it.string(it.number(ANSWER));
-    if (status === NAME_WITHOUT_TRIPLE) {
-      withoutTriple[DIALECTS[dialect - 1]] = note;
-      continue;
-    }
-    if (status !== OK) throw failure(status);
-    const triple = it.tripleAt(), key = `${triple} ${note}`;
-    if (!found.has(key)) found.set(key, { triple, level: note, tools: [] });
-    const spelled = () => (it.call("parse", ...it.text(text), it.base + FIRST, it.base + ERROR) === OK ? "triple"
-      : "spelling");
-    found.get(key).tools.push(dialect > 0 ? DIALECTS[dialect - 1] : spelled());
-  }
-  return { meanings: [...found.values()], withoutTriple };
+/** What a string means by one of the calls that fill an array with that. */
+function meaningsBy(call, text) {
+  const it = instance(), [start, size] = it.text(stringOf(text)), out = ((start + size + 3) & ~3) - it.base;
+  it.hold(size + MAX_MEANINGS * MEANING_SIZE + ROOM);
+  check(it.call(call, start, size, it.base + out, MAX_MEANINGS, it.base + LENGTH));
+  return Array.from({ length: it.number(LENGTH) }, (_, at) => {
+    const place = out + at * MEANING_SIZE, dialect = DIALECTS[it.number(place) - 1] ?? null,
+      note = it.string(it.number(place + MEANING_NOTE));
+    return it.number(place + 4) === OK ? { dialect, triple: it.tripleAt(place + 8), reason: null, level: note }
+      : { dialect, triple: null, reason: note, level: null };
+  });
 }
+
+export const meanings = (text) => meaningsBy("meanings", text);
 
 export function settleAll(targets) {
   if (typeof targets === "string" || typeof targets?.[Symbol.iterator] !== "function")

@@ -157,12 +157,10 @@ const tests = {
     load(wasm());
     const askedBy = (call) => (asked.length = 0, call(), asked.join(" "));
     assert.equal(askedBy(() => Triple.tryParse("x86_64-pc-linx")), "parse");
-    assert.equal(askedBy(() => refusal("x86_64-pc-linx")), "parse");
-    assert.equal(askedBy(() => { const error = refusal("x86_64-pc-linx"); for (let i = 0; i < 3; i++) error.message; }),
-      "parse error_text");
-    assert.equal(askedBy(() => refusal("linux/amd46", (it) => Triple.read(it, "go"))), "read");
-    assert.equal(askedBy(() => { const error = refusal("amd63"); for (let i = 0; i < 3; i++) error.suggestion; }),
-      "parse suggestion");
+    assert.equal(askedBy(() => refusal("x86_64-pc-linx")), "parse suggestion error_text");
+    assert.equal(askedBy(() => refusal("aarch64--netbsd")), "parse suggestion error_text readers");
+    assert.equal(askedBy(() => refusal("linux/amd46", (it) => Triple.read(it, "go"))),
+      "read name_suggestion error_text");
     assert.equal(askedBy(() => settleAll(["avr", "x", "arm64"])), "settle_lines");
     isCutOff = true;
     assert.throws(() => Triple.parse("avr"), { message: "cut off" });
@@ -171,7 +169,7 @@ const tests = {
     WebAssembly.Instance = Instance;
     load(wasm());
   },
-  "an error has its stack, and a report when somebody asks": () => {
+  "an error has its stack and its report, in another thread too": () => {
     const error = refusal("x86_64-pc-linx"), other = refusal("x86_64-linux-gnuu");
     for (let i = 0; i < 100; i++) Triple.parse("avr").facts();
     assert.deepEqual([error.suggestion, other.suggestion, error.suggestion, refusal("x86_64-\u{1f600}").suggestion],
@@ -179,13 +177,7 @@ const tests = {
     assert.match(error.stack,
       /^ParseError: Unrecognized operating system: linx\n  x86_64-pc-linx\n {12}\^{4} did you mean `linux`\?\n +at .*calls\.mjs/s);
     assert.equal(inspect(error).split("\n")[2], "            ^^^^ did you mean `linux`?");
-    error.stack = "mine";
-    assert.equal(error.stack, "mine");
-    const { stackTraceLimit } = Error;
-    Error.stackTraceLimit = 2;
-    assert.equal(refusal("x").stack.match(/^ +at /gm).length, 2);
-    assert.equal(Error.stackTraceLimit, 2);
-    Error.stackTraceLimit = stackTraceLimit;
+    assert.equal(structuredClone(error).message, error.message); // as it comes from a worker
     assert.equal(refusal("x86_64-\u{1f600}\n-x").report,
       "Unrecognized vendor: \\u{1f600}\\n\n  x86_64-\\u{1f600}\\n-x\n         ^^^^^^^^^^^");
   },
@@ -236,7 +228,8 @@ const tests = {
         () => Triple.of({ operatingSystem: "ios17" })],
       [RangeError, "the operating system linux has no version", () => linux.with({ version: { major: 1 } })],
       [RangeError, "a name states at most two numbers of a version",
-        () => linux.nameIn("python", { major: 2, minor: 17, patch: 1 })],
+        () => linux.nameIn("python", { glibc: { major: 2, minor: 17, patch: 1 } })],
+      [TypeError, "there are no versions of gnu", () => linux.nameIn("python", { gnu: { major: 2 } })],
       ...[[TypeError, `${form}an array`, [17, 2]], [TypeError, `${form}a string`, "17.2"],
         [TypeError, "a version has a major: { major: 17, minor: 2 }", {}],
         [TypeError, "a version has no micro", { major: 17, micro: 2 }],
@@ -244,16 +237,19 @@ const tests = {
         [RangeError, whole("minor", 255), { major: 1, minor: -1 }],
         [RangeError, whole("patch", 255), { major: 1, patch: 1.5 }],
       ].map(([kind, message, it]) => [kind, message, () => ios.with({ version: it }),
-        () => Triple.of({ operatingSystem: "ios", version: it }), () => ios.nameIn("python", it)]),
+        () => Triple.of({ operatingSystem: "ios", version: it }), () => ios.nameIn("python", { ios: it })]),
     ]) for (const call of calls) assert.throws(call, (it) => it.constructor === kind && it.message === message,
       `${message}: ${call}`);
   },
   "a name with a version": () => {
     const named = (text, version) => [Triple.parse(text).nameIn("python", version),
       Triple.parse(text).reasonWithoutName("python", version)?.slice(-19) ?? null];
-    assert.deepEqual(named("x86_64-unknown-linux-gnu", { major: 2, minor: 17 }), ["manylinux_2_17_x86_64", null]);
-    assert.deepEqual(named("aarch64-apple-darwin", { major: 11 }), ["macosx_11_0_arm64", null]);
-    assert.deepEqual(named("arm64-apple-darwin", { major: 2, minor: 17 }), [null, "macOS 10.x or later"]);
+    const versions = { glibc: { major: 2, minor: 17 }, macos: { major: 11 } };
+    assert.deepEqual(named("x86_64-unknown-linux-gnu", versions), ["manylinux_2_17_x86_64", null]);
+    assert.deepEqual(named("aarch64-apple-darwin", versions), ["macosx_11_0_arm64", null]);
+    assert.deepEqual(named("arm64-apple-darwin", { macos: { major: 2, minor: 17 } }), [null, "macOS 10.x or later"]);
+    assert.equal(named("x86_64-unknown-freebsd", versions)[0], null);
+    assert.equal(translate("linux/amd64", "oci", "python", "glibc", versions), "manylinux_2_17_x86_64");
   },
   "many targets are one call": () => {
     const targets = ["arm64-linux-gnu", "x86_64-pc-linx", "", "x86_64-linux\n", "x86_64-\udc00-linux",
@@ -356,7 +352,7 @@ const tests = {
       ["win32", "windows", "arm64 ia32 x64"],
     ]) {
       for (const name of machines.split(" ").map((machine) => `${platform}-${machine}`)) {
-        if (meanings(name).withoutTriple.node) without.push(name);
+        if (meanings(name).some((it) => it.dialect === "node" && it.reason)) without.push(name);
         else assert.equal(Triple.read(name, "node").operatingSystem, system, name);
       }
     }

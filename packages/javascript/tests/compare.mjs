@@ -66,10 +66,12 @@ export function differences(lexicon, answers) {
   const found = [];
   for (const [words, list] of Object.entries(answers)) {
     const [word, ...more] = words.split(" ");
-    for (const { note, file, line, target, ...wanted } of list) {
+    for (const { note, known, file, line, target, ...wanted } of list) {
       if (word === "translate" && wanted.error) delete wanted.error; // the command's own words
       const answer = CALLS[word](lexicon, target, ...more), { meanings } = wanted;
-      if (meanings) wanted.meanings = meanings.map(({ note: _, ...it }) => it);
+      // What only the words of a name say, no tool means by it.
+      const named = meanings?.filter((it) => it.tools[0] !== "words");
+      if (named) wanted.meanings = named.map(({ note: _, ...it }) => it);
       for (const [key, value] of Object.entries(wanted)) {
         const [ours, theirs] = [answer[key], value].map((it) => JSON.stringify(it));
         if (ours !== theirs && !(word === "what" && "error" in answer && key !== "error"))

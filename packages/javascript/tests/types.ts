@@ -4,7 +4,7 @@ import {
 } from "target-lexicon";
 import type {
   Architecture, BinaryFormat, Change, Dialect, Environment, Explained, Explanation, Facts, Field, Given, GivenVersion,
-  KnownVendor, LinuxLibc, Meanings, OperatingSystem, Values, Vendor, Version,
+  KnownVendor, LinuxLibc, Meaning, OperatingSystem, Values, Vendor, Version,
 } from "target-lexicon";
 
 // The types are the same, and neither is wider.
@@ -24,7 +24,7 @@ const ofTriple: Same<Answers<Triple>, {
 const ofClass: Same<Answers<Omit<typeof Triple, "prototype">>, {
   parse: Triple; tryParse: Triple | null; read: Triple; explain: Explanation; of: Triple }> = true;
 const calls = { changes, host, load, meanings, settleAll, translate, version };
-const ofCalls: Same<Answers<typeof calls>, { changes: Change[]; host: Triple; load: Promise<void>; meanings: Meanings;
+const ofCalls: Same<Answers<typeof calls>, { changes: Change[]; host: Triple; load: Promise<void>; meanings: Meaning[];
   settleAll: (string | null)[]; translate: string; version: string }> = true;
 const ofErrors: Same<Omit<ParseError, keyof Error>, {
   readonly field: Field | null; readonly text: string; readonly part: string; readonly start: number;
@@ -39,7 +39,7 @@ const lists: [readonly Field[], readonly Dialect[], readonly KnownVendor[], read
   [FIELDS, DIALECTS, namesOf("vendor"), namesOf("architecture")];
 
 const triple = Triple.read("linux/arm64", "docker"), libc: LinuxLibc = "musl", model: Facts["dataModel"] = "LP64";
-const words = [triple.nameIn("python", { major: 2, minor: 17 }), Triple.read("x", null),
+const words = [triple.nameIn("python", { glibc: { major: 2, minor: 17 } }), Triple.read("x", null),
   translate("linux/arm64", "oci", "debian", libc), translate("x", null, "go")];
 
 // A triple that is spread, or that was cloned or sent, has what `Triple.of` takes.

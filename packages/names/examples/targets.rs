@@ -14,7 +14,8 @@ fn completed(triple: TripleRef<'static>) -> impl Iterator<Item = TripleRef<'stat
     std::iter::once(triple).chain(with)
 }
 
-fn main() {
+/// The lines of `targets.csv`.
+pub fn lines() -> Vec<String> {
     // The names of the table without a version, whose triples have a known vendor.
     let rows = include_str!("../names.csv").lines();
     let names = rows.filter_map(|line| {
@@ -33,7 +34,7 @@ fn main() {
     let head = "target machine pointer_width byte_order system c_library float_abi";
     let tools = Dialect::ALL.iter().map(|it| it.name());
     let head: Vec<_> = head.split(' ').chain(tools).chain(["only_read"]).collect();
-    println!("{}", head.join(","));
+    let mut lines = vec![head.join(",")];
     for (target, (triple, names)) in targets {
         let mut row = vec![
             target,
@@ -61,6 +62,11 @@ fn main() {
             row.push(written.or(first).unwrap_or_default());
         }
         row.push(only_read.join(" "));
-        println!("{}", row.join(","));
+        lines.push(row.join(","));
     }
+    lines
+}
+
+fn main() {
+    lines().iter().for_each(|it| println!("{it}"));
 }

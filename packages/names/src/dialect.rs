@@ -7,6 +7,7 @@ use crate::platform::row_of_platform;
 use crate::shape::{is_another_target, unversioned, version, AbiRule, Rules};
 use crate::table::refusals::SEVERAL;
 use crate::table::{Dialect, DIALECT_NAMES, ONLY_WRITTEN, TABLES, VERSION_RANGES};
+use crate::Versions;
 use core::cmp::Ordering;
 use core::str::FromStr;
 use target_lexicon::{DeploymentTarget, OperatingSystem, TripleRef};
@@ -45,6 +46,14 @@ pub(super) type Numbers = Option<(u16, u8)>;
 
 /// The most bytes of a triple's text with a known vendor, and more.
 pub(super) const MAX_LENGTH: usize = 64;
+
+/// What a name means: a triple, and the level of its machine that the name says and no triple states, or an empty string. All that reads
+/// a name returns both, so that neither is lost by what stands around it.
+#[derive(Clone, Copy, Debug, PartialEq, Eq)]
+pub(crate) struct Sense {
+    pub triple: TripleRef<'static>,
+    pub level: &'static str,
+}
 
 /// Why a name isn't read.
 #[derive(Clone, Copy, Debug, PartialEq, Eq, Hash)]
@@ -110,11 +119,23 @@ impl Dialect {
     /// assert_eq!(Dialect::Go.read("linux/foo"), Err(NameError::Unknown));
     /// ```
     pub fn read(self, name: &str) -> Result<TripleRef<'static>, NameError> {
-        match self.row_of(name) {
-            Some((row, numbers)) => meaning(row, numbers),
-            None if self.table().rules.spelled => read_as_gnu(name),
-            None => Err(NameError::Unknown),
-        }
+        self.sense(name).map(|it| it.triple)
+    }
+
+    /// What a name means by its row, or else by its spelling.
+    pub(crate) fn sense(self, name: &str) -> Result<Sense, NameError> {
+        let (triple, level) = match self.row_of(name) {
+            Some((row, numbers)) => (meaning(row, numbers)?, self.level_of(row)),
+            None if self.table().rules.spelled => (read_as_gnu(name)?, ""),
+            None => return Err(NameError::Unknown),
+        };
+        Ok(Sense { triple, level })
+    }
+
+    /// The level in a row, or an empty string.
+    fn level_of(self, row: &Row) -> &'static str {
+        let mut levels = self.table().levels.iter();
+        levels.find(|it| it.0 == row.0).map_or("", |it| it.1)
     }
 
     /// The row that has a name, or its tag or platform, and the numbers of the name.
@@ -148,7 +169,7 @@ impl Dialect {
     }
 
     /// The level of the machine that a name of this dialect says and its triple can't state: `v3` of `linux/amd64/v3`. `None` if it says none.
-    /// [`translate`](Dialect::translate) keeps it.
+    /// The name may have around it what [`read_loosely`](Dialect::read_loosely) takes. [`translate`](Dialect::translate) keeps the level.
     ///
     /// # Examples
     ///
@@ -157,13 +178,13 @@ impl Dialect {
     ///
     /// assert_eq!(Dialect::Oci.level("linux/riscv64/rva22u64"), Some("rva22u64"));
     /// assert_eq!(Dialect::Rust.level("arm-unknown-linux-gnueabihf"), Some("armv6"));
+    /// assert_eq!(Dialect::Rpm.level("foo-1-1.x86_64_v4.rpm"), Some("v4"));
     /// assert_eq!(Dialect::Oci.level("linux/amd64"), None);
     /// ```
     #[must_use]
     pub fn level(self, name: &str) -> Option<&'static str> {
-        let (row, _) = self.row_of(name)?;
-        let mut levels = self.table().levels.iter().filter(|it| it.0 == row.0);
-        levels.next().map(|it| it.1)
+        let level = self.find(name).map_or("", |it| it.level);
+        (!level.is_empty()).then_some(level)
     }
 
     /// The triples that a name of this dialect means: several of a name such as `universal2`, which [`read`](Dialect::read) refuses, that
@@ -212,28 +233,24 @@ impl Dialect {
 
     /// The name in this dialect that states a version which triples don't have: `manylinux_2_17_x86_64` of glibc 2.17,
     /// `musllinux_1_2_aarch64` of musl 1.2, `macosx_11_0_arm64` of macOS 11.0, also for `darwin`, or `android_21_x86_64` of
-    /// Android's API level 21, which has no second number: 0 is passed. `None` if no name that [`read`](Dialect::read) knows
-    /// has such a version and means the triple. A version is one of the system or C library: that of glibc is 2.x, that of
-    /// musl 1.x, and that of macOS 10.x or a later one. Nothing is allocated.
+    /// Android's API level 21. `None` if there is no version of the triple's system or C library, or no name that
+    /// [`read`](Dialect::read) knows has such a version and means the triple. Nothing is allocated.
     ///
     /// # Examples
     ///
     /// ```
     /// use target_lexicon::TripleRef;
-    /// use target_names::Dialect;
+    /// use target_names::{Dialect, VersionOf, Versions};
     ///
     /// let triple = TripleRef::from_str("x86_64-unknown-linux-gnu").unwrap();
-    /// let name = Dialect::Python.write_versioned(&triple, 2, 17).unwrap();
+    /// let versions = Versions::none().with(VersionOf::Glibc, 2, 17);
+    /// let name = Dialect::Python.write_versioned(&triple, &versions).unwrap();
     /// assert_eq!(name.as_str(), "manylinux_2_17_x86_64");
     /// ```
     #[must_use]
-    pub fn write_versioned<'t>(
-        self,
-        triple: impl Into<TripleRef<'t>>,
-        major: u16,
-        minor: u8,
-    ) -> Option<Name> {
-        self.name_of(&triple.into(), "", Some((major, minor)))
+    pub fn write_versioned<'t>(self, triple: impl Into<TripleRef<'t>>, versions: &Versions) -> Option<Name> {
+        let triple = triple.into();
+        self.name_of(&triple, "", Some(versions.of(triple)?))
     }
 
     /// The name of a triple whose machine has a level: one that says the level, or one for which the level is low enough.
@@ -247,7 +264,7 @@ impl Dialect {
     }
 
     /// The name of a triple, which states a version if one is said.
-    fn name_of(self, triple: &TripleRef<'_>, level: &str, version: Numbers) -> Option<Name> {
+    pub(crate) fn name_of(self, triple: &TripleRef<'_>, level: &str, version: Numbers) -> Option<Name> {
         let mut rules = self.table().rules;
         if is_another_target(triple) || triple.vendor.is_custom() && rules.itself {
             let itself = self.row_of_itself(triple).filter(|_| version.is_none());
@@ -279,15 +296,11 @@ impl Dialect {
             let named = (shape.architecture, level);
             rules.spelled || may_have_name(machine, named, is_on_system)
         };
-        let level_of = |row: &Row| {
-            let mut levels = self.table().levels.iter().filter(|it| it.0 == row.0);
-            levels.next().map_or("", |it| it.1)
-        };
         let is_wanted = |row: &Row| match version {
             Some((major, minor)) => has_version(major, minor, row.0),
-            None if !level.is_empty() && level == level_of(row) => true,
+            None if !level.is_empty() && level == self.level_of(row) => star_count(row.0) == 0,
             None => is_written(row) && star_count(row.0) == stars,
-        } && builds_for(level_of(row));
+        } && builds_for(self.level_of(row));
         let mut buffer = [0; MAX_LENGTH];
         let text = text_in(&mut buffer, &shape);
         let mut rows = self.rows().iter().filter(|row| row.1.as_bytes() == text);

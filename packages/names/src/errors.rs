@@ -18,6 +18,5 @@ mod impls {
     impl Error for crate::NameError {}
     impl Error for crate::WriteError {}
     impl Error for crate::TranslateError {}
-    impl Error for crate::ParseNameError {}
     impl Error for crate::UnknownWord {}
 }

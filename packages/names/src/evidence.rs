@@ -13,6 +13,7 @@
 //! if each of them is understood, from the first that says a machine or a system: what comes before is the name of a program.
 //! What a system always has goes without saying, such as its usual vendor, or the floating-point arguments of Android.
 use crate::buffer::Buffer;
+use crate::dialect::Sense;
 use crate::levels::is_at_most;
 use crate::shape::{unversioned, usual_vendor};
 use crate::suggestions::{fit_alone, known_names, visible, Abi, Place};
@@ -21,8 +22,8 @@ use crate::FloatAbi;
 use core::fmt::{self, Write};
 use core::ops::Range;
 use target_lexicon::{
-    Architecture, ArmArchitecture, Environment, Field, Named as _, OperatingSystem, PointerWidth,
-    TripleRef, VendorRef,
+    Architecture, ArmArchitecture, Endianness, Environment, Field, Named as _, OperatingSystem,
+    PointerWidth, TripleRef, VendorRef,
 };
 
 /// What words say of a property.
@@ -48,11 +49,11 @@ impl<T: Copy + PartialEq> Said<T> {
     }
 
     /// Whether this may be so: nothing else is said.
-    fn allows(self, it: T) -> bool {
+    pub(crate) fn allows(self, it: T) -> bool {
         self == Said::Unsaid || self == Said::One(it)
     }
 
-    fn add(&mut self, it: T) {
+    pub(crate) fn add(&mut self, it: T) {
         *self = if self.allows(it) {
             Said::One(it)
         } else {
@@ -98,7 +99,11 @@ pub struct Evidence<'a> {
     is_other_machine: bool,
     level: Said<&'static str>,
     width: Said<PointerWidth>,
+    /// The byte order that a misspelled machine's word ends with, such as `powerpcel`.
+    order: Said<Endianness>,
     floats: Said<FloatAbi>,
+    /// A known vendor that isn't the usual one of many systems.
+    vendor: Said<&'static str>,
     system: Said<&'static str>,
     library: Said<&'static str>,
     /// What else an environment says, such as `android`, `sim` or `n64`.
@@ -156,16 +161,11 @@ impl<'a> Evidence<'a> {
             self.say(text_of_width(text));
             return None;
         }
-        let is_level = before == Some(Kind::Machine) && matches!(text, "v2" | "v3" | "v4");
-        if is_level && self.machine == Said::One(Architecture::X86_64) && joint == Some(b'_') {
-            self.level.add(if text == "v2" {
-                "v2"
-            } else if text == "v3" {
-                "v3"
-            } else {
-                "v4"
-            });
-            return None;
+        if let (Some(Kind::Machine), Some(b'_')) = (before, joint) {
+            if let Some(level) = self.level_at(word.start) {
+                self.level.add(level);
+                return None;
+            }
         }
         let Some(said) = said else {
             // A number after a machine may be a part of it: `x86_46`, `arm-7`.
@@ -175,17 +175,19 @@ impl<'a> Evidence<'a> {
                 && (is_joined || self.is_any_arm && text.len() < 3)
                 && !after.starts_with(|it: char| it.is_ascii_digit());
             let is_part = is_part || before == Some(Kind::Gnu) && text != "2";
-            let is_version = is_version(text) && !is_part && !is_level;
+            let is_version = is_version(text) && !is_part;
             if has_begun && !is_version && self.unknown.is_none() {
                 self.unknown = Some((word.start, word.end));
             }
+            self.order = order_of(text).map_or(self.order, Said::One);
             self.has_title |= !has_begun && !is_version;
             return None;
         };
         // In a program's name `gnu`, `soft` and the like say nothing.
         let says = |kind: Kind| said.split(' ').any(|it| kind_of(it) == kind);
         let is_title = !has_begun && !says(Kind::Machine) && !says(Kind::System);
-        let may_be_title = ["gnu", "soft", "hard", "32", "64", "sim", "newlib"].contains(&said);
+        let may_be_title = ["gnu", "soft", "hard", "32", "64", "sim", "newlib", "neon", "ibm", "sun", "nvidia"]
+            .contains(&said);
         // What an ABI follows is a system, and no part of a name without a vendor: `arm-none-eabi-10.3-mac`.
         if self.system == Said::One("none") && before.is_none() && says(Kind::System) {
             self.system = Said::Contradicted;
@@ -194,7 +196,29 @@ impl<'a> Evidence<'a> {
             said.split(' ').for_each(|it| self.say(it));
         }
         let kinds = [Kind::Machine, Kind::System, Kind::Gnu];
-        kinds.into_iter().find(|it| says(*it))
+        // After `glibc2` comes the rest of its version.
+        let is_whole = !text.starts_with("glibc") || !text.ends_with(|it: char| it.is_ascii_digit());
+        let kind = kinds.into_iter().find(|it| says(*it));
+        kind.filter(|it| *it != Kind::Gnu || is_whole)
+    }
+
+    /// The level of a machine that begins here in the text: `v3` of `amd64_v3`, and no version such as `v3.2.1`.
+    fn level_at(&self, start: usize) -> Option<&'static str> {
+        const OF_ARM: [&str; 11] =
+            ["v8.1", "v8.2", "v8.3", "v8.4", "v8.5", "v8.6", "v8.7", "v8.8", "v8.9", "v9", "v9.9"];
+        let rest = &self.text[start..];
+        let is_here = |level: &&&str| {
+            let after = rest.strip_prefix(**level).unwrap_or("0");
+            let goes_on = after.strip_prefix('.').unwrap_or(after);
+            !after.starts_with(is_letter_or_digit) && !goes_on.starts_with(|it: char| it.is_ascii_digit())
+        };
+        match self.machine {
+            Said::One(Architecture::X86_64) => ["v2", "v3", "v4"].iter().find(is_here).copied(),
+            Said::One(Architecture::Aarch64(_)) if rest.starts_with("v9.0") => Some("v9"),
+            Said::One(Architecture::Aarch64(_)) if rest.starts_with("v9.") => Some("v9.9"),
+            Said::One(Architecture::Aarch64(_)) => OF_ARM.iter().find(is_here).copied(),
+            _ => None,
+        }
     }
 
     fn has_begun(&self) -> bool {
@@ -212,10 +236,14 @@ impl<'a> Evidence<'a> {
             "64" => self.width.add(PointerWidth::U64),
             "hard" => self.floats.add(FloatAbi::Hard),
             "soft" => self.floats.add(FloatAbi::Soft),
-            "v2" | "v3" | "v4" => self.level.add(what),
+            "v2" | "v3" | "v4" | "neon" => self.level.add(what),
+            _ if what.starts_with("power") && !what.starts_with("powerpc") || what.starts_with("rva") => {
+                self.level.add(what)
+            }
             "other-abi" => self.library.add(OTHER),
             "gnu" | "musl" | "uclibc" | "msvc" | "gnullvm" | "newlib" => self.library.add(what),
             "android" | "ohos" | "macabi" | "sim" | "n64" | "spe" => self.form.add(what),
+            "ibm" | "sun" | "nvidia" => self.vendor.add(what),
             "other-system" => self.add_system(OTHER),
             _ => match what.parse::<Architecture>() {
                 Ok(machine) => self.add_machine(machine),
@@ -249,6 +277,11 @@ impl<'a> Evidence<'a> {
         !self.has_begun()
     }
 
+    /// Whether no word says anything of a target.
+    pub(crate) fn is_silent(&self) -> bool {
+        self.is_empty() && self.library == Said::Unsaid && self.floats == Said::Unsaid && self.form == Said::Unsaid
+    }
+
     /// Whether a word that isn't understood comes before the first that says a machine or a system.
     pub(crate) fn has_title(&self) -> bool {
         self.has_title
@@ -273,6 +306,12 @@ impl<'a> Evidence<'a> {
     #[must_use]
     pub fn pointer_width(&self) -> Said<PointerWidth> {
         self.width
+    }
+
+    /// The level of the machine that no triple states, such as `v3` of x86-64.
+    #[must_use]
+    pub fn level(&self) -> Said<&'static str> {
+        self.level
     }
 
     /// How floating-point arguments are passed.
@@ -300,26 +339,49 @@ impl<'a> Evidence<'a> {
         Some((&self.text[start..end], start..end))
     }
 
-    /// Whether the words name this triple, of a tool whose `arm` has 32 bits.
-    pub(crate) fn names(&self, triple: &TripleRef<'static>) -> bool {
+    /// Whether the words name this, of a tool whose `arm` has 32 bits.
+    pub(crate) fn names(&self, sense: &Sense) -> bool {
         let mut known = *self;
         if known.is_any_arm {
             known.add_machine(Architecture::Arm(ArmArchitecture::Arm));
         }
-        known.triple() == Some(*triple)
+        // A tool's name may say a level that no word does.
+        let is_same = |level: &str| level == sense.level || level.is_empty();
+        known.target().map_or(false, |(triple, level)| triple == sense.triple && is_same(level))
     }
 
-    /// The triple that the words name: the one that says just what they say.
+    /// The triple that the words name: the one that says just what they say. `None` if they say a level of the machine, which no triple
+    /// states: [`target`](Evidence::target) has both.
     #[must_use]
     pub fn triple(&self) -> Option<TripleRef<'static>> {
-        let is_whole =
-            self.unknown.is_none() && self.level == Said::Unsaid && !self.is_other_machine;
+        let (triple, level) = self.target()?;
+        level.is_empty().then_some(triple)
+    }
+
+    /// The triple that the words name, and the level of its machine that they say, or an empty string.
+    ///
+    /// ```
+    /// use target_names::Evidence;
+    ///
+    /// let (triple, level) = Evidence::of("tool_1.2_linux_amd64_v3").target().unwrap();
+    /// assert_eq!((triple.to_string().as_str(), level), ("x86_64-unknown-linux", "v3"));
+    /// ```
+    #[must_use]
+    pub fn target(&self) -> Option<(TripleRef<'static>, &'static str)> {
+        let level = match self.level {
+            Said::Unsaid => "",
+            said => said.one()?,
+        };
         let (machine, system) = (self.machine().one()?, self.system.one()?);
+        let is_its_level = level.is_empty() || !is_at_most((machine, level), (machine, ""));
+        let is_whole = self.unknown.is_none() && !self.is_other_machine && is_its_level;
         let operating_system: OperatingSystem = system.parse().ok()?;
+        let usual = VendorRef::Known(usual_vendor(operating_system));
+        let vendor = self.vendor.one().and_then(|it| VendorRef::from_str(it).ok());
         let of = |environment| {
             let mut triple = TripleRef {
                 architecture: machine,
-                vendor: VendorRef::Known(usual_vendor(operating_system)),
+                vendor: vendor.unwrap_or(usual),
                 operating_system,
                 environment,
                 binary_format: TripleRef::unknown().binary_format,
@@ -331,7 +393,8 @@ impl<'a> Evidence<'a> {
             .iter()
             .filter_map(|it| it.parse().ok());
         let is_named = |it: &Environment| self.is_just(&of(*it), of(Environment::Unknown));
-        names.find(is_named).filter(|_| is_whole).map(of)
+        let environment = names.find(is_named).filter(|_| is_whole)?;
+        Some((of(environment), level))
     }
 
     /// Whether an environment says just what the words say, on a triple without one.
@@ -409,8 +472,10 @@ impl<'a> Evidence<'a> {
             said => said.one() == Some(form),
         };
         let floats = FloatAbi::of(triple);
+        let order = machine.endianness().ok();
         has_machine
             && !self.is_other_machine
+            && order.map_or(true, |it| self.order.allows(it))
             && has_width
             && has_form
             && self.level == Said::Unsaid
@@ -479,8 +544,12 @@ fn said_by(environment: Environment) -> Option<(&'static str, &'static str)> {
 
 impl fmt::Display for Evidence<'_> {
     fn fmt(&self, f: &mut fmt::Formatter<'_>) -> fmt::Result {
-        if let Some(triple) = self.triple() {
-            return write!(f, "its words name {triple}");
+        match self.target() {
+            Some((triple, "")) => return write!(f, "its words name {triple}"),
+            Some((triple, level)) => {
+                return write!(f, "its words name {triple} of the level {level}")
+            }
+            None => {}
         }
         let is_other = self.system == Said::One(OTHER);
         let begin = match (self.machine(), self.system) {
@@ -634,7 +703,8 @@ pub(crate) fn said(word: &str) -> Option<&'static str> {
         let said = listed(name).or_else(|| system_named(name))?;
         let first = said.split(' ').next()?;
         let is_system = kind_of(first) == Kind::System;
-        (is_system || matches!(said, "version" | "musl" | "msvc")).then_some(said)
+        let has_versions = matches!(said, "version" | "musl" | "msvc") || name == "glibc";
+        (is_system || has_versions).then_some(said)
     };
     listed(word)
         .or_else(|| machine_named(word))
@@ -690,6 +760,17 @@ fn machine_of_pair(text: &str, first: &Word, second: &Word) -> Option<&'static s
         let said = said(both.as_str())?;
         (kind_of(said.split(' ').next()?) == Kind::Machine).then_some(said)
     })
+}
+
+/// The byte order that a misspelled word for a machine says: a known one, and letters for the order.
+pub(crate) fn order_of(word: &str) -> Option<Endianness> {
+    let of = |ends: [&str; 2]| ends.into_iter().find_map(|it| machine_named(word.strip_suffix(it)?));
+    let little = of(["el", "le"]).map(|_| Endianness::Little);
+    little.or_else(|| of(["eb", "be"]).map(|_| Endianness::Big))
+}
+
+fn is_letter_or_digit(it: char) -> bool {
+    it.is_ascii_alphanumeric()
 }
 
 fn is_number(word: &str) -> bool {

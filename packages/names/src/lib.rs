@@ -26,13 +26,13 @@
 //! assert_eq!(vendor_suggestion(triple).unwrap(), "linux");
 //! ```
 //!
-//! What names mean is data, with a source for each name; tests try each row, and these tools are asked. Nothing here is proved: the triples are
+//! What names mean is data, from tools that are asked, or from knowledge of their pages; tests try each row. Nothing here is proved: the triples are
 //! those of the crate `target-lexicon-verified`.
 //!
 //! # Features
 //!
 //! - `std`, which is on by default: the errors implement `Error`.
-//! - `alloc`, which `std` switches on: [`ParseNameError`] and [`UnknownWord`], which own a string. Without it no allocator is linked.
+//! - `alloc`, which `std` switches on: [`UnknownWord`], which owns a string. Without it no allocator is linked.
 #![no_std]
 #![forbid(unsafe_code)]
 #![warn(missing_docs)]
@@ -48,16 +48,15 @@ mod arm;
 mod buffer;
 mod c_library;
 mod dialect;
-mod dialect_suggestions;
 mod driver;
 mod errors;
 mod evidence;
 mod gnu;
+mod hints;
 mod levels;
 mod llvm_target;
 mod loose;
 mod meanings;
-mod mistakes;
 mod multiarch;
 mod name;
 mod named;
@@ -69,7 +68,6 @@ mod reading;
 mod rustc_cfg;
 mod shape;
 mod spelled;
-mod stated_versions;
 mod suggestions;
 #[rustfmt::skip]
 mod table;
@@ -78,31 +76,30 @@ mod table_tests;
 mod target_info;
 mod text;
 mod translation;
-mod variants;
+mod versions;
 
 pub use dialect::NameError;
-pub use dialect_suggestions::suggestions;
 pub use driver::{TypeLayout, TypeSizes};
 pub use evidence::{Evidence, Said};
+pub use hints::{suggestions, Meant, Mistake};
 pub use llvm_target::LlvmTarget;
-pub use meanings::{meanings, Meaning, NameOf};
-pub use mistakes::Mistake;
+pub use meanings::{meanings, readers, Meaning, NameOf};
 pub use multiarch::MultiarchTuple;
 pub use name::Name;
 #[cfg(feature = "alloc")]
-pub use parse_name_error::{ParseNameError, UnknownWord};
+pub use parse_name_error::UnknownWord;
 pub use reading::{changes, read, Change, ChangedParts};
 pub use rustc_cfg::{is_vendor_of_rustc, RustcCfg};
 pub use spelled::Spelling;
-pub use stated_versions::{stated_versions, StatedVersion, StatedVersions};
 pub use suggestions::{
     is_visible, known_names, suggestion, suggestion_in, vendor_suggestion, visible, Suggest,
     Suggestion, Visible, SHOWN,
 };
 pub use table::{ArmProfile, CLibrary, Dialect, FloatAbi, LinuxLibc, Signedness, WriteError};
 pub use target_info::TargetInfo;
-pub use text::{targets_in, Meant, TargetsIn, Word, WordIs};
+pub use text::{is_near_name, targets_in, words_in, TargetsIn, Word, WordIs};
 pub use translation::TranslateError;
+pub use versions::{VersionOf, Versions};
 
 /// The samples of the page are tested.
 #[cfg(all(doctest, feature = "std"))]

@@ -1,7 +1,8 @@
 //! Names with what files and commands have around them.
 use crate::buffer::Buffer;
-use crate::mistakes::LONGEST_PATH;
+use crate::hints::LONGEST_PATH;
 use crate::table::OF_CONFIG_SUB;
+use crate::dialect::Sense;
 use crate::{Dialect, Evidence, FloatAbi, NameError, Said};
 use core::fmt::{self, Write};
 use target_lexicon::{Architecture, ArmArchitecture, Environment, OperatingSystem, TripleRef};
@@ -12,7 +13,7 @@ impl Dialect {
     ///
     /// | Dialect | What may be around the name |
     /// |---|---|
-    /// | Node | the scope of a package, its path and version, and a name before the platform: `@rollup/rollup-linux-x64-gnu` |
+    /// | Node | the scope of a package, its path and version, and a name before the platform: `@rollup/rollup-linux-x64-gnu`, `esbuild-linux-64` |
     /// | Python | a wheel's file name; the tags before that of the platform; several tags with dots between them that mean the same |
     /// | uname | two lines, more spaces than one, or a dash or `_` instead of the space; any version of Windows after `_NT-`; other words between and after, as `uname -a` prints them |
     /// | OCI | any version of Windows in parentheses |
@@ -47,9 +48,15 @@ impl Dialect {
     /// ```
     #[inline]
     pub fn read_loosely(self, text: &str) -> Result<TripleRef<'static>, NameError> {
+        self.find(text).map(|it| it.triple)
+    }
+
+    /// What a name means with what is around it.
+    #[inline]
+    pub(crate) fn find(self, text: &str) -> Found {
         let in_file = self.read_file(text);
         let found = in_file.or_else(|| self.read_version_of_glibc(text));
-        let found = found.unwrap_or_else(|| self.read(text));
+        let found = found.unwrap_or_else(|| self.sense(text));
         let is_unknown = match found {
             Err(NameError::WithoutTriple(why)) => OF_CONFIG_SUB.contains(&why),
             found => found == Err(NameError::Unknown),
@@ -90,19 +97,22 @@ impl Dialect {
         };
         let (start, found) = self.read_end(file, ['-', '_', '.'])?;
         let is_archive = matches!(self, Dialect::Go | Dialect::Node | Dialect::Rust);
-        let may_be = |triple: &TripleRef<'static>| match is_archive {
-            true => Evidence::of(file).names(triple),
-            false => may_be_package(&file[..start], triple),
+        let may_be = |it: &Sense| match is_archive {
+            true => Evidence::of(file).names(it),
+            false => may_be_package(&file[..start], &it.triple),
         };
         Some(found).filter(|it| it.as_ref().map_or(true, may_be))
     }
 
-    /// Of a package with a scope, without its version: the longest end that is a platform, after a dash or whole.
+    /// Of a package, without its scope and version: the longest end that is a platform, after a dash or whole. Without a scope the words
+    /// before it say nothing of a target.
     #[inline]
     fn read_package(self, text: &str) -> Option<Found> {
-        let (_, scoped) = text.split_once('@')?;
-        let name = scoped.split_once('/')?.1.split(['@', '/']).next()?;
-        Some(self.read_end(name, ['-'; 3])?.1)
+        let scoped = text.split_once('@').and_then(|it| it.1.split_once('/'));
+        let name = scoped.map_or(text, |it| it.1).split(['@', '/']).next()?;
+        let (start, found) = self.read_end(name, ['-'; 3])?;
+        let says_nothing = || start > 0 && Evidence::of(&name[..start]).is_silent();
+        (scoped.is_some() || found.is_ok() && says_nothing()).then_some(found)
     }
 
     /// Where the longest end of a text begins that is a name, after one of these signs or whole, and what it means.
@@ -115,7 +125,7 @@ impl Dialect {
         // A machine alone is no reason: the words before it may name a system.
         let is_port = |end: &str| end.contains(['_', '/']);
         let mut found = ends.filter(may_be_name).map(|(start, end)| {
-            let found = match self.read(end) {
+            let found = match self.sense(end) {
                 Err(NameError::Unknown) if self == Dialect::Go => self.read_port(end),
                 Err(_) if self == Dialect::Go && !is_port(end) => None,
                 found => Some(found),
@@ -138,6 +148,10 @@ impl Dialect {
         if machine.len() > LONGEST_PATH || Evidence::of(machine).float_abi() != Said::Unsaid {
             return None;
         }
+        let version = machine.strip_prefix("armv").map(|it| it.strip_suffix('l').unwrap_or(it));
+        if let Some(version @ ("5" | "6" | "7")) = version {
+            return Dialect::Oci.read_written(format_args!("{system}/arm/v{version}"));
+        }
         let has_capital = system.starts_with(|it: char| it.is_ascii_uppercase());
         // Of container images `arm` is Armv7, and of Go it isn't.
         if has_capital && machine.eq_ignore_ascii_case("arm") {
@@ -149,9 +163,6 @@ impl Dialect {
         let dialect = if has_capital { Dialect::Oci } else { self };
         let found = dialect.read_written(format_args!("{system}/{machine}"))?;
         match (found, machine.split_once(['_', '-'])) {
-            (Err(NameError::Unknown), None) if machine.starts_with("armv") => {
-                Dialect::Oci.read_written(format_args!("{system}/{machine}"))
-            }
             (Err(NameError::Unknown), Some((machine, variant))) => {
                 Dialect::Oci.read_written(format_args!("{system}/{machine}/{variant}"))
             }
@@ -166,7 +177,7 @@ impl Dialect {
         let is_name = |it: u8| matches!(it, b'a'..=b'z' | b'0'..=b'9' | b'+' | b'-' | b'.');
         let is_package = package.len() > 1 && package.bytes().all(is_name);
         let is_system = Evidence::of(package).system() != Said::Unsaid;
-        (is_package && !is_system).then(|| self.read(architecture))
+        (is_package && !is_system).then(|| self.sense(architecture))
     }
 
     /// The prefix of a cross compiler, before the name of one of its tools or nothing.
@@ -182,7 +193,7 @@ impl Dialect {
         };
         let before = |tool: &str| file.strip_suffix(tool)?.strip_suffix('-');
         let prefix = before("").or_else(|| TOOLS.split(' ').find_map(before))?;
-        prefix.contains('-').then(|| self.read(prefix))
+        prefix.contains('-').then(|| self.sense(prefix))
     }
 
     /// A target of rustc with the version of glibc, as cargo-zigbuild takes it.
@@ -194,7 +205,7 @@ impl Dialect {
         let (target, minor) = text.rsplit_once(".2.")?;
         let (_, environment) = target.rsplit_once('-')?;
         let has_glibc = environment.starts_with("gnu") && is_version(minor);
-        has_glibc.then(|| self.read(target))
+        has_glibc.then(|| self.sense(target))
     }
 
     /// A target whose system has versions, without those after the least, or without any; or the machine that asks.
@@ -202,7 +213,7 @@ impl Dialect {
     fn read_versions(self, text: &str) -> Option<Found> {
         let (machine, rest) = text.split_once('-')?;
         if machine == "native" {
-            return Some(self.read(machine));
+            return Some(self.sense(machine));
         }
         let (system, library) = rest.split_at(rest.find('-').unwrap_or(rest.len()));
         let (system, versions) = system.split_once('.')?;
@@ -223,7 +234,7 @@ impl Dialect {
     #[inline]
     fn read_tags(self, text: &str) -> Option<Found> {
         let platforms = last_tag(text);
-        let found = || platforms.split('.').map(|platform| self.read(platform));
+        let found = || platforms.split('.').map(|platform| self.sense(platform));
         let first = found().find(Result::is_err).or_else(|| found().next())?;
         let is_one = first.is_err() || found().all(|it| it == first);
         is_one.then_some(first)
@@ -246,12 +257,9 @@ impl Dialect {
                 let system = last.filter(|it| *it == "illumos").unwrap_or(system);
                 let machine = words().rev().find(|it| !AFTER_MACHINES.contains(it));
                 let found = self.read_system_and_machine(system, machine.into_iter())?;
-                Some(found.map(|triple| {
-                    if last == Some("Android") {
-                        on_android(triple)
-                    } else {
-                        triple
-                    }
+                Some(found.map(|it| match last {
+                    Some("Android") => Sense { triple: on_android(it.triple), ..it },
+                    _ => it,
                 }))
             }
             found => found,
@@ -270,7 +278,7 @@ impl Dialect {
             None => name.write_str(system).ok()?,
         }
         machine.try_for_each(|word| write!(name, " {word}")).ok()?;
-        Some(self.read(name.as_str()))
+        Some(self.sense(name.as_str()))
     }
 
     /// A platform of Windows without the version in parentheses.
@@ -288,25 +296,26 @@ impl Dialect {
     fn read_written(self, name: fmt::Arguments<'_>) -> Option<Found> {
         let mut text = Text::new();
         text.write_fmt(name).ok()?;
-        Some(self.read(text.as_str()))
+        Some(self.sense(text.as_str()))
     }
 
     /// What the same name with musl means, with uClibc.
     #[inline]
     fn read_uclibc(self, text: &str) -> Option<Found> {
         let found = self.read_written(format_args!("musl-{}", text.strip_prefix("uclibc-")?))?;
-        Some(found.map(|triple| TripleRef {
-            environment: match triple.environment {
+        Some(found.map(|it| {
+            let environment = match it.triple.environment {
                 Environment::Musleabihf => Environment::Uclibceabihf,
                 _ => Environment::Uclibc,
-            },
-            ..triple
+            };
+            let triple = TripleRef { environment, ..it.triple };
+            Sense { triple, ..it }
         }))
     }
 }
 
 /// What a name within a text means.
-type Found = Result<TripleRef<'static>, NameError>;
+pub(crate) type Found = Result<Sense, NameError>;
 
 /// No name that ends a file's or a package's name is longer, in bytes.
 const LONGEST_NAME: usize = 40;

@@ -2,7 +2,7 @@
 use crate::spelled::is_of_machine;
 use crate::table::OF_CONFIG_SUB;
 use crate::{read, Dialect, Evidence, NameError, Said};
-use target_lexicon::{TripleRef, VendorRef};
+use target_lexicon::{OperatingSystem, TripleRef, VendorRef};
 
 /// Whose name it is: that of a dialect, or of nobody but who spells triples. `Display` says it in a word.
 #[derive(Clone, Copy, Debug, PartialEq, Eq, Hash)]
@@ -68,7 +68,7 @@ pub struct Meaning<'a> {
 /// ```
 #[inline]
 pub fn meanings(text: &str) -> impl Iterator<Item = Meaning<'_>> + Clone {
-    // A file of pacman's may be MSYS2's too, if that has the machine.
+    // A file of pacman's may be MSYS2's too, if that has the machine, of which it has no levels.
     let has_system = move || Evidence::of(text).system() != Said::Unsaid;
     let may_be_msys2 = move || {
         ["x86_64", "i686", "aarch64", "any"]
@@ -77,14 +77,20 @@ pub fn meanings(text: &str) -> impl Iterator<Item = Meaning<'_>> + Clone {
     };
     let is_meant = move |dialect: &&Dialect| {
         let is_file = text.contains(".pkg.tar");
-        **dialect != Dialect::Pacman || !is_file || has_system() || !may_be_msys2()
+        **dialect != Dialect::Pacman
+            || !is_file
+            || has_system()
+            || !may_be_msys2()
+            || dialect.level(text).is_some()
     };
     let to_dialect = move |dialect: &Dialect| {
-        let why = match dialect.read_loosely(text) {
+        let found = dialect.find(text);
+        let why = match found {
             Err(NameError::WithoutTriple(why)) if !OF_CONFIG_SUB.contains(&why) => Some(Err(why)),
             _ => None,
         };
-        let (of, level) = (NameOf::Dialect(*dialect), dialect.level(text));
+        let level = found.ok().map(|it| it.level).filter(|it| !it.is_empty());
+        let of = NameOf::Dialect(*dialect);
         let each = dialect.read_each(text).map(Ok);
         let why = why.filter(|_| each.clone().next().is_none());
         each.chain(why)
@@ -98,6 +104,43 @@ pub fn meanings(text: &str) -> impl Iterator<Item = Meaning<'_>> + Clone {
         _ => (None, Some(own)),
     });
     first.into_iter().chain(of_dialects).chain(last)
+}
+
+/// By whom a string is read that is no triple, or one with a custom vendor: by [`read`], if it gives a known vendor and
+/// a system; else, if it is no triple, by each dialect that means one triple by it, except GNU's, whose names are
+/// spelled like triples. If nobody reads it, the first that has it as a name says why no triple means the same.
+///
+/// # Examples
+///
+/// ```
+/// use target_names::{readers, Dialect, NameOf};
+///
+/// let found = |text| readers(text).map(|it| it.of).collect::<Vec<_>>();
+/// assert_eq!(found("linux/amd64"), [Dialect::Go, Dialect::Oci].map(NameOf::Dialect));
+/// assert_eq!(found("aarch64--netbsd"), [NameOf::Spelling]);
+/// assert_eq!(found("x86_64-unknown-none"), []);
+/// assert!(readers("plan9/amd64").all(|it| it.triple == Err("Plan 9 is no known name")));
+/// ```
+pub fn readers(text: &str) -> impl Iterator<Item = Meaning<'_>> + Clone {
+    let own = TripleRef::from_str(text).ok();
+    let is_target = |it: &TripleRef<'_>| !it.vendor.is_custom() && it.operating_system != OperatingSystem::Unknown;
+    let spelled = read(text).ok().filter(|it| is_target(it) && own.map_or(true, |own| own.vendor.is_custom()));
+    let is_name = own.is_none() && spelled.is_none();
+    let named = Dialect::ALL.iter().filter(move |it| is_name && **it != Dialect::Gnu);
+    let meaning = move |dialect: &Dialect| {
+        let (triple, level) = match dialect.find(text) {
+            Ok(it) => (Ok(it.triple.step()), Some(it.level).filter(|it| !it.is_empty())),
+            Err(NameError::WithoutTriple(why)) => (Err(why), None),
+            Err(NameError::Unknown) => return None,
+        };
+        Some(Meaning { of: NameOf::Dialect(*dialect), triple, level })
+    };
+    let of_dialects = named.filter_map(meaning);
+    let reads = of_dialects.clone().filter(|it| it.triple.is_ok());
+    let is_read = reads.clone().next().is_some();
+    let without = of_dialects.filter(move |_| !is_read).take(1);
+    let spelled = spelled.map(|triple| Meaning { of: NameOf::Spelling, triple: Ok(triple.step()), level: None });
+    spelled.into_iter().chain(reads).chain(without)
 }
 
 /// What a string means that is a triple, or is spelled like one. A vendor that is a word of a machine says that it isn't.

@@ -3,23 +3,7 @@ use crate::buffer::Buffer;
 use crate::dialect::Row;
 use core::fmt::Write;
 
-/// Other words for a machine without a variant, and the variant that they state.
-const OTHER_MACHINES: [(&str, &str, &str); 12] = [
-    ("armv5", "arm", "/v5"),
-    ("armv6", "arm", "/v6"),
-    ("armv6l", "arm", "/v6"),
-    ("armv7", "arm", "/v7"),
-    ("armv7l", "arm", "/v7"),
-    ("arm32v5", "arm", "/v5"),
-    ("arm32v6", "arm", "/v6"),
-    ("arm32v7", "arm", "/v7"),
-    ("arm64v8", "arm64", ""),
-    ("x64", "amd64", ""),
-    ("x86", "386", ""),
-    ("ppc64el", "ppc64le", ""),
-];
-
-/// Other words for a machine, containerd's, and the variant that they state.
+/// Other words for a machine, and the variant that they state.
 const MACHINES: [(&str, &str, Option<&str>); 6] = [
     ("i386", "386", Some("")),
     ("x86_64", "amd64", None),
@@ -30,13 +14,12 @@ const MACHINES: [(&str, &str, Option<&str>); 6] = [
 ];
 
 /// A machine, a variant after its slash, and the variant that stands instead.
-const VARIANTS: [(&str, &str, &str); 9] = [
+const VARIANTS: [(&str, &str, &str); 8] = [
     ("amd64", "/v1", ""),
     ("arm64", "/v8", ""),
     ("arm64", "/8", ""),
     ("arm", "", "/v7"),
     ("arm", "/7", "/v7"),
-    ("arm", "/v7l", "/v7"),
     ("arm", "/5", "/v5"),
     ("arm", "/6", "/v6"),
     ("arm", "/8", "/v8"),
@@ -49,9 +32,6 @@ pub(super) fn row_of_platform(rows: &'static [Row], name: &str) -> Option<&'stat
     let (machine, variant) = rest.split_at(rest.find('/').unwrap_or(rest.len()));
     let is_darwin = is(system, "macos");
     let system = if is_darwin { "darwin" } else { system };
-    let mut others = OTHER_MACHINES.iter();
-    let other = others.find(|it| variant.is_empty() && is(it.0, machine));
-    let (machine, variant) = other.map_or((machine, variant), |it| (it.1, it.2));
     let other = MACHINES.iter().find(|it| is(it.0, machine));
     let (machine, variant) = other.map_or((machine, variant), |it| (it.1, it.2.unwrap_or(variant)));
     let mut variants = VARIANTS.iter();

@@ -3,7 +3,7 @@ use crate::dialect::{has_version, Row, Way};
 use crate::shape::{version, AbiRule, Rules};
 use crate::suggestions::{fit_alone, known_names, Form, Place, FIRST_RULES, LATER_RULES};
 use crate::table::{refusals, KERNELS, MAKERS, SYSTEMS};
-use crate::{changes, read, Dialect, Evidence, LinuxLibc, NameError, TargetInfo};
+use crate::{changes, read, Dialect, Evidence, LinuxLibc, NameError, TargetInfo, VersionOf, Versions};
 use alloc::{format, string::String, string::ToString, vec::Vec};
 use core::str::FromStr;
 use target_lexicon::{
@@ -199,7 +199,9 @@ fn names_with_a_version_are_read() {
     each_triple(|triple| {
         for dialect in Dialect::ALL.iter().filter(has_patterns) {
             for (major, minor) in [(1, 2), (2, 17), (11, 0), (21, 0), (99, 255), (10240, 0)] {
-                let Some(name) = dialect.write_versioned(triple, major, minor) else {
+                let of = VersionOf::of(triple);
+                let versions = of.map(|of| Versions::none().with(of, major, minor));
+                let Some(name) = versions.and_then(|it| dialect.write_versioned(triple, &it)) else {
                     continue;
                 };
                 named += 1;

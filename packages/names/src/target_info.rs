@@ -1,10 +1,9 @@
 //! What other tools and drivers say of a triple.
 use crate::{
-    apple_versions, arm, c_library, driver, object_format, rustc_cfg, variants, ArmProfile,
-    CLibrary, FloatAbi, LinuxLibc, LlvmTarget, MultiarchTuple, RustcCfg, Signedness, TypeLayout,
-    TypeSizes,
+    apple_versions, arm, c_library, driver, object_format, rustc_cfg, ArmProfile, CLibrary,
+    FloatAbi, LinuxLibc, LlvmTarget, MultiarchTuple, RustcCfg, Signedness, TypeLayout, TypeSizes,
 };
-use target_lexicon::{BinaryFormat, DeploymentTarget, Endianness, PointerWidth, TripleRef};
+use target_lexicon::{BinaryFormat, DeploymentTarget, TripleRef};
 
 /// What other tools and drivers say of a triple: import the trait to ask a [`TripleRef`] or a [`Triple`](target_lexicon::Triple). Nothing is
 /// allocated.
@@ -99,54 +98,6 @@ pub trait TargetInfo<'a>: Copy + Into<TripleRef<'a>> {
         c_library::complete(&self.into(), c_library)
     }
 
-    /// The triple with the variant of its architecture whose pointers have this width: LLVM's `get32BitArchVariant` and
-    /// `get64BitArchVariant`. The environment becomes the usual one of the same C library, as `with_c_library` says. A triple
-    /// whose pointers have this width is returned as it is.
-    ///
-    /// `None` if no architecture of the library is such a variant. Little-endian PowerPC has none in 32 bits, and RISC-V only
-    /// with the same extensions. Arm of every version has the variant AArch64.
-    ///
-    /// # Examples
-    ///
-    /// ```
-    /// use target_lexicon::{triple, PointerWidth};
-    /// use target_names::TargetInfo;
-    ///
-    /// let narrow = |string| triple!(string).with_pointer_width(PointerWidth::U32).map(|it| it.to_string());
-    /// assert_eq!(narrow("x86_64-pc-windows-msvc").as_deref(), Some("i686-pc-windows-msvc"));
-    /// assert_eq!(narrow("aarch64-unknown-linux-gnu").as_deref(), Some("arm-unknown-linux-gnueabihf"));
-    /// assert_eq!(narrow("powerpc64le-unknown-linux-gnu"), None);
-    ///
-    /// let x32 = triple!("x86_64-unknown-linux-gnux32");
-    /// let wide = x32.with_pointer_width(PointerWidth::U64).unwrap();
-    /// assert_eq!(wide.to_string(), "x86_64-unknown-linux-gnu");
-    /// ```
-    #[must_use]
-    fn with_pointer_width(self, width: PointerWidth) -> Option<TripleRef<'a>> {
-        variants::with_pointer_width(&self.into(), width)
-    }
-
-    /// The triple with the variant of its architecture that has this byte order: LLVM's `getLittleEndianArchVariant` and
-    /// `getBigEndianArchVariant`. All else stays. A triple with this byte order is returned as it is.
-    ///
-    /// `None` if no architecture of the library is such a variant, for example of x86 and of Armv7-A.
-    ///
-    /// # Examples
-    ///
-    /// ```
-    /// use target_lexicon::{triple, Endianness};
-    /// use target_names::TargetInfo;
-    ///
-    /// let big = |string| triple!(string).with_endianness(Endianness::Big).map(|it| it.to_string());
-    /// assert_eq!(big("mipsel-unknown-linux-musl").as_deref(), Some("mips-unknown-linux-musl"));
-    /// assert_eq!(big("s390x-unknown-linux-gnu").as_deref(), Some("s390x-unknown-linux-gnu"));
-    /// assert_eq!(big("x86_64-unknown-linux-gnu"), None);
-    /// ```
-    #[must_use]
-    fn with_endianness(self, order: Endianness) -> Option<TripleRef<'a>> {
-        variants::with_endianness(&self.into(), order)
-    }
-
     /// The C library that the triple states: by its environment, or by a system that has only one.
     ///
     /// # Examples
@@ -167,41 +118,6 @@ pub trait TargetInfo<'a>: Copy + Into<TripleRef<'a>> {
     #[must_use]
     fn c_library(self) -> Option<CLibrary> {
         CLibrary::of(&self.into())
-    }
-
-    /// The dynamic linker that programs name, as clang passes it to the linker of a target of Linux, Android or a BSD, or of
-    /// Fuchsia. `None` where the triple states no C library, or clang has no answer.
-    ///
-    /// # Examples
-    ///
-    /// ```
-    /// use target_lexicon::triple;
-    /// use target_names::TargetInfo;
-    ///
-    /// assert_eq!(triple!("x86_64-unknown-linux-gnu").dynamic_linker(), Some("/lib64/ld-linux-x86-64.so.2"));
-    /// assert_eq!(triple!("armv7-unknown-linux-musleabihf").dynamic_linker(), Some("/lib/ld-musl-armhf.so.1"));
-    /// assert_eq!(triple!("x86_64-unknown-linux").dynamic_linker(), None);
-    /// ```
-    #[must_use]
-    fn dynamic_linker(self) -> Option<&'static str> {
-        driver::dynamic_linker(&self.into())
-    }
-
-    /// The emulation that clang passes to the linker, after `-m`. `None` where it passes none, such as for `x86_64-unknown-freebsd`.
-    ///
-    /// # Examples
-    ///
-    /// ```
-    /// use target_lexicon::triple;
-    /// use target_names::TargetInfo;
-    ///
-    /// assert_eq!(triple!("x86_64-unknown-linux-musl").linker_emulation(), Some("elf_x86_64"));
-    /// assert_eq!(triple!("i686-pc-windows-gnu").linker_emulation(), Some("i386pe"));
-    /// assert_eq!(triple!("i686-pc-windows-msvc").linker_emulation(), None);
-    /// ```
-    #[must_use]
-    fn linker_emulation(self) -> Option<&'static str> {
-        driver::linker_emulation(&self.into())
     }
 
     /// Whether rustc counts the system to the family `unix`.
@@ -400,27 +316,6 @@ pub trait TargetInfo<'a>: Copy + Into<TripleRef<'a>> {
     #[must_use]
     fn macos_version(self) -> Option<DeploymentTarget> {
         apple_versions::macos_version(&self.into())
-    }
-
-    /// The oldest version of one of Apple's systems that rustc builds programs for, unless it is asked for another one: what
-    /// `rustc --print deployment-target` prints. It doesn't depend on the version that the triple states, and on `darwin` it is
-    /// macOS's. `None` for any other system.
-    ///
-    /// # Examples
-    ///
-    /// ```
-    /// use target_lexicon::triple;
-    /// use target_names::TargetInfo;
-    ///
-    /// let oldest = |string| triple!(string).minimum_os_version().map(|it| (it.major, it.minor));
-    /// assert_eq!(oldest("x86_64-apple-darwin"), Some((10, 12)));
-    /// assert_eq!(oldest("aarch64-apple-darwin"), Some((11, 0)));
-    /// assert_eq!(oldest("aarch64-apple-ios-sim"), Some((14, 0)));
-    /// assert_eq!(oldest("x86_64-unknown-linux-gnu"), None);
-    /// ```
-    #[must_use]
-    fn minimum_os_version(self) -> Option<DeploymentTarget> {
-        apple_versions::minimum_os_version(&self.into())
     }
 
     /// The sizes of C's arithmetic types: those of the data model. A triple without one, such as of bare metal and Cygwin, has those of

@@ -1,12 +1,12 @@
 //! The targets in any text.
 use crate::buffer::Buffer;
 use crate::evidence::only_machine;
-use crate::mistakes::LONGEST_PATH;
-use crate::suggestions::{architecture_of, vendor_suggestion, Suggest as _, Suggestion};
-use crate::{meanings, suggestions, Dialect, Evidence, Meaning, NameOf, Said};
-use core::fmt::{self, Write};
+use crate::hints::LONGEST_PATH;
+use crate::suggestions::{architecture_of, edits_between, known_names, vendor_suggestion};
+use crate::{meanings, Dialect, Evidence, Meaning, Meant, NameOf, Said};
+use core::fmt::Write;
 use core::iter::once;
-use target_lexicon::{Architecture, OperatingSystem, Source, TextPart, TripleRef, VendorRef};
+use target_lexicon::{Architecture, Field, OperatingSystem, TextPart, TripleRef, VendorRef};
 
 /// The words of a text that are targets or may be misspelled ones, from its start to its end. The text may be a list of
 /// targets, a file in YAML, TOML or JSON, a page in Markdown, a script, or what a command has printed.
@@ -45,13 +45,61 @@ use target_lexicon::{Architecture, OperatingSystem, Source, TextPart, TripleRef,
 /// ```
 #[must_use]
 pub fn targets_in(text: &str) -> TargetsIn<'_> {
-    let text_read = text.strip_prefix('\u{feff}').unwrap_or(text);
-    TargetsIn {
-        text,
-        lines: text_read,
-        line: "",
-        is_list: text_read.split('\n').all(|line| items(uncommented(line)).all(is_item)),
-        is_value: false,
+    let lines = text.strip_prefix('\u{feff}').unwrap_or(text);
+    let is_list = lines.split('\n').all(|line| items(uncommented(line)).all(is_item));
+    TargetsIn { text, lines, line: "", is_list, is_value: false, is_check: false }
+}
+
+/// The words of a text that a check looks at, as of running text whatever its lines are: the names that [`targets_in`]
+/// gives, what is [near one](is_near_name), and misspelled triples. Of other triples with a known vendor, and of other
+/// values of the fourth rule's keys that say a machine, or before a slash a system, [`Word::is_unclear`] is true.
+///
+/// # Examples
+///
+/// ```
+/// use target_names::words_in;
+///
+/// let found = |text| words_in(text).map(|it| (it.text(), it.is_unclear())).collect::<Vec<_>>();
+/// assert_eq!(found("platform: [linux/arm46, linux/foo]"), [("linux/arm46", false), ("linux/foo", true)]);
+/// assert_eq!(found("0.5.0\ndist"), []);
+/// ```
+#[must_use]
+pub fn words_in(text: &str) -> TargetsIn<'_> {
+    TargetsIn { is_list: false, is_check: true, ..targets_in(text) }
+}
+
+/// Whether a word in lower case is a letter more, less or other, or a swap, away from a name of a tool that has parts.
+///
+/// ```
+/// use target_names::is_near_name;
+///
+/// assert!(is_near_name("linux/am6d4") && is_near_name("x86_64-unnown-helenos"));
+/// assert!(!is_near_name("linux/amd46-1") && !is_near_name("linux"));
+/// ```
+#[must_use]
+pub fn is_near_name(word: &str) -> bool {
+    let (word, has_parts) = (word.as_bytes(), |it: &str| it.contains(['-', '/']));
+    let is_near = |name: &str| is_one_edit(word, name.as_bytes()) && name.len() >= SHORTEST_NEAR && has_parts(name);
+    let may_be = SHORTEST_NEAR <= word.len() + 1 && word.iter().any(|it| b"-/".contains(it)) && !word.contains(&b'.');
+    may_be && Dialect::ALL.iter().any(|it| it.rows().iter().any(|row| is_near(row.0)))
+}
+
+/// Shorter names have too many words near them.
+const SHORTEST_NEAR: usize = 8;
+
+fn is_one_edit(word: &[u8], name: &[u8]) -> bool {
+    if word.len().abs_diff(name.len()) > 1 {
+        return false;
+    }
+    let start = word.iter().zip(name).take_while(|(one, other)| one == other).count();
+    let (word, name) = (&word[start..], &name[start..]);
+    let end = word.iter().rev().zip(name.iter().rev()).take_while(|(one, other)| one == other).count();
+    let letter = u8::is_ascii_lowercase;
+    match (&word[..word.len() - end], &name[..name.len() - end]) {
+        ([it], []) | ([], [it]) => letter(it),
+        ([one], [other]) => letter(one) && letter(other),
+        ([first, second], [one, other]) => (first, second) == (other, one),
+        _ => false,
     }
 }
 
@@ -65,6 +113,8 @@ pub struct TargetsIn<'a> {
     is_list: bool,
     /// Whether a word is the value of a key of which values are targets.
     is_value: bool,
+    /// Whether [`words_in`] returned it.
+    is_check: bool,
 }
 
 /// A word of a text.
@@ -72,6 +122,7 @@ pub struct TargetsIn<'a> {
 pub struct Word<'a> {
     part: TextPart<'a>,
     is_item: bool,
+    is_unclear: bool,
 }
 
 /// What a word is.
@@ -83,24 +134,6 @@ pub enum WordIs<'a> {
     Misspelled(Meant<'a>),
     /// It is no name, and none is suggested that makes it one.
     Unknown,
-}
-
-/// A name that was perhaps meant. `Display` writes it whole.
-#[derive(Clone, Copy, Debug, PartialEq, Eq)]
-pub struct Meant<'a> {
-    word: &'a str,
-    /// The misspelled part of the word.
-    pub part: TextPart<'a>,
-    /// What is suggested instead.
-    pub suggestion: Suggestion<'a>,
-}
-
-impl fmt::Display for Meant<'_> {
-    fn fmt(&self, f: &mut fmt::Formatter<'_>) -> fmt::Result {
-        let range = self.part.range();
-        let (before, after) = (&self.word[..range.start], &self.word[range.end..]);
-        write!(f, "{before}{}{after}", self.suggestion)
-    }
 }
 
 impl<'a> Word<'a> {
@@ -120,6 +153,12 @@ impl<'a> Word<'a> {
     #[must_use]
     pub fn is_item(&self) -> bool {
         self.is_item
+    }
+
+    /// Whether it says something of a target, and it isn't clear that it is one: only [`words_in`] gives such words.
+    #[must_use]
+    pub fn is_unclear(&self) -> bool {
+        self.is_unclear
     }
 
     /// What it is.
@@ -144,11 +183,11 @@ impl<'a> Iterator for TargetsIn<'a> {
     fn next(&mut self) -> Option<Word<'a>> {
         loop {
             let is_item = self.is_list;
-            let found = if is_item { self.next_item() } else { self.next_word() };
-            if let Some(text) = found {
+            let found = if is_item { self.next_item().map(|it| (it, false)) } else { self.next_word() };
+            if let Some((text, is_unclear)) = found {
                 let start = text.as_ptr() as usize - self.text.as_ptr() as usize;
                 let part = TextPart { text, start };
-                return Some(Word { part, is_item });
+                return Some(Word { part, is_item, is_unclear });
             }
             if self.lines.is_empty() {
                 return None;
@@ -171,7 +210,8 @@ impl<'a> TargetsIn<'a> {
         Some(item)
     }
 
-    fn next_word(&mut self) -> Option<&'a str> {
+    /// A word, and whether it is unclear.
+    fn next_word(&mut self) -> Option<(&'a str, bool)> {
         loop {
             let (before, rest) = self.line.split_at(self.line.find(is_of_word)?);
             let end = rest.find(|it| !is_of_word(it)).unwrap_or(rest.len());
@@ -179,7 +219,7 @@ impl<'a> TargetsIn<'a> {
             self.line = after;
             let is_key = is_key(after);
             if is_key {
-                self.is_value = KEYS.iter().any(|key| has(word, key));
+                self.is_value = KEYS.iter().any(|key| has(word, key)) && !CFG_OPTIONS.contains(&word);
             }
             let is_end = |it: &str| it.ends_with(PATTERN) && word.starts_with(['-', '.', '_']);
             if is_end(before) || after.starts_with(PATTERN) && word.ends_with(['-', '.', '_']) {
@@ -188,20 +228,35 @@ impl<'a> TargetsIn<'a> {
             let is_value = self.is_value && !is_key;
             let slashes = word.split('/').skip_while(|it| it.len() == word.len());
             let dots = word.split(['/', '.']).skip_while(|it| it.len() == word.len());
-            let mut parts = once(word).chain(slashes).chain(dots);
-            let found = parts.find_map(|it| {
-                let part = it.trim_matches(['-', '.', '/', '+', '_']);
-                is_given(part, is_value).then_some(part)
-            });
-            if found.is_some() {
-                return found;
+            let mut parts = once(word).chain(slashes).chain(dots).map(trimmed);
+            if self.is_check {
+                // What is a target says that the rest is something else: `x86_64-apple-darwin.runner`.
+                let is_name = |it: &&str| is_given(it, false) && matches!(what(it), WordIs::Name(_));
+                if let Some(part) = parts.clone().find(is_name) {
+                    return Some((part, false));
+                }
+                if let Some(found) = parts.find_map(|it| Some((it, clarity(it, is_value)?))) {
+                    return Some(found);
+                }
+            } else if let Some(part) = parts.find(|it| is_given(it, is_value)) {
+                return Some((part, false));
             }
         }
     }
 }
 
+fn trimmed(word: &str) -> &str {
+    word.trim_matches(['-', '.', '/', '+', '_'])
+}
+
 /// What a key has of which values are targets.
 const KEYS: [&str; 4] = ["target", "triple", "platform", "arch"];
+
+/// Options of rustc's `cfg`, whose values are words for a part of a target.
+const CFG_OPTIONS: [&str; 8] = [
+    "target_abi", "target_arch", "target_endian", "target_env", "target_family", "target_os", "target_pointer_width",
+    "target_vendor",
+];
 
 /// The signs of patterns and of variables.
 const PATTERN: &[char] = &['$', '*', '%', '<', '>', '{', '}'];
@@ -277,8 +332,41 @@ fn is_given(word: &str, is_value: bool) -> bool {
     }
 }
 
+/// Whether a word that a check looks at is unclear, if it does.
+fn clarity(word: &str, is_value: bool) -> Option<bool> {
+    let is_triple = |it: Meant<'_>| it.part.text != word;
+    if is_given(word, is_value) {
+        let is_clear = match what(word) {
+            WordIs::Name(_) => true,
+            WordIs::Misspelled(it) => is_value || is_triple(it) || is_near_name(word),
+            WordIs::Unknown => is_value || is_near_name(word),
+        };
+        return (is_clear || is_value || word.matches('-').count() > 1).then_some(!is_clear);
+    }
+    let is_wrong = || is_of_unknown_environment(word, is_value) || is_near_name(word);
+    if word.len() <= LONGEST_PATH && is_wrong() && !matches!(what(word), WordIs::Name(_)) {
+        return Some(false);
+    }
+    (is_value && is_unclear(word)).then_some(true)
+}
+
+/// Whether a word that isn't given says a machine, or a machine or a system before a slash. What runs jobs is no
+/// target, such as `macos-14-large`, nor what has capital letters, as identifiers have.
+fn is_unclear(word: &str) -> bool {
+    if word.len() > LONGEST_PATH || word.bytes().any(|it| it.is_ascii_uppercase()) {
+        return false;
+    }
+    let evidence = Evidence::of(word);
+    let is_runner = RUNNERS.iter().any(|it| word.strip_prefix(it).map_or(false, |it| it.starts_with('-')));
+    let is_said = evidence.machine() != Said::Unsaid || word.contains('/') && evidence.system() != Said::Unsaid;
+    is_said && !is_runner && !matches!(what(word), WordIs::Name(_))
+}
+
+/// With what labels of GitHub's runners begin.
+const RUNNERS: [&str; 3] = ["ubuntu", "macos", "windows"];
+
 /// Whether a name says a machine and a system, or is a triple with a known vendor and more after it.
-fn is_whole(word: &str) -> bool {
+pub(crate) fn is_whole(word: &str) -> bool {
     let is_target = |Meaning { of, triple, .. }| {
         triple.map_or(true, |triple: TripleRef<'_>| {
             let has_system = triple.operating_system != OperatingSystem::Unknown
@@ -299,48 +387,8 @@ fn what(word: &str) -> WordIs<'_> {
             && Dialect::all_with(word).all(|it| it == Dialect::Gnu)
     };
     let name = first.filter(|it| !is_misspelled(it));
-    let meant = || meant(word).map_or(WordIs::Unknown, WordIs::Misspelled);
+    let meant = || Meant::by(word).map_or(WordIs::Unknown, WordIs::Misspelled);
     name.map_or_else(meant, |it| WordIs::Name(it.of))
-}
-
-/// The name that was perhaps meant by a word that is none.
-fn meant(word: &str) -> Option<Meant<'_>> {
-    if word.len() > LONGEST_PATH {
-        return None;
-    }
-    let (part, suggestion) = match TripleRef::explain(word) {
-        it if it.triple.is_ok() => {
-            let part = match it.sources.vendor {
-                Source::Part(part) => Some(part),
-                _ => None,
-            };
-            (part, vendor_suggestion(it.triple.ok()?))
-        }
-        it => {
-            let refusal = it.triple.err()?;
-            (Some(refusal.part), refusal.suggestion_in(word))
-        }
-    };
-    let of_triple = part.zip(suggestion).map(|(part, suggestion)| Meant {
-        word,
-        part,
-        suggestion,
-    });
-    let is_target = |it: &Meant<'_>| {
-        let mut room = Buffer::<{ LONGEST_PATH + 64 }>::new();
-        let is_written = write!(room, "{it}").is_ok();
-        let triple = TripleRef::from_str(room.as_str());
-        is_written && triple.map_or(false, |it| !it.vendor.is_custom()) && is_whole(room.as_str())
-    };
-    of_triple.filter(is_target).or_else(|| {
-        // All of whose words are known is no misspelled name, and a name with others around it neither.
-        let evidence = Evidence::of(word);
-        let is_known = evidence.machine() != Said::Unsaid && evidence.system() != Said::Unsaid;
-        let near = suggestions(word).find(|(_, name)| !word.contains(name)).filter(|_| !is_known)?;
-        let part = TextPart { text: word, start: 0 };
-        let suggestion = Suggestion::of(near.1);
-        Some(Meant { word, part, suggestion })
-    })
 }
 
 /// Whether a word begins with a machine and a known vendor, and goes on with no known system.
@@ -353,4 +401,20 @@ fn is_of_unknown_system(word: &str) -> bool {
         let mut room = Buffer::<LONGEST_PATH>::new();
         write!(room, "{machine}-{vendor}-{system}").is_ok() && TripleRef::from_str(room.as_str()).is_err()
     }
+}
+
+/// Whether a word is a triple with a known vendor, or without one, except for its last part, which resembles an
+/// environment, or follows a vendor and a system where a target is expected.
+fn is_of_unknown_environment(word: &str, is_value: bool) -> bool {
+    let Err(refusal) = TripleRef::from_str(word) else {
+        return false;
+    };
+    let part = refusal.part.text;
+    let before = word.strip_suffix(part).unwrap_or("").trim_end_matches('-');
+    let is_known = |it: TripleRef<'_>| !it.vendor.is_custom() && it.operating_system != OperatingSystem::Unknown;
+    let mut names = known_names(Field::Environment).iter();
+    refusal.expected == Some(Field::Environment)
+        && TripleRef::from_str(before).map_or(false, is_known)
+        && (part.len() > 3 && names.any(|name| edits_between(part.as_bytes(), name).is_some())
+            || is_value && word.matches('-').count() == 3)
 }

@@ -1,10 +1,10 @@
 //! From a name in one dialect to the name in another, and why there is none.
 //!
 //! This is the composition of reading, completing and writing, and the reason where a triple has no name.
-use crate::dialect::{has_version, is_written, text_in, Row, Way, MAX_LENGTH};
+use crate::dialect::{has_version, is_written, text_in, Row, Sense, Way, MAX_LENGTH};
 use crate::shape::{is_another_target, version};
 use crate::table::WRITE_REASONS;
-use crate::{Dialect, LinuxLibc, Name, NameError, TargetInfo, WriteError};
+use crate::{Dialect, LinuxLibc, Name, NameError, TargetInfo, VersionOf, Versions, WriteError};
 use core::fmt;
 use target_lexicon::{
     Architecture, ArmArchitecture, Environment, OperatingSystem, Riscv64Architecture, TripleRef,
@@ -135,46 +135,61 @@ impl Dialect {
             && self.shape(&completed) != self.shape(triple)
     }
 
-    /// The name that states a version which triples don't have, as [`Dialect::write_versioned`] gives it. Where no name of
-    /// the triple states one, it is the name without: `win_amd64` of Python.
+    /// The name of a triple with a C library, if one is said, that states a version which triples don't have, as [`Dialect::write_versioned`] gives it. Where no name of
+    /// the triple states one, or none of its system and C library is said, it is the name without: `win_amd64` of Python.
     ///
     /// # Errors
     ///
-    /// The triple has no name with this version, and why: the version isn't one of its system or C library, or the C
-    /// library isn't said.
+    /// The triple has no name with this version, and why: no name states such a one, or the C library isn't said.
     ///
     /// # Examples
     ///
     /// ```
     /// use target_lexicon::TripleRef;
-    /// use target_names::{Dialect, WriteError};
+    /// use target_names::{Dialect, VersionOf, Versions, WriteError};
     ///
-    /// let tag = |text, major, minor| {
+    /// let versions = Versions::none().with(VersionOf::Glibc, 2, 17).with(VersionOf::MacOs, 11, 0);
+    /// let tag = |text| {
     ///     let triple = TripleRef::from_str(text).unwrap();
-    ///     Dialect::Python.write_with_version(&triple, major, minor).map(|it| it.to_string())
+    ///     Dialect::Python.write_with_versions(&triple, None, &versions).map(|it| it.to_string())
     /// };
-    /// assert_eq!(tag("aarch64-apple-darwin", 11, 0).unwrap(), "macosx_11_0_arm64");
-    /// assert_eq!(tag("aarch64-apple-darwin", 2, 17), Err(WriteError::OtherVersion));
-    /// assert_eq!(tag("x86_64-pc-windows-msvc", 2, 17).unwrap(), "win_amd64");
+    /// assert_eq!(tag("aarch64-apple-darwin").unwrap(), "macosx_11_0_arm64");
+    /// assert_eq!(tag("x86_64-pc-windows-msvc").unwrap(), "win_amd64");
+    /// assert_eq!(tag("x86_64-unknown-freebsd"), Err(WriteError::NeedsVersion));
     /// ```
     #[inline]
-    pub fn write_with_version<'t>(
+    pub fn write_with_versions<'t>(
         self,
         triple: impl Into<TripleRef<'t>>,
-        major: u16,
-        minor: u8,
+        c_library: Option<LinuxLibc>,
+        versions: &Versions,
     ) -> Result<Name, WriteError> {
-        let triple = &triple.into();
-        if let Some(name) = self.write_versioned(triple, major, minor) {
+        self.write_all(&triple.into(), "", c_library, versions)
+    }
+
+    /// The name of a triple with all that is said of it besides.
+    fn write_all(
+        self,
+        triple: &TripleRef<'_>,
+        level: &str,
+        c_library: Option<LinuxLibc>,
+        versions: &Versions,
+    ) -> Result<Name, WriteError> {
+        let completed = c_library.map_or(*triple, |it| triple.with_c_library(it));
+        let version = versions.of(completed);
+        if let Some(name) = version.and_then(|it| self.name_of(&completed, level, Some(it))) {
             return Ok(name);
         }
-        if self.states_version(triple) {
-            return Err(WriteError::OtherVersion);
-        }
-        if self.states_version(&triple.with_c_library(LinuxLibc::Glibc)) {
+        // A version of a C library that isn't said.
+        let libraries = [LinuxLibc::Glibc, LinuxLibc::Musl].map(|it| completed.with_c_library(it));
+        let would_state = |it: &TripleRef<'_>| versions.of(*it).is_some() && self.states_version(it);
+        if version.is_none() && libraries.iter().any(would_state) {
             return Err(WriteError::NeedsCLibrary);
         }
-        self.write_with(triple, None)
+        if version.is_some() && self.states_version(&completed) {
+            return Err(WriteError::OtherVersion);
+        }
+        self.write_at(triple, level, c_library)
     }
 
     /// The name in another dialect of what a name of this one means, with a C library if one is said. Nothing is
@@ -210,9 +225,34 @@ impl Dialect {
         c_library: Option<LinuxLibc>,
         to: Dialect,
     ) -> Result<Name, TranslateError> {
-        let triple = self.read_loosely(name).map_err(TranslateError::Read)?;
-        let level = self.level(name).unwrap_or("");
-        let found = to.write_at(triple, level, c_library);
+        self.translate_with(name, c_library, &Versions::none(), to)
+    }
+
+    /// As [`translate`](Dialect::translate), with versions that names state: see [`write_with_versions`](Dialect::write_with_versions).
+    ///
+    /// # Errors
+    ///
+    /// As those of [`translate`](Dialect::translate); or no name states such a version.
+    ///
+    /// # Examples
+    ///
+    /// ```
+    /// use target_names::{Dialect, LinuxLibc, VersionOf, Versions};
+    ///
+    /// let versions = Versions::none().with(VersionOf::Glibc, 2, 17);
+    /// let tag = Dialect::Oci.translate_with("linux/amd64", Some(LinuxLibc::Glibc), &versions, Dialect::Python);
+    /// assert_eq!(tag.unwrap().as_str(), "manylinux_2_17_x86_64");
+    /// ```
+    #[inline]
+    pub fn translate_with(
+        self,
+        name: &str,
+        c_library: Option<LinuxLibc>,
+        versions: &Versions,
+        to: Dialect,
+    ) -> Result<Name, TranslateError> {
+        let Sense { triple, level } = self.find(name).map_err(TranslateError::Read)?;
+        let found = to.write_all(&triple, level, c_library, versions);
         // A name of the same tool stays if the one that is written says less: `manylinux_2_17_x86_64` of Python.
         let says_less = |it: &Name| self.read(it.as_str()).map_or(false, |it| it != triple);
         match found {
@@ -344,11 +384,8 @@ impl Dialect {
                     _ => why,
                 };
             } else if text == whole && row.2 == Way::Read {
-                let is_versioned = |major: &u16| {
-                    has_version(*major, 0, row.0)
-                        && self.write_versioned(triple, *major, 0).is_some()
-                };
-                return if FIRST_NUMBERS.iter().any(is_versioned) {
+                let is_versioned = |major: &u16| has_version(*major, 0, row.0);
+                return if FIRST_NUMBERS.iter().any(is_versioned) && self.states_version(triple) {
                     WriteError::NeedsVersion
                 } else {
                     WriteError::OnlyReadNames
@@ -361,9 +398,9 @@ impl Dialect {
     /// Whether names of the triple state a version.
     #[inline]
     fn states_version(self, triple: &TripleRef<'_>) -> bool {
-        FIRST_NUMBERS
-            .iter()
-            .any(|major| self.write_versioned(triple, *major, 0).is_some())
+        let Some(of) = VersionOf::of(*triple) else { return false };
+        let mut versions = FIRST_NUMBERS.iter().map(|it| Versions::none().with(of, *it, 0));
+        versions.any(|it| self.write_versioned(*triple, &it).is_some())
     }
 
     /// Whether a triple has a name with a change.

@@ -3,11 +3,11 @@
 //! have what is right of some texts: here a rule that changes any other answer changes a line of answers.txt.
 use std::collections::BTreeMap;
 use target_lexicon::{
-    Architecture, Endianness, Environment, Field, OperatingSystem, PointerWidth, Refusal, TripleRef, VendorRef,
+    Architecture, Environment, Field, OperatingSystem, Refusal, TripleRef, VendorRef,
 };
 use target_names::{
-    changes, known_names, meanings, read, stated_versions, suggestions, targets_in, vendor_suggestion, Change, Dialect,
-    Evidence, Meaning, Suggest as _, TargetInfo, TypeLayout, Word, WordIs,
+    changes, known_names, meanings, read, suggestions, targets_in, vendor_suggestion, Change, Dialect,
+    Evidence, Meaning, Suggest as _, TargetInfo, TypeLayout, VersionOf, Versions, Word, WordIs,
 };
 
 /// Vendors that say something of a target: some of rustc's, and those that are systems.
@@ -53,7 +53,7 @@ fn sum(it: Option<impl ToString>) -> String {
     (sum >> 29).to_string()
 }
 
-fn of_systems(it: TripleRef<'_>) -> [(&'static str, String); 12] {
+fn of_systems(it: TripleRef<'_>) -> [(&'static str, String); 9] {
     [
         ("c_library", shown(it.c_library())),
         ("float_abi", shown(it.float_abi())),
@@ -63,14 +63,11 @@ fn of_systems(it: TripleRef<'_>) -> [(&'static str, String); 12] {
         ("has_emulated_tls", it.has_emulated_tls().to_string()),
         ("has_comdat", it.has_comdat().to_string()),
         ("program_suffix", it.program_suffix().to_string()),
-        ("dynamic_linker", shown(it.dynamic_linker())),
-        ("linker_emulation", shown(it.linker_emulation())),
         ("macos_version", shown(it.macos_version().map(|it| format!("{}.{}", it.major, it.minor)))),
-        ("minimum_os_version", shown(it.minimum_os_version().map(|it| format!("{}.{}", it.major, it.minor)))),
     ]
 }
 
-fn of_machines(it: TripleRef<'_>) -> [(&'static str, String); 9] {
+fn of_machines(it: TripleRef<'_>) -> [(&'static str, String); 5] {
     let sizes = it.type_sizes().map(|it| [it.short, it.int, it.long, it.long_long, it.float, it.double]);
     [
         ("arm_version", shown(it.arm_version())),
@@ -78,10 +75,6 @@ fn of_machines(it: TripleRef<'_>) -> [(&'static str, String); 9] {
         ("long_double_layout", layout(it.long_double_layout())),
         ("wchar_layout", layout(it.wchar_layout())),
         ("type_sizes", shown(sizes.map(|it| it.map(|it| it.to_string()).concat()))),
-        ("with_pointer_width(U32)", sum(it.with_pointer_width(PointerWidth::U32))),
-        ("with_pointer_width(U64)", sum(it.with_pointer_width(PointerWidth::U64))),
-        ("with_endianness(Little)", sum(it.with_endianness(Endianness::Little))),
-        ("with_endianness(Big)", sum(it.with_endianness(Endianness::Big))),
     ]
 }
 
@@ -124,7 +117,7 @@ fn joined(all: impl Iterator<Item = String>) -> Option<String> {
 }
 
 /// What is said of a text, also by one of the dialects that have it, if one has, and in another dialect.
-fn of_text(number: usize, text: &str) -> [(&'static str, String); 12] {
+fn of_text(number: usize, text: &str) -> [(&'static str, String); 11] {
     let has_it = |it: &&Dialect| it.read_loosely(text).is_ok();
     let all = || Dialect::ALL.iter().copied();
     let dialect = Dialect::ALL.iter().filter(has_it).nth(number % 2).copied().or(all().nth(number % 15)).unwrap();
@@ -134,7 +127,10 @@ fn of_text(number: usize, text: &str) -> [(&'static str, String); 12] {
     let change = |it: Change| format!("{:?}{}{:?}", it.part.range(), it.names, it.dropped_version().map(|it| it.text));
     let of_refusal = |why: Refusal| format!("{why}{:?}{}", why.range(), shown(why.suggestion_in(text)));
     let of_dialect = |it: &Dialect| it.read_loosely(text).map_or_else(|why| why.to_string(), |it| it.to_string());
-    let refused = dialect.parse(text).err().map(|it| format!("{it}{}{}", shown(it.mistake()), shown(it.suggestion())));
+    let refused = dialect
+        .read(text)
+        .err()
+        .map(|it| format!("{it}{}{}", shown(dialect.mistake(text)), shown(dialect.suggestion(text))));
     let is = |it: Word| match it.is() {
         WordIs::Name(of) => format!("{}{}{of}", it.start(), it.text()),
         WordIs::Misspelled(meant) => format!("{}{}{meant}", it.start(), it.text()),
@@ -145,20 +141,20 @@ fn of_text(number: usize, text: &str) -> [(&'static str, String); 12] {
         format!("{}{triple}{}", it.of, shown(it.level))
     };
     let written = dialect.read_loosely(text).or(found).map(|it| {
-        let versions =
-            [(2, 17), (1, 2), (11, 0), (21, 0)].map(|(major, minor)| shown(dialect.write_versioned(it, major, minor)));
-        versions.concat() + &to.write_with(it, library).map_or_else(|why| format!("{why:?}"), |it| it.to_string())
+        let versions = Versions::none().with(VersionOf::Glibc, 2, 17).with(VersionOf::Musl, 1, 2);
+        let versions = versions.with(VersionOf::MacOs, 11, 0).with(VersionOf::Android, 21, 0);
+        let versioned = shown(dialect.write_versioned(it, &versions));
+        versioned + &to.write_with(it, library).map_or_else(|why| format!("{why:?}"), |it| it.to_string())
     });
     [
         ("read", sum(Some(found.map_or_else(of_refusal, |it| it.to_string())))),
         ("changes", sum(joined(changes(text).map(change)))),
-        ("stated_versions", sum(stated_versions(text).ok().map(|it| format!("{it:?}")))),
         ("vendor_suggestion", sum(TripleRef::from_str(text).ok().map(|it| shown(vendor_suggestion(it))))),
         ("evidence", sum(Some(format!("{}{}", Evidence::of(text), shown(Evidence::of(text).triple()))))),
         ("meanings", sum(joined(meanings(text).map(meaning)))),
         ("suggestions", sum(joined(suggestions(text).map(|it| format!("{}{}", it.0, it.1))))),
         ("read_loosely", sum(joined(Dialect::ALL.iter().map(of_dialect)))),
-        ("parse", sum(refused)),
+        ("mistakes", sum(refused)),
         ("write", sum(written.ok())),
         (
             "translate",

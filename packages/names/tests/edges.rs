@@ -2,8 +2,8 @@
 use std::fmt::{self, Display, Write};
 use target_lexicon::{Field, PointerWidth, TripleRef};
 use target_names::{
-    changes, meanings, read, targets_in, vendor_suggestion, visible, Dialect, Evidence, FloatAbi, LinuxLibc, Meaning,
-    Mistake, NameError, Said, Suggest as _, TargetInfo, WordIs, SHOWN,
+    changes, meanings, read, suggestions, targets_in, vendor_suggestion, visible, Dialect, Evidence, FloatAbi, LinuxLibc, Meaning,
+    Mistake, NameError, NameOf, Said, Suggest as _, TargetInfo, VersionOf, Versions, WordIs, SHOWN,
 };
 
 /// A writer with room for so many bytes.
@@ -35,10 +35,9 @@ fn what_is_displayed_fails_as_its_writer_does() {
     let unknown = "debian linux/arm64,gnu bpfel-linux-gnu,go Linux/AMD64,gnu nios2-linux-gnu,uname Linux,\
                    oci linux/amd46,debian all";
     for (dialect, name) in unknown.split(',').map(|it| it.split_once(' ').unwrap()) {
-        let error = dialect.parse::<Dialect>().unwrap().parse(name).unwrap_err();
-        fails(&error);
-        error.mistake().iter().for_each(|it| fails(it));
-        fails(&error.why());
+        let dialect: Dialect = dialect.parse().unwrap();
+        dialect.mistake(name).iter().for_each(|it| fails(it));
+        fails(&dialect.read(name).unwrap_err());
     }
     for word in ["foo", "golang"] {
         fails(&word.parse::<Dialect>().unwrap_err());
@@ -79,7 +78,8 @@ fn the_file_of_a_wheel_means_several_triples() {
 fn a_triple_that_is_a_name_itself_has_no_version() {
     let unikraft = triple("x86_64-unikraft-linux-musl");
     assert_eq!(Dialect::Rust.write(unikraft).unwrap(), "x86_64-unikraft-linux-musl");
-    assert_eq!(Dialect::Rust.write_versioned(unikraft, 1, 2), None);
+    let versions = Versions::none().with(VersionOf::Musl, 1, 2);
+    assert_eq!(Dialect::Rust.write_versioned(unikraft, &versions), None);
 }
 
 /// A text, and after `=` what its words say.
@@ -101,12 +101,12 @@ linux-armhf-armel=no triple says all that its words say: arm, several floating-p
 linux-x64-glibc-musl=no triple says all that its words say: x86_64, linux, several C libraries or ABIs
 linux-x64-android-ohos=no triple says all that its words say: x86_64, linux, several C libraries or ABIs
 linux-x64-gnuf32=no triple says all that its words say: x86_64, linux, another C library or ABI
-x86_64_v3-linux=no triple says all that its words say: x86_64, its level v3, linux
+x86_64_v3-linux=its words name x86_64-unknown-linux of the level v3
 x86_64_v2-linux-foo=its words say x86_64, its level v2, linux; here nobody knows `foo`
 linux-x64-32bit-foo-bar=its words say x86_64, 32 bits, linux; here nobody knows `foo`
-x86_64_v4-linux=no triple says all that its words say: x86_64, its level v4, linux
-linux-amd64v2=no triple says all that its words say: x86_64, its level v2, linux
-linux-amd64v4=no triple says all that its words say: x86_64, its level v4, linux
+x86_64_v4-linux=its words name x86_64-unknown-linux of the level v4
+linux-amd64v2=its words name x86_64-unknown-linux of the level v2
+linux-amd64v4=its words name x86_64-unknown-linux of the level v4
 linux-x86-64bit=no triple says all that its words say: i686, 64 bits, linux
 x64-linux-gnuspe=no triple says all that its words say: x86_64, linux, gnu, spe
 linux-arm-64bit=it names a system, and no single machine known here
@@ -117,6 +117,13 @@ hardfp-game-linux-x64=its words name x86_64-unknown-linux
 64bit-game-linux-x64=its words name x86_64-unknown-linux
 sim-game-linux-x64=its words name x86_64-unknown-linux
 newlib-game-linux-x64=its words name x86_64-unknown-linux
+linux-arm64-glibc2.28=its words name aarch64-unknown-linux-gnu
+linux-amd64-v3.2.1=its words name x86_64-unknown-linux
+linux_arm64_v9.0=its words name aarch64-unknown-linux of the level v9
+linux_arm64_v9.2=its words name aarch64-unknown-linux of the level v9.9
+linux_arm64_v8.2=its words name aarch64-unknown-linux of the level v8.2
+linux_arm64_v8.0=its words name aarch64-unknown-linux
+ppc64-ibm-aix=its words name powerpc64-ibm-aix
 linux-x64-newlib=its words name x86_64-unknown-linux-newlib
 maccatalyst-arm64=its words name aarch64-apple-ios-macabi
 linux-ppc-gnuspe=its words name powerpc-unknown-linux-gnuspe
@@ -516,9 +523,78 @@ zig aarch64-macosx-none=aarch64-macos-none
 debian powerpc-spe=powerpcspe
 debian  x32 =x32
 node /opt/linux-x64-musl/linux-x64=linux-x64-musl
-node x-bun-linux-x64=bun-linux-x64
-debian foo-musl-linux-amd64=musl-linux-amd64
+go linux/amr64=-
+node linux-adm64=-
+gnu linux-ppc64--gnu=-
+debian powerpcel=-
 debian armv7-hardfloat-linux-gnueabi.2.17=armhf";
+
+/// A dialect, a name, and after `=` the level that it says.
+const LEVELS: &str = "\
+rpm foo-1-1.x86_64_v4.rpm=v4
+rpm foo-1-1.armv7hnl.rpm=neon
+debian libc6:amd64v3=v3
+debian foo_1.0-1_amd64v3.deb=v3
+pacman bash-5.2-1-x86_64_v3.pkg.tar.zst=v3
+go linux_amd64_v3=v3
+go linux_amd64_v1=-
+go foo_1.2_linux_amd64_v3.tar.gz=v3
+go linux_ppc64le_power9=power9
+oci linux/riscv64/rva22u64=rva22u64
+rust ripgrep-14.1.0-arm-unknown-linux-gnueabihf.tar.gz=armv6";
+
+#[test]
+fn what_is_around_a_name_keeps_its_level() {
+    for (row, level) in LEVELS.lines().map(|row| row.split_once('=').unwrap()) {
+        let (dialect, name) = row.split_once(' ').unwrap();
+        let dialect: Dialect = dialect.parse().unwrap();
+        assert_eq!(dialect.level(name).unwrap_or("-"), level, "{row}");
+        let mut meanings = meanings(name).filter(|it| it.of == NameOf::Dialect(dialect));
+        assert_eq!(meanings.next().unwrap().level.unwrap_or("-"), level, "{row}");
+        // In Debian it has a name of this level, or none; `armhf` is for a higher one than Armv6.
+        let debian = dialect.translate(name, "glibc".parse().ok(), Dialect::Debian);
+        let is_same = |it: target_names::Name| Dialect::Debian.level(it.as_str()).unwrap_or("-") == level;
+        assert!(level == "armv6" || debian.map_or(true, is_same), "{row} {debian:?}");
+    }
+}
+
+#[test]
+fn a_level_without_a_name_of_its_own_is_no_half_name() {
+    let found = Dialect::Oci.translate("linux/arm64/v9.1", None, Dialect::Oci);
+    assert!(found.is_err(), "{found:?}");
+}
+
+/// Whichever two letters are swapped, and whichever is left out or doubled: a hint is of the machine that the name means to some tool.
+#[test]
+fn hints_keep_the_machine() {
+    let machine = |text: &str| {
+        let triple = triple(text);
+        let family = triple.rustc_cfg().target_arch.to_string();
+        (family, triple.endianness().ok(), triple.pointer_width().ok())
+    };
+    let mut machines = std::collections::BTreeMap::<_, Vec<_>>::new();
+    for row in include_str!("../names.csv").lines().skip(1) {
+        let cells: Vec<_> = row.split(',').collect();
+        if !cells[2].is_empty() && !cells[1].contains('*') {
+            machines.entry(cells[1]).or_default().push(machine(cells[2]));
+        }
+    }
+    let mut count = 0;
+    for (at, (name, own)) in machines.iter().enumerate() {
+        for i in (at % 5..name.len()).step_by(5).filter(|i| name.is_char_boundary(*i) && name.is_ascii()) {
+            let (before, after) = name.split_at(i);
+            let swapped = after.get(..2).map(|two| two.chars().rev().collect::<String>() + &after[2..]);
+            let edited = [Some(after[1..].to_string()), Some(after[..1].to_string() + after), swapped];
+            for edited in edited.into_iter().flatten().map(|it| before.to_string() + &it) {
+                let is_right = |it: &(Dialect, &str)| own.contains(&machine(&it.0.read(it.1).unwrap().to_string()));
+                let wrong = suggestions(&edited).find(|it| !is_right(it));
+                assert!(wrong.is_none() || machines.contains_key(&*edited), "{name}: {edited}: {wrong:?}");
+                count += 1;
+            }
+        }
+    }
+    assert!(count > 9000, "{count}");
+}
 
 #[test]
 fn names_are_suggested_for_unknown_ones() {
@@ -536,8 +612,7 @@ fn names_are_suggested_for_unknown_ones() {
 }
 
 #[test]
-fn only_an_unknown_name_has_a_suggestion() {
-    assert_eq!(Dialect::Debian.parse("aarch64").unwrap_err().suggestion(), None);
+fn only_an_unknown_dialect_has_a_suggestion() {
     assert_eq!("golang".parse::<LinuxLibc>().unwrap_err().suggestion(), None);
 }
 

@@ -6,7 +6,7 @@ use proptest::test_runner::FileFailurePersistence;
 use target_lexicon::{Field, TripleRef};
 use target_names::{
     changes, known_names, meanings, read, suggestion, Dialect, Evidence, FloatAbi, LinuxLibc,
-    NameError, TargetInfo,
+    NameError, TargetInfo, VersionOf, Versions,
 };
 
 const FIELDS: [Field; 5] = [
@@ -212,7 +212,7 @@ proptest! {
             let _ = suggestion(field, &text).map(|it| it.to_string());
         }
         for dialect in Dialect::ALL {
-            let _ = dialect.parse(&text).map_err(|it| it.to_string());
+            let _ = dialect.read(&text).map_err(|it| it.to_string());
             let _ = dialect.mistake(&text).map(|it| it.to_string());
             for library in libraries() {
                 let _ = dialect.translate(&text, Some(library), Dialect::Rust).map_err(|it| it.to_string());
@@ -222,7 +222,8 @@ proptest! {
             let _ = (it.rustc_cfg().to_string(), it.llvm_target().to_string(), it.type_sizes(), it.macos_version());
             for dialect in Dialect::ALL {
                 let _ = dialect.write_with(it, None).map_err(|it| it.to_string());
-                let _ = dialect.write_versioned(it, u16::MAX, u8::MAX);
+                let versions = VersionOf::ALL.into_iter().fold(Versions::none(), |all, it| all.with(it, u16::MAX, u8::MAX));
+                let _ = dialect.write_versioned(it, &versions);
             }
         }
     }

@@ -3,7 +3,7 @@ use std::collections::BTreeSet;
 use target_lexicon::{Architecture, TripleRef};
 use target_names::{
     meanings, suggestions, CLibrary, Dialect, Evidence, LinuxLibc, Meaning, NameError, NameOf,
-    TargetInfo, TranslateError,
+    TargetInfo, VersionOf, Versions, TranslateError,
 };
 
 /// The lines of a file that aren't comments, cell by cell.
@@ -53,27 +53,35 @@ fn names_in_use_lead_to_other_tools() {
     );
 }
 
-/// Tags of wheels, whose version is that of the system or C library; or why there is none. A version is asked for only where a
+/// Tags of wheels, whose version is that of the system or C library, by its name; or why there is none. One is asked for only where a
 /// name that states one means the triple: that of FreeBSD means none with musl. Of a triple that has a version none is asked for.
 const TAGS: &str = "\
-x86_64-unknown-linux-gnu 2.17 manylinux_2_17_x86_64
-aarch64-unknown-linux-gnu 2.17 manylinux_2_17_aarch64
-x86_64-unknown-linux-musl 1.2 musllinux_1_2_x86_64
-aarch64-unknown-linux-musl 1.2 musllinux_1_2_aarch64
-armv7-unknown-linux-gnueabihf 2.17 manylinux_2_17_armv7l
-x86_64-apple-darwin 11.0 macosx_11_0_x86_64
-x86_64-apple-darwin 10.9 macosx_10_9_x86_64
-aarch64-apple-darwin 11.0 macosx_11_0_arm64
-x86_64-pc-windows-msvc 2.17 win_amd64
-aarch64-pc-windows-msvc 2.17 win_arm64
-i686-pc-windows-msvc 2.17 win32
-x86_64-pc-windows 2.17 win_amd64
-aarch64-apple-darwin 2.17 OtherVersion
-aarch64-unknown-linux-musl 11.0 OtherVersion
-x86_64-unknown-linux-gnu 1.2 OtherVersion
-x86_64-unknown-linux-gnu 0.0 OtherVersion
-aarch64-linux-android 0.0 OtherVersion
-x86_64-unknown-linux 2.17 NeedsCLibrary
+x86_64-unknown-linux-gnu glibc:2.17,macos:11.0 manylinux_2_17_x86_64
+aarch64-unknown-linux-gnu glibc:2.17 manylinux_2_17_aarch64
+x86_64-unknown-linux-musl musl:1.2,glibc:2.17 musllinux_1_2_x86_64
+aarch64-unknown-linux-musl musl:1.2 musllinux_1_2_aarch64
+armv7-unknown-linux-gnueabihf glibc:2.17 manylinux_2_17_armv7l
+x86_64-apple-darwin macos:11.0,ios:17.0 macosx_11_0_x86_64
+x86_64-apple-darwin macos:10.9 macosx_10_9_x86_64
+aarch64-apple-darwin macos:11.0 macosx_11_0_arm64
+aarch64-apple-ios ios:17.0,macos:11.0 ios_17_0_arm64_iphoneos
+x86_64-linux-android android:21.0,glibc:2.17 android_21_x86_64
+x86_64-unknown-freebsd freebsd:14.1 freebsd_14_1_RELEASE_amd64
+x86_64-pc-windows-msvc glibc:2.17 win_amd64
+aarch64-pc-windows-msvc windows:10240.0 win_arm64
+i686-pc-windows-msvc glibc:2.17 win32
+x86_64-pc-windows macos:11.0 win_amd64
+aarch64-apple-darwin macos:2.17 OtherVersion
+aarch64-unknown-linux-musl musl:11.0 OtherVersion
+x86_64-unknown-linux-gnu glibc:1.2 OtherVersion
+x86_64-unknown-linux-gnu glibc:0.0 OtherVersion
+aarch64-linux-android android:0.0 OtherVersion
+x86_64-unknown-linux glibc:2.17 NeedsCLibrary
+x86_64-unknown-linux macos:11.0 linux_x86_64
+x86_64-unknown-linux-gnu musl:1.2,macos:11.0 linux_x86_64
+aarch64-apple-darwin glibc:2.17 NeedsVersion
+x86_64-unknown-freebsd glibc:2.17 NeedsVersion
+aarch64-apple-ios macos:11.0,glibc:2.17 NeedsVersion
 aarch64-unknown-freebsd - NeedsVersion
 aarch64-unknown-freebsd-musl - OnlyReadNames
 wasm32-unknown-emscripten - OnlyReadNames
@@ -88,13 +96,14 @@ fn tags_of_wheels_have_the_version_of_the_system_or_c_library() {
             panic!("{row}");
         };
         let triple = TripleRef::from_str(text).unwrap();
-        let found = match version.split_once('.') {
-            None => Dialect::Python.write_with(triple, None),
-            Some((major, minor)) => {
-                let (major, minor) = (major.parse().unwrap(), minor.parse().unwrap());
-                Dialect::Python.write_with_version(triple, major, minor)
-            }
-        };
+        let mut versions = Versions::none();
+        for version in version.split(',').filter(|it| *it != "-") {
+            let (of, numbers) = version.split_once(':').unwrap();
+            let (major, minor) = numbers.split_once('.').unwrap();
+            let of = VersionOf::ALL.into_iter().find(|it| it.name() == of).unwrap();
+            versions = versions.with(of, major.parse().unwrap(), minor.parse().unwrap());
+        }
+        let found = Dialect::Python.write_with_versions(triple, None, &versions);
         let found = found.map_or_else(|why| format!("{why:?}"), |it| it.to_string());
         assert_eq!(found, expected, "{row}");
     }

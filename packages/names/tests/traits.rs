@@ -3,8 +3,8 @@ use std::collections::{BTreeSet, HashSet};
 use std::fmt::{self, Debug, Display, Write as _};
 use target_lexicon::{Triple, TripleRef};
 use target_names::{
-    read, stated_versions, vendor_suggestion, visible, CLibrary, Dialect, Evidence, FloatAbi, LinuxLibc, Name, ParseNameError,
-    Signedness, StatedVersion, Suggest as _, TargetInfo as _, UnknownWord, SHOWN,
+    read, vendor_suggestion, visible, CLibrary, Dialect, Evidence, FloatAbi, LinuxLibc, Name,
+    Signedness, Suggest as _, TargetInfo as _, UnknownWord, SHOWN,
 };
 
 #[test]
@@ -67,9 +67,6 @@ fn values_are_in_the_order_of_their_names() {
     in_order_of_names(&[FloatAbi::Soft, FloatAbi::Hard]);
     in_order_of_names(&[Signedness::Unsigned, Signedness::Signed]);
     in_order_of_names(&[CLibrary::Musl, CLibrary::Bionic, CLibrary::System, CLibrary::Glibc, CLibrary::Msvc]);
-    let versions = [(1, 0, 9), (1, 2, 0), (1, 2, 1), (2, 0, 0)];
-    let versions = versions.map(|(major, minor, patch)| StatedVersion { major, minor, patch });
-    assert!(versions.windows(2).all(|it| it[0] < it[1]));
 }
 
 /// Each is equal to itself only.
@@ -84,14 +81,10 @@ fn differ<T: PartialEq + Clone + Debug>(all: &[T]) {
 
 #[test]
 fn what_says_something_else_is_another_one() {
-    let error = |(dialect, name): (Dialect, &str)| dialect.parse(name).unwrap_err();
-    differ(&[(Dialect::Oci, "foo"), (Dialect::Go, "foo"), (Dialect::Go, "bar"), (Dialect::Go, "plan9/amd64")].map(error));
     differ(&["foo".parse::<Dialect>().unwrap_err(), "foo".parse::<LinuxLibc>().unwrap_err(), "bar".parse::<Dialect>().unwrap_err()]);
     let triples = ["avr", "arm", "avr-pc", "avr-pc-linux", "avr-pc-linux-musl", "avr-pc-linux-coff"];
     let triples = triples.map(|it| TripleRef::from_str(it).unwrap());
     differ(&triples.map(|it| it.llvm_target()));
-    let stating = ["x86_64-linux", "x86_64-freebsd13", "x86_64-freebsd13.2", "x86_64-freebsd13.2-musl1.2", "x86_64-linux-musl1.2"];
-    differ(&stating.map(|it| stated_versions(it).unwrap()));
     differ(&["x86_64-pc-linxu", "x86_64-pc-windwos", "arm64-apple-iso1", "arm64-apple-iso2"].map(|it| read(it).unwrap_err().suggestion()));
 }
 
@@ -112,7 +105,6 @@ fn a_writer_that_fails_is_noticed() {
     let versioned = TripleRef::from_str("arm64-apple-iso17").unwrap_err();
     let spelled: Vec<_> = target_names::changes("amd64-unknown-freebsd13.2").map(|it| it.names).collect();
     let mistakes = ["LINUX/AMD64", "linux /a", "linux", "linux-x64", "./linux/amd64", "x/y-z"].map(|it| Dialect::Go.mistake(it));
-    let errors = ["linux/amd46", "plan9/amd64", "x\u{1b}"].map(|it| Dialect::Go.parse(it).unwrap_err());
     let words = ["golang", "\u{1b}"].map(|it| it.parse::<Dialect>().unwrap_err());
     let shown: [&dyn Display; 14] = [
         &Dialect::Go,
@@ -131,7 +123,7 @@ fn a_writer_that_fails_is_noticed() {
         &"foo".parse::<LinuxLibc>().unwrap_err(),
     ];
     let others = mistakes.iter().flatten().map(|it| it as &dyn Display).chain(spelled.iter().map(|it| it as _));
-    let others = others.chain(errors.iter().map(|it| it as _)).chain(words.iter().map(|it| it as _));
+    let others = others.chain(words.iter().map(|it| it as _));
     for it in shown.into_iter().chain(others) {
         let text = it.to_string();
         for size in 0..=text.len() {
@@ -187,17 +179,6 @@ fn a_name_is_compared_like_a_string() {
 }
 
 #[test]
-fn an_error_of_a_name_leaves_the_function_that_owns_it() {
-    fn read(name: String) -> Result<String, Box<dyn std::error::Error + Send + Sync>> {
-        Ok(Dialect::Oci.parse(&name)?.to_string())
-    }
-    let error = read("linux/\u{202e}".into()).unwrap_err();
-    let error = error.downcast::<ParseNameError>().unwrap();
-    assert_eq!(error.to_string(), "Unknown name of oci: linux/\\u{202e}");
-    assert_eq!((error.name(), error.suggestion()), ("linux/\u{202e}", None));
-}
-
-#[test]
 fn a_word_that_is_no_dialect_is_named() {
     let of = |word: &str| {
         word.parse::<Dialect>()
@@ -214,27 +195,6 @@ fn a_word_that_is_no_dialect_is_named() {
         assert_eq!(name.parse(), Ok(*dialect));
         let error = name.to_uppercase().parse::<Dialect>().unwrap_err();
         assert_eq!(error.suggestion(), Some(name));
-    }
-}
-
-#[test]
-fn stated_versions_are_whole() {
-    let shown = |it: Option<StatedVersion>| it.map(|it| (it.major, it.minor, it.patch));
-    for (text, system, environment) in [
-        ("aarch64-apple-ios17.2.1", Some((17, 2, 1)), None),
-        ("x86_64-unknown-freebsd14.", Some((14, 0, 0)), None),
-        ("x86_64-unknown-netbsd9.3.1.4", Some((9, 3, 1)), None),
-        ("x86_64-unknown-netbsd4294967295", Some((u32::MAX, 0, 0)), None),
-        ("x86_64-unknown-netbsd4294967296", None, None),
-        ("x86_64-unknown-netbsd9.4294967296", None, None),
-        ("x86_64-unknown-netbsd9.3.4294967296", None, None),
-        ("x86_64-pc-windows-msvc19.33.31629", None, Some((19, 33, 31629))),
-        ("x86_64-unknown-freebsd13.2-musl1.2", Some((13, 2, 0)), Some((1, 2, 0))),
-        ("x86_64-linux-gnu", None, None),
-    ] {
-        let found = stated_versions(text).unwrap();
-        let found = (shown(found.operating_system), shown(found.environment));
-        assert_eq!(found, (system, environment), "{text}");
     }
 }
 

@@ -47,5 +47,5 @@ def generated_lines(count):
     sys.path.append(os.path.join(ROOT, "checks"))
     import target_lines
 
-    known = read("checks/known_triples.txt").split()
+    known = read("checks/upstream/known_triples.txt").split()
     return known + target_lines.lines(target_lines.table_names(), count - len(known))

@@ -105,7 +105,8 @@ class Columns(unittest.TestCase):
                 self.assertRaisesRegex(ValueError, f"^errors must be 'raise' or 'coerce', not {wrong!r}$", call,
                                        ["avr"], wrong)
             for errors in "raise", "coerce":
-                self.assertRaisesRegex(TypeError, "not one str", call, "x86_64-linux", errors)
+                for wrong in "x86_64-linux", {"avr": 1}, memoryview(b"avr!").cast("B", (2, 2)):  # which has two dimensions
+                    self.assertRaisesRegex(TypeError, "such as one column, not a", call, wrong, errors)
 
     def test_long_columns(self):
         """More different targets than are answered at once, and than are remembered."""
@@ -178,7 +179,7 @@ class WithoutMemory(unittest.TestCase):
     def test_each_allocation_fails_in_turn(self):
         with tempfile.TemporaryDirectory() as folder:
             allocator = os.path.join(folder, "failing_allocator.so")
-            source = os.path.join(lists.ROOT, "checks", "failing_allocator.c")
+            source = os.path.join(lists.ROOT, "checks", "gate", "failing_allocator.c")
             subprocess.run(["cc", "-shared", "-fPIC", "-O1", "-o", allocator, source], check=True)
             program = os.path.join(os.path.dirname(os.path.abspath(__file__)), "without_memory.py")
             ran = subprocess.run([sys.executable, program], capture_output=True, text=True, check=False, timeout=300,

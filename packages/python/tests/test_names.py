@@ -2,6 +2,7 @@
 import copy
 import itertools
 import pickle
+import re
 import typing
 import unittest
 
@@ -62,10 +63,11 @@ class Table(unittest.TestCase):
         table = [it for it in lists.other_tools()["names"] if it["states_version_of"] and it["triple"]
                  and it["name"].count("*") == 2]
         for row in table:
-            version = (next((number for word, number in (("glibc", 2), ("musl", 1))
-                             if word in row["states_version_of"]), 13), 5)
+            of = re.match(r"\w+", row["states_version_of"])[0].lower()
+            version = ({"glibc": 2, "musl": 1}.get(of, 13), 5)
             same = [it["name"] for it in table if (it["tool"], it["triple"]) == (row["tool"], row["triple"])]
-            name = Triple(row["triple"].replace("*", "")).name_in(row["tool"], version)
+            versions = {of: version, "macos" if of == "ios" else "ios": (99,)}
+            name = Triple(row["triple"].replace("*", "")).name_in(row["tool"], **versions)
             self.assertIn(name, [it.replace("*", str(version[0]), 1).replace("*", "5") for it in same])
         self.assertGreater(len(table), 40)
 
@@ -115,19 +117,23 @@ class Names(unittest.TestCase):
                                       (f"x86_64-{'a' * 500}-linux-gnu", (Dialect.DEBIAN,), "amd64"),
                                       ("avr", ("go",), None),
                                       (f"x86_64-{'a' * 500}", (Dialect.GNU,), None),
-                                      ("x86_64-linux-gnu", ("python", (2, 17)), "manylinux_2_17_x86_64"),
-                                      ("armv7-linux-musleabihf", ("python", [1, 2]), "musllinux_1_2_armv7l"),
-                                      ("aarch64-linux-android", ("python", (24,)), "android_24_arm64_v8a"),
-                                      ("x86_64-linux", ("python", (2, 17)), None),
-                                      ("aarch64-apple-darwin", ("python", (2, 17)), None)):
+                                      ("x86_64-linux-gnu", ("python",), "linux_x86_64"),
+                                      ("aarch64-apple-darwin", ("python",), None)):
             triple = Triple(text)
             self.assertEqual((triple.name_in(*arguments), triple.reason_without_name(*arguments) is None),
                              (name, name is not None), text)
-        self.assertRegex(Triple("aarch64-apple-darwin").reason_without_name("python", (2, 17)), "macOS 10.x or later$")
+        versions = {"glibc": (2, 17), "musl": [1, 2], "android": (24,), "macos": (2, 17)}
+        for text, name in (("x86_64-linux-gnu", "manylinux_2_17_x86_64"), ("x86_64-linux", None),
+                           ("armv7-linux-musleabihf", "musllinux_1_2_armv7l"), ("aarch64-apple-darwin", None),
+                           ("aarch64-linux-android", "android_24_arm64_v8a"), ("x86_64-unknown-freebsd", None)):
+            triple = Triple(text)
+            self.assertEqual((triple.name_in("python", **versions),
+                              triple.reason_without_name("python", **versions) is None), (name, name is not None), text)
+        self.assertRegex(Triple("aarch64-apple-darwin").reason_without_name("python", **versions), "macOS 10.x or later$")
         self.assertRegex(Triple("x86_64-pc-windows").reason_without_name("rust"), "say msvc, mingw or gnullvm$")
         for wrong in ((2, 17, 1), (), (1, 2, 3, 4), (2, 256), (-1,), (65536,)):
             for call in Triple("x86_64-linux-gnu").name_in, Triple("x86_64-linux-gnu").reason_without_name:
-                self.assertRaises(ValueError, call, "python", wrong)
+                self.assertRaises(ValueError, call, "python", glibc=wrong)
 
     def test_completed(self):
         for text, libc, completed in (("aarch64-linux", "glibc", "aarch64-unknown-linux-gnu"),
@@ -145,6 +151,15 @@ class Names(unittest.TestCase):
                                   (("linux/amd64", Dialect.OCI, Dialect.DEBIAN, LinuxLibc.MUSL), "musl-linux-amd64"),
                                   (("x86_64-w64-mingw32", None, "node"), "win32-x64-gnu")):
             self.assertEqual(target_lexicon.translate(*words), translated)
+        versions = {"glibc": (2, 17), "macos": [11], "freebsd": (14, 1)}
+        self.assertEqual([target_lexicon.translate(it, "oci", "python", "glibc", **versions)
+                          for it in ("linux/amd64", "darwin/arm64", "freebsd/amd64", "windows/amd64")],
+                         ["manylinux_2_17_x86_64", "macosx_11_0_arm64", "freebsd_14_1_RELEASE_amd64", "win_amd64"])
+        freebsd = Triple("x86_64-unknown-freebsd")
+        self.assertEqual((freebsd.name_in("python", glibc=(2, 17)), freebsd.name_in("python", freebsd=(14, 1))),
+                         (None, "freebsd_14_1_RELEASE_amd64"))
+        self.assertRaisesRegex(TypeError, "there are no versions of 'gnu'", freebsd.name_in, "python", gnu=(2, 17))
+        self.assertRaisesRegex(ValueError, "one or two numbers", freebsd.name_in, "python", glibc=(2, 17, 1))
         for words, line, needs_libc in ((("linux/arm64", "oci", "debian"), NO_DEBIAN, True),
                                         (("avr-none", None, "go"),
                                          "No name in the other dialect: avr-none: the tool has no name for this machine on any system", False)):

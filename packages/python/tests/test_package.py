@@ -122,8 +122,8 @@ class Built(Folder):
         command = [BASE_PYTHON, *PIP, "wheel", *BUILD, "-w", self.folder, source]
         for variables, said in (({"PATH": self.folder}, r"isn't built: cargo doesn't run(?s:.*)Install Rust"),
                                 ({"CARGO": shutil.which("false")}, "isn't built: cargo ended with status 1"),
-                                ({"TARGET_LEXICON_LIBRARY": os.path.join(source, "pyproject.toml")},
-                                 "isn't a shared library for Linux")):
+                                ({"TARGET_LEXICON_LIBRARY": "/nowhere"}, "can't be read: .*No such file"),
+                                ({"TARGET_LEXICON_LIBRARY": "/bin/ls"}, "isn't libtarget_lexicon for Linux")):
             ran = run(*command, **variables)
             self.assertRegex(ran.stdout + ran.stderr, said)
             self.assertNotEqual(ran.returncode, 0)
@@ -293,7 +293,7 @@ class Samples(Folder):
 
     def test_what_few_programs_need_is_not_imported(self):
         """Modules that would make the import take longer."""
-        slow = {"argparse", "ctypes.util", "json", "platform", "pydantic", "sysconfig", "target_lexicon._host"}
+        slow = {"argparse", "ctypes.util", "json", "platform", "pydantic", "sysconfig"}
         program = f"import sys; sys.path.append({PACKAGES!r}); import target_lexicon; target_lexicon.Triple('avr'); print({slow!r} & {{*sys.modules}})"
         self.assertEqual(self.passes(sys.executable, "-I", "-S", "-c", program), "set()\n")
 

@@ -1,6 +1,6 @@
 //! Canonical forms of triples whose vendor may be any text.
 use crate::Triple;
-#[cfg(all(feature = "alloc", not(feature = "upstream_printing")))]
+#[cfg(feature = "alloc")]
 use crate::TripleRef;
 use core::fmt;
 
@@ -31,7 +31,7 @@ impl fmt::Display for NotPlain {
     }
 }
 
-#[cfg(all(feature = "alloc", not(feature = "upstream_printing")))]
+#[cfg(feature = "alloc")]
 impl<'a> TripleRef<'a> {
     /// The canonical form of the triple, as [`TripleExt::settle`](crate::TripleExt::settle) says.
     ///

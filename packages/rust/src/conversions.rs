@@ -22,6 +22,26 @@ impl<'a> From<&TripleRef<'a>> for TripleRef<'a> {
     }
 }
 
+impl<'a> TryFrom<&'a str> for TripleRef<'a> {
+    type Error = Refusal<'a>;
+
+    /// The triple that a string parses as: the same as [`TripleRef::from_str`].
+    #[inline]
+    fn try_from(text: &'a str) -> Result<Self, Refusal<'a>> {
+        TripleRef::from_str(text)
+    }
+}
+
+impl<'a> TryFrom<&'a str> for VendorRef<'a> {
+    type Error = Refusal<'a>;
+
+    /// The vendor that a string parses as: the same as [`VendorRef::from_str`].
+    #[inline]
+    fn try_from(text: &'a str) -> Result<Self, Refusal<'a>> {
+        VendorRef::from_str(text)
+    }
+}
+
 impl<'a> From<&'a Vendor> for VendorRef<'a> {
     /// The same vendor, borrowed. Nothing is allocated.
     #[inline]

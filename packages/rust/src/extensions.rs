@@ -2,12 +2,10 @@
 //! method of the type would take precedence over one of the program's own traits.
 use crate::{
     Architecture, BinaryFormat, CDataModel, CallingConvention, DeploymentTarget, Endianness,
-    Environment, OperatingSystem, PointerWidth, RoundTripException, Triple, TripleRef,
+    Environment, OperatingSystem, PointerWidth, RoundTripException, Triple, TripleRef, Upstream,
 };
 #[cfg(feature = "alloc")]
 use crate::{Field, NotPlain, ParseError, ParseTripleError};
-#[cfg(feature = "alloc")]
-use alloc::string::String;
 
 /// Only these types have the traits, so that a later version can add calls.
 mod sealed {
@@ -52,8 +50,7 @@ pub trait TripleExt: Sealed + Sized {
     fn as_triple_ref(&self) -> TripleRef<'_>;
 
     /// Whether the triple comes back: printed and parsed again, it is itself. It does unless one of the five exceptions of
-    /// [`RoundTripException`]. With the feature `upstream_printing`, it doesn't either if environment and format are both unknown and another
-    /// format is implied. Nothing is allocated.
+    /// [`RoundTripException`]. Nothing is allocated.
     ///
     /// # Examples
     ///
@@ -69,8 +66,7 @@ pub trait TripleExt: Sealed + Sized {
         self.as_triple_ref().comes_back()
     }
 
-    /// The first exception that applies to the triple, by this library's printing. `None` if it comes back; with
-    /// the feature `upstream_printing`, also for the triples that only [`comes_back`](TripleExt::comes_back) says. Nothing is allocated.
+    /// The first exception that applies to the triple. `None` if it comes back. Nothing is allocated.
     ///
     /// # Examples
     ///
@@ -88,8 +84,7 @@ pub trait TripleExt: Sealed + Sized {
 
     /// The canonical form of the triple, which is what its printed string parses as. It comes back, and two canonical triples
     /// with the same string are the same, so the string serves as a key. A triple that [`comes_back`](TripleExt::comes_back)
-    /// is unchanged. The feature `upstream_printing` changes what is printed, and so the canonical form of triples whose environment and
-    /// format are both unknown; one of them, which prints `riscv32imc-esp-espidf-unknown`, takes printing and parsing twice.
+    /// is unchanged.
     ///
     /// # Errors
     ///
@@ -127,8 +122,8 @@ pub trait TripleExt: Sealed + Sized {
         self.as_triple_ref().settles_as(other)
     }
 
-    /// The string that upstream prints for the triple, whatever the features are. It differs from the printed one only if
-    /// environment and format are both unknown and another format is implied.
+    /// The triple as upstream prints it: `Display` of what is returned writes that. It differs from what `Display` of the
+    /// triple writes only if environment and format are both unknown and another format is implied. Nothing is allocated.
     ///
     /// # Examples
     ///
@@ -136,13 +131,13 @@ pub trait TripleExt: Sealed + Sized {
     /// use target_lexicon::{triple, TripleExt};
     ///
     /// let triple = triple!("x86_64-unknown-linux-unknown-unknown");
-    /// assert_eq!(triple.to_upstream_text(), "x86_64-unknown-linux-unknown");
+    /// assert_eq!(triple.to_string(), "x86_64-unknown-linux-unknown-unknown");
+    /// assert_eq!(triple.upstream().to_string(), "x86_64-unknown-linux-unknown");
     /// ```
-    #[cfg(feature = "alloc")]
     #[must_use]
     #[inline]
-    fn to_upstream_text(&self) -> String {
-        self.as_triple_ref().to_upstream_text()
+    fn upstream(&self) -> Upstream<'_> {
+        self.as_triple_ref().upstream()
     }
 }
 
@@ -164,21 +159,10 @@ impl TripleExt for Triple {
         self.as_triple_ref()
     }
 
-    #[cfg(all(feature = "alloc", not(feature = "upstream_printing")))]
+    #[cfg(feature = "alloc")]
     #[inline]
     fn settle(self) -> Result<Self, NotPlain> {
         if self.vendor.is_plain() {
-            Ok(self.step())
-        } else {
-            Err(NotPlain(self))
-        }
-    }
-
-    #[cfg(all(feature = "alloc", feature = "upstream_printing"))]
-    #[inline]
-    fn settle(mut self) -> Result<Self, NotPlain> {
-        if self.vendor.is_plain() {
-            self.binary_format = self.as_triple_ref().with_printed_format().binary_format;
             Ok(self.step())
         } else {
             Err(NotPlain(self))

@@ -33,7 +33,6 @@
 //! - `alloc`: what owns a string, such as the errors of [`TripleExt::parse`]. Without it no allocator is linked: [`TripleRef`] has its
 //!   calls except `parse`, `settle` and those that make an owned value.
 //! - `serde_support`: a triple and each field is its string in serde.
-//! - `upstream_printing`: each triple is printed as upstream does, and the calls about round trips and canonical forms say what comes of that.
 //! - `std`: [`ParseError`] implements `Error`, as in upstream; the other errors do before Rust 1.81 too.
 //! - `arch_zkasm` and `arch_z80` change nothing.
 //!
@@ -43,6 +42,7 @@
 // Names and types of upstream's; forms that proofs need; calls that older versions of Rust have from `compat`.
 #![allow(
     clippy::box_collection,
+    clippy::explicit_auto_deref,
     clippy::should_implement_trait,
     clippy::upper_case_acronyms,
     clippy::manual_map,
@@ -70,6 +70,7 @@ mod display; // `Display` of what isn't printed there
 mod errors; // `Error` of each error, by the version of Rust
 mod explain; // a function there, and a method here
 mod extensions; // the calls of upstream's types that upstream lacks, as traits
+mod fields; // `from_str` of the types with few names, by comparisons
 mod hash; // the hash of a borrowed vendor, which is the owned one's
 mod host; // the target of the build
 mod order; // `Ord`, which isn't proved
@@ -81,10 +82,10 @@ mod parse_error; // upstream's error, which has no failure of an allocation
 mod parse_triple_error; // the error that owns its string and shows the place
 mod proved;
 mod queries; // the queries of a `TripleRef`, whose error says which one has no answer
+mod search; // the row of a name, by a hash in place of a binary search
 #[cfg(feature = "serde_support")]
 mod serde; // serde's traits
-#[cfg(feature = "upstream_printing")]
-mod upstream_printing; // what becomes of round trips by upstream's printing
+mod upstream; // upstream's printing
 
 pub use canonical::NotPlain;
 pub use conversions::ParseVersionError;
@@ -105,6 +106,7 @@ pub use proved::{
     Triple, TripleRef, Vendor, VendorRef, X86_32Architecture, Z80Architecture,
 };
 pub use queries::NoAnswer;
+pub use upstream::Upstream;
 
 /// The samples of the page are tested.
 #[cfg(all(doctest, feature = "alloc"))]

@@ -6,7 +6,6 @@ use crate::{
 use alloc::borrow::Cow;
 use alloc::boxed::Box;
 use alloc::string::{String, ToString};
-use alloc::vec;
 use core::str::FromStr;
 
 impl FromStr for Vendor {
@@ -145,26 +144,5 @@ impl Refusal<'_> {
     #[inline(never)]
     pub fn to_error(&self) -> ParseError {
         ParseError::new(self.expected, String::from(self.part.text))
-    }
-}
-
-impl TripleRef<'_> {
-    /// The string that upstream prints for the triple, as [`TripleExt::to_upstream_text`](crate::TripleExt::to_upstream_text) says.
-    ///
-    /// # Examples
-    ///
-    /// ```
-    /// let triple = target_lexicon::TripleRef::from_str("x86_64-unknown-linux-unknown-unknown").unwrap();
-    /// assert_eq!(triple.to_upstream_text(), "x86_64-unknown-linux-unknown");
-    /// ```
-    #[must_use]
-    #[inline]
-    pub fn to_upstream_text(&self) -> String {
-        let mut bytes = vec![0; self.write_upstream_to(&mut [])];
-        self.write_upstream_to(&mut bytes);
-        match String::from_utf8(bytes) {
-            Ok(text) => text,
-            Err(_) => unreachable!(),
-        }
     }
 }

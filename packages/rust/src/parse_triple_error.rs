@@ -3,12 +3,12 @@ use crate::proved::refusal_prefix;
 use crate::{Field, ParseError, Refusal, TripleRef};
 use alloc::boxed::Box;
 use alloc::string::String;
-use core::fmt::{self, Write as _};
+use core::fmt;
 use core::ops::Range;
 
 /// Why a string doesn't parse as a triple, with the whole string. It owns what it needs, so that `?` takes it out of a
-/// function. It is shown in three lines: what is wrong, the string, and carets below the refused part. Of the string only what
-/// ASCII can print is shown as it is; the rest is escaped.
+/// function. `{}` shows it in one line, and `{:#}` in three: what is wrong, the string, and carets below the refused part. Of the
+/// string only what ASCII can print is shown as it is; the rest is escaped.
 ///
 /// [`TripleExt::parse`](crate::TripleExt::parse) and [`TripleRef::parse`] return it. `str::parse` returns upstream's [`ParseError`], and
 /// [`TripleRef::from_str`] a [`Refusal`], which borrows from the string.
@@ -20,8 +20,9 @@ use core::ops::Range;
 ///
 /// let error = Triple::parse("x86_64-pc-linxu").unwrap_err();
 /// assert_eq!((error.expected(), error.part(), error.range()), (Some(Field::OperatingSystem), "linxu", 10..15));
+/// assert_eq!(error.to_string(), "Unrecognized operating system: linxu (in x86_64-pc-linxu)");
 /// assert_eq!(
-///     error.to_string(),
+///     format!("{error:#}"),
 ///     "Unrecognized operating system: linxu
 ///   x86_64-pc-linxu
 ///             ^^^^^",
@@ -168,40 +169,32 @@ impl ParseTripleError {
 
 impl fmt::Display for ParseTripleError {
     fn fmt(&self, f: &mut fmt::Formatter<'_>) -> fmt::Result {
+        let (whole, part) = (visible(&self.text), visible(self.part()));
         f.write_str(refusal_prefix(self.expected))?;
-        write_visible(f, self.part())?;
-        f.write_str("\n  ")?;
-        let before = write_visible(f, &self.text[..self.start])?;
-        let part = write_visible(f, self.part())?;
-        write_visible(f, &self.text[self.end..])?;
-        f.write_str("\n  ")?;
-        write_times(f, ' ', before)?;
-        // An empty part has a caret too.
-        write_times(f, '^', part.max(1))
-    }
-}
-
-/// Writes a string, and returns how many characters that takes. Each character that ASCII doesn't print is escaped, as `\u{1b}`: it may
-/// control a terminal, turn the direction of text, combine with its neighbour, be invisible or look like another letter.
-fn write_visible(f: &mut fmt::Formatter<'_>, text: &str) -> Result<usize, fmt::Error> {
-    let mut count = 0;
-    for c in text.chars() {
-        if matches!(c, ' '..='~') {
-            f.write_char(c)?;
-            count += 1;
+        f.write_str(&part)?;
+        if f.alternate() {
+            let spaces = " ".repeat(visible(&self.text[..self.start]).len());
+            // An empty part has a caret too.
+            let carets = "^".repeat(part.len().max(1));
+            write!(f, "\n  {whole}\n  {spaces}{carets}")
+        } else if part.len() < whole.len() {
+            write!(f, " (in {whole})")
         } else {
-            for escaped in c.escape_default() {
-                f.write_char(escaped)?;
-                count += 1;
-            }
+            Ok(())
         }
     }
-    Ok(count)
 }
 
-fn write_times(f: &mut fmt::Formatter<'_>, c: char, count: usize) -> fmt::Result {
-    for _ in 0..count {
-        f.write_char(c)?;
+/// The string, of which each character that ASCII doesn't print is escaped, as `\u{1b}`: it may control a terminal, turn the direction of
+/// text, combine with its neighbour, be invisible or look like another letter.
+fn visible(text: &str) -> String {
+    let mut shown = String::with_capacity(text.len());
+    for c in text.chars() {
+        if matches!(c, ' '..='~') {
+            shown.push(c);
+        } else {
+            shown.extend(c.escape_default());
+        }
     }
-    Ok(())
+    shown
 }

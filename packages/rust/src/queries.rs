@@ -2,36 +2,39 @@
 use crate::{CDataModel, CallingConvention, Endianness, PointerWidth, TripleRef};
 use core::fmt;
 
-/// A query has no answer for the triple.
+/// The question that has no answer for a triple.
 ///
 /// # Examples
 ///
 /// ```
 /// use target_lexicon::{NoAnswer, TripleRef};
 ///
-/// let error: NoAnswer = TripleRef::unknown().endianness().unwrap_err();
+/// let error = TripleRef::unknown().endianness().unwrap_err();
+/// assert_eq!(error, NoAnswer::Endianness);
 /// assert_eq!(error.to_string(), "The byte order of the target is unknown");
 /// ```
+// It takes a byte, so an answer is returned in a register.
 #[derive(Clone, Copy, Debug, PartialEq, Eq, Hash)]
-pub struct NoAnswer(Question);
-
-/// What wasn't answered. It takes a byte, so an answer is returned in a register.
-#[derive(Clone, Copy, Debug, PartialEq, Eq, Hash)]
-enum Question {
+#[non_exhaustive]
+pub enum NoAnswer {
+    /// The byte order is unknown.
     Endianness,
+    /// The width of a pointer is unknown.
     PointerWidth,
+    /// The calling convention is unknown.
     CallingConvention,
+    /// The data model of C is unknown.
     DataModel,
 }
 
 impl fmt::Display for NoAnswer {
     #[inline]
     fn fmt(&self, f: &mut fmt::Formatter<'_>) -> fmt::Result {
-        f.write_str(match self.0 {
-            Question::Endianness => "The byte order of the target is unknown",
-            Question::PointerWidth => "The pointer width of the target is unknown",
-            Question::CallingConvention => "The calling convention of the target is unknown",
-            Question::DataModel => "The data model of C of the target is unknown",
+        f.write_str(match self {
+            NoAnswer::Endianness => "The byte order of the target is unknown",
+            NoAnswer::PointerWidth => "The pointer width of the target is unknown",
+            NoAnswer::CallingConvention => "The calling convention of the target is unknown",
+            NoAnswer::DataModel => "The data model of C of the target is unknown",
         })
     }
 }
@@ -41,7 +44,7 @@ impl TripleRef<'_> {
     ///
     /// # Errors
     ///
-    /// [`NoAnswer`] for the architecture `Unknown`.
+    /// [`NoAnswer::Endianness`] for the architecture `Unknown`.
     ///
     /// # Examples
     ///
@@ -55,7 +58,7 @@ impl TripleRef<'_> {
     pub const fn endianness(&self) -> Result<Endianness, NoAnswer> {
         match self.known_endianness() {
             Ok(answer) => Ok(answer),
-            Err(()) => Err(NoAnswer(Question::Endianness)),
+            Err(()) => Err(NoAnswer::Endianness),
         }
     }
 
@@ -63,7 +66,7 @@ impl TripleRef<'_> {
     ///
     /// # Errors
     ///
-    /// [`NoAnswer`] if the width is that of the architecture, which is `Unknown`.
+    /// [`NoAnswer::PointerWidth`] if the width is that of the architecture, which is `Unknown`.
     ///
     /// # Examples
     ///
@@ -77,7 +80,7 @@ impl TripleRef<'_> {
     pub const fn pointer_width(&self) -> Result<PointerWidth, NoAnswer> {
         match self.known_pointer_width() {
             Ok(answer) => Ok(answer),
-            Err(()) => Err(NoAnswer(Question::PointerWidth)),
+            Err(()) => Err(NoAnswer::PointerWidth),
         }
     }
 
@@ -85,7 +88,7 @@ impl TripleRef<'_> {
     ///
     /// # Errors
     ///
-    /// [`NoAnswer`] if no convention is known.
+    /// [`NoAnswer::CallingConvention`] if no convention is known.
     ///
     /// # Examples
     ///
@@ -99,7 +102,7 @@ impl TripleRef<'_> {
     pub const fn default_calling_convention(&self) -> Result<CallingConvention, NoAnswer> {
         match self.known_default_calling_convention() {
             Ok(answer) => Ok(answer),
-            Err(()) => Err(NoAnswer(Question::CallingConvention)),
+            Err(()) => Err(NoAnswer::CallingConvention),
         }
     }
 
@@ -125,7 +128,7 @@ impl TripleRef<'_> {
     pub const fn data_model(&self) -> Result<CDataModel, NoAnswer> {
         match self.known_data_model() {
             Ok(answer) => Ok(answer),
-            Err(()) => Err(NoAnswer(Question::DataModel)),
+            Err(()) => Err(NoAnswer::DataModel),
         }
     }
 }

@@ -37,9 +37,10 @@ fn what_has_a_name_is_shown_as_it() {
         fields.map(|it| it.to_string()).join(", "),
         "architecture, vendor, operating system, environment, binary format"
     );
+    let triple: Triple = "x86_64-apple-ios17".parse().unwrap();
     assert_eq!(
-        format!("{:>6}|{:<4}|", KnownVendor::Apple, PointerWidth::U64),
-        " apple|64  |"
+        format!("{:>6}|{:<4}|{:^40}|", KnownVendor::Apple, PointerWidth::U64, triple),
+        "apple|64|x86_64-apple-ios17.0.0|"
     );
     assert_eq!(
         format!(
@@ -71,6 +72,7 @@ fn conversions_are_those_of_the_methods() {
         let triple = Triple::parse(string).unwrap();
         assert_eq!(string.parse(), Ok(triple.clone()));
         assert_eq!(TripleRef::parse(string), Ok(TripleRef::from(&triple)));
+        assert_eq!(string.try_into(), Ok(TripleRef::from(&triple)));
         assert_eq!(triple.as_triple_ref().to_triple(), triple);
         assert_eq!(VendorRef::from(&triple.vendor).to_vendor(), triple.vendor);
     }
@@ -88,8 +90,10 @@ fn an_error_leaves_the_function_that_owns_its_string() {
         Environment::Gnu
     );
     let error = environment("x86_64-é-linux".into()).unwrap_err();
-    let shown = "Unrecognized vendor: \\u{e9}\n  x86_64-\\u{e9}-linux\n         ^^^^^^";
-    assert_eq!(error.to_string(), shown);
+    let picture = "Unrecognized vendor: \\u{e9}\n  x86_64-\\u{e9}-linux\n         ^^^^^^";
+    assert_eq!(format!("{error:#}"), picture);
+    let line = "Unrecognized vendor: \\u{e9} (in x86_64-\\u{e9}-linux)";
+    assert_eq!(error.to_string(), line);
     let error = error.downcast::<ParseTripleError>().unwrap();
     assert_eq!(
         error.to_error(),
@@ -111,13 +115,11 @@ fn an_error_shows_printable_ascii() {
         .chain(['\u{3164}', '\u{e0001}'])
     {
         let error = Triple::parse(&format!("x86_64-A{c}")).unwrap_err();
-        let shown = error.to_string();
-        assert!(
-            shown
-                .bytes()
-                .all(|it| it == b'\n' || (b' '..=b'~').contains(&it)),
-            "{shown}"
-        );
+        let (line, picture) = (error.to_string(), format!("{error:#}"));
+        let is_visible = |it: u8| (b' '..=b'~').contains(&it);
+        assert!(line.bytes().all(is_visible), "{line}");
+        assert!(picture.replace('\n', "").bytes().all(is_visible), "{picture}");
+        assert_eq!(picture.lines().count(), 3);
     }
 }
 

@@ -84,6 +84,7 @@ impl Aarch64Architecture {
     }
 
     /// The value with this name; `arm64` is an alias of `aarch64`. `Err` for every other string.
+    // Not in Rust.
     pub fn from_str(s: &str) -> Result<Self, ()>
         ensures { MatchesLookup (sub_architecture_of as_aarch64 s.now) result }
     {

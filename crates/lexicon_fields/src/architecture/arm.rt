@@ -218,6 +218,7 @@ impl ArmArchitecture {
     }
 
     /// The sub-architecture with the name `s`; `Err` if there is none.
+    // Not in Rust.
     pub fn from_str(s: &str) -> Result<Self, ()>
         ensures { MatchesLookup (sub_architecture_of as_arm s.now) result }
     {

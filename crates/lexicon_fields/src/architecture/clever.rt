@@ -33,6 +33,7 @@ pub enum CleverArchitecture {
 
 impl CleverArchitecture {
     /// The sub-architecture with the name `s`; `Err` if there is none.
+    // Not in Rust.
     pub fn from_str(s: &str) -> Result<Self, ()>
         ensures { MatchesLookup (sub_architecture_of as_clever s.now) result }
     {

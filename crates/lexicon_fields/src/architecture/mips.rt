@@ -37,6 +37,7 @@ pub enum Mips32Architecture {
 
 impl Mips32Architecture {
     /// The sub-architecture with the name `s`; `Err` if there is none.
+    // Not in Rust.
     pub fn from_str(s: &str) -> Result<Self, ()>
         ensures { MatchesLookup (sub_architecture_of as_mips32 s.now) result }
     {
@@ -121,6 +122,7 @@ pub enum Mips64Architecture {
 
 impl Mips64Architecture {
     /// The sub-architecture with the name `s`; `Err` if there is none.
+    // Not in Rust.
     pub fn from_str(s: &str) -> Result<Self, ()>
         ensures { MatchesLookup (sub_architecture_of as_mips64 s.now) result }
     {

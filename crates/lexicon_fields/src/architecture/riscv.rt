@@ -45,6 +45,7 @@ pub enum Riscv32Architecture {
 
 impl Riscv32Architecture {
     /// The sub-architecture with the name `s`; `Err` if there is none.
+    // Not in Rust.
     pub fn from_str(s: &str) -> Result<Self, ()>
         ensures { MatchesLookup (sub_architecture_of as_riscv32 s.now) result }
     {
@@ -133,6 +134,7 @@ pub enum Riscv64Architecture {
 
 impl Riscv64Architecture {
     /// The sub-architecture with the name `s`; `Err` if there is none.
+    // Not in Rust.
     pub fn from_str(s: &str) -> Result<Self, ()>
         ensures { MatchesLookup (sub_architecture_of as_riscv64 s.now) result }
     {

@@ -35,6 +35,7 @@ pub enum X86_32Architecture {
 
 impl X86_32Architecture {
     /// The sub-architecture with the name `s`; `Err` if there is none.
+    // Not in Rust.
     pub fn from_str(s: &str) -> Result<Self, ()>
         ensures { MatchesLookup (sub_architecture_of as_x86_32 s.now) result }
     {

@@ -49,6 +49,7 @@ pub enum Z80Architecture {
 
 impl Z80Architecture {
     /// The sub-architecture with the name `s`; `Err` if there is none.
+    // Not in Rust.
     pub fn from_str(s: &str) -> Result<Self, ()>
         ensures { MatchesLookup (sub_architecture_of as_z80 s.now) result }
     {

@@ -19,11 +19,7 @@ impl Call for Cfg {
     fn answer<'a>(&mut self, target: Target<'a>, reader: &Reader) -> Outcome<'a> {
         let (triple, _) = reader.meaning(target.text)?;
         let follows_another = std::mem::replace(&mut self.has_answered, true);
-        Ok(Options {
-            triple,
-            follows_another,
-        }
-        .into())
+        Ok(Options { triple, follows_another }.into())
     }
 }
 
@@ -33,9 +29,8 @@ struct Options<'a> {
 }
 
 impl Answer for Options<'_> {
-    fn write(&self, out: &mut dyn Write) -> io::Result<()> {
-        let separator = if self.follows_another { "\n" } else { "" };
-        write!(out, "{separator}{}", self.triple.rustc_cfg())
+    fn write(&self, page: &mut Page<'_>) -> io::Result<()> {
+        show!(page, if self.follows_another { "\n" } else { "" }, self.triple.rustc_cfg())
     }
 
     fn members(&self) -> Object<'_> {
@@ -48,14 +43,8 @@ impl Answer for Options<'_> {
             ("target_abi", cfg.target_abi.into()),
             ("target_family", Json::List(families.collect())),
             ("target_vendor", cfg.target_vendor.into()),
-            (
-                "target_pointer_width",
-                cfg.target_pointer_width.map(PointerWidth::bits).into(),
-            ),
-            (
-                "target_endian",
-                cfg.target_endian.map(Endianness::name).into(),
-            ),
+            ("target_pointer_width", cfg.target_pointer_width.map(PointerWidth::bits).into()),
+            ("target_endian", cfg.target_endian.map(Endianness::name).into()),
         ]
     }
 }

@@ -1,12 +1,14 @@
 //! `check`: only what is refused.
 use super::*;
-use target_names::{meanings, Meaning, NameOf, WordIs};
+use crate::reader::Meant;
+use target_names::{meanings, Meaning, NameOf};
 
 pub fn command() -> Command {
     of_targets(
         "check",
         "Write only what is refused: nothing, if all targets parse",
-        "In the text of a file, a name of a tool is no mistake.\n\n\
+        "In the text of a file, a name of any tool is right, and what resembles a name is wrong.\n\
+         Of a folder all files are read, except what tools fetch and build.\n\n\
          Examples:\n  $ target-lexicon check --strict -f targets.txt\n  \
          $ target-lexicon check --format github .github/workflows/*.yml rust-toolchain.toml",
     )
@@ -18,22 +20,13 @@ pub struct Check;
 impl Call for Check {
     fn answer<'a>(&mut self, target: Target<'a>, reader: &Reader) -> Outcome<'a> {
         let text = target.text;
-        let word = target.word.filter(|_| reader.from.is_none());
-        match word.map(|it| it.is()) {
-            Some(WordIs::Name(NameOf::Dialect(_) | NameOf::Spelling)) => return Ok(Answered::default()),
-            Some(WordIs::Misspelled(it)) if it.part.text == text => return Err(Refusal::unknown_to_all(text)),
-            _ => {}
-        }
         let is_name = |it: Meaning<'_>| reader.from.map(NameOf::Dialect) == Some(it.of);
-        let (_, warning) = match reader.meaning(text) {
+        match reader.meaning_of(target) {
+            Ok(Meant::Triple(_, Some(warning))) => Err(warning.into_error()),
             // Without a triple it is a name, too.
-            Err(_) if meanings(text).any(is_name) => return Ok(Answered::default()),
-            meaning => meaning?,
-        };
-        Ok(Answered {
-            answer: None,
-            warning,
-        })
+            Err(_) if meanings(text).any(is_name) => Ok(Answered::default()),
+            meaning => meaning.map(|_| Answered::default()),
+        }
     }
 
     fn with_names(&self) -> String {

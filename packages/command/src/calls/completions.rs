@@ -7,23 +7,20 @@ use clap_complete::Shell;
 pub fn command() -> Command {
     Command::new("completions")
         .about("Write a completion script for a shell")
-        .after_help("Example:\n  $ target-lexicon completions bash > ~/.local/share/bash-completion/completions/target-lexicon")
+        .after_help(
+            "Example:\n  $ target-lexicon completions bash > ~/.local/share/bash-completion/completions/target-lexicon",
+        )
         .arg(Arg::new("shell").required(true).value_name("SHELL").value_parser(value_parser!(Shell)))
 }
 
 pub fn run(arguments: &ArgMatches) -> Result<i32, Fault> {
     let shell = *arguments.get_one("shell").expect("a shell is required");
-    write_only(|out| out.write_all(script(shell).as_bytes()))
+    write_only(|page| page.script(&script(shell)))
 }
 
 fn script(shell: Shell) -> String {
     let mut script = Vec::new();
-    clap_complete::generate(
-        shell,
-        &mut arguments::command(),
-        "target-lexicon",
-        &mut script,
-    );
+    clap_complete::generate(shell, &mut arguments::command(), "target-lexicon", &mut script);
     let script = String::from_utf8_lossy(&script);
     match shell {
         // Before clap_complete 4.1 the script only works as a file that zsh loads itself, and fails if it is sourced.

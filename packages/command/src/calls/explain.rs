@@ -1,7 +1,8 @@
 //! `explain`: each field, its value, and where that comes from.
 use super::*;
 use crate::fields::{name_of, version};
-use crate::reader::{note_of_others, Parsed};
+use crate::help::readers_note;
+use crate::reader::Parsed;
 use target_lexicon::{Field, Source};
 use target_names::vendor_suggestion;
 
@@ -53,41 +54,30 @@ impl Explained<'_> {
 }
 
 impl Answer for Explained<'_> {
-    fn write(&self, out: &mut dyn Write) -> io::Result<()> {
+    fn write(&self, page: &mut Page<'_>) -> io::Result<()> {
         let triple = &self.parsed.triple;
         let value = |field| match (field, version(triple)) {
-            (Field::OperatingSystem, Some(version)) => {
-                format!("{} {version}", name_of(triple, field)).into()
-            }
+            (Field::OperatingSystem, Some(version)) => format!("{} {version}", name_of(triple, field)).into(),
             _ => name_of(triple, field),
         };
         // A long custom vendor moves no other line. A width over 65,535 would end the program.
-        let width = FIELDS
-            .iter()
-            .map(|(_, field)| value(*field).len())
-            .filter(|it| *it <= 40)
-            .max()
-            .unwrap_or(0);
-        writeln!(out, "{}", self.text)?;
+        let width = FIELDS.iter().map(|(_, field)| value(*field).len()).filter(|it| *it <= 40).max().unwrap_or(0);
+        show!(page, visible(self.text), "\n")?;
         for (key, field) in FIELDS {
-            let custom = if field == Field::Vendor && triple.vendor.is_custom() {
-                "custom, "
-            } else {
-                ""
-            };
-            write!(out, "  {key:17} {:width$}  {custom}", value(field))?;
+            let custom = if field == Field::Vendor && triple.vendor.is_custom() { "custom, " } else { "" };
+            show!(page, "  ", padded(key, 17), " ", padded(value(field), width), "  ", custom)?;
             match self.origin(field) {
-                ("given", Some(part)) => writeln!(out, "given as `{part}`")?,
-                (word, Some(part)) => writeln!(out, "{word} `{part}`")?,
-                (word, None) => writeln!(out, "{word}")?,
+                ("given", Some(part)) => show!(page, "given as `", visible(part), "`\n")?,
+                (word, Some(part)) => show!(page, word, " `", visible(part), "`\n")?,
+                (word, None) => show!(page, word, "\n")?,
             }
         }
         let vendor = triple.vendor;
-        let suggestion = vendor_suggestion(triple)
-            .map(|name| format!("`{vendor}` is a custom vendor; did you mean `{name}`?"));
-        let others = note_of_others(self.text).filter(|_| vendor.is_custom());
+        let suggestion =
+            vendor_suggestion(triple).map(|name| format!("`{vendor}` is a custom vendor; did you mean `{name}`?"));
+        let others = readers_note("", self.text);
         for note in suggestion.into_iter().chain(others) {
-            writeln!(out, "  {:17} {note}", "note")?;
+            show!(page, "  ", padded("note", 17), " ", note, "\n")?;
         }
         Ok(())
     }
@@ -97,11 +87,8 @@ impl Answer for Explained<'_> {
         let mut members: Object = Vec::new();
         for (key, field) in FIELDS {
             let (origin, part) = self.origin(field);
-            let source = vec![
-                ("value", name_of(triple, field).into()),
-                ("origin", origin.into()),
-                ("part", part.into()),
-            ];
+            let source =
+                vec![("value", name_of(triple, field).into()), ("origin", origin.into()), ("part", part.into())];
             members.push((key, Json::Object(source)));
             if field == Field::OperatingSystem {
                 members.push(("version", version(triple).into()));

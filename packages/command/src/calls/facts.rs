@@ -1,6 +1,9 @@
 //! `facts`: the fields, and what a compiler asks.
 use super::*;
+use crate::arguments::wrapped;
 use crate::fields::{name_of, version};
+use clap::builder::PossibleValuesParser;
+use clap::Arg;
 use target_lexicon::{Architecture, Field, Named as _, PointerWidth};
 
 pub fn command() -> Command {
@@ -10,15 +13,36 @@ pub fn command() -> Command {
         "Example:\n  $ target-lexicon facts --json x86_64-unknown-linux-gnu | jq '.[].pointer_width'",
     )
     .args([from(), libc()])
+    .arg(
+        Arg::new("get")
+            .long("get")
+            .value_name("FACT")
+            .value_parser(PossibleValuesParser::new(keys()))
+            .hide_possible_values(true)
+            .help("Write this one only: its value, or an empty line where it has none")
+            .long_help(wrapped(&format!(
+                "Write this one only: its value, or an empty line where it has none. It is one of {}",
+                keys().collect::<Vec<_>>().join(", ")
+            ))),
+    )
 }
 
-pub struct Facts;
+/// The names of all facts.
+fn keys() -> impl Iterator<Item = &'static str> {
+    let unknown = FactsOf { text: "", triple: TripleRef::unknown(), key: None };
+    let keys: Vec<_> = unknown.members().into_iter().map(|it| it.0).collect();
+    keys.into_iter()
+}
+
+pub struct Facts {
+    /// The one that is asked for.
+    pub key: Option<String>,
+}
 
 impl Call for Facts {
     fn answer<'a>(&mut self, target: Target<'a>, reader: &Reader) -> Outcome<'a> {
         let (triple, _) = reader.meaning(target.text)?;
-        let text = target.text;
-        Ok(FactsOf { text, triple }.into())
+        Ok(FactsOf { text: target.text, triple, key: self.key.clone() }.into())
     }
 
     fn with_names(&self) -> String {
@@ -29,21 +53,31 @@ impl Call for Facts {
 struct FactsOf<'a> {
     text: &'a str,
     triple: TripleRef<'a>,
+    key: Option<String>,
 }
 
 impl Answer for FactsOf<'_> {
-    fn write(&self, out: &mut dyn Write) -> io::Result<()> {
+    fn write(&self, page: &mut Page<'_>) -> io::Result<()> {
         let facts = self.members();
+        if let (Some(_), [(_, answer)]) = (&self.key, &facts[..]) {
+            return match answer {
+                Json::Text(text) => show!(page, visible(text), "\n"),
+                Json::Bool(is_so) => show!(page, visible(is_so), "\n"),
+                Json::Number(number) => show!(page, *number, "\n"),
+                _ => page.put("\n"),
+            };
+        }
         let width = facts.iter().map(|(key, _)| key.len()).max().unwrap_or(0);
-        writeln!(out, "{}", self.text)?;
+        show!(page, visible(self.text), "\n")?;
         for (key, answer) in facts {
-            write!(out, "  {key:width$}  ")?;
+            show!(page, "  ", padded(key, width), "  ")?;
             match answer {
-                Json::Bool(is_so) => writeln!(out, "{}", if is_so { "yes" } else { "no" })?,
-                Json::Text(text) => writeln!(out, "{text}")?,
-                Json::Number(number) => writeln!(out, "{number}")?,
-                _ => writeln!(out, "-  {}", why_none(key))?,
+                Json::Bool(is_so) => page.put(if is_so { "yes" } else { "no" })?,
+                Json::Text(text) => page.put(text)?,
+                Json::Number(number) => page.put(number)?,
+                _ => show!(page, "-  ", why_none(key))?,
             }
+            page.put("\n")?;
         }
         Ok(())
     }
@@ -93,13 +127,11 @@ impl Answer for FactsOf<'_> {
             ("has_comdat", triple.has_comdat().into()),
             // end of what is written
             ("llvm_target", triple.llvm_target().to_string().into()),
-            (
-                "multiarch_tuple",
-                triple.multiarch_tuple().map(|it| it.to_string()).into(),
-            ),
+            ("multiarch_tuple", triple.multiarch_tuple().map(|it| it.to_string()).into()),
             ("printed", triple.to_string().into()),
             ("canonical", canonical(*triple).to_string().into()),
         ]);
+        members.retain(|(key, _)| self.key.as_ref().map_or(true, |it| it == key));
         members
     }
 }

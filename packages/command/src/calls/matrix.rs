@@ -1,6 +1,7 @@
 //! `matrix`: the canonical forms, each once, with what they came from.
 use super::*;
 use crate::input::end_of_line;
+use crate::reader::Meant;
 use std::collections::HashMap;
 use target_lexicon::{KnownVendor, VendorRef};
 
@@ -8,8 +9,8 @@ pub fn command() -> Command {
     of_targets(
         "matrix",
         "Write each canonical target once, with the places that it came from",
-        "Without --json, a line has between tabs the canonical form, the first spelling, how many targets have it, and\n\
-         the place of the first.\n\
+        "Without --json, a line has between tabs the canonical form, the first spelling, how many targets\n\
+         have it, and the place of the first.\n\
          If a target is refused, there is no matrix.\n\n\
          Example:\n  $ target-lexicon matrix --json -f targets.txt | jq -c 'map(.canonical)'",
     )
@@ -50,21 +51,13 @@ impl Matrix {
         let canonical_form = canonical(triple);
         let mut key = canonical_form;
         if self.ignores_vendor {
-            key = canonical(TripleRef {
-                vendor: VendorRef::Known(KnownVendor::Unknown),
-                ..key
-            });
+            key = canonical(TripleRef { vendor: VendorRef::Known(KnownVendor::Unknown), ..key });
         }
         let next = self.rows.len();
         let row = *self.index.entry(key.to_string()).or_insert(next);
         if row == next {
             let (canonical, target) = (canonical_form.to_string(), target.text.to_string());
-            self.rows.push(Row {
-                canonical,
-                target,
-                count: 0,
-                from: Vec::new(),
-            });
+            self.rows.push(Row { canonical, target, count: 0, from: Vec::new() });
         }
         let row = &mut self.rows[row];
         row.count += 1;
@@ -77,10 +70,10 @@ impl Matrix {
 
 impl Row {
     /// The canonical form, the first spelling, how many targets came to it and the places, between tabs.
-    fn line(&self) -> String {
+    fn write(&self, page: &mut Page<'_>) -> io::Result<()> {
         let places: Vec<&str> = self.from.iter().map(|(_, place)| place.as_str()).collect();
-        let (canonical, target, count) = (&self.canonical, &self.target, self.count);
-        format!("{canonical}\t{target}\t{count}\t{}", places.join(" "))
+        let (canonical, target) = (visible(&self.canonical), visible(&self.target));
+        show!(page, canonical, "\t", target, "\t", self.count, "\t", places.join(" "))
     }
 
     fn members(self) -> Object<'static> {
@@ -96,12 +89,12 @@ impl Row {
 
 impl Call for Matrix {
     fn answer<'a>(&mut self, target: Target<'a>, reader: &Reader) -> Outcome<'a> {
-        let (triple, warning) = reader.meaning(target.text)?;
+        let (triple, warning) = match reader.meaning_of(target)? {
+            Meant::Triple(triple, warning) => (triple, warning),
+            Meant::NoTriple(why) => return why.map_or(Ok(Answered::default()), Err),
+        };
         self.add(target, triple);
-        Ok(Answered {
-            answer: None,
-            warning,
-        })
+        Ok(Answered { answer: None, warning })
     }
 
     fn with_names(&self) -> String {
@@ -114,12 +107,12 @@ impl Call for Matrix {
 
     /// A matrix that isn't whole is none, so that nobody takes it for one.
     fn end(&mut self, outputs: &mut Outputs, is_whole: bool) -> Result<(), Fault> {
-        let end = char::from(self.end_of_line);
+        let end = if self.end_of_line == 0 { "\0" } else { "\n" };
         for row in self.rows.drain(..).filter(|_| is_whole) {
             if outputs.has_objects() {
                 outputs.object(row.members())?;
             } else {
-                outputs.write(|out| write!(out, "{}{end}", row.line()))?;
+                outputs.write(|page| row.write(page).and_then(|()| page.put(end)))?;
             }
         }
         outputs.end(is_whole)

@@ -18,10 +18,11 @@ use crate::input::Target;
 use crate::json::{Json, Object};
 use crate::output::{write_only, Outputs};
 use crate::reader::{Reader, Takes};
-use crate::refusal::{visible, Refusal};
+use crate::refusal::Refusal;
 use crate::run::Run;
+use crate::shown::{padded, show, visible, Page};
 use clap::{ArgMatches, Command};
-use std::io::{self, Write};
+use std::io;
 use target_lexicon::TripleRef;
 use target_names::TargetInfo;
 pub use translate::version_conflict;
@@ -45,6 +46,11 @@ pub trait Call {
         true
     }
 
+    /// Whether it is also shown beside its object.
+    fn shows_refused(&self) -> bool {
+        false
+    }
+
     /// Ends what is written. `is_whole` says that no target was refused.
     fn end(&mut self, outputs: &mut Outputs, _is_whole: bool) -> Result<(), Fault> {
         outputs.end(true)
@@ -62,7 +68,7 @@ pub struct Answered<'a> {
 
 pub trait Answer {
     /// Writes the lines of the answer.
-    fn write(&self, out: &mut dyn Write) -> io::Result<()>;
+    fn write(&self, page: &mut Page<'_>) -> io::Result<()>;
 
     /// What an object has after the members of the target.
     fn members(&self) -> Object<'_>;
@@ -70,10 +76,7 @@ pub trait Answer {
 
 impl<'a, T: Answer + 'a> From<T> for Answered<'a> {
     fn from(answer: T) -> Self {
-        Answered {
-            answer: Some(Box::new(answer)),
-            warning: None,
-        }
+        Answered { answer: Some(Box::new(answer)), warning: None }
     }
 }
 
@@ -96,10 +99,8 @@ pub fn commands() -> [Command; 10] {
 pub fn run(name: &str, arguments: &ArgMatches) -> Result<i32, Fault> {
     let mut call: Box<dyn Call> = match name {
         "explain" => Box::new(explain::Explain),
-        "facts" => Box::new(facts::Facts),
-        "settle" => Box::new(settle::Settle {
-            shows_changes: arguments.get_flag("changes"),
-        }),
+        "facts" => Box::new(facts::Facts { key: arguments.get_one("get").cloned() }),
+        "settle" => Box::new(settle::Settle { shows_changes: arguments.get_flag("changes") }),
         "check" => Box::new(check::Check),
         "matrix" => Box::new(matrix::Matrix::new(arguments)),
         "translate" => Box::new(translate::Translate::new(arguments)),

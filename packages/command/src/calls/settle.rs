@@ -1,5 +1,6 @@
 //! `settle`: the canonical form.
 use super::*;
+use crate::reader::Meant;
 use target_names::{changes, Change};
 
 pub fn command() -> Command {
@@ -10,10 +11,8 @@ pub fn command() -> Command {
          $ target-lexicon settle --from oci linux/arm/v7\n  $ target-lexicon settle --from gnu \"$(cc -dumpmachine)\"",
     )
     .args([from(), libc()])
-    .arg(
-        flag("changes", "As --from llvm, and show which parts are read as others, such as amd64 as x86_64")
-            .conflicts_with("from"),
-    )
+    .arg(flag("changes", "As --from llvm, and show which parts are read as others").conflicts_with("from"))
+    .arg(flag("keep-lines", "Write a line for each line of FILE, empty if it has no answer"))
 }
 
 pub struct Settle {
@@ -22,10 +21,17 @@ pub struct Settle {
 
 impl Call for Settle {
     fn answer<'a>(&mut self, target: Target<'a>, reader: &Reader) -> Outcome<'a> {
-        let (triple, warning) = reader.meaning(target.text)?;
+        let (triple, warning) = match reader.meaning_of(target)? {
+            Meant::Triple(triple, warning) => (triple, warning),
+            Meant::NoTriple(why) => return why.map_or(Ok(Answered::default()), Err),
+        };
         let spelling = self.shows_changes.then_some(target.text);
         let answer: Answered<'a> = Canonical { triple, spelling }.into();
         Ok(Answered { warning, ..answer })
+    }
+
+    fn shows_refused(&self) -> bool {
+        true
     }
 }
 
@@ -37,14 +43,14 @@ struct Canonical<'a> {
 
 impl Answer for Canonical<'_> {
     /// With a line for each part of a string that is read as other names, if that is asked.
-    fn write(&self, out: &mut dyn Write) -> io::Result<()> {
-        writeln!(out, "{}", canonical(self.triple))?;
+    fn write(&self, page: &mut Page<'_>) -> io::Result<()> {
+        show!(page, canonical(self.triple), "\n")?;
         for change in self.spelling.into_iter().flat_map(changes) {
             match change.part.text {
-                "" => write!(out, "  the empty part")?,
-                part => write!(out, "  `{}`", visible(part))?,
+                "" => page.put("  the empty part")?,
+                part => show!(page, "  `", visible(part), "`")?,
             }
-            writeln!(out, " is read as `{}`", change.names)?;
+            show!(page, " is read as `", visible(change.names), "`\n")?;
         }
         Ok(())
     }

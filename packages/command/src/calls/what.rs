@@ -3,7 +3,7 @@ use super::*;
 use crate::arguments::written;
 use crate::refusal::reason;
 use target_lexicon::{OperatingSystem, VendorRef};
-use target_names::{meanings, vendor_suggestion, Dialect, Evidence, LinuxLibc, Meaning};
+use target_names::{meanings, vendor_suggestion, Dialect, Evidence, LinuxLibc, Meaning, Meant};
 
 pub fn command() -> Command {
     of_targets(
@@ -31,12 +31,14 @@ impl Call for What {
     }
 }
 
-/// What a name means: each triple, with the level of its machine and the tools that mean it; and the reason of each
-/// tool that has the name for no triple.
+/// What a name means: each triple, with the level of its machine and the tools that mean it, or `words`, if no tool does
+/// and the words of the name say just that; the reason of each tool that has the name for no triple; and otherwise what
+/// is known.
 struct Meanings<'a> {
     text: &'a str,
     meanings: Vec<(TripleRef<'a>, Option<&'static str>, Vec<&'static str>)>,
     without_triple: Vec<(&'static str, &'static str)>,
+    known: Option<String>,
     libc: Option<LinuxLibc>,
     /// Whether a meaning states no C library, and has that of `libc` here.
     is_completed: bool,
@@ -44,23 +46,37 @@ struct Meanings<'a> {
 
 impl<'a> Meanings<'a> {
     fn of(text: &'a str, libc: Option<LinuxLibc>) -> Result<Self, Refusal<'a>> {
-        let mut what = Meanings {
-            text,
-            meanings: Vec::new(),
-            without_triple: Vec::new(),
-            libc,
-            is_completed: false,
-        };
+        let mut what =
+            Meanings { text, meanings: Vec::new(), without_triple: Vec::new(), known: None, libc, is_completed: false };
         for Meaning { of, triple, level } in meanings(text) {
             match triple {
                 Ok(triple) => what.add(triple, level, of.name()),
                 Err(why) => what.without_triple.push((of.name(), why)),
             }
         }
-        if what.meanings.is_empty() && what.without_triple.is_empty() {
-            return Err(Refusal::unknown_to_all(text));
+        let evidence = Evidence::of(text);
+        let is_name = !what.meanings.is_empty() || !what.without_triple.is_empty();
+        match evidence.target() {
+            _ if what.is_certain() => {}
+            Some((triple, level)) if !is_name || has_system(&triple) => {
+                what.add(triple, Some(level).filter(|it| !it.is_empty()), WORDS)
+            }
+            _ if is_name => {}
+            _ if evidence.is_empty() || Meant::by(text).is_some() => {
+                return Err(Refusal::unknown_to_all(text));
+            }
+            _ => what.known = Some(evidence.to_string()),
         }
         Ok(what)
+    }
+
+    /// Whether some tool means a target of a known vendor and a system, or a target of rustc, which is meant as it is; or
+    /// why it has none is known.
+    fn is_certain(&self) -> bool {
+        let is_target = |it: &TripleRef<'_>| !it.vendor.is_custom() && has_system(it);
+        let is_rustc = |tools: &[&str]| tools.contains(&Dialect::Rust.name());
+        let is_meant = |(it, _, tools): &(TripleRef<'_>, _, Vec<_>)| is_target(it) || is_rustc(tools);
+        self.meanings.iter().any(is_meant) || self.meanings.is_empty() && !self.without_triple.is_empty()
     }
 
     fn add(&mut self, triple: TripleRef<'a>, level: Option<&'static str>, tool: &'static str) {
@@ -83,49 +99,46 @@ impl<'a> Meanings<'a> {
         dialects.filter_map(|it| Some(format!("{it}: {}", it.note(self.text)?)))
     }
 
-    /// That the vendor of a meaning is custom, which may be a misspelling, or that it has no system; and the triple
-    /// that the words of the name mean, if to no tool it is of a known vendor and a system. Nothing of a target of
-    /// rustc, which is meant as it is.
+    /// That the vendor of a meaning is custom, which may be a misspelling. Nothing of a target of rustc.
     fn note(&self, triple: &TripleRef<'_>) -> Option<String> {
-        use OperatingSystem::{None_, Unknown};
-        let is_rustc = |tools: &[&str]| tools.contains(&Dialect::Rust.name());
-        if self.meanings.iter().any(|(.., tools)| is_rustc(tools)) {
+        let VendorRef::Custom(vendor) = triple.vendor else { return None };
+        if self.meanings.iter().any(|(.., tools)| tools.contains(&Dialect::Rust.name())) {
             return None;
         }
-        let has_system = |it: &TripleRef<'_>| !matches!(it.operating_system, None_ | Unknown);
-        let is_known = |it: &TripleRef<'_>| !it.vendor.is_custom() && has_system(it);
-        let is_known = self.meanings.iter().any(|(it, ..)| is_known(it));
-        let hint = Evidence::of(self.text).triple().filter(|_| !is_known);
-        let VendorRef::Custom(vendor) = triple.vendor else {
-            let hint = hint.filter(|it| !has_system(triple) && has_system(it));
-            return hint.map(|it| format!("it has no system; did you mean `{it}`?"));
-        };
-        let vendor_meant = vendor_suggestion(triple).map(|it| it.to_string());
-        let meant = vendor_meant.or_else(|| hint.map(|it| it.to_string()));
-        let meant = meant.map_or(String::new(), |it| format!("; did you mean `{it}`?"));
-        Some(format!("`{vendor}` is a custom vendor{meant}"))
+        let meant = vendor_suggestion(triple).map(|it| format!("; did you mean `{it}`?"));
+        Some(format!("`{vendor}` is a custom vendor{}", meant.unwrap_or_default()))
     }
 }
 
+fn has_system(triple: &TripleRef<'_>) -> bool {
+    !matches!(triple.operating_system, OperatingSystem::None_ | OperatingSystem::Unknown)
+}
+
+/// In the place of tools, where the words of a name say what it means.
+const WORDS: &str = "words";
+
 impl Answer for Meanings<'_> {
     /// For each meaning a line with the tools that mean it, a note about its vendor, a line for each tool that has a
-    /// name for it, and a line for each reason why others have none.
-    fn write(&self, out: &mut dyn Write) -> io::Result<()> {
-        writeln!(out, "{}", visible(self.text))?;
+    /// name for it, and a line for each reason why others have none; or what is known.
+    fn write(&self, page: &mut Page<'_>) -> io::Result<()> {
+        show!(page, visible(self.text), "\n")?;
         for (triple, level, tools) in &self.meanings {
-            write!(out, "  is {triple}")?;
+            show!(page, "  is ", *triple)?;
             if let Some(level) = level {
-                write!(out, " of the level {level}")?;
+                show!(page, " of the level ", *level)?;
             }
-            writeln!(out, ", as {}", tools.join(", "))?;
+            match tools[..] {
+                [WORDS] => page.put(", by its words\n")?,
+                _ => show!(page, ", as ", tools.join(", "), "\n")?,
+            }
             let own = self.note(triple).into_iter();
             for note in own.chain(self.notes(tools)) {
-                writeln!(out, "    note    {note}")?;
+                show!(page, "    note    ", note, "\n")?;
             }
             let mut unnamed: Vec<(&str, Vec<&str>)> = Vec::new();
             for dialect in written() {
                 match dialect.write_at(triple, level.unwrap_or(""), self.libc) {
-                    Ok(name) => writeln!(out, "    {dialect:8}{name}")?,
+                    Ok(name) => show!(page, "    ", padded(dialect, 8), name, "\n")?,
                     Err(error) => {
                         let (why, tool) = (reason(error), dialect.name());
                         match unnamed.iter_mut().find(|(it, _)| *it == why) {
@@ -136,12 +149,13 @@ impl Answer for Meanings<'_> {
                 }
             }
             for (why, tools) in unnamed {
-                writeln!(out, "    -       {}: {why}", tools.join(", "))?;
+                show!(page, "    -       ", tools.join(", "), ": ", why, "\n")?;
             }
         }
-        self.without_triple.iter().try_for_each(|(tool, why)| {
-            writeln!(out, "  is a name of {tool} without a triple: {why}")
-        })
+        for (tool, why) in &self.without_triple {
+            show!(page, "  is a name of ", *tool, " without a triple: ", *why, "\n")?;
+        }
+        self.known.iter().try_for_each(|it| show!(page, "  is known in part: ", visible(it), "\n"))
     }
 
     fn members(&self) -> Object<'_> {
@@ -171,6 +185,7 @@ impl Answer for Meanings<'_> {
         vec![
             ("meanings", Json::List(meanings)),
             ("without_triple", Json::Object(reasons.collect())),
+            ("known", self.known.clone().into()),
         ]
     }
 }

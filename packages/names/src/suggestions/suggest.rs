@@ -20,7 +20,7 @@ use target_lexicon::{ParseError, ParseErrorExt as _, ParseTripleError};
 /// let error = Triple::parse("x86_64-pc-linxu").unwrap_err();
 /// let meant = error.suggestion().unwrap();
 /// assert_eq!(
-///     format!("{error} did you mean `{meant}`?"),
+///     format!("{error:#} did you mean `{meant}`?"),
 ///     "Unrecognized operating system: linxu
 ///   x86_64-pc-linxu
 ///             ^^^^^ did you mean `linux`?",

@@ -3,6 +3,7 @@
 import ctypes
 import reprlib
 import struct
+from collections.abc import Mapping
 from ctypes import byref, c_size_t, c_void_p
 from itertools import islice
 from operator import getitem, itemgetter
@@ -38,7 +39,7 @@ def settle_all(targets: Iterable[Optional[str]], errors: Errors = "raise") -> Li
 
     A missing cell of a column, which is None, NaN or `pandas.NA`, is as a target that is refused. Anything else but a
     `str` raises a TypeError that has it and its index; with `errors="coerce"`, as in pandas, it is as a missing cell. A
-    single `str` instead of an iterable is a TypeError.
+    single `str`, a mapping or a table, such as a DataFrame, is a TypeError.
     """
     return _each(targets, errors, _canonical_texts)
 
@@ -56,8 +57,8 @@ def facts_all(targets: Iterable[Optional[str]], errors: Errors = "raise") -> Lis
 
 def _each(targets: Iterable[Any], errors: Errors, answers_of: Callable[[Sequence[str]], List[Answer]]) -> List[Answer]:
     """The answer for each target, by a function that answers for many. It isn't asked again for what is remembered."""
-    if isinstance(targets, str):
-        raise TypeError("the targets must be an iterable of str, not one str")
+    if isinstance(targets, (str, Mapping)) or getattr(targets, "ndim", 1) != 1:
+        raise TypeError(f"the targets must be an iterable of str, such as one column, not a {type(targets).__name__}")
     if errors not in ("raise", "coerce"):
         raise ValueError(f"errors must be 'raise' or 'coerce', not {errors!r}")
     answers: List[Answer] = []

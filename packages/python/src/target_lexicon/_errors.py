@@ -117,17 +117,16 @@ class ParseError(ValueError):
     def _note(self) -> Optional[str]:
         """That other tools have the string as a name, and by which calls it is read, or why no triple means it. None if
         nobody has it."""
-        if self.dialect is not None or self.start > 0:  # what begins with an architecture has a suggestion
+        if self.dialect is not None:
             return None
         utf8 = self.text.encode(errors="replace")
-        dialects, calls, reasons = (None, *Dialect), [], []
-        for number, _, _ in _library.meanings(ctypes.create_string_buffer(utf8, len(utf8))):
-            dialect, reason = dialects[number], _library.reason(number, utf8)
-            if reason is not None:  # also of a name that means several triples
-                reasons.append(f"it is a name of {dialect} without a triple: {reason}")
-            elif dialect is not Dialect.GNU:  # whose names are spelled like triples
-                calls.append(f"Triple.read(text, {dialect.value!r})" if dialect else "Triple.read(text)")
-        return f"it is a name of another tool: use {' or '.join(calls)}" if calls else reasons[0] if reasons else None
+        dialects, calls = (None, *Dialect), []
+        for it in _library.readers(ctypes.create_string_buffer(utf8, len(utf8))):
+            dialect = dialects[it.dialect]
+            if it.status != _names.OK:
+                return f"it is a name of {dialect} without a triple: {it.note}"
+            calls.append(f"Triple.read(text, {dialect.value!r})" if dialect else "Triple.read(text)")
+        return f"it is a name of another tool: use {' or '.join(calls)}" if calls else None
 
 
 def encoded(text: object, what: str) -> bytes:

@@ -14,7 +14,7 @@ from ctypes import POINTER, Structure, c_bool, c_char, c_char_p, c_size_t, c_uin
 from typing import TYPE_CHECKING, Any, Callable, Iterator, List, Optional, Sequence, Tuple
 
 from ._names import (
-    FACT_NAMES, FIELDS, NAME_WITHOUT_TRIPLE, NEEDS_C_LIBRARY, NO_SUCH_CHANGE, NO_SUCH_MEANING, NO_SUGGESTION, OK,
+    FACT_NAMES, FIELDS, NEEDS_C_LIBRARY, NO_SUCH_CHANGE, NO_SUGGESTION, OK,
     TOO_SMALL, TRIPLE_WITHOUT_NAME,
 )
 
@@ -30,6 +30,9 @@ CUSTOM_VENDOR = 255
 
 #: `LEXICON_MAX_GROWTH`: no canonical string is longer by more than its target.
 MAX_GROWTH = 22
+
+#: `LEXICON_MAX_MEANINGS`.
+MAX_MEANINGS = 32
 
 #: The size of the first buffer for a string, which has room for every printed triple without a long custom vendor.
 FIRST_SIZE = 128
@@ -89,10 +92,39 @@ class FactsStruct(Struct):
     _fields_ = [(name, c_uint8) for name in FACT_NAMES]
 
 
+class VersionStruct(Struct):
+    """`struct lexicon_os_version`."""
+
+    _fields_ = [("major", c_uint16), ("minor", c_uint8), ("patch", c_uint8)]
+
+
+#: Of what names state versions.
+VERSIONS_OF = "glibc", "musl", "macos", "ios", "android", "freebsd", "netbsd", "openbsd", "dragonfly", "windows"
+
+
+class VersionsStruct(Struct):
+    """`struct lexicon_versions`."""
+
+    _fields_ = [(name, VersionStruct) for name in VERSIONS_OF]
+
+
 class ChangeStruct(Struct):
     """`struct lexicon_change`."""
 
     _fields_ = [("start", c_size_t), ("end", c_size_t)]
+
+
+class MeaningStruct(Struct):
+    """`struct lexicon_meaning`."""
+
+    _fields_ = [("dialect", c_uint32), ("status", c_uint32), ("triple", TripleStruct), ("_note", c_char_p)]
+    triple: TripleStruct
+    _note: Optional[bytes]
+
+    @property
+    def note(self) -> Optional[str]:
+        """The level of the machine, or why there is no triple."""
+        return None if self._note is None else self._note.decode()
 
 
 # What loads a library, whose calls don't release the interpreter lock. PyPy has only the other one.
@@ -126,11 +158,13 @@ def _load() -> Tuple[str, ctypes.CDLL]:
 
 #: The file or the name by which the library was loaded, and the library.
 LIBRARY_PATH, _LIBRARY = _load()
+# The same library, whose calls release that lock: for those that answer for a text of any length.
+_RELEASING = ctypes.CDLL(LIBRARY_PATH)
 
 
-def _declare(name: str, *arguments: Any, result: Any = c_uint32) -> Callable[..., Any]:
+def _declare(name: str, *arguments: Any, result: Any = c_uint32, library: ctypes.CDLL = _LIBRARY) -> Callable[..., Any]:
     try:
-        call = _LIBRARY[name]
+        call = library[name]
     except AttributeError:
         raise ImportError(f"{LIBRARY_PATH} isn't libtarget_lexicon {_CALLS_VERSION}: it doesn't have {name}") from None
     call.argtypes = list(arguments)
@@ -188,10 +222,12 @@ def undeclared(name: str) -> Callable[..., int]:
 _TRIPLE, _ERROR, _SIZE = POINTER(TripleStruct), POINTER(ErrorStruct), POINTER(c_size_t)
 
 _version: Callable[[], bytes] = _declare("lexicon_version", result=c_char_p)
+_host: Callable[[], bytes] = _declare("lexicon_host", result=c_char_p)
 parse = _declare("lexicon_parse", c_char_p, c_size_t, _TRIPLE, _ERROR)
 explain = _declare("lexicon_explain", c_char_p, c_size_t, _TRIPLE, POINTER(SourcesStruct), _ERROR)
 settle = _declare("lexicon_settle", _TRIPLE)
-settle_lines = _declare("lexicon_settle_lines", c_char_p, c_size_t, c_void_p, c_size_t, _SIZE)
+settle_lines = _declare("lexicon_settle_lines", c_char_p, c_size_t, c_void_p, c_size_t, _SIZE,
+                        library=_RELEASING)
 comes_back = _declare("lexicon_comes_back", _TRIPLE, POINTER(c_bool))
 equal = _declare("lexicon_equal", _TRIPLE, _TRIPLE, POINTER(c_bool))
 same_target = _declare("lexicon_same_target", _TRIPLE, _TRIPLE, POINTER(c_bool))
@@ -202,14 +238,15 @@ multiarch_tuple: Callable[[TripleStruct], Optional[str]] = _writing("lexicon_mul
 rustc_cfg: Callable[[TripleStruct], str] = _writing("lexicon_rustc_cfg", _TRIPLE)
 read = _declare("lexicon_read", c_uint32, c_char_p, c_size_t, _TRIPLE, _ERROR)
 _NAMED = c_void_p, c_size_t, _SIZE, POINTER(c_char_p)
-_write = _declare("lexicon_write", c_uint32, _TRIPLE, *_NAMED)
-_write_versioned = _declare("lexicon_write_versioned", c_uint32, _TRIPLE, c_uint32, c_uint32, *_NAMED)
+_write_versioned = _declare("lexicon_write_versioned", c_uint32, _TRIPLE, POINTER(VersionsStruct), *_NAMED)
 complete = _declare("lexicon_complete", _TRIPLE, c_uint32)
-_translate = _declare("lexicon_translate", c_uint32, c_char_p, c_size_t, c_uint32, c_uint32, c_void_p, c_size_t, _SIZE,
-                      _ERROR)
+_translate = _declare("lexicon_translate", c_uint32, c_char_p, c_size_t, c_uint32, POINTER(VersionsStruct), c_uint32,
+                      c_void_p, c_size_t, _SIZE, _ERROR)
 _change = _writing("lexicon_changes", c_char_p, c_size_t, c_size_t, POINTER(ChangeStruct))
-_meaning = _declare("lexicon_meaning", c_char_p, c_size_t, c_size_t, POINTER(c_uint32), _TRIPLE, POINTER(c_char_p))
-_targets = _declare("lexicon_targets", c_char_p, c_size_t, POINTER(ChangeStruct), c_size_t, _SIZE)
+_meanings, _readers = (_declare(f"lexicon_{name}", c_char_p, c_size_t, POINTER(MeaningStruct), c_size_t, _SIZE)
+                       for name in ("meanings", "readers"))
+_targets = _declare("lexicon_targets", c_char_p, c_size_t, POINTER(ChangeStruct), c_size_t, _SIZE,
+                    library=_RELEASING)
 _number = _declare("lexicon_number", c_uint32, c_char_p, c_size_t, POINTER(c_uint32))
 _error_line = _writing("lexicon_error_line", c_char_p, c_size_t, _ERROR)
 _suggestion = _writing("lexicon_suggestion", c_char_p, c_size_t, _ERROR)
@@ -220,6 +257,8 @@ name_suggestion = _returning("lexicon_name_suggestion", c_uint32, c_char_p, c_si
 # The name of the value of a field with this number, or None if there is none.
 name = _returning("lexicon_name", c_uint32, c_uint32)
 
+#: The target that the library was built for.
+HOST = _host().decode()
 #: The version of the library, and the commit that it was built from if that is known.
 LIBRARY_VERSION = _version().decode()
 if not LIBRARY_VERSION.startswith(f"{_CALLS_VERSION}."):
@@ -269,12 +308,11 @@ def reason(dialect: int, text: bytes) -> Optional[str]:
     return error.reason
 
 
-def write(dialect: int, triple: TripleStruct, version: Optional[Tuple[int, int]] = None) -> Tuple[
+def write(dialect: int, triple: TripleStruct, versions: Optional[VersionsStruct] = None) -> Tuple[
     Optional[str], Optional[str]]:
     """The name of a triple in a dialect, which has at most 36 bytes; or else why there is none, and what would help."""
     out, why = TextBuffer(), c_char_p()
-    call = _write if version is None else _write_versioned
-    status = call(dialect, triple, *(version or ()), out, FIRST_SIZE, None, why)
+    status = _write_versioned(dialect, triple, versions, out, FIRST_SIZE, None, why)
     if status == OK:
         return out.value.decode(), None
     if why.value is None:
@@ -282,25 +320,25 @@ def write(dialect: int, triple: TripleStruct, version: Optional[Tuple[int, int]]
     return None, (why.value or b"").decode()
 
 
-def translate(text: bytes, from_dialect: int, libc: int, to_dialect: int) -> Tuple[int, str, Optional[str]]:
+def translate(text: bytes, from_dialect: int, libc: int, versions: Optional[VersionsStruct],
+              to_dialect: int) -> Tuple[int, str, Optional[str]]:
     """The status, and the name in another dialect, which has at most 36 bytes, if the status is 0; or else why there is
     none."""
     out, error = TextBuffer(), ErrorStruct()
-    return _translate(from_dialect, text, len(text), libc, to_dialect, out, FIRST_SIZE, None,
+    return _translate(from_dialect, text, len(text), libc, versions, to_dialect, out, FIRST_SIZE, None,
                       error), out.value.decode(), error.reason
 
 
-def meanings(text: ctypes.Array[c_char]) -> Iterator[Tuple[int, Optional[TripleStruct], Optional[str]]]:
-    """The number of each dialect that has a text as a name, or 0 for one that is spelled like a triple; what it means,
-    which is within the text, and the level of its machine; or else no triple, and why."""
-    for number in itertools.count():
-        dialect, triple, note = c_uint32(), TripleStruct(), c_char_p()
-        status = _meaning(text, len(text), number, dialect, triple, note)
-        if status == NO_SUCH_MEANING:
-            return
-        if status != NAME_WITHOUT_TRIPLE:
-            check(status)
-        yield dialect.value, None if status == NAME_WITHOUT_TRIPLE else triple, None if note.value is None else note.value.decode()
+def meanings(text: ctypes.Array[c_char], call: Callable[..., int] = _meanings) -> Sequence[MeaningStruct]:
+    """What a text means to each that has it as a name. The triples are within the text."""
+    found, count = (MeaningStruct * MAX_MEANINGS)(), c_size_t()
+    check(call(text, len(text), found, MAX_MEANINGS, count))
+    return found[:count.value]
+
+
+def readers(text: ctypes.Array[c_char]) -> Sequence[MeaningStruct]:
+    """Those by whom a text is read that is no triple."""
+    return meanings(text, _readers)
 
 
 def changes(text: bytes) -> Iterator[Tuple[int, int, str]]:
@@ -315,11 +353,14 @@ def changes(text: bytes) -> Iterator[Tuple[int, int, str]]:
 
 def targets(text: bytes) -> Iterator[Tuple[int, int]]:
     """The range in bytes of each target in a text."""
-    count = c_size_t()
-    _targets(text, len(text), None, 0, count)
-    parts = (ChangeStruct * count.value)()
-    check(_targets(text, len(text), parts, count.value, count))
-    return ((it.start, it.end) for it in parts)
+    count = c_size_t(len(text) // 16 + 1)  # enough for most texts, which are then read once
+    while True:
+        size = count.value
+        parts = (ChangeStruct * size)()
+        status = _targets(text, len(text), parts, size, count)
+        if status != TOO_SMALL:
+            check(status)
+            return ((it.start, it.end) for it in parts[:count.value])
 
 
 def number(field: int, text: bytes) -> Tuple[int, int]:

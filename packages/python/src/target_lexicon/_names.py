@@ -22,7 +22,6 @@ NO_SUCH_C_LIBRARY = 18
 NO_SUCH_CHANGE = 19
 NO_SUGGESTION = 20
 NO_ANSWER = 21
-NO_SUCH_MEANING = 22
 
 #: The names of the fields, in their order.
 FIELDS = ("architecture", "vendor", "operating_system", "environment", "binary_format")

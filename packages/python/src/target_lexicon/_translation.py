@@ -1,14 +1,14 @@
 """From the name of one tool to that of another, what a name means to each, what is read as other names, and the targets
 in a text."""
 import ctypes
-from typing import List, NamedTuple, Optional, Tuple, Union
+from typing import List, NamedTuple, Optional, Sequence, Tuple, Union
 
 from . import _library, _names
 from ._dialects import NO_DIALECT, dialect_number, libc_number
 from ._errors import ParseError, encoded, range_in
 from ._named import shown
 from ._names import Dialect, DialectName, LinuxLibc, LinuxLibcName
-from ._triple import Triple, _triple_of
+from ._triple import Triple, _triple_of, versions_struct
 
 # How many characters of a name a message shows.
 _SHOWN = 60
@@ -52,20 +52,22 @@ class TranslationError(ParseError):
 
 def translate(
     name: str, source: Union[Dialect, DialectName, None], target: Union[Dialect, DialectName],
-    libc: Union[LinuxLibc, LinuxLibcName, None] = None,
+    libc: Union[LinuxLibc, LinuxLibcName, None] = None, **versions: Sequence[int],
 ) -> str:
     """The name in the dialect `target` of what a name of the dialect `source` means.
 
     >>> translate("linux/arm64/v8", "oci", "rust", "glibc"), translate("arm64", Dialect.DEBIAN, Dialect.OCI)
     ('aarch64-unknown-linux-gnu', 'linux/arm64')
+    >>> translate("linux/amd64", "oci", "python", "glibc", glibc=(2, 17))
+    'manylinux_2_17_x86_64'
 
-    Where `source` is None, the string is spelled like a triple. Names of Debian, GNU and rustc state the C library of
-    Linux, and those of Go, container images and Python don't: from one of the latter to one of the former, say `libc`.
-    A name that isn't read raises a `ParseError`, as `Triple.read` does. What has no name in `target`, or only with a C
-    library, raises one that is a `TranslationError`.
+    Versions are those of `Triple.name_in`. Where `source` is None, the string is spelled like a triple. Names of
+    Debian, GNU and rustc state the C library of Linux, and those of Go, container images and Python don't: from one of
+    the latter to one of the former, say `libc`. A name that isn't read raises a `ParseError`, as `Triple.read` does.
+    What has no name in `target`, or only with a C library, raises one that is a `TranslationError`.
     """
     from_number = NO_DIALECT if source is None else dialect_number(source)
-    numbers = from_number, 0 if libc is None else libc_number(libc), dialect_number(target)
+    numbers = from_number, 0 if libc is None else libc_number(libc), versions_struct(versions), dialect_number(target)
     utf8 = encoded(name, "the name of a target")
     status, translated, reason = _library.translate(utf8, *numbers)
     if status == _names.OK:
@@ -104,9 +106,14 @@ def meanings(text: str) -> List[Meaning]:
     utf8 = encoded(text, "the name of a target")
     owner = ctypes.create_string_buffer(utf8, len(utf8))
     dialects: Tuple[Optional[Dialect], ...] = (None, *Dialect)
-    return [Meaning(dialects[number], None, note) if struct is None
-            else Meaning(dialects[number], _triple_of(struct, owner), None, note)
-            for number, struct, note in _library.meanings(owner)]
+    found = []
+    for it in _library.meanings(owner):
+        if it.status == _names.OK:
+            triple = _triple_of(_library.TripleStruct.from_buffer_copy(it.triple), owner)
+            found.append(Meaning(dialects[it.dialect], triple, None, it.note))
+        else:
+            found.append(Meaning(dialects[it.dialect], None, it.note))
+    return found
 
 
 class Change(NamedTuple):

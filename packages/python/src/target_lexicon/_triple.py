@@ -192,14 +192,11 @@ class Triple(FactsOfTriple, Immutable):
 
     @classmethod
     def host(cls) -> Triple:
-        """The triple that this Python runs as, as far as `platform` and `sysconfig` say it.
+        """The triple that this Python runs as: the target that the library was built for, which it has loaded.
 
-        Never refused: what is not known of the machine is `unknown`. It is the target of the interpreter, so a 32-bit
-        one on a 64-bit machine has a 32-bit architecture. Sub-architectures such as `armv7` are the kernel's.
+        So a 32-bit interpreter on a 64-bit machine has a 32-bit architecture, and one on musl has musl.
         """
-        from . import _host
-
-        return cls.from_fields(*_host.fields())
+        return cls(_library.HOST)
 
     @property
     def architecture(self) -> Architecture:
@@ -293,32 +290,33 @@ class Triple(FactsOfTriple, Immutable):
 
         return facts_of(self)._asdict()
 
-    def name_in(self, dialect: Union[Dialect, DialectName], version: Optional[Sequence[int]] = None) -> Optional[str]:
+    def name_in(self, dialect: Union[Dialect, DialectName], **versions: Sequence[int]) -> Optional[str]:
         """The name that another tool has for the target, or None if it has none. The tool is a `Dialect`, or its name.
 
         >>> triple = Triple("aarch64-unknown-linux-gnu")
         >>> triple.name_in(Dialect.DEBIAN), triple.name_in("oci"), Triple("avr-unknown-unknown").name_in("go")
         ('arm64', 'linux/arm64', None)
-        >>> triple.name_in("python", version=(2, 17)), Triple("aarch64-apple-darwin").name_in("python", (11, 0))
+        >>> versions = {"glibc": (2, 17), "macos": (11, 0)}
+        >>> triple.name_in("python", **versions), Triple("aarch64-apple-darwin").name_in("python", **versions)
         ('manylinux_2_17_aarch64', 'macosx_11_0_arm64')
 
         The vendor doesn't matter, nor what the dialect doesn't name. A version, of one or two numbers, is that of
-        glibc, musl, macOS or Android's API level, which names of Python state; with it, names without one are not
-        written.
+        glibc, musl, macos, ios, android (its API level), freebsd, netbsd, openbsd, dragonfly or windows (its build),
+        which names of Python state. One of another system or C library than the triple's never applies.
         """
-        return _library.write(dialect_number(dialect), self._struct, _stated_version(version))[0]
+        return _library.write(dialect_number(dialect), self._struct, versions_struct(versions))[0]
 
     def reason_without_name(self, dialect: Union[Dialect, DialectName],
-                            version: Optional[Sequence[int]] = None) -> Optional[str]:
+                            **versions: Sequence[int]) -> Optional[str]:
         """Why `name_in` has no name for these arguments, and what would help. None if it has one.
 
         >>> triple = Triple("aarch64-unknown-linux")
-        >>> triple.reason_without_name("debian"), triple.reason_without_name("python", version=(2, 17))
+        >>> triple.reason_without_name("debian"), triple.reason_without_name("python", glibc=(2, 17))
         ('it depends on the C library: say glibc or musl', 'it depends on the C library: say glibc or musl')
         >>> Triple("avr-unknown-none").reason_without_name("go"), triple.reason_without_name("go")
         ('the tool has no name for this machine on any system', None)
         """
-        return _library.write(dialect_number(dialect), self._struct, _stated_version(version))[1]
+        return _library.write(dialect_number(dialect), self._struct, versions_struct(versions))[1]
 
     def complete(self, libc: Union[LinuxLibc, LinuxLibcName]) -> Triple:
         """The triple with the usual environment of a C library, if it is of Linux and states none; any other one as it
@@ -513,12 +511,17 @@ def _number(value: Any, of: Type[NamedValue], name: str) -> int:
         raise ValueError(f"no {name} has the name {value!a}{f'; did you mean {meant!r}?' if meant else ''}") from None
 
 
-def _stated_version(version: Optional[Sequence[int]]) -> Optional[Tuple[int, int]]:
-    """The version that a name states, which has two numbers."""
-    full = _full_version(version)
-    if full and full[2]:
-        raise ValueError(f"a name states at most two numbers of a version, not {full}")
-    return full and full[:2]
+def versions_struct(versions: Mapping[str, Sequence[int]]) -> Optional[_library.VersionsStruct]:
+    """The versions that names state, each of two numbers, by their C libraries and systems; None if there are none."""
+    struct = _library.VersionsStruct()
+    for name, version in versions.items():
+        if name not in _library.VERSIONS_OF:
+            raise TypeError(f"there are no versions of {name!a}: they are of {', '.join(_library.VERSIONS_OF)}")
+        full = _full_version(version)
+        if full is None or full[2]:
+            raise ValueError(f"a name states one or two numbers of a version, not {version!a}")
+        setattr(struct, name, _library.VersionStruct(*full))
+    return struct if versions else None
 
 
 def _full_version(version: Optional[Sequence[int]]) -> Optional[Version]:

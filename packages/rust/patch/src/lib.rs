@@ -1,11 +1,27 @@
-//! Upstream's names, each for that of the crate `target-lexicon-verified`, for `[patch.crates-io]`.
+//! Upstream's names, each for that of the crate `target-lexicon-verified`, for `[patch.crates-io]`. A triple has a type of its own, which is
+//! printed as upstream does.
 #![no_std]
+#![forbid(unsafe_code)]
 
+extern crate alloc;
+
+#[cfg(feature = "serde_support")]
+mod serde;
+mod triple;
+
+pub use triple::{DefaultToHost, DefaultToUnknown, Triple, HOST};
 // No glob: another name would collide in a program that has globs of two crates.
 pub use verified::{
-    triple, Aarch64Architecture, Architecture, ArmArchitecture, BinaryFormat, CDataModel,
-    CallingConvention, CleverArchitecture, CustomVendor, DefaultToHost, DefaultToUnknown,
-    DeploymentTarget, Endianness, Environment, Mips32Architecture, Mips64Architecture,
-    OperatingSystem, ParseError, PointerWidth, Riscv32Architecture, Riscv64Architecture, Size,
-    Triple, Vendor, X86_32Architecture, HOST,
+    Aarch64Architecture, Architecture, ArmArchitecture, BinaryFormat, CDataModel,
+    CallingConvention, CleverArchitecture, CustomVendor, DeploymentTarget, Endianness, Environment,
+    Mips32Architecture, Mips64Architecture, OperatingSystem, ParseError, PointerWidth,
+    Riscv32Architecture, Riscv64Architecture, Size, Vendor, X86_32Architecture,
 };
+
+/// The triple of a string. Panics if the string is refused.
+#[macro_export]
+macro_rules! triple {
+    ($text:tt) => {
+        <$crate::Triple as ::core::str::FromStr>::from_str($text).expect("invalid triple literal")
+    };
+}

@@ -1,7 +1,6 @@
 // @generated: erased from crates/lexicon_fields/src/binary_format.rt by tools/erase. Don't edit it here.
 //! The binary formats.
 
-use crate::proved::table::fixed_row;
 #[cfg(feature = "alloc")]
 use alloc::borrow::Cow;
 use core::fmt;
@@ -35,14 +34,6 @@ pub enum BinaryFormat {
 }
 
 impl BinaryFormat {
-    /// The binary format with the name `s`; `Err` if there is none.
-    pub(crate) fn from_str(s: &str) -> Result<Self, ()> {
-        match fixed_row(s) {
-            Some(row) => row.binary_format.ok_or(()),
-            None => Err(()),
-        }
-    }
-
     /// The name. It is always borrowed.
     ///
     /// # Examples
@@ -71,6 +62,7 @@ impl BinaryFormat {
 impl FromStr for BinaryFormat {
     type Err = ();
 
+    #[inline]
     fn from_str(s: &str) -> Result<BinaryFormat, ()> {
         BinaryFormat::from_str(s)
     }

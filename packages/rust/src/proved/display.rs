@@ -42,15 +42,9 @@ impl<'a> TripleRef<'a> {
         self.pieces(self.shows_unknowns()).write_to(out)
     }
 
-    /// Writes the string that upstream prints for the triple, as [`TripleRef::write_to`] writes the printed one.
-    #[inline]
-    pub(crate) fn write_upstream_to(&self, out: &mut [u8]) -> usize {
-        self.pieces(false).write_to(out)
-    }
-
     /// The pieces by upstream's rules, or with the last three fields shown whatever these say.
     #[inline(always)]
-    fn pieces(&self, shows_last_three: bool) -> Pieces<'a> {
+    pub(crate) fn pieces(&self, shows_last_three: bool) -> Pieces<'a> {
         if let Some(text) = self.special_string() {
             return Pieces {
                 first: text,
@@ -173,15 +167,14 @@ impl<'a> TripleRef<'a> {
         matches!(
             (self.environment, self.binary_format),
             (Environment::Unknown, BinaryFormat::Unknown)
-        ) && !cfg!(feature = "upstream_printing")
-            && self.binary_format != self.default_binary_format()
+        ) && self.binary_format != self.default_binary_format()
     }
 }
 
 /// What is shown of a triple: the name of the architecture, or the special string; and each other field that is shown,
 /// after a dash. The name of the operating system is without its version, which follows it.
 #[derive(Clone, Copy)]
-struct Pieces<'a> {
+pub(crate) struct Pieces<'a> {
     first: &'static str,
     vendor: Option<&'a str>,
     operating_system: Option<&'static str>,

@@ -1,7 +1,6 @@
 // @generated: erased from crates/lexicon_fields/src/environment.rt by tools/erase. Don't edit it here.
 //! The environments.
 
-use crate::proved::table::fixed_row;
 #[cfg(feature = "alloc")]
 use alloc::borrow::Cow;
 use core::fmt;
@@ -93,14 +92,6 @@ pub enum Environment {
 }
 
 impl Environment {
-    /// The environment with the name `s`; `Err` if there is none.
-    pub(crate) fn from_str(s: &str) -> Result<Self, ()> {
-        match fixed_row(s) {
-            Some(row) => row.environment.ok_or(()),
-            None => Err(()),
-        }
-    }
-
     /// The name. It is always borrowed.
     ///
     /// # Examples

@@ -2,7 +2,6 @@
 //! The operating systems.
 
 use crate::proved::deployment_target::{version_text, DeploymentTarget, MAX_VERSION_LENGTH};
-use crate::proved::table::fixed_row;
 use core::fmt;
 use core::str::FromStr;
 
@@ -105,18 +104,6 @@ pub enum OperatingSystem {
 }
 
 impl OperatingSystem {
-    /// The system that the string parses as. `Err` for every other string.
-    ///
-    /// A string is a fixed name, or the prefix of a system like Darwin with nothing or a version after it: one to three
-    /// pieces between dots, each an optional plus and digits, the first at most 65535, the others at most 255.
-    #[inline(always)]
-    pub(crate) fn from_str(s: &str) -> Result<Self, ()> {
-        match fixed_row(s) {
-            Some(row) => row.operating_system.ok_or(()),
-            None => OperatingSystem::parse_darwin_like(s).ok_or(()),
-        }
-    }
-
     /// The system like Darwin with whose prefix the string begins. The rest of the string must be empty or a version.
     pub(crate) fn parse_darwin_like(s: &str) -> Option<Self> {
         if let Some(version) = version_after("darwin", s) {

@@ -36,7 +36,6 @@ impl<'a> TripleRef<'a> {
     /// ```
     #[must_use]
     #[inline]
-    #[cfg(not(feature = "upstream_printing"))]
     pub fn comes_back(&self) -> bool {
         self.round_trip_exception().is_none()
     }

@@ -17,7 +17,6 @@ impl TripleRef<'_> {
     /// ```
     #[must_use]
     #[inline]
-    #[cfg(not(feature = "upstream_printing"))]
     pub fn settles_as<'t>(&self, other: impl Into<TripleRef<'t>>) -> bool {
         self.step() == other.into().step()
     }

@@ -113,6 +113,7 @@ impl Vendor {
     /// ```
     /// assert_eq!(target_lexicon::Vendor::Nvidia.as_str(), "nvidia");
     /// ```
+    #[inline]
     pub fn as_str(&self) -> &str {
         self.as_vendor_ref().as_str()
     }

@@ -8,7 +8,8 @@ use Rattle.target_lexicon.specs.{declared.reading.Reading.Reading, declared.expl
 use Rattle.target_lexicon.specs.Explanation.{AreInString, AreSourcesOf, IsInString, IsRefusedAfter, Implied, NotGiven, PlacedPart, part_from, part_value, placed_from, sources_at, sources_of}
 use Rattle.target_lexicon.proofs.{ComputedReading.Holds, ComputedReading.ordinary-holds, PartLemmas.parts_of-some}
 use Rattle.target_lexicon.proofs.SourceLemmas.{LeftAt, all_sources, sources-in, refused-in, sources-explained, refused-explained}
-use Rattle.target_lexicon.proofs.ReadParts.{AllGoesOn, fields_from, left_from, goes_on-first, goes_on-next, placed-some, read-sources, refused-sources, texts-placed}
+use Rattle.target_lexicon.proofs.GreedyPlacement.{fields_from, left_from}
+use Rattle.target_lexicon.proofs.ReadParts.{AllGoesOn, goes_on-first, goes_on-next, placed-some, read-sources, refused-sources, texts-placed}
 use Rattle.target_lexicon.specs.{Field.Architecture, Field.Field, Private.rest_parts, Values.Values}
 use Rattle.target_lexicon.proofs.parse.explain.Goals as goal
 

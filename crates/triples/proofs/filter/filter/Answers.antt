@@ -5,7 +5,7 @@ use Rattle.std.proofs.lemmas.Slice.{take-put_mid_below}
 use borrow.Rule.Slice.PartMut.{put_mid}
 use Rattle.triples.specs.{Calls.Call, Calls.After, Run.use_of, Streams.calls, Streams.moved}
 use Rattle.triples.specs.FilterSteps.{IsKept, RestAnswered}
-use Rattle.triples.proofs.FilterLoop.{between-none, between-more, between-kept, ends-read, ends-rest, ends-write, ends-endless, read-piece, length-read, none-is-end, none-ends, none-stops, part-length, searched-front, some-is-move, some-is-no-end, some-is-no-stop}
+use Rattle.triples.proofs.FilterLoop.{between-none, between-more, between-kept, ends-read, ends-rest, ends-write, ends-endless, read-piece, length-read, none-read, part-length, searched-front, some-read}
 use Rattle.triples.proofs.filter.filter.Goals as goal
 
 pub loop-init : goal.loop-init
@@ -27,6 +27,7 @@ loop-preserved g c =
     let piece = take (c.loop.held + c.in-Ok.taken) buffer in
     let given : length c.read_after.new.buf ≡ length c.loop.input - c.loop.held = c.read_after.auto.buf ∙ part-length c.loop.held c.loop.input in
     let is : piece ≡ held ++ more = read-piece c.loop.held c.in-Ok.taken (length c.loop.input - c.loop.held) c.loop.input c.read_after.new.buf (omega (arith, inv.held)) read.bound.0 in
+    let made = some-read c.in-Ok.taken c.read_after.new.buf (λ bad. omega (arith, bad, c.if-taken-eq0.false)) in
     let fits : length piece ≤ size =
     omega (arith, ap (λ (t : List ℕ). length t) is, length-append held more, length-take c.loop.held c.loop.input, length-take c.in-Ok.taken c.read_after.new.buf, read.bound.0, given, inv.held, inv.same_length) in
     let some : 0 < length more = omega (arith, read.bound.1, c.if-taken-eq0.false) in
@@ -34,9 +35,9 @@ loop-preserved g c =
     let next =
     between-more g.R.Read.remaining g.W.Write.contents c.args.mode size c.args.r.now c.loop.r c.read_after.new.self c.args.w.now c.loop.w c.answer_lines.new.w c.loop.is_late held c.loop.counter inv.state
     more (record { moved = read.moved; known = read.bytes.0 }) (omega (arith, read.count))
-    (omega (arith, read.stops, some-is-no-stop c.in-Ok.taken c.read_after.new.buf (λ bad. omega (arith, bad, c.if-taken-eq0.false))))
-    (read.ended ∙ some-is-no-end c.in-Ok.taken c.read_after.new.buf (λ bad. omega (arith, bad, c.if-taken-eq0.false)))
-    (read.call ∙ ap (λ (call : Call). call ∷ (After (moved c.loop.w) ∷ calls c.loop.r)) (some-is-move c.in-Ok.taken c.read_after.new.buf (λ bad. omega (arith, bad, c.if-taken-eq0.false)))) piece is fits
+    (omega (arith, read.stops, made.1))
+    (read.ended ∙ made.0)
+    (read.call ∙ ap (λ (call : Call). call ∷ (After (moved c.loop.w) ∷ calls c.loop.r)) made.2) piece is fits
     c.in-Ok-answer_lines.start c.in-Ok-answer_lines.late some c.in-Ok-answer_lines.ensures.lines in
     let keeps =
     subst (λ (n : ℕ). IsKept n c.in-Ok-answer_lines.late (drop c.in-Ok-answer_lines.start piece) c.keep_rest.new.buffer c.keep_rest.result.0 c.keep_rest.result.1) (whole ∙ inv.same_length) kept.kept in
@@ -74,6 +75,7 @@ returns-then-taken-eq0 g c =
     let none : more ≡ [] = ap (λ (n : ℕ). take n c.read_after.new.buf) c.if-taken-eq0.true in
     let given : length c.read_after.new.buf ≡ length c.loop.input - c.loop.held = c.read_after.auto.buf ∙ part-length c.loop.held c.loop.input in
     let room : 0 < length c.read_after.new.buf = omega (arith, given, inv.held) in
+    let made = none-read c.in-Ok.taken c.read_after.new.buf c.if-taken-eq0.true room in
     let same : take c.loop.held (put_mid c.loop.held (length c.loop.input - c.loop.held) c.loop.input c.read_after.new.buf) ≡ held =
     take-put_mid_below c.loop.held (length c.loop.input - c.loop.held) c.loop.input c.read_after.new.buf c.loop.held (omega arith) (omega (arith, inv.held)) in
     let done = subst (λ (t : List ℕ). RestAnswered c.args.mode c.loop.is_late t (use_of g.W.Write.contents c.loop.w c.finish.new.w) c.finish.result) same c.finish.ensures in
@@ -82,9 +84,9 @@ returns-then-taken-eq0 g c =
           ends-rest g.R.Read.remaining g.W.Write.contents c.args.mode (length c.args.input.now) c.args.r.now c.loop.r c.read_after.new.self c.args.w.now c.loop.w c.finish.new.w c.loop.is_late
           held c.loop.counter inv.state more none (record { moved = read.moved; known = read.bytes.0 })
           (omega (arith, read.count))
-          (omega (arith, read.stops, none-stops c.in-Ok.taken c.read_after.new.buf c.if-taken-eq0.true room))
-          (read.ended ∙ none-is-end c.in-Ok.taken c.read_after.new.buf c.if-taken-eq0.true room)
-          (read.call ∙ ap (λ (call : Call). call ∷ (After (moved c.loop.w) ∷ calls c.loop.r)) (none-ends c.in-Ok.taken c.read_after.new.buf c.if-taken-eq0.true room))
+          (omega (arith, read.stops, made.1))
+          (read.ended ∙ made.0)
+          (read.call ∙ ap (λ (call : Call). call ∷ (After (moved c.loop.w) ∷ calls c.loop.r)) made.2)
           (read.bytes.1 c.if-taken-eq0.true room) (omega (arith, length-take c.loop.held c.loop.input, inv.held, inv.same_length)) c.finish.result done;
     }
 
@@ -99,15 +101,16 @@ returns-in_default-answer_lines g c =
     let piece = take (c.loop.held + c.in-Ok.taken) buffer in
     let given : length c.read_after.new.buf ≡ length c.loop.input - c.loop.held = c.read_after.auto.buf ∙ part-length c.loop.held c.loop.input in
     let is : piece ≡ held ++ more = read-piece c.loop.held c.in-Ok.taken (length c.loop.input - c.loop.held) c.loop.input c.read_after.new.buf (omega (arith, inv.held)) read.bound.0 in
+    let made = some-read c.in-Ok.taken c.read_after.new.buf (λ bad. omega (arith, bad, c.if-taken-eq0.false)) in
     let fits : length piece ≤ size =
     omega (arith, ap (λ (t : List ℕ). length t) is, length-append held more, length-take c.loop.held c.loop.input, length-take c.in-Ok.taken c.read_after.new.buf, read.bound.0, given, inv.held, inv.same_length) in
     record {
       ends =
           ends-write g.R.Read.remaining g.W.Write.contents c.args.mode size c.args.r.now c.loop.r c.read_after.new.self c.args.w.now c.loop.w c.answer_lines.new.w c.loop.is_late held c.loop.counter inv.state
           more (record { moved = read.moved; known = read.bytes.0 }) (omega (arith, read.count))
-          (omega (arith, read.stops, some-is-no-stop c.in-Ok.taken c.read_after.new.buf (λ bad. omega (arith, bad, c.if-taken-eq0.false))))
-          (read.ended ∙ some-is-no-end c.in-Ok.taken c.read_after.new.buf (λ bad. omega (arith, bad, c.if-taken-eq0.false)))
-          (read.call ∙ ap (λ (call : Call). call ∷ (After (moved c.loop.w) ∷ calls c.loop.r)) (some-is-move c.in-Ok.taken c.read_after.new.buf (λ bad. omega (arith, bad, c.if-taken-eq0.false)))) piece is fits c.every_string_has_one_outcome.ensures
+          (omega (arith, read.stops, made.1))
+          (read.ended ∙ made.0)
+          (read.call ∙ ap (λ (call : Call). call ∷ (After (moved c.loop.w) ∷ calls c.loop.r)) made.2) piece is fits c.every_string_has_one_outcome.ensures
           c.in_default-answer_lines.field-0 c.in_default-answer_lines.ensures.lines;
     }
 

@@ -1,7 +1,6 @@
 // @generated: erased from crates/lexicon_fields/src/architecture/aarch64.rt by tools/erase. Don't edit it here.
 //! The 64-bit Arm architectures.
 
-use crate::proved::architecture::Architecture;
 use crate::proved::endianness::Endianness;
 use crate::proved::pointer_width::PointerWidth;
 #[cfg(feature = "alloc")]
@@ -69,15 +68,6 @@ impl Aarch64Architecture {
         match self {
             Aarch64Architecture::Aarch64 => Endianness::Little,
             Aarch64Architecture::Aarch64be => Endianness::Big,
-        }
-    }
-
-    /// The value with this name; `arm64` is an alias of `aarch64`. `Err` for every other string.
-    #[inline]
-    pub(crate) fn from_str(s: &str) -> Result<Self, ()> {
-        match Architecture::from_str(s) {
-            Ok(Architecture::Aarch64(sub)) => Ok(sub),
-            _ => Err(()),
         }
     }
 

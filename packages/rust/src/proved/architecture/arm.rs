@@ -1,7 +1,6 @@
 // @generated: erased from crates/lexicon_fields/src/architecture/arm.rt by tools/erase. Don't edit it here.
 //! The 32-bit Arm architectures.
 
-use crate::proved::architecture::Architecture;
 use crate::proved::endianness::Endianness;
 use crate::proved::pointer_width::PointerWidth;
 #[cfg(feature = "alloc")]
@@ -204,15 +203,6 @@ impl ArmArchitecture {
             | ArmArchitecture::Thumbv7neon
             | ArmArchitecture::Thumbv8mBase
             | ArmArchitecture::Thumbv8mMain => Endianness::Little,
-        }
-    }
-
-    /// The sub-architecture with the name `s`; `Err` if there is none.
-    #[inline]
-    pub(crate) fn from_str(s: &str) -> Result<Self, ()> {
-        match Architecture::from_str(s) {
-            Ok(Architecture::Arm(sub)) => Ok(sub),
-            _ => Err(()),
         }
     }
 

@@ -1,7 +1,6 @@
 // @generated: erased from crates/lexicon_fields/src/architecture/clever.rt by tools/erase. Don't edit it here.
 //! The Clever architectures.
 
-use crate::proved::architecture::Architecture;
 #[cfg(feature = "alloc")]
 use alloc::borrow::Cow;
 use core::fmt;
@@ -27,15 +26,6 @@ pub enum CleverArchitecture {
 }
 
 impl CleverArchitecture {
-    /// The sub-architecture with the name `s`; `Err` if there is none.
-    #[inline]
-    pub(crate) fn from_str(s: &str) -> Result<Self, ()> {
-        match Architecture::from_str(s) {
-            Ok(Architecture::Clever(sub)) => Ok(sub),
-            _ => Err(()),
-        }
-    }
-
     /// The name. It is always borrowed.
     ///
     /// # Examples

@@ -1,7 +1,6 @@
 // @generated: erased from crates/lexicon_fields/src/architecture/mips.rt by tools/erase. Don't edit it here.
 //! The MIPS architectures.
 
-use crate::proved::architecture::Architecture;
 #[cfg(feature = "alloc")]
 use alloc::borrow::Cow;
 use core::fmt;
@@ -31,15 +30,6 @@ pub enum Mips32Architecture {
 }
 
 impl Mips32Architecture {
-    /// The sub-architecture with the name `s`; `Err` if there is none.
-    #[inline]
-    pub(crate) fn from_str(s: &str) -> Result<Self, ()> {
-        match Architecture::from_str(s) {
-            Ok(Architecture::Mips32(sub)) => Ok(sub),
-            _ => Err(()),
-        }
-    }
-
     /// The name. It is always borrowed.
     ///
     /// # Examples
@@ -104,15 +94,6 @@ pub enum Mips64Architecture {
 }
 
 impl Mips64Architecture {
-    /// The sub-architecture with the name `s`; `Err` if there is none.
-    #[inline]
-    pub(crate) fn from_str(s: &str) -> Result<Self, ()> {
-        match Architecture::from_str(s) {
-            Ok(Architecture::Mips64(sub)) => Ok(sub),
-            _ => Err(()),
-        }
-    }
-
     /// The name. It is always borrowed.
     ///
     /// # Examples

@@ -1,7 +1,6 @@
 // @generated: erased from crates/lexicon_fields/src/architecture/riscv.rt by tools/erase. Don't edit it here.
 //! The RISC-V architectures.
 
-use crate::proved::architecture::Architecture;
 #[cfg(feature = "alloc")]
 use alloc::borrow::Cow;
 use core::fmt;
@@ -39,15 +38,6 @@ pub enum Riscv32Architecture {
 }
 
 impl Riscv32Architecture {
-    /// The sub-architecture with the name `s`; `Err` if there is none.
-    #[inline]
-    pub(crate) fn from_str(s: &str) -> Result<Self, ()> {
-        match Architecture::from_str(s) {
-            Ok(Architecture::Riscv32(sub)) => Ok(sub),
-            _ => Err(()),
-        }
-    }
-
     /// The name. It is always borrowed.
     ///
     /// # Examples
@@ -116,15 +106,6 @@ pub enum Riscv64Architecture {
 }
 
 impl Riscv64Architecture {
-    /// The sub-architecture with the name `s`; `Err` if there is none.
-    #[inline]
-    pub(crate) fn from_str(s: &str) -> Result<Self, ()> {
-        match Architecture::from_str(s) {
-            Ok(Architecture::Riscv64(sub)) => Ok(sub),
-            _ => Err(()),
-        }
-    }
-
     /// The name. It is always borrowed.
     ///
     /// # Examples

@@ -1,7 +1,6 @@
 // @generated: erased from crates/lexicon_fields/src/architecture/x86_32.rt by tools/erase. Don't edit it here.
 //! The 32-bit x86 architectures.
 
-use crate::proved::architecture::Architecture;
 #[cfg(feature = "alloc")]
 use alloc::borrow::Cow;
 use core::fmt;
@@ -29,15 +28,6 @@ pub enum X86_32Architecture {
 }
 
 impl X86_32Architecture {
-    /// The sub-architecture with the name `s`; `Err` if there is none.
-    #[inline]
-    pub(crate) fn from_str(s: &str) -> Result<Self, ()> {
-        match Architecture::from_str(s) {
-            Ok(Architecture::X86_32(sub)) => Ok(sub),
-            _ => Err(()),
-        }
-    }
-
     /// The name. It is always borrowed.
     ///
     /// # Examples

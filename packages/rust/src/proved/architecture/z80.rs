@@ -1,7 +1,6 @@
 // @generated: erased from crates/lexicon_fields/src/architecture/z80.rt by tools/erase. Don't edit it here.
 //! The architectures of the Z80 family.
 
-use crate::proved::architecture::Architecture;
 #[cfg(feature = "alloc")]
 use alloc::borrow::Cow;
 use core::fmt;
@@ -43,15 +42,6 @@ pub enum Z80Architecture {
 }
 
 impl Z80Architecture {
-    /// The sub-architecture with the name `s`; `Err` if there is none.
-    #[inline]
-    pub(crate) fn from_str(s: &str) -> Result<Self, ()> {
-        match Architecture::from_str(s) {
-            Ok(Architecture::Z80(sub)) => Ok(sub),
-            _ => Err(()),
-        }
-    }
-
     /// The name. It is always borrowed.
     ///
     /// # Examples

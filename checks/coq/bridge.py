@@ -1,0 +1,145 @@
+"""Writes why the functions of rustc's MIR are those of the source, and the theorems of the source about them. Nothing
+of this is trusted: Coq checks the proofs, and the statements have only what mir.py wrote."""
+import re
+
+from reading import Untranslated
+
+HEAD = """(* Written by checks/theorem. *)
+Require Import Kit Specs Rust Code Configured Mir Bridge.
+Ltac simp ::= cbv beta iota zeta delta [fst snd negb andb orb set_at shl_in shr_in result_eqb {projections}].
+"""
+# The proofs that don't go by the tactic.
+BY_HAND = {"mir_short_word": "destruct v1 as [|a [|b [|c [|d xs]]]]; [vm_compute; reflexivity..|]; "
+                             "rewrite ?long by reflexivity; bridge"}
+
+
+def heads(code):
+    """Each function of the source: whether it recurs, its parameters, whether it has fuel, and its result."""
+    found = {}
+    for m in re.finditer(r"^(Definition|Fixpoint) (rs_\w+)(.*?) :=$", code, re.M):
+        binders, _, result = m[3].rpartition(") : ")
+        if not binders:
+            binders, result = "", m[3].removeprefix(" : ")
+        names = [it for part in re.findall(r"\(([\w ]+) :", binders + ")") for it in part.split()]
+        found[m[2]] = m[1] == "Fixpoint", [it for it in names if it != "fuel"], "fuel" in names, result
+    return found
+
+
+def counterpart(title, it, source):
+    """The function of the source that has this one's type and name, or none."""
+    trait, owner, name = it.key
+    last = owner.split("::")[-1]
+    of = re.search(r"_of_(\w+?)(_pure)?$", title)
+    names = [f"rs_{last}_{(trait or '').split('::')[-1]}_{name}"] * bool(trait) + [f"rs_{last}_{name}", f"rs_{name}"]
+    if trait == "std::PartialEq":
+        names = [f"rs_{last}_eq", f"rs_{last}_eqb"] if not of or of[1] == last else [f"rs_{last}_eq_{of[1]}"]
+    elif trait in ("std::From", "std::TryFrom"):
+        names = [f"rs_{last}_{name}_{of[1] if of else it.parameters[0][1].strip('&').split('::')[-1]}"]
+    elif not trait and title != f"mir_{last}_{name}":
+        names = [f"rs_{name}"]
+    return next((it for it in names if it in source), None)
+
+
+class Bridge:
+    def __init__(self, crate, code):
+        self.crate, self.code, self.source, self.lemmas, self.out, self.used = \
+            crate, code, heads(code), {}, [], {}
+        projections = {p for fields in crate.types.fields.values() for p in fields}
+        projections |= {*re.findall(r"^  (\w+__\w+) :", code, re.M)}
+        projections |= {*re.findall(r"^Definition (rs_[A-Z_]+) : ℕ :=\s*\d{5,}\.$", code, re.M)}  # MIR has the number
+        self.projections = sorted(projections)
+
+    def lemma(self, name, statement, proof):
+        self.out.append(f"Lemma {name} : {statement}.\nProof. {proof}. Qed.\nHint Rewrite {name} : mir.")
+
+    def function(self, title, it):
+        of = counterpart(title, it, self.source)
+        if of is None:
+            return
+        recurs, names, has_fuel, result = self.source[of]
+        if len(names) != len(it.parameters):
+            return
+        binders = "".join(f" (v{n} : {self.crate.types.coq(type)})" for n, type in it.parameters)
+        args = "".join(f" v{n}" for n, _ in it.parameters)
+        name = "same" + title.removeprefix("mir")
+        if title.endswith("_pure"):
+            if has_fuel or result.startswith("option ("):
+                return
+            self.lemma(name, f"∀{binders}, {title}{args} = {of}{args}", f"intros; unfold {title}, {of}; bridge")
+            if it.key[2] == "eq":
+                of_type = self.crate.types.coq(it.parameters[0][1])
+                self.lemma(f"{name}_option",
+                           f"∀ x y, option_eqb {title} x y = option_eqb (λ x y : {of_type}, {of} x y) x y",
+                           f"intros [x|] [y|]; cbn; try reflexivity; apply {name}")
+        else:
+            right = f"{of}{' fuel' * has_fuel}{args}"
+            right = right if result.startswith("option (") else f"Some ({right})"
+            is_known = any(it == of for _, it in self.lemmas.values())  # this one calls the function of that lemma
+            proof = f"intros; unfold {title}{'' if is_known else f', {of}'}; "
+            if recurs and not is_known:
+                proof = f"intros fuel; induction fuel as [|fuel IH]; intros; [reflexivity|cbn [{title} {of}]]; "
+            usual = "first [names_in_turn | bridge]" if title.endswith("_from_str") else "bridge"
+            quantified = f"∀ (fuel : nat){binders}, "
+            self.lemma(name, f"{quantified}{title} fuel{args} = {right}", proof + BY_HAND.get(title, usual))
+            self.lemmas[title] = name, of
+        return of
+
+    def constant(self, title):
+        of = "rs" + title.removeprefix("mir")
+        self.lemma("same" + title.removeprefix("mir"), f"{title} = {of}", "vm_compute; reflexivity")
+
+    def write(self):
+        for title in re.findall(r"^Definition (rs_[A-Z_]+) : ℕ :=\s*\d{1,4}\.$", self.code, re.M):  # a length
+            number = f"N.to_nat {title}"
+            self.lemma(f"{title}_is", f"{number} = ltac:(let n := eval vm_compute in ({number}) in exact n)",
+                       "vm_compute; reflexivity")
+        for title, it, _ in self.crate.out:
+            if it is None and title.startswith("Mir"):
+                continue
+            if it is None:
+                self.constant(title)
+            else:
+                self.function(title, it)
+        return HEAD.format(projections=" ".join(self.projections)) + "\n".join(self.out) + "\n"
+
+    def theorems(self, names, proofs):
+        """Each theorem of the source of the functions that MIR has: there is what they compute, of which it is true."""
+        texts = {file: re.sub(r"\(\*.*?\*\)", "", text, flags=re.S) for file, text in proofs.items()}
+        helpers = {m[1]: m[0] for text in texts.values() for m in re.finditer(
+            r"^Definition (\w+)(?:(?!\.\s).)*\.$", text, re.M | re.S) if "rs_" in m[0]}
+        out = [f"Require Import Kit Specs Rust Code Configured Mir Bridge Same_mir {' '.join(texts)}.\n"]
+        for file, text in texts.items():
+            for m in re.finditer(r"^Theorem (\w+)(.*?)^ *Proof", text.replace(" Proof.", "\nProof."), re.M | re.S):
+                if m[1] in names:
+                    out.append(self.theorem(m[1], f"{file}.{m[1]}", m[2], helpers))
+        return "\n".join(out)
+
+    def theorem(self, name, of, statement, helpers):
+        unfolded = [it for it in helpers if re.search(rf"\b{it}\b", statement)]
+        words = {*re.findall(r"\brs_\w+", statement + "".join(helpers[it] for it in unfolded))}
+        unfolded += [it for it in words if it.isupper() or it[3:].isupper()]
+        functions = sorted(words - {*unfolded})
+        found = {of: [title for title, (_, it) in self.lemmas.items() if it == of] for of in functions}
+        if missing := [it for it, titles in found.items() if not titles]:
+            raise Untranslated(f"{name} is no theorem of what rustc compiles: no function of MIR is {missing[0]}")
+        computes, proof = [], []
+        for i, (rs, titles) in enumerate(found.items()):
+            self.used.setdefault(rs, []).append(name)
+            _, names, has_fuel, result = self.source[rs]
+            right = f"f{i}{' fuel' * has_fuel}{''.join(f' {it}' for it in names)}"
+            right = right if result.startswith("option (") else f"Some ({right})"
+            for title in titles:
+                binders = "".join(f" {it}" for it in names)
+                computes.append(f"(∀ fuel{binders}, {title} fuel{binders} = {right})")
+                proof.append(f"(conj {self.lemmas[title][0]}")
+        types = "".join(f" (f{i} : ltac:(let t := type of {rs} in exact t))" for i, rs in enumerate(found))
+        s = f"let S := type of {of} in "
+        s += f"let S := eval unfold {', '.join(unfolded)} in S in " if unfolded else ""
+        if not found:
+            raise Untranslated(f"the theorem {name} has no function")
+        args = " ".join(f"f{i}" for i in range(len(found)))
+        s += f"let S := eval pattern {', '.join(found)} in S in match S with ?P {' '.join('_' for _ in found)} => " \
+             f"let T := constr:(∃{types}, {' ∧ '.join(computes)} ∧ P {args}) in " \
+             "let T := eval cbv beta in T in exact T end"
+        return f"Theorem mir_{name} : ltac:({s}).\nProof. exists {', '.join(found)}. " \
+               f"exact {' '.join(proof)} {of}{')' * len(proof)}. Qed."

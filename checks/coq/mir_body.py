@@ -1,0 +1,678 @@
+"""Writes the body of a function of MIR as Coq, along its dominators.
+
+A block with several predecessors is a local function of the variables that may differ; a loop is Rust.v's `loop` of
+those that are live at its head. A shared reference is what it refers to, as no type that is known has a value that
+changes behind one. A `&mut` is the place that it borrows."""
+import re
+from collections import namedtuple
+
+from mir import BITS, Unknown, arguments, of_call, referred, split, strip
+from mir_grammar import Function, close
+from mir_std import CLOSED, COUNTED, EQUAL, STD
+
+Con = namedtuple("Con", "name args")  # a constructor of values; "tuple", "closure" and "branching" aren't Coq's
+Mut = namedtuple("Mut", "cell path")  # a mutable borrow
+Slice = namedtuple("Slice", "cell path low high")  # one of a range of bytes
+Checked = namedtuple("Checked", "code")  # a result and whether it overflows
+Tag = namedtuple("Tag", "value place")  # a discriminant
+COMPARE = {"Eq": "({0} == {1})", "Ne": "(negb ({0} == {1}))", "Lt": "({0} <? {1})", "Le": "({0} <=? {1})",
+           "Gt": "({1} <? {0})", "Ge": "({1} <=? {0})"}
+ORDERING = {"Less": "Lt", "Equal": "Eq", "Greater": "Gt"}
+TAGS = {"comparison": {255: ("Lt", 0), 0: ("Eq", 0), 1: ("Gt", 0)}}
+
+
+def item(type):
+    """The type of the items of an array or a slice."""
+    if not (m := re.fullmatch(r"\[(.*?)(; [\w:]+)?\]", strip(type))):
+        raise Unknown(f"an index of {type}")
+    return m[1]
+
+
+def after(type, step):
+    """The type of a projection of a place."""
+    if step[0] == "as":
+        return type
+    return step[2] if step[0] == "." else referred(type) if step[0] == "*" else item(type)
+
+
+def without_generics(path):
+    """The path of a function of std without arguments of generics, and of an array as that of a slice."""
+    while m := re.search(r"::<(?!impl )", path):
+        path = path[:m.start()] + path[close(path, m.end() - 1) + 1:]
+    return re.sub(r"^<\[u8; \d+\]", "<[u8]", path)
+
+
+class Body:
+    def __init__(self, crate, function, pure):
+        self.crate, self.types, self.f, self.pure = crate, crate.types, function, pure
+        self.blocks, self.fresh, self.loops, self.before = function.blocks(), 0, [], []
+        self.cells = [f"*{n}" for n, type in function.parameters if type.startswith("&mut ")]
+        self.flow()
+        self.live_at()
+
+    def new(self, base):
+        self.fresh += 1
+        return f"{base}'{self.fresh}"
+
+    # ---- what follows what
+    def successors(self, b):
+        end = self.blocks[b][1]
+        if end[0] == "switch":
+            return list(dict.fromkeys(it for it in end[2].values() if not self.is_dead(it)))
+        return [end[-1]] if end[0] in ("goto", "assert", "call") else []
+
+    def is_dead(self, b):
+        return self.blocks[b] == ([], ("unreachable",))
+
+    def flow(self):
+        order, seen = [], set()
+
+        def visit(b):
+            seen.add(b)
+            for it in self.successors(b):
+                if it not in seen:
+                    visit(it)
+            order.append(b)
+        visit(0)
+        self.rank = {b: i for i, b in enumerate(reversed(order))}
+        before = {b: [a for a in self.rank if b in self.successors(a)] for b in self.rank}
+        dominators, changed = {0: {0}}, True
+        while changed:
+            changed = False
+            for b in sorted(self.rank, key=self.rank.get)[1:]:
+                new = set.intersection(*[dominators[a] for a in before[b] if a in dominators]) | {b}
+                changed, dominators[b] = changed or dominators.get(b) != new, new
+        self.dominators = dominators
+        self.parent = {b: max(dominators[b] - {b}, key=self.rank.get) for b in self.rank if b}
+        self.heads = {b for a in self.rank for b in self.successors(a) if b in dominators[a]}
+        if any(self.rank[b] <= self.rank[a] and b not in dominators[a] for b in self.rank for a in before[b]):
+            raise Unknown("a loop with two beginnings")
+        self.merges = {b for b in self.rank if sum(b not in dominators[a] for a in before[b]) > 1}
+
+    def live_at(self):
+        """Which locals are live at each block, which it writes, and which are borrowed mutably."""
+        used, self.writes, self.borrowed = {}, {}, set()
+
+        def reads(it, found):
+            """The locals of the places in an expression."""
+            if isinstance(it, tuple) and len(it) == 2 and isinstance(it[0], int) and isinstance(it[1], list):
+                found |= {it[0]} | {step[1] for step in it[1] if step[0] == "[]"}
+            elif isinstance(it, (tuple, list)):
+                for part in it:
+                    reads(part, found)
+            return found
+        for b in self.rank:
+            statements, end = self.blocks[b]
+            if end[0] == "call":
+                statements = [*statements, (end[1], end[3])]
+            used[b], killed, written = set(), set(), set()
+            for to, value in statements:
+                used[b] |= reads([value, to] if to[1] else value, set()) - killed
+                killed |= set() if to[1] else {to[0]}
+                written |= set() if ("*",) in to[1] else {to[0]}
+                if value[:1] == ("mut",) and ("*",) not in value[1][1]:
+                    self.borrowed.add(value[1][0])
+            if end[0] in ("switch", "assert"):
+                used[b] |= reads(end[1:], set()) - killed
+            used[b] |= {0} - killed if end[0] == "return" else set()
+            self.writes[b] = written, killed
+        self.live, changed = {b: set() for b in self.rank}, True
+        while changed:
+            changed = False
+            for b in sorted(self.rank, key=self.rank.get, reverse=True):
+                new = used[b] | set().union(*[self.live[it] for it in self.successors(b)]) - self.writes[b][1]
+                changed, self.live[b] = changed or new != self.live[b], new
+
+    def is_mutable(self, local):
+        return self.f.types[local].startswith("&mut ")
+
+    def varying(self, b, among, env):
+        """The locals and cells that are live at b and that the blocks `among` may change; and all that these change."""
+        changed = set().union(*[self.writes[it][0] for it in among]) | self.borrowed
+        live = self.live[b] | (self.borrowed if any(map(self.is_mutable, self.live[b])) else set())
+        names = [n for n in sorted(live & changed) if not self.is_mutable(n)]
+        return [n for n in names if n in env or n in self.live[b]] + self.cells, changed - self.borrowed
+
+    # ---- values
+    def code(self, value):
+        if isinstance(value, str):
+            return value
+        if isinstance(value, Con) and value.name == "tuple":
+            return "(" + ", ".join(map(self.code, value.args)) + ")" if value.args else "tt"
+        if isinstance(value, Con) and value.name not in ("closure", "branching", "branch"):
+            return f"({value.name} {' '.join(map(self.code, value.args))})" if value.args else value.name
+        if isinstance(value, Tag):
+            cases = self.cases(self.type_of(("copy", value.place)))
+            arms = " ".join(f"| {name}{' _' * count} => {tag}" for tag, (name, count) in cases.items())
+            return f"(match {self.code(value.value)} with {arms} end)"
+        raise Unknown(f"a {type(value).__name__.lower()} as a value")
+
+    def cases(self, type):
+        """The constructors of a type by their discriminants."""
+        title = self.types.head(type)
+        if title not in self.types.constructors:
+            raise Unknown(f"the discriminant of {type}")
+        return TAGS.get(title) or dict(enumerate(self.types.constructors[title]))
+
+    def emit(self, code, base="it"):
+        """The value of an option, which is none for a panic."""
+        if self.pure:
+            raise Unknown("a possible panic in a constant, a closure or an equality")
+        name = self.new(base)
+        self.before.append((f"match {code} with None => None | Some {name} =>\n", " end"))
+        return name
+
+    def parts(self, value, type):
+        """A value as a constructor of its parts."""
+        if isinstance(value, Con):
+            return value
+        plain = referred(type)
+        if plain.startswith("("):
+            code, items = self.code(value), []
+            for _ in split(plain[1:-1])[1:]:
+                code, items = f"(fst {code})", [f"(snd {code})", *items]
+            return Con("tuple", [code, *items])
+        title = self.types.head(plain)
+        if title not in self.types.fields:
+            raise Unknown(f"the parts of {type}")
+        return Con(f"Build_{title}", [f"({it} {self.code(value)})" for it in self.types.fields[title]])
+
+    def step(self, value, step, type, env):
+        """A projection of a value of this type."""
+        if step[0] in ("*", "as"):
+            if step[0] == "as" and not (isinstance(value, Con) and value.name.split("__")[-1] in ("branch", step[1])):
+                raise Unknown(f"a part of a {step[1]} that isn't known")
+            return value
+        if step[0] == ".":
+            if re.match(r"std::ptr::(Unique|NonNull)<", step[2]):  # of a box
+                return value
+            return self.parts(value, type).args[step[1]]
+        index = str(step[1]) if step[0] == "[c]" else self.code(env[step[1]])
+        if isinstance(value, (Mut, Slice)):
+            raise Unknown("an index of a borrow")
+        return self.emit(f"slice_get {self.code(value)} {index}", "x")
+
+    def root(self, place, env):
+        """The cell and the path of a place, through mutable references."""
+        local, steps = place
+        cell, path, type, value = local, [], self.f.types[local], env.get(local)
+        for it in steps:
+            if it[0] == "*" and strip(type).startswith("&mut "):
+                if not isinstance(value, Mut) or path:
+                    raise Unknown(f"_{local}, whose reference isn't known")
+                cell, path, value = value.cell, list(value.path), None
+            else:
+                path.append(it)
+            type = after(type, it)
+        return cell, path
+
+    def type_at(self, cell):
+        return self.f.types[int(cell[1:])].removeprefix("&mut ") if isinstance(cell, str) else self.f.types[cell]
+
+    def get(self, place, env):
+        return self.at(*self.root(place, env), env)
+
+    def at(self, cell, path, env):
+        if cell not in env:
+            raise Unknown(f"_{cell}, which isn't set wherever it is read")
+        value, type = env[cell], self.type_at(cell)
+        for it in path:
+            value, type = self.step(value, it, type, env), after(type, it)
+        return value
+
+    def read(self, value, env):
+        """What a borrow refers to."""
+        return self.at(value.cell, value.path, env) if isinstance(value, Mut) else value
+
+    def set(self, place, new, env):
+        self.store(*self.root(place, env), new, env)
+
+    def store(self, cell, path, new, env):
+        env[cell] = self.update(env.get(cell), self.type_at(cell), list(path), new, env)
+
+    def update(self, value, type, path, new, env):
+        if not path:
+            return new
+        it, rest = path[0], path[1:]
+        if it[0] == "*" or it[0] == "as" and isinstance(value, Con):
+            return self.update(value, after(type, it), rest, new, env)
+        if it[0] == ".":
+            name, args = self.parts(value, type)
+            return Con(name, [self.update(old, it[2], rest, new, env) if i == it[1] else old
+                              for i, old in enumerate(args)])
+        if it[0] == "[]" and not rest:
+            return self.emit(f"set_at {self.code(value)} {self.code(env[it[1]])} {self.code(new)}", "xs")
+        raise Unknown(f"an assignment to a part of {type}")
+
+    def type_of(self, operand):
+        if operand[0] not in ("copy", "move"):
+            return {"number": operand[-1], "word": operand[-1], "text": "&str"}.get(operand[0], "?")
+        local, steps = operand[1]
+        type = self.f.types[local]
+        for it in steps:
+            type = after(type, it)
+        return type
+
+    def operand(self, it, env):
+        kind, what = it[:2]
+        if kind in ("copy", "move"):
+            return self.get(what, env)
+        if kind in ("number", "word"):
+            return str(what)
+        if kind == "text":
+            return "[" + "; ".join(map(str, what)) + "]"
+        if kind == "closure":
+            return Con("closure", [what])
+        if kind == "static":
+            if what not in self.crate.statics:
+                raise Unknown(f"the constant {what}")
+            return self.crate.static(self.crate.statics[what])
+        if kind == "aggregate":
+            return self.aggregate(what, [self.operand(part, env) for part in it[2]])
+        if what == "std::fmt::Error":
+            return "tt"
+        if m := re.search(r"::(\w+)::promoted\[(\d+)\]$", what):
+            return self.promoted(m[1], m[2], env)
+        if what in self.crate.constants:
+            value = self.crate.constants[what]
+            return self.inline(value) if isinstance(value, Function) else self.operand(value, {})
+        return self.aggregate(what, [])
+
+    def inline(self, constant):
+        return Body(self.crate, constant, True).whole()
+
+    def promoted(self, name, number, env):
+        """A constant that rustc took out of this function."""
+        it = self.f.promoted.get(number)
+        if it is None or not self.f.path.endswith("::" + name):
+            raise Unknown(f"the constant of {name}")
+        if not isinstance(it, Function):
+            return self.operand(it, {})
+        if it.result == "&mut [u8; 0]":
+            cell = f"*{len(self.f.types)}"
+            self.f.types[int(cell[1:])], env[cell] = it.result, "[]"
+            return Mut(cell, ())
+        return self.inline(it)
+
+    def aggregate(self, path, args, names=None):
+        if m := re.match(r"std::option::Option(?:::<.*>)?::(None|Some)$", path):
+            return Con(m[1], args)
+        if m := re.match(r"std::result::Result(?:::<.*>)?::(Ok|Err)$", path):
+            return Con("Result__" + m[1], args)
+        if m := re.match(r"std::borrow::Cow(?:::<.*>)?::(Owned|Borrowed)$", path):
+            return args[0]
+        if m := re.match(r"std::cmp::Ordering::(\w+)$", path):
+            return Con(ORDERING[m[1]], [])
+        if m := re.match(r"std::ops::Range(To|From)?(?:::)?<usize>$", path):
+            return args[0] if m[1] else Con("tuple", args)
+        owner, _, variant = path.rpartition("::")
+        if path in self.types.declared and isinstance(self.types.declared[path], list):
+            title = self.types.title(path)
+            fields = self.types.fields.get(title)
+            if fields is None or len(fields) != len(args) or names and names != self.types.declared[path]:
+                raise Unknown(f"a value of {path}")
+            return Con(f"Build_{title}", args)
+        if owner in self.types.declared:
+            title = self.types.title(owner)
+            if (f"{title}__{variant}", len(args)) in self.types.constructors.get(title, []):
+                return Con(f"{title}__{variant}", args)
+        raise Unknown(f"a value of {path}")
+
+    # ---- expressions
+    def rvalue(self, it, env):
+        kind, what = it[:2]
+        if kind == "use":
+            return self.operand(what, env)
+        if kind == "ref":
+            return self.get(what, env)
+        if kind == "mut":
+            cell, path = self.root(what, env)
+            if any(step[0] in ("[]", "[c]") for step in path):
+                raise Unknown("a mutable borrow of an item")
+            if path == [("*",)] and isinstance(env.get(cell), Slice):
+                return env[cell]
+            return Mut(cell, tuple(path))
+        if kind == "length":
+            return f"(length {self.code(self.read(self.operand(what, env), env))})"
+        if kind == "not":
+            if self.type_of(what) != "bool":
+                raise Unknown(f"a complement of {self.type_of(what)}")
+            return f"(negb {self.code(self.operand(what, env))})"
+        if kind == "discriminant":
+            return Tag(self.get(what, env), what)
+        if kind == "tuple":
+            return Con("tuple", [self.operand(part, env) for part in what])
+        if kind == "array":
+            return "[" + "; ".join(self.code(self.operand(part, env)) for part in what) + "]"
+        if kind == "repeat":
+            return f"(List.repeat {self.code(self.operand(what, env))} {it[2]}%nat)"
+        if kind == "aggregate":
+            return self.aggregate(what, [self.operand(part, env) for part in it[2]], it[3])
+        if kind == "cast":
+            return self.cast(*it[1:], env)
+        return self.binary(*it[1:], env)
+
+    def cast(self, kind, operand, to, env):
+        value, of = self.operand(operand, env), self.type_of(operand)
+        if kind.startswith("PointerCoercion") or kind == "Transmute" and of.startswith("std::ptr::NonNull<"):
+            return value
+        if kind != "IntToInt" or of not in BITS or to not in BITS:
+            raise Unknown(f"a cast from {of} to {to}")
+        narrow = {"u8": 8, "u16": 16, "u32": 32}
+        if of == to or of in narrow and narrow[of] <= narrow.get(to, 32):
+            return value
+        return f"({self.code(value)} mod {2 ** narrow[to] if to in narrow else f'2 ^ {BITS[to]}'})"
+
+    def binary(self, name, left, right, env):
+        x, y = self.code(self.operand(left, env)), self.code(self.operand(right, env))
+        type = next((it for it in map(self.type_of, (left, right)) if it != "?"), "?")
+        if name in COMPARE and (type in BITS or type == "char" or type == "isize" and name in ("Eq", "Ne")):
+            return COMPARE[name].format(x, y)
+        if name.endswith("WithOverflow") and type in BITS:
+            return Checked(f"{name[:3].lower()}_in {BITS[type]} {x} {y}")
+        if name in ("Div", "Rem") and type in BITS and y.isdigit() and int(y):
+            return f"({x} {'/' if name == 'Div' else 'mod'} {y})"
+        if name in ("Shl", "Shr") and self.type_of(left) in BITS:
+            return self.emit(f"{name.lower()}_in {BITS[self.type_of(left)]} {x} {y}", "n")
+        if name == "BitXor" and type in BITS:
+            return f"(N.lxor {x} {y})"
+        if name == "BitOr" and (type in BITS or type == "bool"):
+            return f"(N.lor {x} {y})" if type != "bool" else f"({x} || {y})"
+        raise Unknown(f"{name} of {type}")
+
+    # ---- calls
+    def called(self, path, operands, env):
+        values, types = [self.operand(it, env) for it in operands], [self.type_of(it) for it in operands]
+        trait, owner, name = key = of_call(path)
+        if (it := self.crate.find(key, types)) and it.text:
+            return self.own(it, values, types, env)
+        if trait == "std::Into" and owner.startswith("impl Into<"):
+            return values[0]  # the parameter is what this returns
+        if trait == "std::Into" and (it := self.conversion(path.partition("::Into<")[2][:-len(">>::into")], types[0])):
+            return self.own(it, values, types, env)
+        plain = without_generics(path)
+        if form := STD.get(plain):
+            code = form.format(*[self.code(self.read(it, env)) for it in values])
+            return self.emit(code[2:]) if code[0] == "?" else code
+        if plain in COUNTED:
+            n = re.search(r"::<(\w+)>$", path)[1]
+            most = 2 ** int(BITS[n]) - 1 if n in BITS else None
+            return COUNTED[plain].format(self.code(values[0]), n=n, most=most)
+        if plain in CLOSED:
+            code = CLOSED[plain].format(self.code(self.read(values[0], env)), self.closure(values[1]))
+            env.pop(values[0].cell)  # what is left of the iterator isn't known
+            return code
+        if trait == "std::PartialEq" and name in ("eq", "ne"):
+            return self.equality(path, owner, name, types, values, env)
+        if trait == "std::ToString":
+            shown = self.crate.find(("std::Display", owner, "fmt"))
+            if shown:
+                return self.emit(f"displayed ({self.crate.write(shown)} fuel {self.code(values[0])} (formatter_of []))")
+        if trait == "std::Try" and name == "branch":
+            return Con("branching", [values[0]])
+        if trait == "std::FromResidual" and self.same_residual(owner, path):
+            return values[0]
+        if plain == "std::fmt::Formatter::write_str":
+            name = self.new("it")
+            code = f"write_str {self.code(self.read(values[0], env))} {self.code(values[1])}"
+            self.before.append((f"let {name} := {code} in\n", ""))
+            self.store(*values[0], f"(snd {name})", env)
+            return f"(fst {name})"
+        if path == "<[u8] as std::ops::IndexMut<std::ops::Range<usize>>>::index_mut" and isinstance(values[0], Mut):
+            low, high = map(self.code, self.parts(values[1], types[1]).args)
+            self.emit(f"between {self.code(self.read(values[0], env))} {low} {high}")
+            return Slice(*values[0], low, high)
+        if plain == "std::slice::<impl [u8]>::copy_from_slice" and isinstance(values[0], Slice):
+            cell, at, low, high = values[0]
+            code = f"copy_into {self.code(self.at(cell, at, env))} {low} {high} {self.code(values[1])}"
+            self.store(cell, at, self.emit(code, "xs"), env)
+            return "tt"
+        raise Unknown(f"the call of {path}")
+
+    def conversion(self, to, type):
+        """The crate's own conversion to a type, or none."""
+        return self.crate.find(("std::From", strip(to), "from"), [type])
+
+    def own(self, it, values, types, env):
+        """A call of a function of the crate."""
+        for i, (_, to) in enumerate(it.parameters):  # of an `impl Into`
+            if it.into[i] and self.types.coq(types[i]) != self.types.coq(to):
+                value = self.own(self.conversion(to, types[i]), [values[i]], [types[i]], env)
+                values = [*values[:i], value, *values[i + 1:]]
+        title = self.crate.write(it, self.pure)
+        fuel = "" if self.pure else " fuel"
+        code = f"{title}{fuel}{''.join(' ' + self.code(self.read(value, env)) for value in values)}"
+        if self.pure:
+            return f"({code})"
+        result = self.emit(code)
+        for (n, _), value in reversed([*zip(it.parameters, values)]):
+            if n in it.mutable:
+                self.store(*value, f"(snd {result})", env)
+                result = f"(fst {result})"
+        return result
+
+    def same_residual(self, owner, path):
+        """Whether `?` passes an error of the same type on."""
+        of = arguments(path[:path.rindex("::")][:-1].partition(" as ")[2])[0]
+        return owner.startswith("std::option::Option<") or arguments(owner)[1] == arguments(of)[1]
+
+    def closure(self, value):
+        """A closure that captures nothing, as a function of Coq."""
+        found = [it for it in self.crate.functions if it.parameters and value.args[0] in it.parameters[0][1]]
+        if len(found) != 1:
+            raise Unknown(f"the closure {value.args[0]}")
+        name = self.new("x")
+        body = Body(self.crate, found[0], True)
+        body.cells = []
+        return f"(λ {name}, {body.block(0, {found[0].parameters[1][0]: name}, {})})"
+
+    def equality(self, path, owner, name, types, values, env):
+        """`==`, or `!=` by `==`: a type's own, or std's of the types' in it."""
+        it = self.crate.find(("std::PartialEq", strip(owner), "eq"), [re.sub("^&&", "&", it) for it in types])
+        if it and not self.pure:
+            code = self.emit(f"{self.crate.write(it)} fuel {self.code(values[0])} {self.code(values[1])}")
+        else:
+            code = f"({self.equal(owner)} {self.code(values[0])} {self.code(values[1])})"
+        return code if name == "eq" else f"(negb {code})"
+
+    def equal(self, type):
+        type = strip(type)
+        if type in EQUAL:
+            return EQUAL[type]
+        if m := re.match(r"std::(option::Option|result::Result)<", type):
+            return f"({m[1].split('::')[1].lower()}_eqb {' '.join(map(self.equal, arguments(type)))})"
+        it = self.crate.find(("std::PartialEq", type, "eq"), [f"&{type}"] * 2)
+        if not it or ("std::PartialEq", type, "ne") in self.crate.by:
+            raise Unknown(f"the equality of {type}")
+        return self.crate.write(it, True)
+
+    # ---- blocks
+    def whole(self):
+        env = {}
+        for n, type in self.f.parameters:
+            is_mutable = type.startswith("&mut ")
+            env[n], env[f"*{n}" if is_mutable else n] = Mut(f"*{n}", ()), f"v{n}"
+        return self.block(0, env, {})
+
+    def none(self):
+        if self.pure:
+            raise Unknown("a possible panic in a constant, a closure or an equality")
+        return "None"
+
+    def unreachable(self):
+        return "false" if self.pure and self.f.result == "bool" else self.none()
+
+    def returned(self, code, level):
+        """An answer of the loop of this level, or of the function."""
+        for _ in self.loops[level:]:
+            code = f"(Return {code})"
+        return code if self.pure else f"Some {code}"
+
+    def go(self, b, env, joins):
+        """A jump to a block."""
+        if b not in joins:
+            return self.block(b, env, joins)
+        title, names, level = joins[b]
+        if missing := [n for n in names if n not in env]:
+            raise Unknown(f"_{missing[0]}, which isn't set wherever it is read")
+        args = [self.code(env[n]) for n in names]
+        if title is None:
+            return self.returned(f"(Next {self.tuple(args)})", level)
+        code = f"{title} {' '.join(args or ['tt'])}"
+        for _ in self.loops[level:]:
+            code = f"match {code} with Some it => Some (Return it) | None => None end"
+        return code
+
+    def tuple(self, args):
+        return "(" + ", ".join(args) + ")" if len(args) > 1 else args[0] if args else "tt"
+
+    def block(self, b, env, joins):
+        if b in self.heads and b not in joins:
+            return self.loop(b, env, joins)
+        outer, self.before, env = self.before, [], dict(env)
+        statements, end = self.blocks[b]
+        for to, value in statements:
+            self.set(to, self.rvalue(value, env), env)
+        mine, joined = self.before, []
+        children = [it for it in self.merges if self.parent[it] == b and it not in self.heads]
+        for it in sorted(children, key=self.rank.get, reverse=True):  # the last one is outermost
+            among = {y for y in self.rank if b in self.dominators[y] and it not in self.dominators[y]}
+            names, changed = self.varying(it, among, env)
+            inner = {k: v for k, v in env.items() if k not in changed} | {n: self.new(f"v{n}".replace("*", ""))
+                                                                         for n in names}
+            title = self.new(f"bb{it}_")
+            binders = "".join(f" ({inner[n]} : {self.types.coq(self.type_at(n))})" for n in names) or " (_ : unit)"
+            joined.append((f"let {title} := λ{binders},\n{self.block(it, inner, joins)} in\n", ""))
+            joins = {**joins, it: (title, names, len(self.loops))}
+        self.before = mine + joined
+        code = self.end(end, env, joins)
+        for pre, post in reversed(self.before):
+            code = pre + code + post
+        self.before = outer
+        return code
+
+    def loop(self, b, env, joins):
+        self.none()
+        among = {it for it in self.rank if b in self.dominators[it] and self.reaches(it, b)}
+        names, changed = self.varying(b, among, env)
+        names = [n for n in names if n in env]
+        inner = {k: v for k, v in env.items() if k not in changed} | {n: self.new(f"v{n}".replace("*", ""))
+                                                                     for n in names}
+        pattern = ("'" if len(names) > 1 else "") + self.tuple([inner[n] for n in names]) if names else "_"
+        start = self.tuple([self.code(env[n]) for n in names])
+        self.loops.append(b)
+        body = self.block(b, inner, {**joins, b: (None, names, len(self.loops))})
+        self.loops.pop()
+        return f"match loop fuel (λ {pattern},\n{body}) {start} with\n| Some (inr it) => " \
+               f"{self.returned('it', 0)} | _ => None end"
+
+    def reaches(self, a, b):
+        seen, todo = set(), [a]
+        while todo:
+            for it in self.successors(todo.pop()):
+                if it == b:
+                    return True
+                if it not in seen and b in self.dominators[it]:
+                    seen.add(it)
+                    todo.append(it)
+        return False
+
+    def end(self, it, env, joins):
+        kind = it[0]
+        if kind == "return":
+            code = "tt" if self.f.result == "()" and 0 not in env else self.code(self.get((0, []), env))
+            for cell in self.cells:
+                code = f"({code}, {self.code(env[cell])})"
+            return self.returned(code, 0)
+        if kind in ("panic", "unreachable"):
+            return self.none() if kind == "panic" else self.unreachable()
+        if kind == "goto":
+            return self.go(it[1], env, joins)
+        if kind == "call":
+            self.set(it[1], self.called(it[2], it[3], env), env)
+            return self.go(it[4], env, joins)
+        if kind == "assert":
+            return self.check(*it[1:], env, joins)
+        return self.switch(it[1], it[2], env, joins)
+
+    def check(self, expected, operand, to, env, joins):
+        """An assertion of rustc's: of an index, or of a result that doesn't overflow."""
+        self.none()
+        local, steps = operand[1]
+        if isinstance(it := env.get(local), Checked) and steps == [(".", 1, "bool")] and not expected:
+            env[local] = Con("tuple", [self.emit(it.code, "n"), "false"])
+            return self.go(to, env, joins)
+        code = self.code(self.operand(operand, env))
+        if m := re.fullmatch(r"\((\d+) == (\d+)\)", code):
+            if (m[1] == m[2]) == expected:
+                return self.go(to, env, joins)
+        self.before.append((f"if {code} then\n", "\nelse None") if expected else (f"if {code} then None else\n", ""))
+        return self.go(to, env, joins)
+
+    def aside(self, act):
+        """The code of a branch."""
+        outer, self.before = self.before, []
+        code = act()
+        for pre, post in reversed(self.before):
+            code = pre + code + post
+        self.before = outer
+        return code
+
+    def switch(self, operand, cases, env, joins):
+        value, type = self.operand(operand, env), self.type_of(operand)
+        other = cases.get("otherwise")
+        if other is not None and self.is_dead(other):
+            other = None
+        if isinstance(value, Tag):
+            return self.match(value, cases, other, env, joins)
+        def branch(b):
+            return self.none() if b is None else self.aside(lambda: self.go(b, dict(env), joins))
+        code = self.code(value)
+        if type == "bool":
+            if code in ("true", "false"):
+                return branch(cases.get(int(code == "true"), other))
+            return f"if {code} then {branch(cases.get(1, other))}\nelse {branch(cases.get(0, other))}"
+        if type not in BITS and type != "char":
+            raise Unknown(f"a switch of {type}")
+        found = branch(other)
+        for n, b in reversed([it for it in cases.items() if it[0] != "otherwise"]):
+            found = f"if {code} == {n} then {branch(b)}\nelse {found}"
+        return found
+
+    def match(self, tag, targets, other, env, joins):
+        value, type = tag.value, self.type_of(("copy", tag.place))
+        branching = isinstance(value, Con) and value.name == "branching"
+        if branching:  # of `?`: 0 goes on with the value, 1 returns what has none
+            value, holder = value.args[0], re.match(r"std::ops::ControlFlow<(std::\w+::\w+)<", type)
+            names = ("Some", "None") if holder[1] == "std::option::Option" else ("Result__Ok", "Result__Err")
+            cases = {i: (it, int(it != "None")) for i, it in enumerate(names)}
+        else:
+            cases = self.cases(type)
+
+        def branch(b, known):
+            inner = dict(env)
+            if known is not None and branching:
+                parts = known.args if known.name in ("Some", "Result__Ok") else [known]
+                self.set(tag.place, Con("branch", parts), inner)
+            elif known is not None:
+                again = lambda it: known if it == value else Con(it.name, [again(x) for x in it.args]) \
+                    if isinstance(it, Con) else it  # noqa: E731
+                if isinstance(value, str):  # it is this wherever it is
+                    inner = {n: again(it) for n, it in inner.items()}
+                if self.get(tag.place, env) == value:
+                    self.set(tag.place, known, inner)
+            return self.go(b, inner, joins)
+        if isinstance(value, Con):
+            tags = [i for i, (name, _) in cases.items() if name == value.name]
+            if not tags or targets.get(tags[0], other) is None:
+                raise Unknown(f"a case of {type}")
+            return self.aside(lambda: branch(targets.get(tags[0], other), value))
+        arms = []
+        for i, (name, count) in cases.items():
+            if i in targets:
+                known = Con(name, [self.new("x") for _ in range(count)])
+                arms.append(f"| {self.code(known)} =>\n{self.aside(lambda: branch(targets[i], known))}")
+        if len(arms) < len(cases):
+            rest = self.unreachable() if other is None else self.aside(lambda: branch(other, None))
+            arms.append(f"| _ =>\n{rest}")
+        return f"match {self.code(value)} with\n" + "\n".join(arms) + " end"

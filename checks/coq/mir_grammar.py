@@ -1,0 +1,287 @@
+"""Reads the MIR that rustc prints, and of its HIR what is declared. A form that isn't known is an error.
+
+A place is a local and its projections: ("*",), (".", index, type), ("as", variant), ("[]", local), ("[c]", index)."""
+import re
+
+from reading import Untranslated
+
+
+class Unknown(Untranslated):
+    """What the reader doesn't know."""
+
+
+OPEN, CLOSE = "([{<", ")]}>"
+
+
+def depths(text):
+    """Each character's index, and how many brackets are open before it; what strings hold is left out."""
+    depth, quoted, i = 0, False, 0
+    while i < len(text):
+        if quoted:
+            quoted = text[i] != '"'
+            i += 1 + (text[i] == "\\")
+            continue
+        if text[i:i + 2] in ("->", "=>"):
+            i += 2
+            continue
+        depth -= text[i] in CLOSE
+        yield i, depth
+        depth += text[i] in OPEN
+        quoted = text[i] == '"'
+        i += 1
+
+
+def split(text):
+    """The parts between commas outside of brackets and strings."""
+    cuts = [-1, *(i for i, depth in depths(text) if text[i] == "," and not depth), len(text)]
+    return [it for it in (text[a + 1:b].strip() for a, b in zip(cuts, cuts[1:])) if it]
+
+
+def close(text, start=0):
+    """The index of the bracket that closes the one at `start`."""
+    for i, depth in depths(text[start:]):
+        if i and not depth and text[start + i] in CLOSE:
+            return start + i
+    raise Unknown(f"brackets of {text}")
+
+
+def last_open(text):
+    """The index of the bracket that the last character closes."""
+    found = [i for i, depth in depths(text) if not depth and text[i] == "(" and close(text, i) == len(text) - 1]
+    if not found:
+        raise Unknown(f"brackets of {text}")
+    return found[-1]
+
+
+def clean(path):
+    """A type or a path without lifetimes; what is of core or alloc is of std, which has it by the same path."""
+    path = re.sub(r"(?<![\w:])(core|alloc)::", "std::", re.sub(r"&'\w+ ", "&", path.strip()))
+    return re.sub(r"(::)?<('\w+(, )?)+>", "", re.sub(r"<('\w+, )+(?!')", "<", path))
+
+
+def place(text):
+    text = text.strip()
+    if m := re.match(r"_(\d+)", text):
+        local, steps, at = int(m[1]), [], m.end()
+    elif text[:1] == "(":
+        at = close(text) + 1
+        inner = text[1:at - 1]
+        if inner[0] == "*":
+            local, steps = place(inner[1:])
+            steps = [*steps, ("*",)]
+        else:
+            end = close(inner) + 1 if inner[0] == "(" else re.match(r"_\d+|", inner).end()
+            while inner[end:end + 1] == "[":
+                end = close(inner, end) + 1
+            local, steps = place(inner[:end])
+            if m := re.fullmatch(r"\.(\d+): (.*)", inner[end:]):
+                steps = [*steps, (".", int(m[1]), clean(m[2]))]
+            elif m := re.fullmatch(r" as (\w+)", inner[end:]):
+                steps = [*steps, ("as", m[1])]
+            else:
+                raise Unknown(f"the place {text}")
+    else:
+        raise Unknown(f"the place {text}")
+    while at < len(text):
+        if m := re.match(r"\[_(\d+)\]", text[at:]):
+            steps = [*steps, ("[]", int(m[1]))]
+        elif m := re.match(r"\[(\d+) of \d+\]", text[at:]):
+            steps = [*steps, ("[c]", int(m[1]))]
+        else:
+            raise Unknown(f"the place {text}")
+        at += m.end()
+    return local, steps
+
+
+ESCAPES = {"n": 10, "t": 9, "r": 13, "0": 0, '"': 34, "'": 39, "\\": 92}
+
+
+def text_bytes(text):
+    found, i = b"", 0
+    while i < len(text):
+        if text[i] != "\\":
+            found, i = found + text[i].encode(), i + 1
+        elif text[i + 1] == "x":
+            found, i = found + bytes([int(text[i + 2:i + 4], 16)]), i + 4
+        elif text[i + 1] in ESCAPES:
+            found, i = found + bytes([ESCAPES[text[i + 1]]]), i + 2
+        else:
+            raise Unknown(f"the escape of {text}")
+    return found
+
+
+def operand(text):
+    text = text.strip().removeprefix("no_retag ")
+    if m := re.fullmatch(r"(copy|move) (.*)", text):
+        return m[1], place(m[2])
+    if not text.startswith("const "):
+        raise Unknown(f"the operand {text}")
+    text = text[6:]
+    if m := re.fullmatch(r"(\d+)_(u8|u16|u32|u64|usize|isize)", text):
+        return "number", int(m[1]), m[2]
+    if m := re.fullmatch(r"'([ -&(-\[\]-~])'", text):
+        return "number", ord(m[1]), "char"
+    if text in ("true", "false", "()"):
+        return "word", {"()": "tt"}.get(text, text), "()" if text == "()" else "bool"
+    if m := re.fullmatch(r'b?"((?:[^"\\]|\\.)*)"', text):
+        return "text", text_bytes(m[1])
+    if m := re.fullmatch(r"ZeroSized: (\{closure@.*\})", text):
+        return "closure", m[1]
+    if m := re.fullmatch(r"\{(alloc\d+): .*\}|<static\(DefId\(\S+ ~ \w+\[\w+\]::([\w:]+)\)\)>", text):
+        return "static", m[1] or m[2]
+    if text.endswith(")"):
+        at = last_open(text)
+        return "aggregate", clean(text[:at]), [operand("const " + it) for it in split(text[at + 1:-1])]
+    if re.match(r"[\w<{]", text):
+        return "constant", clean(text)
+    raise Unknown(f"the operand const {text}")
+
+
+BINARY = "Eq Ne Lt Le Gt Ge Div Rem BitOr BitXor Shl Shr AddWithOverflow SubWithOverflow MulWithOverflow".split()
+CAST = r"((?:copy|move) (?:\S+|\(.*\))) as (.*) \((IntToInt|PointerCoercion\(Unsize, Implicit\)|Transmute)\)"
+
+
+def rvalue(text):
+    text = text.strip().removeprefix("no_retag ")
+    if m := re.match(r"(\w+)\(", text):
+        inner = text[m.end():-1]
+        if m[1] in BINARY:
+            return "binary", m[1], *map(operand, split(inner))
+        if m[1] == "Not":
+            return "not", operand(inner)
+        if m[1] == "PtrMetadata":
+            return "length", operand(inner)
+        if m[1] == "discriminant":
+            return "discriminant", place(inner)
+    if m := re.fullmatch(CAST, text):
+        return "cast", m[3], operand(m[1]), clean(m[2])
+    if re.match(r"(copy|move|const) ", text):
+        return "use", operand(text)
+    if m := re.fullmatch(r"&raw const \(fake\) (.*)|&(mut )?([_(].*)", text):
+        return "mut" if m[2] else "ref", place(m[1] or m[3])
+    if text[0] == "[" and (m := re.fullmatch(r"\[(.*); (\d+)\]", text)):
+        return "repeat", operand(m[1]), int(m[2])
+    if text[0] in "([" and close(text) == len(text) - 1:
+        return "tuple" if text[0] == "(" else "array", [operand(it) for it in split(text[1:-1])]
+    if text.endswith("}") and (i := text.find(" { ")) > 0:
+        parts = [it.partition(": ") for it in split(text[i + 3:-1])]
+        return "aggregate", clean(text[:i]), [operand(of) for _, _, of in parts], [name for name, _, _ in parts]
+    at = last_open(text) if text.endswith(")") else len(text)
+    if "::" in text[:at]:  # an operator that isn't listed above is one word
+        return "aggregate", clean(text[:at]), [operand(it) for it in split(text[at + 1:-1])], None
+    raise Unknown(f"the expression {text}")
+
+
+def terminator(text):
+    if text in ("return", "unreachable"):
+        return (text,)
+    if m := re.fullmatch(r"goto -> bb(\d+)", text):
+        return "goto", int(m[1])
+    if m := re.fullmatch(r"switchInt\((.*)\) -> \[(.*)\]", text):
+        cases = [it.split(": bb") for it in m[2].split(", ")]
+        return "switch", operand(m[1]), {k if k == "otherwise" else int(k): int(b) for k, b in cases}
+    if m := re.fullmatch(r'assert\((!?)((?:copy|move) .*?), ".*\) -> \[success: bb(\d+), .*\]', text):
+        return "assert", not m[1], operand(m[2]), int(m[3])
+    if m := re.fullmatch(r"drop\(.*\) -> \[return: bb(\d+), .*\]", text):
+        return "goto", int(m[1])  # no type of the crate implements Drop
+    if m := re.fullmatch(r"(.*?) = (.*\)) -> \[return: bb(\d+), .*\]", text):
+        at = last_open(m[2])
+        return "call", place(m[1]), clean(m[2][:at]), [operand(it) for it in split(m[2][at + 1:-1])], int(m[3])
+    if re.search(r"\) -> (unwind |bb\d+$)", text):
+        return ("panic",)  # a call that doesn't return
+    raise Unknown(f"the terminator {text}")
+
+
+class Function:
+    """A function or a constant, by the path that rustc prints. Its blocks are read when they are needed."""
+
+    def __init__(self, path, parameters, result, text):
+        self.path, self.result, self.text, self.promoted, self.title = path, clean(result), text, {}, None
+        found = [re.fullmatch(r"_(\d+): (.*)", it, re.S) for it in split(parameters)]
+        self.parameters = [(int(m[1]), clean(m[2])) for m in found]
+        locals = re.findall(r"^ *let (?:mut )?_(\d+): (.*);$", text, re.M)
+        self.types = {0: self.result} | dict(self.parameters) | {int(n): clean(it) for n, it in locals}
+
+    def blocks(self):
+        found = {}
+        form = r"^    bb(\d+)( \(cleanup\))?: \{\n(.*?)^    \}"
+        for number, cleanup, text in re.findall(form, self.text, re.M | re.S):
+            if cleanup:  # what runs after a panic
+                continue
+            *lines, end = [it.strip().removesuffix(";") for it in text.strip().split("\n")]
+            lines = [it for it in lines if not re.match(r"(StorageLive|StorageDead)\(|ConstEvalCounter$|nop$", it)]
+            parts = [re.fullmatch(r"([_(].*?) = (.*)", it) or it for it in lines]
+            if wrong := [it for it in parts if isinstance(it, str)]:
+                raise Unknown(f"the statement {wrong[0]}")
+            found[int(number)] = [(place(m[1]), rvalue(m[2])) for m in parts], terminator(end)
+        return found
+
+
+def read_mir(text):
+    """The functions, each constant by its path, and the path of each static, by its place or its path."""
+    functions, constants, last = [], {}, {}
+    text = re.sub(r"^// MIR FOR CTFE\n.*?^\}", "", text, flags=re.M | re.S)  # the same function, as a constant calls it
+    form = r"^(?:(?:const )?fn (?P<head>[^\n]*)\{\n|(?:const|static) (?P<name>\S[^\n]*?): (?!\d)(?P<type>[^\n]*?) = " \
+           r"(?:\{\n|const (?P<value>[^\n]*);\n))(?:(?<=\{\n)(?P<body>.*?)^\})?"
+    for m in re.finditer(form, text, re.M | re.S):
+        if m["head"]:
+            head = m["head"].strip()
+            at = head.index("(_1") if "(_1" in head else head.index("()")
+            end = close(head, at)
+            it = Function(head[:at], head[at + 1:end], head[end + 1:].strip().removeprefix("-> "), m["body"])
+            functions.append(it)
+            last[it.path] = it
+            continue
+        name, _, promoted = m["name"].partition("::promoted[")
+        value = operand("const " + m["value"]) if m["value"] else Function(name, "", m["type"], m["body"])
+        if promoted:  # a constant of the function that is printed before
+            last[name].promoted[promoted[:-1]] = value
+        else:
+            constants[clean(name)] = last[name] = value
+    statics = dict(re.findall(r"^(alloc\d+) \(static: ([\w:]+),", text, re.M))
+    return functions, constants, statics | {it: it for it in statics.values()}
+
+
+DEFINED = r"DefId\(\d+:\d+ ~ (\w+)\[\w+\]::(\S+?)\)"
+
+
+class Impl:
+    """Where an impl begins, the module that it is in, the type and the trait, if they are paths, and its methods."""
+
+    def __init__(self, path, crate, block):
+        head, _, items = block.partition(" items: [")
+        self.place = re.search(r"^ {16}span: (\S+:\d+:\d+): ", block, re.M)[1]
+        self.module = path.rpartition("{impl#")[0].removesuffix("::")
+        own = re.search(r"^ {24}self_ty: Ty \{\n[^\n]*\n[^\n]*\n +kind: Path\(\n.*?res: Def\(\n +\w+,\n +" + DEFINED,
+                        head, re.M | re.S)
+        self.owner = own[2] if own and own[1] == crate else None
+        trait = re.search(r"of_trait: Some\(.*?res: Def\(\n +Trait,\n +" + DEFINED, head, re.S)
+        self.trait = trait and (trait[2] if trait[1] == crate else std_trait(trait[2]))
+        self.methods = re.findall(r"owner_id: DefId\(\S+ ~ \S+::(\w+)\),", items)
+
+
+def std_trait(path):
+    """A trait of std by its last name: the path where it is defined isn't the one that rustc prints."""
+    return "std::" + path.split("::")[-1]
+
+
+def read_hir(text):
+    """The fields of each struct, the variants of each enum with their number of fields, and the impls."""
+    types, impls = {}, []
+    for block in re.split(r"^(?=DefId\(0:)", text, flags=re.M):
+        if not (m := re.match(DEFINED + " => OwnerNodes", block)):
+            continue
+        crate, path = m[1], m[2]
+        kind = re.search(r"^ {16}kind: (\w+)\($", block, re.M)
+        if re.match(r"(core|alloc|std)(#\d+)?::", path) or kind and kind[1] in ("Enum", "Struct") and path.islower():
+            raise Unknown(f"{path}, whose name could be one of std's")
+        if kind and kind[1] == "Enum":
+            if "disr_expr: Some" in block:
+                raise Unknown(f"a number of a variant of {path}")
+            parts = re.split(r"^ {28}Variant \{$", block, flags=re.M)[1:]
+            types[path] = [(re.search(r"ident: (\w+)#", it)[1], it.count(" FieldDef {")) for it in parts]
+        elif kind and kind[1] == "Struct":
+            types[path] = re.findall(r"^ +FieldDef \{\n +span: .*\n +vis_span: .*\n +ident: (\w+)#", block, re.M)
+        elif kind and kind[1] == "Impl":
+            impls.append(Impl(path, crate, block))
+    return types, impls

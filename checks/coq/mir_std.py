@@ -1,0 +1,56 @@
+"""What std's functions are in Coq, by their path without arguments of generics: a value of their arguments, or after
+a ? an option, which is none if they panic. Rust.v and Kit.v have these functions of Coq."""
+
+STD = {
+    # references, strings and boxes of them are the values that they refer to
+    **dict.fromkeys((
+        "std::str::<impl str>::as_bytes", "std::slice::<impl [u8]>::iter", "std::boxed::Box::new",
+        "std::string::String::as_str", "<std::string::String as std::ops::Deref>::deref",
+        "<std::borrow::Cow<str> as std::ops::Deref>::deref",
+        "<&str as std::convert::Into<std::boxed::Box<str>>>::into",
+        "<&str as std::convert::Into<std::borrow::Cow<str>>>::into",
+        "<&str as std::convert::Into<std::string::String>>::into",
+        "<std::string::String as std::convert::Into<std::borrow::Cow<str>>>::into",
+        "<std::string::String as std::convert::From<&str>>::from",
+        # numbers of a wider type
+        "<u64 as std::convert::From<u32>>::from", "<u64 as std::convert::From<u8>>::from",
+        "<usize as std::convert::From<u16>>::from",
+        "<usize as std::convert::From<u8>>::from",
+    ), "{0}"),
+    "std::str::<impl str>::len": "(length {0})",
+    "std::str::<impl str>::is_empty": "(is_empty {0})",
+    "std::str::<impl str>::strip_prefix": "(strip_prefix {0} {1})",
+    "std::str::<impl str>::split_once": "(split_once {0} {1})",
+    "std::str::<impl str>::get": "(str_get {0} {1})",
+    "std::str::from_utf8": "? from_utf8 {0}",
+    "std::slice::<impl [u8]>::split_first": "(split_first {0})",
+    "std::num::<impl u8>::is_ascii_lowercase": "(u8_is_ascii_lowercase {0})",
+    "std::num::<impl u64>::from_be_bytes": "(from_be_bytes {0})",
+    "std::num::<impl u32>::from_be_bytes": "(from_be_bytes {0})",
+    "std::num::<impl u64>::from_le_bytes": "(from_le_bytes {0})",
+    "std::num::<impl u32>::from_le_bytes": "(from_le_bytes {0})",
+    "std::num::<impl u64>::wrapping_mul": "(wrapping_mul 64 {0} {1})",
+    "std::num::<impl usize>::saturating_add": "(saturating_add usize_bits {0} {1})",
+    "std::option::Option::is_some": "(option_is_some {0})",
+    "std::option::Option::is_none": "(option_is_none {0})",
+    "std::option::Option::ok_or": "(ok_or {0} {1})",
+    "std::bool::<impl bool>::then_some": "(then_some {0} {1})",
+    "<usize as std::cmp::Ord>::cmp": "(N.compare {0} {1})",
+    "<std::slice::Iter<u8> as std::iter::Iterator>::cmp": "(bytes_cmp {0} {1})",
+    "<str as std::ops::Index<std::ops::RangeTo<usize>>>::index": "? str_between {0} 0 {1}",
+    "<str as std::ops::Index<std::ops::RangeFrom<usize>>>::index": "? str_between {0} {1} (length {0})",
+    "<str as std::ops::Index<std::ops::Range<usize>>>::index": "? str_between {0} (fst {1}) (snd {1})",
+    "<[u8] as std::ops::Index<std::ops::RangeTo<usize>>>::index": "? between {0} 0 {1}",
+    "<[u8] as std::ops::Index<std::ops::RangeFrom<usize>>>::index": "? between {0} {1} (length {0})",
+}
+# These have the number of their generic argument, or its greatest value.
+COUNTED = {"std::slice::<impl [u8]>::first_chunk": "(first_chunk {n} {0})",
+           "std::slice::<impl [u8]>::last_chunk": "(last_chunk {n} {0})",
+          "std::str::<impl str>::parse": "(parse_unsigned {most} {0})"}
+# These take a closure, and use up an iterator.
+CLOSED = {"<std::slice::Iter<u8> as std::iter::Iterator>::position": "(position {1} {0})",
+          "<std::slice::Iter<u8> as std::iter::Iterator>::all": "(forallb {1} {0})"}
+# The equality of std's types.
+EQUAL = {"()": "(λ _ _ : unit, true)", "std::fmt::Error": "(λ _ _ : unit, true)", "bool": "Bool.eqb",
+         **dict.fromkeys(("u8", "u16", "u32", "u64", "usize", "char"), "N.eqb"),
+         **dict.fromkeys(("str", "std::string::String", "[u8]"), "bytes_eq")}

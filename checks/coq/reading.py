@@ -1,0 +1,359 @@
+"""Reads the definitions of crates/*/specs, a small functional language, for what writes them in another one.
+
+A module is a file. Its definitions have clauses, which are patterns and an expression; its records and types have their
+parameters, and the types of their fields and constructors. What the definitions take from the kit's library is in
+checks/coq/library.txt, where a definition without clauses is one that each other language has anew. What isn't
+understood is an error that names it.
+"""
+import contextlib
+import functools
+import pathlib
+import re
+
+ROOT = pathlib.Path(__file__).resolve().parents[2]
+CRATES = ["lexicon_fields", "target_lexicon"]
+LIBRARY = ("library",)
+
+LEVELS = [["→", "↔"], ["⊎"], ["×"], ["≡", "≢", "<", "≤"], ["||"], ["&&"], ["=="], ["∷", "++"], ["+", "-"],
+          ["*", "/", "%"], ["^"]]
+TO_THE_LEFT = ("==", "+", "-", "*", "/", "%", "≡", "≢", "<", "≤")
+TOKEN = re.compile(r'"(?:\\.|[^"\\])*"|0x[0-9A-Fa-f_]+|\d+|[^\W\d]\w*|\[\]|\+\+|==|&&|\|\||\S')
+
+
+class Untranslated(Exception):
+    """What isn't understood."""
+
+
+@contextlib.contextmanager
+def at(place):
+    """Says where something isn't understood, if that isn't said."""
+    try:
+        yield
+    except Untranslated as problem:
+        raise problem if re.match(r"\S+:\d+: ", str(problem)) else Untranslated(f"{place}: {problem}") from None
+
+
+def relative(file, root):
+    return file.relative_to(root) if file.is_relative_to(root) else file
+
+
+def chunks(text):
+    """The parts of a file, each with the number of its line: each begins at the margin. Comments are left out."""
+    found = []
+    for number, line in enumerate(text.split("\n"), 1):
+        line = re.sub(r"(^|\s)--(\s.*)?$", "", line).rstrip()
+        if line and line[0] in " }" and found:
+            found[-1] = (found[-1][0] + "\n" + line, found[-1][1])
+        elif line:
+            found.append((line, number))
+    return found
+
+class Parser:
+    """Expressions are tuples: var, num, str, nil, get, app, op, tuple, lam, if, record, all, any. Patterns are
+    expressions too."""
+
+    def __init__(self, text):
+        self.tokens, self.at = [(it[0], it.start(), it.end()) for it in TOKEN.finditer(text)] + [("", -1, -1)], 0
+
+    def peek(self):
+        return self.tokens[self.at][0]
+
+    def next(self, wanted=None):
+        token = self.peek()
+        if wanted and token != wanted:
+            raise Untranslated(f"{wanted!r} is expected, and not {token!r}")
+        self.at += 1
+        return token
+
+    def after(self, word):
+        self.next(word)
+        return self.expression()
+
+    def group(self, opening, closing):
+        """Goes on after a group in brackets. Returns its tokens."""
+        begin, depth = self.at, 0
+        while True:
+            token = self.next()
+            depth += (token == opening) - (token == closing)
+            if not depth:
+                return [it[0] for it in self.tokens[begin + 1:self.at - 1]]
+            if not token:
+                raise Untranslated(f"no {closing!r}")
+
+    def expression(self, level=0):
+        token = self.peek()
+        if token == "λ":
+            return self.function()
+        if token == "if":
+            return ("if", self.after("if"), self.after("then"), self.after("else"))
+        if token == "(" and re.match(r"\( ([\w ]+) : ", " ".join(it[0] for it in self.tokens[self.at:self.at + 12])):
+            return self.quantified()
+        if token == "¬":
+            self.next()
+            return ("op", "→", self.application(), ("var", "⊥"))
+        if level == len(LEVELS):
+            return self.application()
+        left = self.expression(level + 1)
+        while self.peek() in LEVELS[level]:
+            operator = self.next()
+            left = ("op", operator, left, self.expression(level + (operator in TO_THE_LEFT)))
+        return left
+
+    def function(self):
+        self.next("λ")
+        names = []
+        while self.peek() != ".":
+            names.append(self.group("(", ")")[0] if self.peek() == "(" else self.next())
+        return functools.reduce(lambda body, name: ("lam", name, body), reversed(names), self.after("."))
+
+    def quantified(self):
+        """`(x y : T) → ..`, which may be followed by another group, or `(x : T) × ..`"""
+        group = self.group("(", ")")
+        names, type = group[:group.index(":")], " ".join(group[group.index(":") + 1:])
+        kind = "any" if self.peek() == "×" else "all"
+        body = self.expression() if self.peek() == "(" else self.after(self.peek())
+        return functools.reduce(lambda body, name: (kind, name, type, body), reversed(names), body)
+
+    def application(self):
+        head, arguments = self.atom(), []
+        while re.match(r'[\w"(\[{⊤⊥]', self.peek()) and self.peek() not in ("then", "else", "in"):
+            if self.peek() == "{":  # an implicit argument
+                self.group("{", "}")
+            else:
+                arguments.append(self.atom())
+        return ("app", head, arguments) if arguments else head
+
+    def atom(self):
+        token = self.next()
+        if token == "(":
+            items = [self.expression()]
+            while self.peek() == ",":
+                items.append(self.after(","))
+            self.next(")")
+            found = ("tuple", items) if len(items) > 1 else items[0]
+        elif token == "record":
+            found = ("record", None if self.peek() == "{" else self.atom(), self.fields())
+        elif token == "[]":
+            found = ("nil",)
+        elif re.match(r'["\w⊤⊥]', token):
+            found = ("str", token) if token[0] == '"' else ("num", int(token, 0)) if token[0].isdigit() else (
+                "var", token)
+        else:
+            raise Untranslated(f"unexpected {token!r}")
+        while self.peek() == "." and self.tokens[self.at][1] == self.tokens[self.at - 1][2] == self.tokens[self.at + 1][
+            1] - 1:
+            self.next()
+            found = ("get", found, self.next())
+        return found
+
+    def fields(self):
+        found = {}
+        self.next("{")
+        while self.peek() != "}":
+            name = self.next()
+            found[name] = self.after("=")
+            if self.peek() == ";":
+                self.next()
+        self.next("}")
+        return found
+
+
+class Definition:
+    """Its clauses are chunks of text, with the numbers of their lines; `locals` are the definitions after its
+    `where`."""
+
+    def __init__(self, module, name, type, local_to=None):
+        self.module, self.name, self.type, self.chunks, self.lines = module, name, type, [], []
+        self.locals = local_to.locals if local_to else {}
+
+    def place(self, clause=0):
+        """The file and the line of a clause."""
+        return f"{self.module.file}:{self.lines[clause] if self.lines else 1}"
+
+    @functools.cached_property
+    def clauses(self):
+        """The patterns and the body of each clause."""
+        found = []
+        for i, chunk in enumerate(self.chunks):
+            with at(f"{self.place(i)}: {self.name}"):
+                found.append(self.clause(chunk))
+        if len({len(patterns) for patterns, _ in found}) > 1:
+            raise Untranslated(f"{self.place()}: {self.name}: its clauses have different numbers of arguments")
+        return found
+
+    @staticmethod
+    def clause(chunk):
+        parser = Parser(chunk)
+        head = parser.application()
+        clause = (head[2] if head[0] == "app" else [], parser.after("="))
+        if parser.peek():
+            raise Untranslated(f"{parser.peek()!r} is left")
+        return clause
+
+
+FORMS = {
+    "use": r"(?:pub |unfoldable )*use ([^\s{]+?)(\.\{(.*)\})?(?: as (\S+))?$",
+    "data": r"(?:pub )?data (\S+)(.*) where\n(.*)",
+    "record": r"(?:pub )?record (\w+) ?(.*) ?: Type 0 where\n(.*)",
+    "type": r"(?:abbrev |unfoldable |opaque |pub )*(\w+)(?: \{ℓ\})? : (.*)",
+}
+
+
+class Typed:
+    """A type: a `record` of fields or a `data` of constructors, each with its type; its parameters with their types and
+    brackets."""
+
+    def __init__(self, kind, parameters, items, file, line):
+        self.kind, self.parameters, self.items, self.file, self.line = kind, parameters, items, file, line
+
+    @property
+    def is_data(self):
+        """Whether a record is of values: others are of propositions."""
+        return not self.parameters and not any(re.search("[≡≢→↔≤]", type) for _, type in self.items)
+
+
+def parameters_in(text):
+    """The parameters before a colon: bracket, name and type of each."""
+    groups = re.findall(r"([({])([\w ]+) : ((?:[^(){}]|\([^()]*\))*)[)}]", text)
+    return [(bracket, name, type) for bracket, names, type in groups for name in names.split()]
+
+
+class Module:
+    """A file: its definitions, its types, their constructors, and the names that it takes from elsewhere."""
+
+    def __init__(self, path, file, root=ROOT):
+        self.path, self.file = path, relative(file, root)
+        self.definitions, self.constructors, self.uses, self.typed = {}, {}, {}, {}
+        try:
+            text = file.read_text(encoding="utf-8")
+        except UnicodeDecodeError:
+            raise Untranslated(f"{file} isn't UTF-8") from None
+        for chunk, line in chunks(text):
+            found = next(((kind, it) for kind, form in FORMS.items() if (it := re.match(form, chunk, re.S))), None)
+            name = re.match(r"[\w-]+", chunk)
+            if found:
+                getattr(self, f"read_{found[0]}")(found[1], line)
+            elif name and name[0] in self.definitions:
+                self.read_clause(self.definitions[name[0]], chunk, line)
+            elif not chunk.startswith("pub mod "):
+                raise Untranslated(f"{self.file}:{line}: this isn't understood: {chunk.splitlines()[0]}")
+
+    def read_use(self, it, _line):
+        for item in it[3].split(",") if it[2] else [""]:
+            words = item.split()
+            full = it[1].split(".") + (words[0].split(".") if words else [])
+            self.uses[words[2] if len(words) == 3 else it[4] or full[-1]] = full
+
+    def read_data(self, it, line):
+        items = re.findall(r"^  (\w+) : (.*)", it[3], re.M)
+        self.constructors |= {name: f"{it[1]}__{name}" for name, _ in items}
+        self.typed[it[1]] = Typed("data", parameters_in(it[2]), items, self.file, line)
+
+    def read_record(self, it, line):
+        fields = re.findall(r"^  pub (\w+) : (.*?)(?=^  pub |\Z)", it[3] + "\n", re.M | re.S)
+        self.typed[it[1]] = Typed("record", parameters_in(it[2]), fields, self.file, line)
+
+    def read_type(self, it, _line):
+        self.definitions[it[1]] = Definition(self, it[1], it[2])
+
+    def read_clause(self, definition, chunk, line):
+        chunk, _, local = chunk.partition("\n  where\n")
+        definition.chunks.append(chunk)
+        definition.lines.append(line)
+        for part, _ in chunks(re.sub(r"^    ", "", local, flags=re.M)):
+            if it := re.match(r"(\w+) : (.*)", part, re.S):
+                name = f"{definition.name}_{it[1]}"
+                definition.locals[it[1]] = self.definitions[name] = Definition(self, name, it[2], definition)
+            else:
+                self.read_clause(definition.locals[re.match(r"\w+", part)[0]], part, line)
+
+
+class Names:
+    """What a name is: a definition, a constructor, a function that library.txt has without clauses, or a module or
+    namespace."""
+
+    def __init__(self, root=ROOT):
+        self.root = root
+
+    @functools.cache
+    def module(self, path):
+        file = self.root.joinpath("crates", *path[1:]).with_suffix(".antt")
+        if path == LIBRARY:
+            found = Module(path, ROOT / "checks/coq/library.txt")
+        elif path[0] == "Rattle" and path[1] in CRATES and file.exists():
+            found = Module(path, file, self.root)
+        else:
+            return None
+        return found
+
+    def lookup(self, path):
+        path = tuple(path)
+        if "TheVariants" in path:
+            at = path.index("TheVariants")
+            return ("constructor", f"{path[at - 1]}__{path[-1]}") if path[at + 1:] else ("namespace", path)
+        if "declared" in path and path[-1] == path[-2]:  # an enum or a struct of the code
+            return "namespace", path[:-1] + ("TheVariants",)
+        if path[0] != "Rattle" or path[1] not in CRATES:
+            return self.exported(self.module(LIBRARY), path[-1])
+        if self.module(path):
+            return "namespace", path
+        if len(path) > 3 and "declared" not in path and self.module(path[:-1]):
+            return self.exported(self.module(path[:-1]), path[-1])
+        return "unknown", ".".join(path)
+
+    def exported(self, module, name):
+        if name in module.definitions:
+            found = module.definitions[name]
+            return ("definition" if found.chunks else "built in"), found
+        if name in module.constructors:
+            return "constructor", module.constructors[name]
+        if name in module.uses:
+            return self.lookup(module.uses[name])
+        return ("unknown", name) if module.path == LIBRARY else self.exported(self.module(LIBRARY), name)
+
+    def resolve(self, definition, expression):
+        """What a var is, or a name after a namespace."""
+        if expression[0] == "get":
+            kind, path = self.resolve(definition, expression[1]) if expression[1][0] in ("var", "get") else ("", "")
+            return self.lookup(path + (expression[2],)) if kind == "namespace" else ("", "")
+        if expression[1] in definition.locals:
+            return "definition", definition.locals[expression[1]]
+        return self.exported(definition.module, expression[1])
+
+
+def parts(expression):
+    return expression.values() if isinstance(expression, dict) else expression if isinstance(
+        expression, (tuple, list)) else ()
+
+
+def code_types(root=ROOT):
+    """The enums and structs of the code: the variants with the types of their arguments, or the fields with theirs."""
+    found = {}
+    for crate in CRATES:
+        for file in sorted((root / "crates" / crate / "src").rglob("*.rt")):
+            text = file.read_text(encoding="utf-8")
+            for it in re.finditer(r"^pub (enum|struct) (\w+)[^{;]*\{\n(.*?)^\}", text, re.M | re.S):
+                form = r"^    (\w+)(?:\((.*)\))?," if it[1] == "enum" else r"^    pub (\w+): (.*),"
+                line = text.count("\n", 0, it.start()) + 1
+                found.setdefault(it[2], Typed(it[1], [], re.findall(form, it[3], re.M), relative(file, root), line))
+    return found
+
+
+class Laws(Module):
+    """The laws of a crate: what the functions of its laws.rt ensure. One with several parts is all of these."""
+
+    def __init__(self, crate, root=ROOT):
+        file = root / "crates" / crate / "src/laws.rt"
+        self.path, self.file = ("Rattle", crate, "laws"), relative(file, root)
+        self.definitions, self.constructors, self.uses, self.typed = {}, {}, {}, {}
+        text = re.sub(r"^ *//.*", "", file.read_text(encoding="utf-8"), flags=re.M)
+        for line in re.findall(r"^ghost (use .*);", text, re.M):
+            self.read_use(re.match(FORMS["use"], line), 0)
+        for it in re.finditer(r"^pub fn (\w+)\((.*?)\)\n(.*?)^\{", text, re.M | re.S):
+            parts = [" ".join(part.split())
+                     for part in re.findall(r"ensures (?:\w+ )?\{(.*?)\}(?=\s*(?:ensures|\Z))", it[3], re.S)]
+            law = self.definitions[it[1]] = Definition(self, it[1], "Type 0")
+            law.chunks.append(f"{it[1]} = " + (" × ".join(f"({part})" for part in parts) if len(parts) > 1
+                                               else parts[0]))
+            law.lines.append(text.count("\n", 0, it.start()) + 1)
+            law.is_of_code = bool(it[2]) or "⟦" in it[3]

@@ -1,0 +1,443 @@
+//! Hints: the name that was perhaps meant by one that isn't known, and what is wrong with it.
+//!
+//! A hint says what the words of the name say. If not all of these are understood, it is the nearest name that contradicts none of them, if
+//! the nearest names of all tools are of its machine and byte order: otherwise another machine may have been meant, and there is none.
+use crate::buffer::Buffer;
+use crate::dialect::Row;
+use crate::evidence::only_machine;
+use crate::suggestions::{edits_between, machine_of, meant, visible, vendor_suggestion, Machine, Suggest as _, Suggestion};
+use crate::table::SYSTEMS;
+use crate::text::is_whole;
+use crate::{changes, read, Dialect, Evidence, FloatAbi, NameError, Said};
+use core::cell::Cell;
+use core::fmt::{self, Write as _};
+use target_lexicon::{PointerWidth, Refusal, Source, TextPart, TripleRef};
+
+/// What is wrong with a name that a dialect doesn't have. `Display` says it.
+#[derive(Clone, Copy, Debug, PartialEq, Eq)]
+#[non_exhaustive]
+pub enum Mistake<'a> {
+    /// The dialect has this name with other letters in upper case.
+    Capitals(&'static str),
+    /// It has white space.
+    Space,
+    /// It is the beginning or the end of names such as this one.
+    Part(&'static str),
+    /// It is this name of other dialects, which [`Dialect::all_with`] lists.
+    OtherTool(&'a str),
+    /// It has a path.
+    Path,
+    /// Names are spelled like triples, and it isn't.
+    NoTriple(Refusal<'a>),
+}
+
+impl fmt::Display for Mistake<'_> {
+    #[inline]
+    fn fmt(&self, f: &mut fmt::Formatter<'_>) -> fmt::Result {
+        match self {
+            Mistake::Capitals(_) => f.write_str("capital letters matter"),
+            Mistake::Space => f.write_str("it has a space"),
+            Mistake::OtherTool(name) => {
+                f.write_str("it is a name of ")?;
+                let count = Dialect::all_with(name).count();
+                Dialect::all_with(name)
+                    .enumerate()
+                    .try_for_each(|(at, dialect)| match at {
+                        0 => write!(f, "{dialect}"),
+                        _ if at + 1 < count => write!(f, ", {dialect}"),
+                        _ => write!(f, " and {dialect}"),
+                    })
+            }
+            Mistake::Path => f.write_str("it has a path"),
+            Mistake::Part(name) => write!(f, "it is a part of a name, such as `{name}`"),
+            Mistake::NoTriple(refusal) => {
+                write!(f, "as a triple: {}", visible(refusal).shortened())
+            }
+        }
+    }
+}
+
+impl Dialect {
+    /// The dialects that have a name, with what files and commands have around it: those in which
+    /// [`read_loosely`](Dialect::read_loosely) gives a triple.
+    ///
+    /// # Examples
+    ///
+    /// ```
+    /// use target_names::Dialect;
+    ///
+    /// assert!(Dialect::all_with("linux/arm64").eq([Dialect::Go, Dialect::Oci]));
+    /// ```
+    #[inline]
+    pub fn all_with(name: &str) -> impl Iterator<Item = Dialect> + Clone + '_ {
+        let all = Dialect::ALL.iter().copied();
+        all.filter(|dialect| dialect.read_loosely(name).is_ok())
+    }
+
+    /// What is wrong with a name that this dialect doesn't have, if it is one of a few mistakes. [`suggestion`](Dialect::suggestion)
+    /// says which name was perhaps meant. Nothing is allocated.
+    ///
+    /// # Examples
+    ///
+    /// ```
+    /// use target_names::{Dialect, Mistake};
+    ///
+    /// assert_eq!(Dialect::Debian.mistake("AMD64"), Some(Mistake::Capitals("amd64")));
+    /// let mistake = |dialect: Dialect, name| dialect.mistake(name).map(|it| it.to_string());
+    /// assert_eq!(mistake(Dialect::Go, "Linux/AMD64").unwrap(), "capital letters matter");
+    /// assert_eq!(mistake(Dialect::Go, "linux/amd64 ").unwrap(), "it has a space");
+    /// assert_eq!(mistake(Dialect::Rust, "/opt/x86_64-apple-darwin").unwrap(), "it has a path");
+    /// assert_eq!(mistake(Dialect::Debian, "linux/arm64").unwrap(), "it is a name of go and oci");
+    /// assert_eq!(mistake(Dialect::Uname, "Linux").unwrap(), "it is a part of a name, such as `Linux x86_64`");
+    /// assert_eq!(mistake(Dialect::Gnu, "nios2-linux-gnu").unwrap(), "as a triple: Unrecognized architecture: nios2");
+    /// assert_eq!(mistake(Dialect::Go, "plan10"), None);
+    /// ```
+    #[must_use]
+    #[inline]
+    pub fn mistake(self, name: &str) -> Option<Mistake<'_>> {
+        let has_path = || {
+            let has_slashes = self.has_slashes() || name.starts_with('@');
+            self.name_inside(name).is_some() || !has_slashes && name.contains(['/', '\\'])
+        };
+        if let Some(known) = self.name_in_other_letters(name) {
+            Some(Mistake::Capitals(known))
+        } else if name.contains(char::is_whitespace) && self != Dialect::Uname {
+            Some(Mistake::Space)
+        } else if let Some(whole) = self.name_with_part(name) {
+            Some(Mistake::Part(whole))
+        } else if Dialect::all_with(name).next().is_some() {
+            Some(Mistake::OtherTool(name))
+        } else if has_path() {
+            Some(Mistake::Path)
+        } else {
+            let refusal = read(name).err().filter(|_| self == Dialect::Gnu);
+            refusal.map(Mistake::NoTriple)
+        }
+    }
+
+    /// A name that begins or ends with a word: one of Linux without Android, if there is one.
+    fn name_with_part(self, word: &str) -> Option<&'static str> {
+        let names = self.names().filter(|name| is_part(word, name));
+        names.min_by_key(|name| (!name.contains("inux"), name.contains("android")))
+    }
+
+    /// Whether slashes stand in its names.
+    fn has_slashes(self) -> bool {
+        matches!(self, Dialect::Go | Dialect::Oci)
+    }
+
+    /// The names without a version that the tool is known to have and that mean one triple. Others are read too, by rules: those with
+    /// a version, and other spellings.
+    ///
+    /// ```
+    /// # use target_names::Dialect;
+    /// assert!(Dialect::Debian.names().any(|name| name == "arm64"));
+    /// ```
+    #[inline]
+    pub fn names(self) -> impl Iterator<Item = &'static str> {
+        self.rows_read().map(|row| row.0)
+    }
+
+    /// The name that is the same without upper and lower case.
+    fn name_in_other_letters(self, name: &str) -> Option<&'static str> {
+        self.names().find(|it| it.eq_ignore_ascii_case(name))
+    }
+
+    /// The name that is in a path or has white space around it. If names have slashes, it ends the path: what follows may be a
+    /// part of another name.
+    fn name_inside(self, text: &str) -> Option<&'static str> {
+        let text = text.trim();
+        if text.len() > LONGEST_PATH {
+            return None;
+        }
+        let slashes = text.match_indices(['/', '\\']).map(|(at, _)| at + 1);
+        let ends = core::iter::once(0).chain(slashes).map(|at| &text[at..]);
+        let may_follow =
+            |after: &str| after.is_empty() || after.starts_with(['/', '\\']) && !self.has_slashes();
+        let is_at = |end: &str, name: &str| end.strip_prefix(name).map_or(false, may_follow);
+        let found = ends.flat_map(|end| self.names().filter(move |name| is_at(end, name)));
+        found.max_by_key(|name| name.len())
+    }
+
+    /// The name that is suggested for an unknown one, of those without a version that [`read`](Dialect::read) knows. Nothing is
+    /// allocated.
+    ///
+    /// It is the name that is the same but for capital letters, white space around it or a path. Otherwise it is that of the triple
+    /// which its words name, by [`Evidence`]: `linux-x64` of Node for `linux-amd64`. Otherwise it is the nearest name, if the unknown
+    /// one may be a misspelling of it, and its triple says all that the words say which are understood. Where two edits give
+    /// names of another machine too, or of another width, byte order or way to pass floating-point arguments, nothing is suggested, and neither where
+    /// the nearest names of other tools are of another machine.
+    ///
+    /// # Examples
+    ///
+    /// ```
+    /// use target_names::Dialect;
+    ///
+    /// assert_eq!(Dialect::Go.suggestion("linux/amd46"), Some("linux/amd64"));
+    /// assert_eq!(Dialect::Node.suggestion("linux-amd64"), Some("linux-x64"));
+    /// assert_eq!(Dialect::Oci.suggestion("linux/amr64"), None); // `arm64` or `amd64`
+    /// assert_eq!(Dialect::Node.suggestion("linux-arm-gnueabi"), None); // only `gnueabihf` is known
+    /// assert_eq!(Dialect::Node.suggestion("linux0-armhf"), None); // `linux-arm` would leave out the ABI
+    /// ```
+    #[must_use]
+    #[inline]
+    pub fn suggestion(self, name: &str) -> Option<&'static str> {
+        Hints::of(name)?.name_of(self)
+    }
+
+    /// The name that is another word for the machine, if the name is only a word for one.
+    fn name_of_machine(self, name: &str) -> Option<&'static str> {
+        let machine = only_machine(name)?;
+        let is_same = |row: &&Row| {
+            let triple = TripleRef::from_str(row.1);
+            triple.map_or(false, |it| it.architecture == machine)
+                && only_machine(row.0) == Some(machine)
+        };
+        self.rows_read().find(is_same).map(|row| row.0)
+    }
+
+    /// The name that is written for a triple, if it says as much of how floating-point arguments are passed, or no name of the dialect does.
+    fn name_with_floats_of(self, triple: &TripleRef<'_>) -> Option<&'static str> {
+        let found = self.row_written(triple)?;
+        let floats = FloatAbi::of(&self.read(found).ok()?);
+        let has_none = self.has_slashes() || self == Dialect::Nix;
+        (has_none || floats == FloatAbi::of(triple)).then_some(found)
+    }
+}
+
+/// What is found out once for the hints of all dialects.
+struct Hints<'a> {
+    name: &'a str,
+    evidence: Evidence<'a>,
+    /// The machine of the nearest names of all tools, once they are looked for.
+    machines_near: Cell<Option<Said<Machine>>>,
+}
+
+impl<'a> Hints<'a> {
+    /// A longer name gets no hint, so that none takes long.
+    fn of(name: &'a str) -> Option<Self> {
+        let is_short = name.len() <= LONGEST_PATH;
+        is_short.then(|| Hints {
+            name,
+            evidence: Evidence::of(name),
+            machines_near: Cell::new(None),
+        })
+    }
+
+    /// The answer of [`Dialect::suggestion`].
+    fn name_of(&self, dialect: Dialect) -> Option<&'static str> {
+        let (name, evidence) = (self.name, &self.evidence);
+        if let Some(known) = dialect.name_in_other_letters(name) {
+            return Some(known);
+        }
+        // A target of rustc without a triple is meant as it is.
+        let has_reason = || matches!(dialect.read(name), Err(NameError::WithoutTriple(_)));
+        if dialect == Dialect::Rust && has_reason() {
+            return None;
+        }
+        if let Some(known) = dialect.name_inside(name) {
+            let triple = dialect.read(known).ok()?;
+            return evidence.allows(&triple).then_some(known);
+        }
+        let spelled = read(name)
+            .ok()
+            .filter(|it| !it.vendor.is_custom() && !has_number_of_abi(name));
+        let said = evidence.triple().filter(|_| !evidence.has_title());
+        let named = spelled.or(said);
+        let known = named.and_then(|it| dialect.name_with_floats_of(&it));
+        let known = known.or_else(|| dialect.name_of_machine(name));
+        let found = known.or_else(|| self.nearest(dialect))?;
+        let machine = machine_of(dialect.read(found).ok()?.architecture);
+        self.machines_near().allows(machine).then_some(found)
+    }
+
+    /// The nearest name that contradicts nothing which the words say.
+    fn nearest(&self, dialect: Dialect) -> Option<&'static str> {
+        let name = self.name;
+        let allows = |row: &Row| {
+            TripleRef::from_str(row.1).map_or(false, |it| self.evidence.allows(&it))
+        };
+        let rows = dialect.rows_read().filter(|row| may_be_near(row, name));
+        meant(
+            name.as_bytes(),
+            name.as_bytes(),
+            rows.map(|row| (row.0, row)),
+            core::iter::empty(),
+            said_of_machine,
+            |row| allows(row) && keeps_systems(name, row.0),
+        )
+    }
+
+    /// Whether no word of a row says another machine than one of the name. Words may mean other machines to a tool than elsewhere.
+    fn may_say_machine_of(&self, row: &Row) -> bool {
+        let (own, other) = (self.evidence.machine(), Evidence::of(row.0).machine());
+        own == other || own == Said::Unsaid || other == Said::Unsaid
+    }
+
+    /// The machine of the nearest names of all tools.
+    fn machines_near(&self) -> Said<Machine> {
+        let found = self.machines_near.get().unwrap_or_else(|| {
+            let (mut machines, mut edits) = (Said::Unsaid, usize::MAX);
+            let rows = Dialect::ALL.iter().flat_map(|it| it.rows_read());
+            let (name, letters) = (joined(self.name), letters(self.name));
+            for row in rows.filter(|row| may_be_near(row, self.name) && has_letters(row, letters)) {
+                let own = edits_between(name.as_str().as_bytes(), joined(row.0).as_str());
+                let own = own.filter(|it| *it <= edits);
+                let Some(own) = own.filter(|_| self.may_say_machine_of(row)) else {
+                    continue;
+                };
+                if own < edits {
+                    (machines, edits) = (Said::Unsaid, own);
+                }
+                let triple = TripleRef::from_str(row.1).ok();
+                triple.iter().for_each(|it| machines.add(machine_of(it.architecture)));
+            }
+            machines
+        });
+        self.machines_near.set(Some(found));
+        found
+    }
+}
+
+/// A name with a dash for each separator, or nothing if it is longer than any that is near.
+fn joined(name: &str) -> Buffer<64> {
+    let mut joined = Buffer::new();
+    let is_written = name
+        .chars()
+        .try_for_each(|it| joined.write_char(if "/_ .".contains(it) { '-' } else { it }));
+    is_written.map_or(Buffer::new(), |()| joined)
+}
+
+/// A bit for each letter and digit of a name.
+fn letters(name: &str) -> u32 {
+    let all = name.bytes().filter(u8::is_ascii_alphanumeric);
+    all.fold(0, |bits, byte| bits | 1 << (byte & 31))
+}
+
+/// Whether at most two letters are only in one of both: each takes an edit.
+fn has_letters(row: &Row, letters_of_name: u32) -> bool {
+    let differing = letters(row.0) ^ letters_of_name;
+    (differing & letters_of_name).count_ones() <= 2 && (differing & !letters_of_name).count_ones() <= 2
+}
+
+/// The lengths first: all other names are farther than a misspelling.
+fn may_be_near(row: &Row, name: &str) -> bool {
+    row.0.len().abs_diff(name.len()) <= 2
+}
+
+/// What the triple of a row says of the machine.
+fn said_of_machine(row: &Row) -> Option<(Machine, Option<PointerWidth>, Option<FloatAbi>)> {
+    let triple = TripleRef::from_str(row.1).ok()?;
+    let (machine, width) = (machine_of(triple.architecture), triple.pointer_width().ok());
+    Some((machine, width, FloatAbi::of(&triple)))
+}
+
+/// Whether a string has digits after `gnu` that may be those of an ABI: `gnu.32` may be `gnux32`. A version of glibc is such as `.2.17`.
+fn has_number_of_abi(name: &str) -> bool {
+    let mut versioned = changes(name).filter(|it| it.dropped_version().is_some());
+    versioned.any(|it| it.part.text.starts_with("gnu") && !it.part.text.contains(".2."))
+}
+
+/// The name that each dialect suggests for an unknown one, as [`Dialect::suggestion`] does, in the order of [`Dialect::ALL`]. Asking for the
+/// first is cheaper than asking each dialect, since what the words of the name say is found out once. Nothing is allocated.
+///
+/// # Examples
+///
+/// ```
+/// use target_names::{suggestions, Dialect};
+///
+/// assert_eq!(suggestions("linux/amd46").next(), Some((Dialect::Go, "linux/amd64")));
+/// assert_eq!(suggestions("foo").next(), None);
+/// ```
+#[inline]
+pub fn suggestions(name: &str) -> impl Iterator<Item = (Dialect, &'static str)> + '_ {
+    let hints = Hints::of(name);
+    let all = Dialect::ALL.iter().copied();
+    all.filter_map(move |it| Some((it, hints.as_ref()?.name_of(it)?)))
+}
+
+/// A name that was perhaps meant. `Display` writes it whole.
+#[derive(Clone, Copy, Debug, PartialEq, Eq)]
+pub struct Meant<'a> {
+    word: &'a str,
+    /// The misspelled part of the word.
+    pub part: TextPart<'a>,
+    /// What is suggested instead.
+    pub suggestion: Suggestion<'a>,
+}
+
+impl fmt::Display for Meant<'_> {
+    fn fmt(&self, f: &mut fmt::Formatter<'_>) -> fmt::Result {
+        let range = self.part.range();
+        let (before, after) = (&self.word[..range.start], &self.word[range.end..]);
+        write!(f, "{before}{}{after}", self.suggestion)
+    }
+}
+
+impl<'a> Meant<'a> {
+    /// The name that was perhaps meant by a misspelled one: a triple with another part, or else a name of a tool. All of whose words are
+    /// known is no misspelled name. Nothing is allocated.
+    ///
+    /// ```
+    /// use target_names::Meant;
+    ///
+    /// let meant = |name| Meant::by(name).map(|it| it.to_string());
+    /// assert_eq!(meant("x86_64-linxu-musl").unwrap(), "x86_64-linux-musl");
+    /// assert_eq!(meant("linux/amd46").unwrap(), "linux/amd64");
+    /// assert_eq!(meant("go1.22.1.darwin-arm64.pkg"), None);
+    /// ```
+    #[must_use]
+    pub fn by(word: &'a str) -> Option<Meant<'a>> {
+        let hints = Hints::of(word)?;
+        let of_triple = Meant::of_triple(word).filter(Meant::is_target);
+        of_triple.or_else(|| {
+            let evidence = &hints.evidence;
+            let is_known = evidence.machine() != Said::Unsaid && evidence.system() != Said::Unsaid;
+            let mut names = Dialect::ALL.iter().filter_map(|it| hints.name_of(*it));
+            let name = names.find(|name| !word.contains(name)).filter(|_| !is_known)?;
+            let part = TextPart { text: word, start: 0 };
+            Some(Meant { word, part, suggestion: Suggestion::of(name) })
+        })
+    }
+
+    /// With another part than the refused one, or than a custom vendor.
+    fn of_triple(word: &'a str) -> Option<Meant<'a>> {
+        let explained = TripleRef::explain(word);
+        let (part, suggestion) = match explained.triple {
+            Ok(triple) => {
+                let Source::Part(part) = explained.sources.vendor else { return None };
+                (part, vendor_suggestion(triple)?)
+            }
+            Err(refusal) => (refusal.part, refusal.suggestion_in(word)?),
+        };
+        Some(Meant { word, part, suggestion })
+    }
+
+    /// Whether it is a triple of a known vendor with a system.
+    fn is_target(&self) -> bool {
+        let mut room = Buffer::<{ LONGEST_PATH + 64 }>::new();
+        let is_written = write!(room, "{self}").is_ok();
+        let triple = TripleRef::from_str(room.as_str());
+        is_written && triple.map_or(false, |it| !it.vendor.is_custom()) && is_whole(room.as_str())
+    }
+}
+
+/// Whether each word of a name for a system that no triple has, such as `lynx`, is one of another name too.
+fn keeps_systems(name: &str, other: &str) -> bool {
+    let words = |text| str::split(text, |it: char| !it.is_ascii_alphanumeric());
+    let is_system = |word: &&str| SYSTEMS.iter().any(|it| it.0 == *word);
+    words(name)
+        .filter(is_system)
+        .all(|word| words(other).any(|it| it == word))
+}
+
+/// The most bytes of a path in which a name is looked for, and of a name that gets a hint.
+pub(crate) const LONGEST_PATH: usize = 256;
+
+/// Whether a word begins or ends a name, up to a sign.
+fn is_part(word: &str, name: &str) -> bool {
+    let after = name.strip_prefix(word).and_then(|it| it.bytes().next());
+    let before = name.strip_suffix(word).and_then(|it| it.bytes().last());
+    let is_sign = |byte: &u8| b"/ -_".contains(byte);
+    after.iter().chain(&before).any(is_sign)
+}
