@@ -1,8 +1,9 @@
 #!/usr/bin/env python3
 """The gate: its steps, of which the first that fails ends the run.
 
-usage: .ci/run [--without NAME]..   NAME is a tool or Debian's package of it, as PACKAGES has them, or `kit`, `browser`,
-                                    `wasm32`
+usage: .ci/run [--without NAME].. [--since COMMIT]
+NAME is a tool or Debian's package of it, as PACKAGES has them, or `kit`, `browser`, `wasm32`. After COMMIT, for which
+the gate passed, only the steps that read what has changed since are run.
 
 .ci/isolated starts this in a copy of the tree, and as root installs Debian's packages of missing tools. If one is still
 missing, or too old, that no --without names, no step runs, and the gate fails. While `rt ci` proves, what needs no
@@ -54,6 +55,7 @@ GROUPS = {"kit": ["rt"], "browser": ["chromium", "chromedriver", "selenium"]}
 parser = argparse.ArgumentParser(prog=".ci/run", description=__doc__,
                                  formatter_class=argparse.RawDescriptionHelpFormatter)
 parser.add_argument("--without", metavar="NAME", action="append", default=[])
+parser.add_argument("--since", metavar="COMMIT", default="")
 parser.add_argument("--prepare", action="store_true", help=argparse.SUPPRESS)
 OPTIONS = parser.parse_args()
 WITHOUT = {*OPTIONS.without, *os.environ.get("WITHOUT", "").split()}
@@ -65,7 +67,9 @@ WORK = os.environ["WORK"]  # a folder that is closed to others, as .ci/isolated 
 BUILT, CARGO_HOME, WASM = f"{WORK}/built", f"{WORK}/cargo", f"{WORK}/rust"
 COMMANDS = "packages/target/release"
 
-# Each step: what it is for, its command, and the tools without which it isn't run.
+# Each step: what it is for, its command, the tools without which it isn't run, and the rooms that it reads, if it isn't
+# always run. What is neither a page nor in a room is read by each.
+ROOM = re.compile(r"crates/|packages/(\w+)/|checks/(coq|upstream|comparisons)/|docs/|[A-Z]+\.md$")
 FIRST = [
     ("lists of names and the Rust source are what they are made from; what was reviewed of the statement is as it "
      "was", "tools/write --check", "rustfmt"),
@@ -74,29 +78,33 @@ FIRST = [
     ("no script has a warning", "checks/gate/scripts", "shellcheck pyflakes3"),
     ("nothing that another user of the machine plants reaches the gate", "checks/gate/planted", ""),
 ]
-PROOFS = ("all proofs, must-fail edits, tests and proved programs", "rt ci", "rt")
+PROOFS = ("all proofs, must-fail edits, tests and proved programs", "rt ci", "rt", "crates")
 # Two rows of steps: those that need nothing which the gate builds, and those that build something, or need what is
 # built before them.
 WITHOUT_PROOF = [[
     ("the Rust crate, as its users build it: tests, samples of the documentation, public surface, features, "
      "a dependent",
-     "packages/rust/test", "cargo"),
+     "packages/rust/test", "cargo", "rust coq"),
     ("the crate of other tools' names: each row, shape and rule, laws over generated strings, samples of the "
      "documentation",
-     "packages/names/test", "cargo"),
+     "packages/names/test", "cargo", "rust names"),
     ("the definitions, as Coq extracts them, say what upstream and the Rust crate answer; bad input",
-     "checks/specification quick && checks/upstream/extracted/test", "cargo coqc ocamlopt"),
+     "checks/specification quick && checks/upstream/extracted/test", "cargo coqc ocamlopt",
+     "crates rust coq upstream"),
     ("Coq proves the laws of the definitions, and of the Rust source, which is the proved source and what rustc "
      "compiles; twelve edits of them, others on each day, are refused at their lemmas; bad input",
-     'checks/theorem --keep "$WORK/theorem" && checks/coq/edits "$WORK/theorem" 12 && checks/coq/test', "coqc rustc"),
+     'checks/theorem --keep "$WORK/theorem" && checks/coq/edits "$WORK/theorem" 12 && checks/coq/test', "coqc rustc",
+     "crates rust coq"),
     ("they, and the table of names, say what upstream's own crate answers",
      'if [ "$UPSTREAM" ]; then tools/port "$UPSTREAM" && checks/theorem upstream "$UPSTREAM"; '
      'else echo "left out: upstream\'s crate (UPSTREAM isn\'t set)"; fi',
-     "cargo coqc ocamlopt"),
-    ("the command `target-lexicon`: arguments, output and statuses", "packages/command/test", "cargo cram3 jq"),
-    ("the library for C, header, packages and samples, as C and C++ users have them", "packages/c/test", "cargo cc"),
+     "cargo coqc ocamlopt", "crates rust coq upstream"),
+    ("the command `target-lexicon`: arguments, output and statuses", "packages/command/test", "cargo cram3 jq",
+     "rust names command"),
+    ("the library for C, header, packages and samples, as C and C++ users have them", "packages/c/test", "cargo cc",
+     "rust names c"),
     ("Debian's packages are built, and lintian finds no error", 'checks/gate/planted packages/debian/build debian -d',
-     "cargo cc dpkg-buildpackage"),
+     "cargo cc dpkg-buildpackage", "rust names c command python debian"),
 ], [
     ("the command `target-lexicon`, and a program to compare with, are built for the next steps",
      "(cd packages/command && ../../tools/cargo build --quiet --locked --release --all-features) && "
@@ -104,18 +112,19 @@ WITHOUT_PROOF = [[
     ("the library for C is built and installed for the next steps", 'checks/gate/planted packages/c/install "$BUILT"',
      "cargo cc"),
     ("what other tools say of names and targets; suggestions keep the machine",
-     "checks/compare elsewhere && checks/compare llvm && checks/compare edits", "cargo cc"),
+     "checks/compare elsewhere && checks/compare llvm && checks/compare edits", "cargo cc", "rust names c comparisons"),
     ("the Python package: each answer, wheels, types, samples",
      f'packages/python/test "$BUILT/lib/libtarget_lexicon.so" {COMMANDS}/lines',
-     "cargo cc hatchling"),
+     "cargo cc hatchling", "rust names c python"),
     ("a list of misspelled names takes at most ten times as long as one of right names",
-     f"packages/command/tests/cost {COMMANDS}/target-lexicon", "cargo valgrind"),
+     f"packages/command/tests/cost {COMMANDS}/target-lexicon", "cargo valgrind", "rust names command"),
     ("what is released is made, and works in clean folders", 'umask 077; checks/gate/planted tools/release release',
-     "cargo cc"),
+     "cargo cc", "rust names c command python javascript"),
     ("the module, the package and the page for JavaScript are built",
-     'checks/gate/planted packages/javascript/build --out "$WORK/web"', "cargo wasm32"),
+     'checks/gate/planted packages/javascript/build --out "$WORK/web"', "cargo wasm32", "rust names c javascript"),
     ("the page and the package for JavaScript answer as the command does, in Node and in a browser",
-     f'packages/javascript/test "$WORK/web" --command {COMMANDS}/target-lexicon', "cargo wasm32"),
+     f'packages/javascript/test "$WORK/web" --command {COMMANDS}/target-lexicon', "cargo wasm32",
+     "rust names c javascript"),
 ]]
 LAST = [
     ("links, names, samples, counts and versions of the pages, and the pictures", "checks/gate/pages", "cargo"),
@@ -123,16 +132,29 @@ LAST = [
      "of the pages", "checks/gate/rows/run", "cargo coqc cram3 ocamlopt"),
     ("no message and no output has what isn't printable ASCII of a hostile string; SECURITY's other promises",
      "checks/gate/visible && checks/gate/security", "cargo cc strace"),
-    ("each allocation fails in turn", "checks/gate/fail_allocations", "rt cc"),
+    ("each allocation fails in turn", "checks/gate/fail_allocations", "rt cc", "crates"),
     ("names, rules and tables are upstream's, by its kept answers", "checks/compare answers", "cargo"),
     ("the mode json: the proved program answers as Rust's serde_json does",
      "/usr/bin/python3 checks/compare json --inputs 200",
-     "rt cargo hypothesis"),
+     "rt cargo hypothesis", "crates"),
 ]
 
 running, passed, left_out, failed = set(), [], [], []
 ENVIRONMENT = {**os.environ, "WORK": WORK, "BUILT": BUILT, "WASM_RUST": WASM, "PYTHONDONTWRITEBYTECODE": "1",
                "WITHOUT": " ".join(sorted(WITHOUT))}
+
+
+def changed():
+    """The rooms of what differs from the commit of --since; None if each step is run."""
+    if not OPTIONS.since:
+        return None
+    rooms = []
+    for words in (f"diff --no-renames --name-only {OPTIONS.since} --", "ls-files --others --exclude-standard"):
+        listed = subprocess.run(["git", *words.split()], cwd=TOP, capture_output=True, text=True)
+        if listed.returncode:
+            parser.error(f"git: {listed.stderr.strip()}")
+        rooms += map(ROOM.match, listed.stdout.splitlines())
+    return {it[1] or it[2] or it[0].strip("/") for it in rooms} if all(rooms) else None
 
 
 def missing():
@@ -165,11 +187,14 @@ def has(tool):
 
 def run(step):
     """Runs a step, and prints its output at the end. Returns whether it passed or was left out."""
-    purpose, command, tools = step
+    purpose, command, tools, *reads = step
     absent = sorted(WITHOUT.intersection(tools.split()))
+    is_as_before = bool(reads and CHANGED is not None and not CHANGED.intersection(reads[0].split()))
     if absent:
         left_out.append(f"{command} (without {' '.join(absent)})")
-    if absent or failed:
+    elif is_as_before:
+        left_out.append(f"{command} (nothing that it reads differs from {OPTIONS.since})")
+    if absent or is_as_before or failed:
         return not failed
     path = f"{WASM}/bin:{ENVIRONMENT['PATH']}" if "wasm32" in tools else ENVIRONMENT["PATH"]
     print(f"step: {command}   # {purpose}\n", end="", flush=True)
@@ -237,7 +262,7 @@ def main():
     with concurrent.futures.ThreadPoolExecutor(max(3, os.cpu_count())) as pool:
         if not in_turn(FIRST) or not all([*pool.map(in_turn, [[PROOFS], *WITHOUT_PROOF])]):
             return
-        if "rt" in WITHOUT and "cargo" not in WITHOUT:
+        if PROOFS[1] not in [command for command, _ in passed] and "cargo" not in WITHOUT:
             shutil.copy(f"{TOP}/{COMMANDS}/lines", f"{BUILT}/bin/triples")
             left_out.append(
                 "all proofs; the pages were tried with the Rust crate's program instead of the proved `triples`")
@@ -253,6 +278,7 @@ if OPTIONS.prepare:
         subprocess.run(["packages/javascript/debian_rust", WASM], cwd=TOP)
     print("missing packages:", *packages or ["none"])
     sys.exit()
+CHANGED = changed()
 begun = time.monotonic()
 threading.Thread(target=end_with_input, daemon=True).start()
 try:
