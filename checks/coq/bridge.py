@@ -14,14 +14,14 @@ BY_HAND = {"mir_short_word": "destruct v1 as [|a [|b [|c [|d xs]]]]; [vm_compute
 
 
 def heads(code):
-    """Each function of the source: whether it recurs, its parameters, whether it has fuel, and its result."""
+    """Each function of the source: whether it recurs, its parameters, whether it has fuel, its result and body."""
     found = {}
-    for m in re.finditer(r"^(Definition|Fixpoint) (rs_\w+)(.*?) :=$", code, re.M):
+    for m in re.finditer(r"^(Definition|Fixpoint) (rs_\w+)(.*?) :=$(.*?)\.$", code, re.M | re.S):
         binders, _, result = m[3].rpartition(") : ")
         if not binders:
             binders, result = "", m[3].removeprefix(" : ")
         names = [it for part in re.findall(r"\(([\w ]+) :", binders + ")") for it in part.split()]
-        found[m[2]] = m[1] == "Fixpoint", [it for it in names if it != "fuel"], "fuel" in names, result
+        found[m[2]] = m[1] == "Fixpoint", [it for it in names if it != "fuel"], "fuel" in names, result, m[4]
     return found
 
 
@@ -44,19 +44,24 @@ class Bridge:
     def __init__(self, crate, code):
         self.crate, self.code, self.source, self.lemmas, self.out, self.used = \
             crate, code, heads(code), {}, [], {}
+        self.about = {"copy_into": ["copy_guard"]}  # the lemmas that rewrite a word
         projections = {p for fields in crate.types.fields.values() for p in fields}
         projections |= {*re.findall(r"^  (\w+__\w+) :", code, re.M)}
         projections |= {*re.findall(r"^Definition (rs_[A-Z_]+) : ℕ :=\s*\d{5,}\.$", code, re.M)}  # MIR has the number
         self.projections = sorted(projections)
 
-    def lemma(self, name, statement, proof):
-        self.out.append(f"Lemma {name} : {statement}.\nProof. {proof}. Qed.\nHint Rewrite {name} : mir.")
+    def lemma(self, name, statement, proof, word, code=""):
+        """A lemma about a word, proved by those about the words of this code."""
+        known = [f"?{it}" for of in dict.fromkeys(re.findall(r"\w+", code)) for it in self.about.get(of, [])]
+        calls = f"rewrite {', '.join(known)}" if known else "idtac"
+        self.out.append(f"Ltac calls ::= {calls}.\nLemma {name} : {statement}.\nProof. {proof}. Qed.")
+        self.about.setdefault(word, []).append(name)
 
-    def function(self, title, it):
+    def function(self, title, it, code):
         of = counterpart(title, it, self.source)
         if of is None:
             return
-        recurs, names, has_fuel, result = self.source[of]
+        recurs, names, has_fuel, result, body = self.source[of]
         if len(names) != len(it.parameters):
             return
         binders = "".join(f" (v{n} : {self.crate.types.coq(type)})" for n, type in it.parameters)
@@ -65,12 +70,13 @@ class Bridge:
         if title.endswith("_pure"):
             if has_fuel or result.startswith("option ("):
                 return
-            self.lemma(name, f"∀{binders}, {title}{args} = {of}{args}", f"intros; unfold {title}, {of}; bridge")
+            self.lemma(name, f"∀{binders}, {title}{args} = {of}{args}", f"intros; unfold {title}, {of}; bridge", title,
+                       code + body)
             if it.key[2] == "eq":
                 of_type = self.crate.types.coq(it.parameters[0][1])
                 self.lemma(f"{name}_option",
                            f"∀ x y, option_eqb {title} x y = option_eqb (λ x y : {of_type}, {of} x y) x y",
-                           f"intros [x|] [y|]; cbn; try reflexivity; apply {name}")
+                           f"intros [x|] [y|]; cbn; try reflexivity; apply {name}", title)
         else:
             right = f"{of}{' fuel' * has_fuel}{args}"
             right = right if result.startswith("option (") else f"Some ({right})"
@@ -80,26 +86,27 @@ class Bridge:
                 proof = f"intros fuel; induction fuel as [|fuel IH]; intros; [reflexivity|cbn [{title} {of}]]; "
             usual = "first [names_in_turn | bridge]" if title.endswith("_from_str") else "bridge"
             quantified = f"∀ (fuel : nat){binders}, "
-            self.lemma(name, f"{quantified}{title} fuel{args} = {right}", proof + BY_HAND.get(title, usual))
+            self.lemma(name, f"{quantified}{title} fuel{args} = {right}", proof + BY_HAND.get(title, usual), title,
+                       code + body)
             self.lemmas[title] = name, of
         return of
 
     def constant(self, title):
         of = "rs" + title.removeprefix("mir")
-        self.lemma("same" + title.removeprefix("mir"), f"{title} = {of}", "vm_compute; reflexivity")
+        self.lemma("same" + title.removeprefix("mir"), f"{title} = {of}", "vm_compute; reflexivity", title)
 
     def write(self):
         for title in re.findall(r"^Definition (rs_[A-Z_]+) : ℕ :=\s*\d{1,4}\.$", self.code, re.M):  # a length
             number = f"N.to_nat {title}"
             self.lemma(f"{title}_is", f"{number} = ltac:(let n := eval vm_compute in ({number}) in exact n)",
-                       "vm_compute; reflexivity")
-        for title, it, _ in self.crate.out:
+                       "vm_compute; reflexivity", title)
+        for title, it, code in self.crate.out:
             if it is None and title.startswith("Mir"):
                 continue
             if it is None:
                 self.constant(title)
             else:
-                self.function(title, it)
+                self.function(title, it, code)
         return HEAD.format(projections=" ".join(self.projections)) + "\n".join(self.out) + "\n"
 
     def theorems(self, names, proofs):
@@ -125,7 +132,7 @@ class Bridge:
         computes, proof = [], []
         for i, (rs, titles) in enumerate(found.items()):
             self.used.setdefault(rs, []).append(name)
-            _, names, has_fuel, result = self.source[rs]
+            _, names, has_fuel, result, _ = self.source[rs]
             right = f"f{i}{' fuel' * has_fuel}{''.join(f' {it}' for it in names)}"
             right = right if result.startswith("option (") else f"Some ({right})"
             for title in titles:
