@@ -9,22 +9,29 @@ from pathlib import Path
 import bridge
 import mir
 import shipped
-from mir_grammar import Unknown
+from mir_grammar import ITEM, Unknown, close, read_hir, split
 from reading import Untranslated
 
 HERE = Path(__file__).parent
 TRIED = "1.95"  # the version of rustc whose MIR was read; another one's may have other forms
-CRATE = ("--crate-name", "target_lexicon", "--edition=2021", "--crate-type=lib", "--cfg=core_error")
+CRATE = ("--crate-name", "target_lexicon", "--edition=2021", "--crate-type=lib")
 FLAGS = ("-Copt-level=0", "-Coverflow-checks=on", "-Ztrim-diagnostic-paths=no")
 FEATURES = "std", "arch_zkasm", "arch_z80"  # of upstream
 # What the build script writes; the functions that answer it aren't proved.
 HOST = "Triple { architecture: Architecture::Unknown, vendor: Vendor::Unknown, operating_system: OperatingSystem::" \
        "Unknown, environment: Environment::Unknown, binary_format: BinaryFormat::Unknown }"
+# The attributes that change no function, or that rustc writes.
+ATTRIBUTES = "allow automatically_derived coverage doc forbid inline macro_export must_use no_std non_exhaustive " \
+             "prelude_import repr rustfmt warn".split()
 # Why functions aren't written, or proved to be those of the source: all of some traits, and these.
 UNSAID = ("std::Debug", "std::Hash", "std::Ord", "std::PartialOrd", "std::Clone", "std::Eq", "std::Error")
 LEFT_OUT = {
-    "host": "the host is that of the build", "default": "the host is that of the build",
-    "first_chunk": "of older versions of Rust", "last_chunk": "of older versions of Rust",
+    **{f"proved::{it}::host": "the host is that of the build" for it in (
+        "triple::Triple", "architecture::Architecture", "vendor::Vendor", "operating_system::OperatingSystem",
+        "environment::Environment", "binary_format::BinaryFormat")},
+    "<proved::defaults::DefaultToHost as std::Default>::default": "the host is that of the build",
+    "< as compat::Chunks>::first_chunk": "of older versions of Rust",
+    "< as compat::Chunks>::last_chunk": "of older versions of Rust",
     "<canonical::NotPlain as std::Display>::fmt": "std's formatting of a debug string",
     "<parse_triple_error::ParseTripleError as std::Display>::fmt": "escapes of std",
     "parse_triple_error::visible": "escapes of std",
@@ -37,18 +44,44 @@ class NoCompiler(Untranslated):
     """Why there is no MIR that can be read."""
 
 
-def rustc(folder, *words):
-    """What rustc writes of the crate in a folder."""
+def rustc(folder, features, *words, file="src/lib.rs", older=False):
+    """MIR and HIR of the crate in a folder, with these features, if nothing else decides what rustc compiles."""
     if not shutil.which("rustc"):
         raise NoCompiler("rustc isn't on the path, so that nothing is proved of its MIR; all else is")
     with tempfile.TemporaryDirectory(prefix="mir-") as out:
         Path(out, "host.rs").write_text(HOST, encoding="utf-8")
-        environment = {**os.environ, "RUSTC_BOOTSTRAP": "1", "OUT_DIR": out}
-        ran = subprocess.run(["rustc", *CRATE, *FLAGS, *words, "-o", f"{out}/written", "src/lib.rs"], cwd=folder,
-                             env=environment, capture_output=True, text=True)
-        if ran.returncode:
-            raise NoCompiler(f"rustc doesn't write the MIR of {folder}: {' '.join(ran.stderr.split())[:300]}")
-        return Path(out, "written").read_text(encoding="utf-8")
+        words = [*CRATE, *FLAGS, *(f'--cfg=feature="{it}"' for it in features), *["--cfg=core_error"] * (not older),
+                 *words, str(file)]
+        for of in ([f"--emit=mir={out}/mir,dep-info={out}/read"], ["-Zunpretty=hir-tree", f"-o{out}/hir"],
+                   ["-Zunpretty=expanded", f"-o{out}/expanded"]):
+            ran = subprocess.run(["rustc", *words, *of], cwd=folder, capture_output=True, text=True,
+                                 env={**os.environ, "RUSTC_BOOTSTRAP": "1", "OUT_DIR": out})
+            if ran.returncode:
+                raise NoCompiler(f"rustc doesn't write the MIR of {folder}: {' '.join(ran.stderr.split())[:300]}")
+        mir, hir, read, expanded = (Path(out, it).read_text(encoding="utf-8") for it in "mir hir read expanded".split())
+    if names := {*re.findall(r"^# env-dep:(\w+)", read, re.M)} - {"OUT_DIR"}:
+        raise Untranslated(f"a variable of the environment, {min(names)}, is read when the crate is compiled")
+    files = {Path(it.replace("\\ ", " ")) for it in re.findall("^(\\S.*):$", read, re.M)} - {Path(out, "host.rs")}
+    for it in files:
+        if not (folder / it).is_relative_to(folder / "src"):
+            raise Untranslated(f"the crate is compiled of {it}")
+        conditions(it, folder.joinpath(it).read_text(encoding="utf-8"))
+    for it in re.findall(r"#!?\[\s*(\w+\(?\w*)", expanded):
+        if it.partition("(")[0] not in ATTRIBUTES and it != "feature(prelude_import":
+            raise Untranslated(f"the attribute {it}")
+    return mir, hir
+
+
+def conditions(file, text):
+    """That nothing but the features, and what no build of a user has, decides what is compiled."""
+    text = re.sub(r'#\[cfg\(feature = "serde_support"\)\]\s+mod \w+;', "", text)
+    names = r'\bfeature = "(?:alloc|%s)"|\b(?:not|any|all|core_error|doc\w*|test)\b' % "|".join(FEATURES)
+    for m in re.finditer(r"\bcfg\w*", text):
+        it = re.compile(r"cfg(_attr)?!?\(").match(text, m.start())
+        inner = text[it.end():close(text, it.end() - 1)] if it else m[0]
+        predicate = split(inner)[0] if it and it[1] else inner
+        if not re.fullmatch(r"[(),\s]*", re.sub(names, "", predicate)):
+            raise Untranslated(f"{file}: a configuration that isn't tried decides what is compiled: {predicate}")
 
 
 def all_of(crate):
@@ -67,8 +100,7 @@ def all_of(crate):
 def same_without_alloc(root, crate, specs):
     """That each function without the feature `alloc` is written as with it, but for what owned names differ in."""
     known = specs + "\n".join(shipped.configurations(root, specs)["no_alloc"][1])
-    here = root / "packages/rust"
-    other = mir.Crate(rustc(here, "--emit=mir"), rustc(here, "-Zunpretty=hir-tree"), known)
+    other = mir.Crate(*rustc(root / "packages/rust", []), known)
     all_of(other)
     ours = {code for _, _, code in crate.out}
     for title, _, code in other.out:
@@ -80,29 +112,28 @@ def version():
     return subprocess.run(["rustc", "--version"], capture_output=True, text=True).stdout.strip()
 
 
-def features(names):
-    return [f'--cfg=feature="{it}"' for it in names]
-
-
 def same(main, other, where):
-    """That another configuration has no function that is another one than in the main configuration."""
-    def bodies(text):
-        text = re.sub(r"\balloc\d+\b", "alloc", re.sub(r"\b(core|alloc|std)::", "std::", text))
+    """That another configuration has no type and no function that is another one than in the main configuration."""
+    def items(text, hir):
+        statics = dict(re.findall(r"^(alloc\d+) \(static: ([\w:]+),", text, re.M))
+        text = re.sub(r"\balloc\d+\b", lambda m: statics.get(m[0], "alloc"), text)
+        text = re.sub(r"\b(core|alloc|std)::", "std::", text)
         text = re.sub(r"DefId\(\d+:\d+ ~ (\w+)\[\w+\]", r"DefId(\1", text)  # which also depends on rustc's flags
-        return re.findall(r"^(?:const |static |fn )[^\n]*\{\n.*?^\}", text, re.M | re.S)
-    known = {*bodies(main)}
-    for it in bodies(other):
-        if it not in known:
-            raise Untranslated(f"{where}, rustc compiles another function: {it.splitlines()[0][:200]}")
+        text = re.sub(r"(<impl at |\{closure@)\S*?\bsrc/", r"\1src/", text)
+        return {m[0] for m in re.finditer(ITEM, text)} | {str(it) for it in read_hir(hir)[0].items()}
+    if others := items(*other) - items(*main):
+        raise Untranslated(f"{where}, rustc compiles another item: {min(others).splitlines()[0][:200]}")
 
 
 def source(root, known):
     """The crate as its main configuration has it, with debug assertions or without, and with features that add."""
-    crate = root / "packages/rust"
-    main = rustc(crate, *features(["alloc"]), "--emit=mir")
-    same(main, rustc(crate, *features(["alloc"]), "-Cdebug-assertions=off", "--emit=mir"), "without debug assertions")
-    same(main, rustc(crate, *features(["alloc", *FEATURES]), "--emit=mir"), f"with {', '.join(FEATURES)}")
-    return mir.Crate(main, rustc(crate, *features(["alloc"]), "-Zunpretty=hir-tree"), known)
+    crate = root.resolve() / "packages/rust"
+    shipped.check_manifest(root)
+    main = rustc(crate, ["alloc"])
+    same(main, rustc(crate, ["alloc"], "-Cdebug-assertions=off", file=crate / "src/lib.rs", older=True),
+         "without debug assertions, in another folder, as for an older rustc")
+    same(main, rustc(crate, ["alloc", *FEATURES]), f"with {', '.join(FEATURES)}")
+    return mir.Crate(*main, known)
 
 
 def upstream(_root, folder, crate):
@@ -171,7 +202,7 @@ def write(root, folder):
                 unwritten[path(it)] = "no function of the source is equal to it"
             lines.append("\t".join([path(it), title, lemma, " ".join(made.used.get(of, []))]))
     for it, why in unwritten.items():
-        known = LEFT_OUT.get(it) or LEFT_OUT.get(it.split("::")[-1])
+        known = LEFT_OUT.get(it)
         if not known:
             raise Untranslated(f"{why} (in {it})")
         lines.append(f"{it}\t\t\tnot proved: {known}")

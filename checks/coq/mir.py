@@ -121,8 +121,11 @@ def of_call(path):
         name = re.match(r"::(\w+)", path[end + 1:])
         if not owner or not name or "<" in trait and close(trait, trait.index("<")) != len(trait) - 1:
             raise Unknown(f"the call of {path}")
-        trait = re.sub(r"<.*", "", trait)
-        return std_trait(trait) if trait.startswith("std::") else trait, strip(owner), name[1]
+        if trait.startswith("std::"):
+            return std_trait(re.sub(r"<.*", "", trait)), owner, name[1]
+        if "<" in trait:
+            raise Unknown(f"the call of {path}, of a trait with parameters")
+        return trait, owner, name[1]
     if m := re.search(r"<impl ", path):
         end = close(path, m.start())
         return None, path[m.end():end], re.match(r"::(\w+)", path[end + 1:])[1]
@@ -143,6 +146,8 @@ class Crate:
         self.written = {}  # what was written, or why it can't be
         if any(it.trait == "std::Drop" for it in self.impls):
             raise Unknown("an impl of Drop")
+        if any(it.trait == "std::PartialEq" and "ne" in it.methods for it in self.impls):
+            raise Unknown("a `!=` that could be another one than that of `==`")
         for it in self.functions:
             self.convert(it)
             it.key = self.key(it)
@@ -182,11 +187,12 @@ class Crate:
             raise Unknown(f"{len(found)} functions {key[2]} of {key[1]}")
         if found or not key[0] or (None, key[0], key[2]) not in self.by:
             return found[0] if found else None
-        if any(it.trait == key[0] and it.owner not in self.types.declared for it in self.impls):
-            raise Unknown(f"the trait {key[0]}, which another type has")
+        if not any((it.trait, it.owner) == key[:2] and key[2] not in it.methods for it in self.impls):
+            raise Unknown(f"the call of {key[2]} of the trait {key[0]}, which {key[1]} isn't known to have")
         # a trait's own body
         body = self.find((None, key[0], key[2]))
-        own = lambda text: re.sub(r"\bSelf\b", key[1], text)  # noqa: E731
+        def own(text):
+            return re.sub(r'"(?:[^"\\]|\\.)*"|\bSelf\b', lambda m: key[1] if m[0] == "Self" else m[0], text)
         it = Function(body.path, "", own(body.result), own(body.text))
         it.parameters = [(n, own(type)) for n, type in body.parameters]
         it.types = {n: own(type) for n, type in body.types.items()}

@@ -6,7 +6,7 @@ changes behind one. A `&mut` is the place that it borrows."""
 import re
 from collections import namedtuple
 
-from mir import BITS, Unknown, arguments, of_call, referred, split, strip
+from mir import BITS, TEXTS, Unknown, arguments, of_call, referred, split, strip
 from mir_grammar import Function, close
 from mir_std import CLOSED, COUNTED, EQUAL, STD
 
@@ -180,7 +180,8 @@ class Body:
     def step(self, value, step, type, env):
         """A projection of a value of this type."""
         if step[0] in ("*", "as"):
-            if step[0] == "as" and not (isinstance(value, Con) and value.name.split("__")[-1] in ("branch", step[1])):
+            if step[0] == "as" and not (isinstance(value, Con) and (
+                    value.name == "branch" or value.name.split("__")[-1] == step[1])):
                 raise Unknown(f"a part of a {step[1]} that isn't known")
             return value
         if step[0] == ".":
@@ -223,6 +224,11 @@ class Body:
     def read(self, value, env):
         """What a borrow refers to."""
         return self.at(value.cell, value.path, env) if isinstance(value, Mut) else value
+
+    def assign(self, place, new, env):
+        if ("*",) in self.root(place, env)[1]:
+            raise Unknown("an assignment through a pointer")
+        self.set(place, new, env)
 
     def set(self, place, new, env):
         self.store(*self.root(place, env), new, env)
@@ -327,10 +333,10 @@ class Body:
             return self.get(what, env)
         if kind == "mut":
             cell, path = self.root(what, env)
-            if any(step[0] in ("[]", "[c]") for step in path):
-                raise Unknown("a mutable borrow of an item")
             if path == [("*",)] and isinstance(env.get(cell), Slice):
                 return env[cell]
+            if any(step[0] in ("[]", "[c]", "*") for step in path):
+                raise Unknown("a mutable borrow of an item, or through a pointer")
             return Mut(cell, tuple(path))
         if kind == "length":
             return f"(length {self.code(self.read(self.operand(what, env), env))})"
@@ -354,7 +360,9 @@ class Body:
 
     def cast(self, kind, operand, to, env):
         value, of = self.operand(operand, env), self.type_of(operand)
-        if kind.startswith("PointerCoercion") or kind == "Transmute" and of.startswith("std::ptr::NonNull<"):
+        if kind.startswith("PointerCoercion") and item(referred(of)) == item(referred(to)):  # an array as a slice
+            return value
+        if kind == "Transmute" and (m := re.fullmatch(r"std::ptr::NonNull<(.*)>", of)) and to == f"*const {m[1]}":
             return value
         if kind != "IntToInt" or of not in BITS or to not in BITS:
             raise Unknown(f"a cast from {of} to {to}")
@@ -393,6 +401,8 @@ class Body:
         plain = without_generics(path)
         if form := STD.get(plain):
             code = form.format(*[self.code(self.read(it, env)) for it in values])
+            if plain.endswith("::split_once") and operands[1][0] != "number":  # which is an ASCII character
+                raise Unknown("a split at a character that isn't known")
             return self.emit(code[2:]) if code[0] == "?" else code
         if plain in COUNTED:
             n = re.search(r"::<(\w+)>$", path)[1]
@@ -405,7 +415,7 @@ class Body:
         if trait == "std::PartialEq" and name in ("eq", "ne"):
             return self.equality(path, owner, name, types, values, env)
         if trait == "std::ToString":
-            shown = self.crate.find(("std::Display", owner, "fmt"))
+            shown = self.crate.find(("std::Display", strip(owner), "fmt"))
             if shown:
                 return self.emit(f"displayed ({self.crate.write(shown)} fuel {self.code(values[0])} (formatter_of []))")
         if trait == "std::Try" and name == "branch":
@@ -436,7 +446,7 @@ class Body:
     def own(self, it, values, types, env):
         """A call of a function of the crate."""
         for i, (_, to) in enumerate(it.parameters):  # of an `impl Into`
-            if it.into[i] and self.types.coq(types[i]) != self.types.coq(to):
+            if it.into[i] and types[i] != to and not {strip(types[i]), strip(to)} <= {*TEXTS}:
                 value = self.own(self.conversion(to, types[i]), [values[i]], [types[i]], env)
                 values = [*values[:i], value, *values[i + 1:]]
         title = self.crate.write(it, self.pure)
@@ -532,7 +542,7 @@ class Body:
         outer, self.before, env = self.before, [], dict(env)
         statements, end = self.blocks[b]
         for to, value in statements:
-            self.set(to, self.rvalue(value, env), env)
+            self.assign(to, self.rvalue(value, env), env)
         mine, joined = self.before, []
         children = [it for it in self.merges if self.parent[it] == b and it not in self.heads]
         for it in sorted(children, key=self.rank.get, reverse=True):  # the last one is outermost
@@ -589,7 +599,7 @@ class Body:
         if kind == "goto":
             return self.go(it[1], env, joins)
         if kind == "call":
-            self.set(it[1], self.called(it[2], it[3], env), env)
+            self.assign(it[1], self.called(it[2], it[3], env), env)
             return self.go(it[4], env, joins)
         if kind == "assert":
             return self.check(*it[1:], env, joins)

@@ -217,13 +217,19 @@ class Function:
         return found
 
 
+ITEM = re.compile(
+    r"^(?:(?:const )?fn (?P<head>[^\n]*)\{\n|(?:const|static) (?P<name>\S[^\n]*?): (?!\d)(?P<type>[^\n]*?) = "
+    r"(?:\{\n|const (?P<value>[^\n]*);\n))(?:(?<=\{\n)(?P<body>.*?)^\})?", re.M | re.S)
+ALLOCATION = re.compile(r"^alloc\d+ \([^\n]*\) \{(?:\}|\n.*?^\})|^//[^\n]*", re.M | re.S)
+
+
 def read_mir(text):
     """The functions, each constant by its path, and the path of each static, by its place or its path."""
     functions, constants, last = [], {}, {}
     text = re.sub(r"^// MIR FOR CTFE\n.*?^\}", "", text, flags=re.M | re.S)  # the same function, as a constant calls it
-    form = r"^(?:(?:const )?fn (?P<head>[^\n]*)\{\n|(?:const|static) (?P<name>\S[^\n]*?): (?!\d)(?P<type>[^\n]*?) = " \
-           r"(?:\{\n|const (?P<value>[^\n]*);\n))(?:(?<=\{\n)(?P<body>.*?)^\})?"
-    for m in re.finditer(form, text, re.M | re.S):
+    if rest := re.sub(ALLOCATION, "", re.sub(ITEM, "", text)).strip():
+        raise Unknown(f"the item {rest.splitlines()[0]}")
+    for m in re.finditer(ITEM, text):
         if m["head"]:
             head = m["head"].strip()
             at = head.index("(_1") if "(_1" in head else head.index("()")
@@ -236,6 +242,8 @@ def read_mir(text):
         value = operand("const " + m["value"]) if m["value"] else Function(name, "", m["type"], m["body"])
         if promoted:  # a constant of the function that is printed before
             last[name].promoted[promoted[:-1]] = value
+        elif clean(name) in constants:
+            raise Unknown(f"a second constant {name}")
         else:
             constants[clean(name)] = last[name] = value
     statics = dict(re.findall(r"^(alloc\d+) \(static: ([\w:]+),", text, re.M))
@@ -252,11 +260,14 @@ class Impl:
         head, _, items = block.partition(" items: [")
         self.place = re.search(r"^ {16}span: (\S+:\d+:\d+): ", block, re.M)[1]
         self.module = path.rpartition("{impl#")[0].removesuffix("::")
-        own = re.search(r"^ {24}self_ty: Ty \{\n[^\n]*\n[^\n]*\n +kind: Path\(\n.*?res: Def\(\n +\w+,\n +" + DEFINED,
-                        head, re.M | re.S)
+        own = re.search(r"^ {24}self_ty: Ty \{\n.*\n.*\n +kind: Path\(\n +Resolved\(\n +None,\n +Path \{\n.*\n +res: "
+                        r"Def\(\n +(?:Struct|Enum),\n +" + DEFINED, head, re.M)
         self.owner = own[2] if own and own[1] == crate else None
-        trait = re.search(r"of_trait: Some\(.*?res: Def\(\n +Trait,\n +" + DEFINED, head, re.S)
-        self.trait = trait and (trait[2] if trait[1] == crate else std_trait(trait[2]))
+        trait = re.search(r"^ {24}of_trait: (?:None,|Some\(\n {28}TraitImplHeader \{\n(?: {32}.*\n)*? {32}trait_ref: TraitRef "
+                          r"\{\n +path: Path \{\n.*\n +res: Def\(\n +Trait,\n +" + DEFINED + ")", head, re.M)
+        if not trait:
+            raise Unknown(f"the trait of {path}")
+        self.trait = trait[2] and (trait[2] if trait[1] == crate else std_trait(trait[2]))
         self.methods = re.findall(r"owner_id: DefId\(\S+ ~ \S+::(\w+)\),", items)
 
 
@@ -265,23 +276,31 @@ def std_trait(path):
     return "std::" + path.split("::")[-1]
 
 
+KINDS = "Const Enum ExternCrate Fn Impl Macro Mod Static Struct Trait TyAlias Type Use".split()
+
+
 def read_hir(text):
     """The fields of each struct, the variants of each enum with their number of fields, and the impls."""
     types, impls = {}, []
-    for block in re.split(r"^(?=DefId\(0:)", text, flags=re.M):
-        if not (m := re.match(DEFINED + " => OwnerNodes", block)):
-            continue
+    for block in re.split(r"^(?=DefId\(0:(?!0 ))", text, flags=re.M)[1:]:  # without the crate's root
+        m, kind = re.match(DEFINED + " => OwnerNodes", block), re.search(r"^ {16}kind: (\w+)", block, re.M)
+        if not m or not kind or kind[1] not in KINDS:
+            raise Unknown(f"an item {block.splitlines()[0]} of kind {kind and kind[1]}")
         crate, path = m[1], m[2]
-        kind = re.search(r"^ {16}kind: (\w+)\($", block, re.M)
-        if re.match(r"(core|alloc|std)(#\d+)?::", path) or kind and kind[1] in ("Enum", "Struct") and path.islower():
-            raise Unknown(f"{path}, whose name could be one of std's")
-        if kind and kind[1] == "Enum":
-            if "disr_expr: Some" in block:
-                raise Unknown(f"a number of a variant of {path}")
+        is_type = kind[1] in ("Enum", "Struct")
+        if re.match(r"(core|alloc|std)(#\d+)?::", path) or is_type and ("::" not in path or path.islower()):
+            raise Unknown(f"{path}, whose name could be one of std's, or of a parameter")
+        if is_type and "#" in path:
+            raise Unknown(f"{path}, which isn't the only one of its path")
+        if kind[1] == "Enum":
             parts = re.split(r"^ {28}Variant \{$", block, flags=re.M)[1:]
             types[path] = [(re.search(r"ident: (\w+)#", it)[1], it.count(" FieldDef {")) for it in parts]
-        elif kind and kind[1] == "Struct":
+            if block.count(" disr_expr: None,") != len(parts):
+                raise Unknown(f"a number of a variant of {path}")
+        elif kind[1] == "Struct":
             types[path] = re.findall(r"^ +FieldDef \{\n +span: .*\n +vis_span: .*\n +ident: (\w+)#", block, re.M)
-        elif kind and kind[1] == "Impl":
+            if block.count(" FieldDef {") != len(types[path]):
+                raise Unknown(f"the fields of {path}")
+        elif kind[1] == "Impl":
             impls.append(Impl(path, crate, block))
     return types, impls

@@ -57,12 +57,16 @@ MANIFEST = {
 }
 
 
-def read(root, features):
-    """The shipped source as these features have it: lib.rs and each module."""
+def check_manifest(root):
     manifest = re.sub(r"\n+", "\n", root.joinpath("packages/rust/Cargo.toml").read_text(encoding="utf-8"))
     for form, wanted in MANIFEST.items():
         if re.findall(rf"^{form}", manifest, re.M) != [wanted]:
             raise Untranslated(f"packages/rust/Cargo.toml has not only {wanted!r}")
+
+
+def read(root, features):
+    """The shipped source as these features have it: lib.rs and each module."""
+    check_manifest(root)
     return Crate(texts([root / "packages/rust/src/lib.rs"], root), features, root=root)
 
 
