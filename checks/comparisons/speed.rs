@@ -108,7 +108,7 @@ macro_rules! calls {
                     "lexicon_parse, lexicon_print" => each(read, |it| print(it.parse::<Triple>().expect("a triple"))),
                     "lexicon_parse, lexicon_facts" => each(read, |it| ask(&it.parse().expect("a triple"))),
                     "lexicon_facts" => each(triples, ask),
-                    "lexicon_parse, lexicon_error_line" => each(refused, |it| print(it.parse::<Triple>().expect_err("a refusal"))),
+                    "lexicon_parse" => each(refused, |it| drop(black_box(it.parse::<Triple>()))),
                     _ => panic!("no call {what}"),
                 }
             }
@@ -135,7 +135,6 @@ mod c {
         fn lexicon_parse(text: *const u8, size: usize, triple: *mut Triple, error: *mut Error) -> u32;
         fn lexicon_print(triple: *const Triple, out: *mut u8, out_size: usize, length: *mut usize) -> u32;
         fn lexicon_facts(triple: *const Triple, facts: *mut u8, size: usize) -> u32;
-        fn lexicon_error_line(text: *const u8, size: usize, error: *const Error, out: *mut u8, out_size: usize, length: *mut usize) -> u32;
     }
 
     // SAFETY, of each call below: pointers and sizes are those of slices and values here, and a triple's line outlives
@@ -161,12 +160,6 @@ mod c {
         black_box(&facts);
     }
 
-    fn error_line(line: &str, error: &Error) {
-        let (mut out, mut length) = ([0; 256], 0);
-        unsafe { lexicon_error_line(line.as_ptr(), line.len(), error, out.as_mut_ptr(), out.len(), &mut length) };
-        black_box((&out, length));
-    }
-
     pub fn pass(what: &str, lines: &[String]) -> Pass {
         let (read, refused, triples) = parsed(lines, |it| parse(it).ok());
         match what {
@@ -175,7 +168,7 @@ mod c {
             "lexicon_parse, lexicon_facts" => each(read, |it| ask(&parse(it).expect("a triple"), QUERIES)),
             "lexicon_facts" => each(triples, |it| ask(it, QUERIES)),
             "lexicon_facts, all groups" => each(triples, |it| ask(it, ALL)),
-            "lexicon_parse, lexicon_error_line" => each(refused, |it| error_line(it, &parse(it).expect_err("a refusal"))),
+            "lexicon_parse" => each(refused, |it| drop(black_box(parse(it)))),
             _ => panic!("no call {what}"),
         }
     }

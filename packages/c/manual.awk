@@ -62,7 +62,7 @@ in_comment {
     code("const char *" $0 "(uint32_t number);")
     next
 }
-/^#define LEXICON_MAX_GROWTH/ || /^(static inline )?(enum lexicon_[a-z]*|const char \*) ?lexicon_[a-z0-9_]*\(/ || in_call {
+/^#define LEXICON_MAX_GROWTH/ || /^(static inline )?(enum lexicon_[a-z]*|const char \*|bool) ?lexicon_[a-z0-9_]*\(/ || in_call {
     if (match($0, /lexicon_[a-z0-9_]*\(/) && !in_call) list(substr($0, RSTART, RLENGTH - 1))
     sub(/^static inline /, "")
     in_call = /[^;{]$/ && !/^#/

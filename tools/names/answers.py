@@ -8,16 +8,16 @@ from names_table import Mistake, columns, filled, read_lines
 PATH = "tools/names/answers.tsv"
 ENUMS = {"endianness": "Endianness", "calling_convention": "CallingConvention", "data_model": "DataModel",
          "c_library": "CLibrary",
-         "float_abi": "FloatAbi", "arm_profile": "ArmProfile", "signedness": "Signedness", "linux_libc": "LinuxLibc"}
+         "float_abi": "FloatAbi", "arm_profile": "ArmProfile", "signedness": "Signedness", "chosen_libc": "ChosenLibc"}
 JAVASCRIPT = {"endianness": "ENDIANNESS", "calling_convention": "CONVENTIONS", "data_model": "MODELS",
               "c_library": "C_LIBRARIES",
               "float_abi": "FLOAT_ABIS", "arm_profile": "ARM_PROFILES", "signedness": "SIGNEDNESS",
-              "linux_libc": "LINUX_LIBCS"}
+              "chosen_libc": "CHOSEN_LIBCS"}
 # The types of the crate of names.
 TYPES = {"c_library": "The C library of a target.", "float_abi": "How floating-point arguments are passed.",
          "signedness": "Whether C's `char` has a sign.",
          "arm_profile": "The profile of a 32-bit Arm architecture: for what its processors are made.",
-         "linux_libc": "A C library of Linux or Windows, which gives a triple its environment. On Windows it is an ABI too."}
+         "chosen_libc": "A C library of Linux or Windows, which gives a triple its environment: on Windows an ABI too."}
 
 
 @dataclass
@@ -92,7 +92,7 @@ def types_of_names(answers):
     """The types of the crate of names, in Rust."""
     for kind, about in TYPES.items():
         name, of = ENUMS[kind], answers[kind]
-        yield from ["", f"/// {about}", *["#[non_exhaustive]"] * (kind != "linux_libc"),
+        yield from ["", f"/// {about}", *["#[non_exhaustive]"] * (kind != "chosen_libc"),
                     "#[derive(Clone, Copy, Debug, PartialEq, Eq, Hash)]", f"pub enum {name} {{",
                     *(line for it in of for line in (f"    /// {it.about}", f"    {it.variant},")), "}", "",
                     f"impl {name} {{", "    /// The name.", "    ///", "    /// # Examples", "    ///", "    /// ```",

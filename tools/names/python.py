@@ -59,7 +59,7 @@ FACT_NAMES = (
 
 
 #: The names of the C libraries.
-LinuxLibcName = Literal[{libc_names}]
+ChosenLibcName = Literal[{libc_names}]
 '''
 # The answers about a target that come before and after the facts.
 FIRST = ("architecture", "vendor", "operating_system", "version", "environment", "binary_format")
@@ -67,7 +67,7 @@ LAST = ("llvm_target", "multiarch_tuple", "printed", "canonical")
 # What callers name.
 GIVEN = {
     "Dialect": "A tool, or a group of tools, that names targets in its own way.",
-    "LinuxLibc": "A C library of Linux or Windows, which the caller says where a name doesn't state it.",
+    "ChosenLibc": "A C library of Linux or Windows, which the caller says where a name doesn't state it.",
 }
 # The file of the answers.
 FACTS = '''"""What a compiler asks of a triple."""

@@ -130,15 +130,15 @@ enum lexicon_dialect {
   /* end of what is written */
 };
 
-/* A C library of Linux, which the caller says where a name doesn't state it. */
-enum lexicon_linux_libc {
-  LEXICON_LINUX_LIBC_NONE = 0,
-  /* written by tools/names/write: the answers of linux_libc for C */
-  LEXICON_LINUX_LIBC_GLIBC = 1, /* Linux, with the GNU C library */
-  LEXICON_LINUX_LIBC_MUSL = 2, /* Linux, with musl */
-  LEXICON_LINUX_LIBC_MSVC = 3, /* Windows, with the ABI of Visual C++ */
-  LEXICON_LINUX_LIBC_MINGW = 4, /* Windows, with MinGW */
-  LEXICON_LINUX_LIBC_GNULLVM = 5, /* Windows, with MinGW and the tools of LLVM */
+/* A C library of Linux or Windows, which the caller says where a name doesn't state it. */
+enum lexicon_chosen_libc {
+  LEXICON_CHOSEN_LIBC_NONE = 0,
+  /* written by tools/names/write: the answers of chosen_libc for C */
+  LEXICON_CHOSEN_LIBC_GLIBC = 1, /* Linux, with the GNU C library */
+  LEXICON_CHOSEN_LIBC_MUSL = 2, /* Linux, with musl */
+  LEXICON_CHOSEN_LIBC_MSVC = 3, /* Windows, with the ABI of Visual C++ */
+  LEXICON_CHOSEN_LIBC_MINGW = 4, /* Windows, with MinGW */
+  LEXICON_CHOSEN_LIBC_GNULLVM = 5, /* Windows, with MinGW and the tools of LLVM */
   /* end of what is written */
 };
 
@@ -568,8 +568,8 @@ struct lexicon_versions {
   struct lexicon_os_version glibc, musl, macos, ios, android, freebsd, netbsd, openbsd, dragonfly, windows;
 };
 
-/* A part of a string, such as one that lexicon_read, without a dialect, reads as other names. */
-struct lexicon_change {
+/* A part of a string, such as a target in a text. */
+struct lexicon_part {
   size_t start, end;
 };
 
@@ -620,17 +620,14 @@ LEXICON_CHECKED
 enum lexicon_status lexicon_settle_lines(const char *text, size_t text_size, char *out, size_t out_size,
                                          size_t *length);
 
-/* Whether the triple round-trips: printing and parsing it give it again. */
+/* Whether the triple round-trips: printing and parsing it give it again; whether two triples are equal; and whether
+   their canonical forms are. False if a struct is no triple. */
+LEXICON_CHECKED LEXICON_NONNULL(1)
+bool lexicon_comes_back(const struct lexicon_triple *triple);
 LEXICON_CHECKED LEXICON_NONNULL(1, 2)
-enum lexicon_status lexicon_comes_back(const struct lexicon_triple *triple, bool *answer);
-
-/* Whether two triples are equal, and whether their canonical forms are. */
-LEXICON_CHECKED LEXICON_NONNULL(1, 2, 3)
-enum lexicon_status lexicon_equal(const struct lexicon_triple *first, const struct lexicon_triple *second,
-                                  bool *answer);
-LEXICON_CHECKED LEXICON_NONNULL(1, 2, 3)
-enum lexicon_status lexicon_same_target(const struct lexicon_triple *first, const struct lexicon_triple *second,
-                                        bool *answer);
+bool lexicon_equal(const struct lexicon_triple *first, const struct lexicon_triple *second);
+LEXICON_CHECKED LEXICON_NONNULL(1, 2)
+bool lexicon_same_target(const struct lexicon_triple *first, const struct lexicon_triple *second);
 
 /* What a compiler asks about a triple. Call lexicon_all_facts(triple, facts), which passes facts_size: sizeof *facts,
    so that the library may be older or later than the header that a program was compiled with: so many bytes of the
@@ -704,7 +701,7 @@ enum lexicon_status lexicon_write_versioned(uint32_t dialect, const struct lexic
    on. Only the environment changes. Any other triple stays as it is, and so does arm-unknown-linux, which may be
    gnueabi or gnueabihf. */
 LEXICON_CHECKED LEXICON_NONNULL(1)
-enum lexicon_status lexicon_complete(struct lexicon_triple *triple, uint32_t linux_libc);
+enum lexicon_status lexicon_complete(struct lexicon_triple *triple, uint32_t chosen_libc);
 
 /* The version of macOS that a triple states, 10.15 for x86_64-apple-darwin19.6: that of darwin is the kernel's.
    LEXICON_NO_ANSWER if there is none. */
@@ -712,22 +709,22 @@ LEXICON_CHECKED LEXICON_NONNULL(1, 2)
 enum lexicon_status lexicon_macos_version(const struct lexicon_triple *triple, struct lexicon_os_version *version);
 
 /* The name in a dialect of what a name of another one means, or a string that is spelled like a triple: it is read,
-   completed with a C library unless that is LEXICON_LINUX_LIBC_NONE, and written, at the level of the machine that the
+   completed with a C library unless that is LEXICON_CHOSEN_LIBC_NONE, and written, at the level of the machine that the
    name says, such as v3, which the triple can't state, and with versions, as lexicon_write_versioned does. The name has
    at most 36 bytes. If it can't be read, the status and the error are those of lexicon_read. LEXICON_TRIPLE_WITHOUT_NAME and
    LEXICON_NEEDS_C_LIBRARY say that what it means can't be written; the range of the error is that of the whole name. At
    any other status from 15 on the range is empty, and at LEXICON_TOO_SMALL no error is written. */
 LEXICON_CHECKED
-enum lexicon_status lexicon_translate(uint32_t from, const char *name, size_t name_size, uint32_t linux_libc,
+enum lexicon_status lexicon_translate(uint32_t from, const char *name, size_t name_size, uint32_t chosen_libc,
                                       const struct lexicon_versions *versions, uint32_t to, char *out, size_t out_size,
                                       size_t *length, struct lexicon_error *error);
 
 /* The change with this number, from 0, of those that lexicon_read, without a dialect, makes in a string: the range of a
    part, and the names that it is read as. Of amd64-unknown-freebsd13.2 the first is amd64, read as x86_64, and the
    second freebsd13.2, read as freebsd: the version is dropped. After the last one the status is LEXICON_NO_SUCH_CHANGE.
-   A string that is refused has its changes too. If the buffer is too small, the change is unchanged too. */
+   A string that is refused has its changes too. If the buffer is too small, the part is unchanged too. */
 LEXICON_CHECKED LEXICON_NONNULL(4)
-enum lexicon_status lexicon_changes(const char *text, size_t text_size, size_t number, struct lexicon_change *change,
+enum lexicon_status lexicon_changes(const char *text, size_t text_size, size_t number, struct lexicon_part *part,
                                     char *out, size_t out_size, size_t *length);
 
 /* What a string means to those who have it as a name. If it parses, its triple comes first; then the dialects, in the
@@ -753,19 +750,12 @@ enum lexicon_status lexicon_readers(const char *text, size_t text_size, struct l
    of a list. They are written into an array of so many elements, which may be null if that is 0, and in *count is how
    many there are: with LEXICON_TOO_SMALL there are more. */
 LEXICON_CHECKED LEXICON_NONNULL(5)
-enum lexicon_status lexicon_targets(const char *text, size_t text_size, struct lexicon_change *parts, size_t most,
+enum lexicon_status lexicon_targets(const char *text, size_t text_size, struct lexicon_part *parts, size_t most,
                                     size_t *count);
 
-/* The name of the dialect that may have been meant, where lexicon_read gives LEXICON_UNKNOWN_NAME: linux/amd64 for
-   linux/amd46 in LEXICON_DIALECT_GO. Null if there is none, and otherwise. Only names that are read are suggested. */
-const char *lexicon_name_suggestion(uint32_t dialect, const char *name, size_t name_size);
-
-/* Why a string is refused, from the string and the error that parsing or reading it gave, in one line:
-
-       Unrecognized operating system: linx
-
-   lexicon_error_text writes three lines, without a line feed at the end. What isn't printable ASCII is escaped, as
-   \u{1b}, and bytes that are no character are \u{fffd}:
+/* Why a string is refused, from the string and the error that parsing or reading it gave, in three lines, of which the
+   first says it by itself. There is no line feed at the end. What isn't printable ASCII is escaped, as \u{1b}, and
+   bytes that are no character are \u{fffd}:
 
        Unrecognized operating system: linx
          x86_64-pc-linx
@@ -773,8 +763,6 @@ const char *lexicon_name_suggestion(uint32_t dialect, const char *name, size_t n
 
    If the buffer is too small, the status is LEXICON_TOO_SMALL, and the first characters of it are written. An error
    that isn't one of this string gives LEXICON_NO_SUCH_VALUE, and so does that of LEXICON_NO_SUCH_DIALECT, and none. */
-enum lexicon_status lexicon_error_line(const char *text, size_t text_size, const struct lexicon_error *error, char *out,
-                                       size_t out_size, size_t *length);
 enum lexicon_status lexicon_error_text(const char *text, size_t text_size, const struct lexicon_error *error, char *out,
                                        size_t out_size, size_t *length);
 
@@ -789,6 +777,12 @@ enum lexicon_status lexicon_suggestion(const char *text, size_t text_size, const
 LEXICON_CHECKED LEXICON_NONNULL(1)
 enum lexicon_status lexicon_vendor_suggestion(const struct lexicon_triple *triple, char *out, size_t out_size,
                                               size_t *length);
+
+/* Likewise by a name, where lexicon_read gives LEXICON_UNKNOWN_NAME, of the dialect's names that are read: linux/amd64
+   by linux/amd46 in LEXICON_DIALECT_GO. */
+LEXICON_CHECKED
+enum lexicon_status lexicon_name_suggestion(uint32_t dialect, const char *name, size_t name_size, char *out,
+                                            size_t out_size, size_t *length);
 
 /* The number of the value that a string names in one field, outside any triple. An alias gives the number of its value,
    a custom vendor LEXICON_VENDOR_CUSTOM, and a version is parsed and dropped. If the string names no value of the
@@ -834,7 +828,7 @@ LEXICON_NAMES(lexicon_dialect_name, NULL,
   "debian", "go", "oci", "node", "gnu", "python", "rust", "uname", "rpm", "apk", "pacman", "dotnet", "conda", "zig", "nix",
   /* end of what is written */
 )
-LEXICON_NAMES(lexicon_linux_libc_name, NULL, "glibc", "musl", "msvc", "mingw", "gnullvm")
+LEXICON_NAMES(lexicon_chosen_libc_name, NULL, "glibc", "musl", "msvc", "mingw", "gnullvm")
 LEXICON_NAMES(lexicon_origin_name, "not given", "given", "implied", "alias")
 LEXICON_NAMES(lexicon_endianness_name, NULL, "little", "big")
 LEXICON_NAMES(lexicon_calling_convention_name, NULL, "SystemV", "WasmBasicCAbi", "WindowsFastcall", "AppleAarch64")

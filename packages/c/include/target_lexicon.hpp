@@ -151,8 +151,8 @@ enum class Signedness : std::uint8_t {
 };
 
 // A C library of Linux, which the caller says where a name doesn't state it.
-enum class LinuxLibc : std::uint8_t {
-  // written by tools/names/write: the answers of linux_libc for C++
+enum class ChosenLibc : std::uint8_t {
+  // written by tools/names/write: the answers of chosen_libc for C++
   Glibc = 1, Musl = 2, Msvc = 3, Mingw = 4, Gnullvm = 5,
   // end of what is written
 };
@@ -272,7 +272,7 @@ inline std::string_view name(Endianness value) { return detail::name_of(lexicon_
 inline std::string_view name(CallingConvention value) {
   return detail::name_of(lexicon_calling_convention_name, value);
 }
-inline std::string_view name(LinuxLibc value) { return detail::name_of(lexicon_linux_libc_name, value); }
+inline std::string_view name(ChosenLibc value) { return detail::name_of(lexicon_chosen_libc_name, value); }
 inline std::string_view name(Origin value) { return detail::name_of(lexicon_origin_name, value); }
 inline std::string_view name(DataModel value) { return detail::name_of(lexicon_data_model_name, value); }
 inline std::string_view name(CLibrary value) { return detail::name_of(lexicon_c_library_name, value); }
@@ -337,8 +337,8 @@ struct ParseError {
   lexicon_status status = LEXICON_OK;
   std::size_t start = 0, end = 0;  // the refused part, in bytes
   Raw part;
-  Raw line;                // Unrecognized operating system: linx
   std::string text;        // the line, the string with carets under the part, and the suggestion or the reason
+  std::string line;        // the first line of that: Unrecognized operating system: linx
   std::string suggestion;  // the name that may have been meant; empty if there is none
   std::string reason;      // why a name has no triple, or isn't translated, and what would help; empty if none
 
@@ -469,17 +469,17 @@ class Triple {
   }
 
   // The triple with the usual environment of a C library, if it is of Linux and states none; else this one.
-  Triple completed(LinuxLibc libc) const {
+  Triple completed(ChosenLibc libc) const {
     return variant(lexicon_complete, static_cast<std::uint32_t>(libc)).value_or(*this);
   }
 
   // The name in the dialect `to` of what a name of the dialect `from` means, with a C library of Linux if one is said.
   // Without `from`, the string is spelled like a triple. If there is none, `error` says why.
   static std::optional<std::string> translate(std::string_view name, std::optional<Dialect> from, Dialect to,
-                                              std::optional<LinuxLibc> libc = std::nullopt,
+                                              std::optional<ChosenLibc> libc = std::nullopt,
                                               ParseError* error = nullptr, const lexicon_versions& versions = {}) {
     std::uint32_t dialect = from ? static_cast<std::uint32_t>(*from) : std::uint32_t(LEXICON_DIALECT_NONE);
-    std::uint32_t number = libc ? static_cast<std::uint32_t>(*libc) : std::uint32_t(LEXICON_LINUX_LIBC_NONE);
+    std::uint32_t number = libc ? static_cast<std::uint32_t>(*libc) : std::uint32_t(LEXICON_CHOSEN_LIBC_NONE);
     lexicon_error found = {};
     auto into = static_cast<std::uint32_t>(to);
     std::string translated = detail::written([&](auto... out) {
@@ -571,14 +571,12 @@ class Triple {
   Triple settle() const { return variant(lexicon_settle).value_or(*this); }
   bool comes_back() const {
     lexicon_triple triple = c_triple();
-    bool answer = false;
-    return lexicon_comes_back(&triple, &answer) == LEXICON_OK && answer;
+    return lexicon_comes_back(&triple);
   }
   // Whether the canonical forms are equal.
   bool same_target(const Triple& other) const {
     lexicon_triple triple = c_triple(), another = other.c_triple();
-    bool answer = false;
-    return lexicon_same_target(&triple, &another, &answer) == LEXICON_OK && answer;
+    return lexicon_same_target(&triple, &another);
   }
 
   // The struct of target_lexicon.h. It may point into this triple.
@@ -735,18 +733,18 @@ class Triple {
     error.start = found.start;
     error.end = found.end;
     error.part.raw = text.substr(found.start, found.end - found.start);
-    auto written_by = [&](auto call) {
-      return detail::written([&](auto... out) { return call(text.data(), text.size(), &found, out...); });
-    };
-    error.line.raw = written_by(lexicon_error_line);
-    error.text = written_by(lexicon_error_text);
-    error.suggestion = written_by(lexicon_suggestion);
+    const char* data = text.data();
+    std::size_t size = text.size();
+    error.text = detail::written([&](auto... out) { return lexicon_error_text(data, size, &found, out...); });
+    error.line = error.text.substr(0, error.text.find('\n'));
+    bool is_name = found.status == LEXICON_UNKNOWN_NAME;
+    error.suggestion = detail::written([&](auto... out) {
+      return is_name ? lexicon_name_suggestion(dialect, data, size, out...)
+                     : lexicon_suggestion(data, size, &found, out...);
+    });
+    if (is_name && !error.suggestion.empty()) error.text += " did you mean `" + error.suggestion + "`?";
     error.reason = detail::text_of(found.reason);
     if (found.reason) error.text += " " + error.reason;
-    if (const char* meant = lexicon_name_suggestion(dialect, text.data(), text.size())) {
-      error.suggestion = meant;
-      error.text += " did you mean `" + error.suggestion + "`?";
-    }
     return error;
   }
 
@@ -799,7 +797,7 @@ inline std::vector<Meaning> Triple::meanings(std::string_view text) {
 // What `Triple::read` reads as other names in a string that is spelled like a triple, from its start to its end.
 inline std::vector<Change> changes(std::string_view text) {
   std::vector<Change> found;
-  for (lexicon_change it = {};;) {
+  for (lexicon_part it = {};;) {
     std::string names = detail::written(
         [&](auto... out) { return lexicon_changes(text.data(), text.size(), found.size(), &it, out...); });
     if (names.empty()) return found;
@@ -816,7 +814,7 @@ struct Target {
 // The targets in any text, as `lexicon_targets` finds them. One that isn't UTF-8 has none.
 inline std::vector<Target> targets_in(std::string_view text) {
   std::size_t count = 0;
-  std::vector<lexicon_change> parts;
+  std::vector<lexicon_part> parts;
   while (lexicon_targets(text.data(), text.size(), parts.data(), parts.size(), &count) == LEXICON_TOO_SMALL)
     parts.resize(count);
   std::vector<Target> found;

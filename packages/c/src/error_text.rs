@@ -14,14 +14,14 @@ fn part<'a>(bytes: &'a [u8], error: &TextError) -> Result<&'a [u8], Status> {
     bytes.get(error.start..error.end).ok_or(NO_SUCH_VALUE)
 }
 
-/// Writes the first words of a refusal's line, and returns the refused part. `None` is that of a text that isn't UTF-8.
-fn start_of_line<'a>(bytes: &'a [u8], error: &TextError, out: &mut Text) -> Result<Option<&'a str>, Status> {
+/// Writes the first line of a refusal. That of a text that isn't UTF-8 doesn't have the part.
+fn push_line(bytes: &[u8], error: &TextError, out: &mut Text) -> Result<(), Status> {
     let part = part(bytes, error)?;
     if error.status == NOT_UTF8 {
         out.push("Not UTF-8");
-        return Ok(None);
+        return Ok(());
     }
-    let part = str::from_utf8(part).map_err(|_| NO_SUCH_VALUE)?;
+    str::from_utf8(part).map_err(|_| NO_SUCH_VALUE)?;
     match error.status {
         UNKNOWN_NAME => out.push("Unknown name: "),
         NAME_WITHOUT_TRIPLE => out.push("No triple has this name: "),
@@ -34,22 +34,13 @@ fn start_of_line<'a>(bytes: &'a [u8], error: &TextError, out: &mut Text) -> Resu
             }; // which a text never refuses
         }
     }
-    Ok(Some(part))
-}
-
-/// Writes the line of a refusal, with the part as it is.
-pub(crate) fn line(bytes: &[u8], error: &TextError, out: &mut Text) -> Result<(), Status> {
-    if let Some(part) = start_of_line(bytes, error, out)? {
-        out.push(part);
-    }
+    push_visible(part, out);
     Ok(())
 }
 
 /// Writes the line of a refusal, the text, and carets under the part with what may have been meant.
 pub(crate) fn line_and_caret(bytes: &[u8], error: &TextError, out: &mut Text) -> Result<(), Status> {
-    if let Some(part) = start_of_line(bytes, error, out)? {
-        push_visible(part.as_bytes(), out);
-    }
+    push_line(bytes, error, out)?;
     out.push("\n  ");
     let before = push_visible(&bytes[..error.start], out);
     let part = push_visible(part(bytes, error)?, out);

@@ -56,7 +56,7 @@ fn the_names_are_those_of_the_enumerators() {
     for (c, cpp) in [
         ("family", "Family"),
         ("dialect", "Dialect"),
-        ("linux_libc", "LinuxLibc"),
+        ("chosen_libc", "ChosenLibc"),
         ("endianness", "Endianness"),
         ("calling_convention", "CallingConvention"),
         ("data_model", "DataModel"),
@@ -77,7 +77,7 @@ fn the_names_are_those_of_the_enumerators() {
     let dialects = (0..).map_while(dialect_at).map(|it| letters(it.map_or("none", |it| it.name())));
     assert_eq!(of_c("dialect"), dialects.collect::<Vec<_>>());
     let c_libraries = (0..).map_while(c_library_at).map(|it| letters(it.map_or("none", |it| it.name())));
-    assert_eq!(of_c("linux_libc"), c_libraries.collect::<Vec<_>>());
+    assert_eq!(of_c("chosen_libc"), c_libraries.collect::<Vec<_>>());
 }
 
 /// A call may be given null for a text, a buffer, an array of `parts`, `length`, `error`, `reason` and `note`, and for

@@ -31,9 +31,9 @@ mod zero_ended;
 
 use core::mem::size_of;
 use core::ptr::{addr_of, null};
-use core::{slice, str};
+use core::{fmt, slice, str};
 use error::{Fault, TextError};
-use error_text::{line, line_and_caret, suggestion};
+use error_text::{line_and_caret, suggestion};
 use fact_groups::QueryFacts;
 use facts::{Facts, FirstFacts};
 use lines::settle_lines;
@@ -42,7 +42,7 @@ use numbers::*;
 use sources::FieldSources;
 use target_lexicon::{DeploymentTarget, TripleRef};
 use target_names::{
-    vendor_suggestion, Dialect, Name, NameError, Suggestion, TargetInfo, TranslateError, VersionOf, Versions, WriteError,
+    vendor_suggestion, Dialect, Name, NameError, TargetInfo, TranslateError, VersionOf, Versions, WriteError,
 };
 use text::{shown, write_text, written, Text};
 use triple::{NumberedTriple, TripleNumbers};
@@ -82,9 +82,9 @@ pub struct Version {
 #[repr(C)]
 pub struct NamedVersions([Version; VersionOf::ALL.len()]);
 
-/// `struct lexicon_change`.
+/// `struct lexicon_part`.
 #[repr(C)]
-pub struct Change {
+pub struct Part {
     start: usize,
     end: usize,
 }
@@ -313,21 +313,21 @@ pub unsafe extern "C" fn lexicon_settle_lines(
 }
 
 #[no_mangle]
-pub unsafe extern "C" fn lexicon_comes_back(triple: *const Triple, comes_back: *mut bool) -> Status {
-    unsafe { answer(comes_back, Triple::read(triple).map(|it| it.comes_back())) }
+pub unsafe extern "C" fn lexicon_comes_back(triple: *const Triple) -> bool {
+    unsafe { Triple::read(triple) }.map_or(false, |it| it.comes_back())
 }
 
 #[no_mangle]
-pub unsafe extern "C" fn lexicon_equal(first: *const Triple, second: *const Triple, equal: *mut bool) -> Status {
-    unsafe { answer(equal, both(first, second).map(|(first, second)| first == second)) }
+pub unsafe extern "C" fn lexicon_equal(first: *const Triple, second: *const Triple) -> bool {
+    unsafe { both(first, second) }.map_or(false, |(first, second)| first == second)
 }
 
 #[no_mangle]
-pub unsafe extern "C" fn lexicon_same_target(first: *const Triple, second: *const Triple, same: *mut bool) -> Status {
-    unsafe { answer(same, both(first, second).map(|(first, second)| first.settles_as(second))) }
+pub unsafe extern "C" fn lexicon_same_target(first: *const Triple, second: *const Triple) -> bool {
+    unsafe { both(first, second) }.map_or(false, |(first, second)| first.settles_as(second))
 }
 
-/// Two triples of the caller. Of two that are wrong, the fault is the first one's.
+/// Two triples of the caller.
 unsafe fn both<'a>(first: *const Triple, second: *const Triple) -> Result<(TripleRef<'a>, TripleRef<'a>), Fault> {
     unsafe { Ok((Triple::read(first)?, Triple::read(second)?)) }
 }
@@ -365,8 +365,8 @@ unsafe fn write_facts<T: for<'a> From<&'a TripleRef<'a>> + AsMut<QueryFacts>>(tr
 }
 
 #[no_mangle]
-pub unsafe extern "C" fn lexicon_complete(triple: *mut Triple, linux_libc: u32) -> Status {
-    match c_library_at(linux_libc).flatten() {
+pub unsafe extern "C" fn lexicon_complete(triple: *mut Triple, chosen_libc: u32) -> Status {
+    match c_library_at(chosen_libc).flatten() {
         Some(c_library) => unsafe { answer(triple, Triple::read(triple).map(|it| it.with_c_library(c_library))) },
         None => NO_SUCH_C_LIBRARY,
     }
@@ -449,8 +449,8 @@ unsafe fn write_name(
 
 #[no_mangle]
 pub unsafe extern "C" fn lexicon_translate(
-    from: u32, name: *const u8, name_size: usize, linux_libc: u32, versions: *const NamedVersions, to: u32, out: *mut u8,
-    out_size: usize, length: *mut usize, error: *mut TextError,
+    from: u32, name: *const u8, name_size: usize, chosen_libc: u32, versions: *const NamedVersions, to: u32,
+    out: *mut u8, out_size: usize, length: *mut usize, error: *mut TextError,
 ) -> Status {
     let versions = unsafe { versions_at(versions) };
     let find = || {
@@ -461,7 +461,7 @@ pub unsafe extern "C" fn lexicon_translate(
         }
         let from = dialect_at(from).ok_or(no_range(NO_SUCH_DIALECT))?;
         let to = dialect_at(to).flatten().ok_or(no_range(NO_SUCH_DIALECT))?;
-        let c_library = c_library_at(linux_libc).ok_or(no_range(NO_SUCH_C_LIBRARY))?;
+        let c_library = c_library_at(chosen_libc).ok_or(no_range(NO_SUCH_C_LIBRARY))?;
         let text = text_of(bytes)?;
         let found = match from {
             Some(from) => from.translate_with(text, c_library, &versions, to),
@@ -477,7 +477,7 @@ pub unsafe extern "C" fn lexicon_translate(
 
 #[no_mangle]
 pub unsafe extern "C" fn lexicon_changes(
-    text: *const u8, text_size: usize, number: usize, change: *mut Change, out: *mut u8, out_size: usize,
+    text: *const u8, text_size: usize, number: usize, part: *mut Part, out: *mut u8, out_size: usize,
     length: *mut usize,
 ) -> Status {
     let find = || {
@@ -488,7 +488,7 @@ pub unsafe extern "C" fn lexicon_changes(
     let status = unsafe { write_text(out, out_size, length, |out| Ok(shown(&found?.names, out))) };
     if let (OK, Ok(found)) = (status, found) {
         let range = found.part.range();
-        unsafe { change.write(Change { start: range.start, end: range.end }) }
+        unsafe { part.write(Part { start: range.start, end: range.end }) }
     }
     status
 }
@@ -509,11 +509,11 @@ pub unsafe extern "C" fn lexicon_readers(
 
 #[no_mangle]
 pub unsafe extern "C" fn lexicon_targets(
-    text: *const u8, text_size: usize, parts: *mut Change, most: usize, count: *mut usize,
+    text: *const u8, text_size: usize, parts: *mut Part, most: usize, count: *mut usize,
 ) -> Status {
     let range = |word: target_names::Word<'_>| {
         let start = word.start();
-        Change { start, end: start + word.text().len() }
+        Part { start, end: start + word.text().len() }
     };
     unsafe { each_of(text, text_size, parts, most, count, |text| target_names::targets_in(text).map(range)) }
 }
@@ -537,24 +537,6 @@ unsafe fn each_of<'a, T, F: Iterator<Item = T>>(
     }
     unsafe { count.write(found) }
     if found <= most { OK } else { TOO_SMALL }
-}
-
-#[no_mangle]
-pub unsafe extern "C" fn lexicon_name_suggestion(dialect: u32, name: *const u8, name_size: usize) -> *const u8 {
-    let dialect = dialect_at(dialect).flatten();
-    let name = unsafe { text_at(name, name_size) }.ok();
-    let unknown = dialect.zip(name).filter(|(dialect, name)| dialect.read_loosely(name) == Err(NameError::Unknown));
-    unknown.and_then(|(dialect, name)| dialect.suggestion(name)).map_or(null(), c_name)
-}
-
-#[no_mangle]
-pub unsafe extern "C" fn lexicon_error_line(
-    text: *const u8, text_size: usize, error: *const TextError, out: *mut u8, out_size: usize, length: *mut usize,
-) -> Status {
-    match unsafe { refused_at(text, text_size, error, out_size) } {
-        Ok((bytes, error)) => unsafe { Text::write(out, out_size, length, |out| line(bytes, &error, out)) },
-        Err(status) => status,
-    }
 }
 
 #[no_mangle]
@@ -585,8 +567,23 @@ pub unsafe extern "C" fn lexicon_vendor_suggestion(triple: *const Triple, out: *
     }
 }
 
+#[no_mangle]
+pub unsafe extern "C" fn lexicon_name_suggestion(
+    dialect: u32, name: *const u8, name_size: usize, out: *mut u8, out_size: usize, length: *mut usize,
+) -> Status {
+    let name = match unsafe { text_at(name, name_size) } {
+        Err(error) if error.status == TOO_LARGE => return TOO_LARGE,
+        name => name.ok(),
+    };
+    let given = dialect_at(dialect).flatten().zip(name);
+    let unknown = given.filter(|(dialect, name)| dialect.read_loosely(name) == Err(NameError::Unknown));
+    unsafe { write_suggestion(unknown.and_then(|(dialect, name)| dialect.suggestion(name)), out, out_size, length) }
+}
+
 /// Writes a suggestion if there is one.
-unsafe fn write_suggestion(found: Option<Suggestion<'_>>, out: *mut u8, out_size: usize, length: *mut usize) -> Status {
+unsafe fn write_suggestion(
+    found: Option<impl fmt::Display>, out: *mut u8, out_size: usize, length: *mut usize,
+) -> Status {
     match found {
         _ if out_size > MAX_SIZE => TOO_LARGE,
         Some(found) => unsafe { write_text(out, out_size, length, |out| Ok(shown(&found, out))) },

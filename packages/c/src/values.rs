@@ -5,7 +5,7 @@ use core::fmt::Display;
 use core::str::FromStr as _;
 use target_lexicon::{Architecture, BinaryFormat, DeploymentTarget, Environment, Field, OperatingSystem, VendorRef};
 use target_lexicon::{Named as _, OperatingSystemExt as _};
-use target_names::{Dialect, LinuxLibc, NameOf};
+use target_names::{ChosenLibc, Dialect, NameOf};
 
 /// The number that says that a vendor is a custom one.
 pub(crate) const CUSTOM_VENDOR: u8 = 255;
@@ -40,8 +40,8 @@ pub(crate) fn name_of_number(of: NameOf) -> u32 {
 }
 
 /// The C library of this number. 0 is none.
-pub(crate) fn c_library_at(number: u32) -> Option<Option<LinuxLibc>> {
-    use LinuxLibc::{Glibc, Gnullvm, Mingw, Msvc, Musl};
+pub(crate) fn c_library_at(number: u32) -> Option<Option<ChosenLibc>> {
+    use ChosenLibc::{Glibc, Gnullvm, Mingw, Msvc, Musl};
     none_or_at(number, &[Glibc, Musl, Msvc, Mingw, Gnullvm])
 }
 

@@ -103,15 +103,14 @@ static enum lexicon_status versioned_name(const struct asked *it, char *out, siz
 TEXT(versioned, versioned_name(it, out, size, length, NULL))
 static const struct lexicon_versions GLIBC_AND_MACOS = {{2, 17, 0}, {0, 0, 0}, {11, 0, 0}, {0, 0, 0}, {0, 0, 0},
                                                         {0, 0, 0}, {0, 0, 0}, {0, 0, 0}, {0, 0, 0}, {0, 0, 0}};
-TEXT(translated_versioned, lexicon_translate(LEXICON_DIALECT_OCI, it->text, it->size, LEXICON_LINUX_LIBC_GLIBC,
+TEXT(translated_versioned, lexicon_translate(LEXICON_DIALECT_OCI, it->text, it->size, LEXICON_CHOSEN_LIBC_GLIBC,
     &GLIBC_AND_MACOS, LEXICON_DIALECT_PYTHON, out, size, length, NULL))
 TEXT(vendor_suggestion, lexicon_vendor_suggestion(&it->triple, out, size, length))
 TEXT(settled_lines, lexicon_settle_lines(it->text, it->size, out, size, length))
-TEXT(error_line, lexicon_error_line(it->text, it->size, &it->error, out, size, length))
 TEXT(error_text, lexicon_error_text(it->text, it->size, &it->error, out, size, length))
 TEXT(suggestion, lexicon_suggestion(it->text, it->size, &it->error, out, size, length))
 
-STRING(name_suggestion, lexicon_name_suggestion(n[0], it->text, it->size))
+TEXT(name_suggestion, lexicon_name_suggestion(n[0], it->text, it->size, out, size, length))
 STRING(name, lexicon_name(n[0], n[1]))
 
 TRIPLE(parsed, lexicon_parse(it->text, it->size, &made, NULL))
@@ -148,7 +147,7 @@ WRITES(reader) { return meaning_by(lexicon_readers, it, out, size, length); }
 
 /* The change with a number, whose part begins and ends at the others. */
 WRITES(change) {
-  struct lexicon_change part;
+  struct lexicon_part part;
   fill(&part, sizeof part);
   enum lexicon_status status = lexicon_changes(it->text, it->size, it->numbers[0], &part, out, size, length);
   EXPECT(status == LEXICON_OK ? part.start == it->numbers[1] && part.end == it->numbers[2]
@@ -159,7 +158,7 @@ WRITES(change) {
 /* Where the target with a number is, whose array has room for one more than that; the other numbers are the count and
    its end. */
 WRITES(target) {
-  struct lexicon_change parts[3];
+  struct lexicon_part parts[3];
   size_t found = 77, number = it->numbers[0];
   fill(parts, sizeof parts);
   enum lexicon_status status = lexicon_targets(it->text, it->size, parts, number + 1, &found);
@@ -203,7 +202,7 @@ STRING(translate_reason, untranslated(*it))
 WRITES(translate_error) {
   struct asked other = *it;
   EXPECT(translated_with(it, NULL, 0, NULL, &other.error) == other.error.status);
-  return error_line(&other, out, size, length);
+  return error_text(&other, out, size, length);
 }
 
 static enum lexicon_status version_by(enum lexicon_status call(const struct lexicon_triple *,
@@ -217,11 +216,7 @@ static enum lexicon_status version_by(enum lexicon_status call(const struct lexi
 }
 TEXT(macos_version, version_by(lexicon_macos_version, it, out, size, length))
 
-WRITES(comes_back) {
-  bool answer = false;
-  enum lexicon_status status = lexicon_comes_back(&it->triple, &answer);
-  return status == LEXICON_OK ? copied(answer ? "yes" : "no", out, size, length) : status;
-}
+STRING(comes_back, lexicon_comes_back(&it->triple) ? "yes" : "no")
 
 WRITES(number) {
   uint32_t found = 0;
@@ -279,7 +274,7 @@ WRITES(facts) {
 enum {
   DEBIAN = LEXICON_DIALECT_DEBIAN, GO = LEXICON_DIALECT_GO, OCI = LEXICON_DIALECT_OCI, NODE = LEXICON_DIALECT_NODE,
   GNU = LEXICON_DIALECT_GNU, PYTHON = LEXICON_DIALECT_PYTHON, RUST = LEXICON_DIALECT_RUST, APK = LEXICON_DIALECT_APK,
-  GLIBC = LEXICON_LINUX_LIBC_GLIBC, MSVC = LEXICON_LINUX_LIBC_MSVC
+  GLIBC = LEXICON_CHOSEN_LIBC_GLIBC, MSVC = LEXICON_CHOSEN_LIBC_MSVC
 };
 
 static const struct row {
@@ -320,7 +315,6 @@ static const struct row {
   {error_text, "x86_64-\xff-linux", {0}, LEXICON_OK, "Not UTF-8\n  x86_64-\\u{fffd}-linux\n         ^^^^^^^^"},
   {error_text, "x86_64-\xf0\x9f\x98\x80'", {0}, LEXICON_OK,
       "Unrecognized vendor: \\u{1f600}'\n  x86_64-\\u{1f600}'\n         ^^^^^^^^^^"},
-  {error_line, "x86_64-linux-gn\xc3\xbc", {0}, LEXICON_OK, "Unrecognized environment: gn\xc3\xbc"},
   {suggestion, "x86_64-pc-linx", {0}, LEXICON_OK, "linux"},
   {suggestion, "x86_64-gnu-linux", {0}, LEXICON_NO_SUGGESTION, NULL},
   {vendor_suggestion, "x86_64-iso17.2", {0}, LEXICON_OK, "ios17.2"},
@@ -380,6 +374,10 @@ static const struct row {
   {read_error, "linux/amd64", {77}, LEXICON_NO_SUCH_VALUE, NULL},
   {reason, "plan9/386", {GO}, LEXICON_OK, "Plan 9 is no known name"},
   {name_suggestion, "linux/amd46", {GO}, LEXICON_OK, "linux/amd64"},
+  {name_suggestion, "linux/amd64", {GO}, LEXICON_NO_SUGGESTION, NULL},
+  {name_suggestion, "linux/amd46", {0}, LEXICON_NO_SUGGESTION, NULL},
+  {name_suggestion, "linux/amd46", {77}, LEXICON_NO_SUGGESTION, NULL},
+  {name_suggestion, "linux/\xff", {GO}, LEXICON_NO_SUGGESTION, NULL},
 
   {written, "x86_64-acme-linux-gnu", {DEBIAN}, LEXICON_OK, "amd64"},
   {written, "x86_64-acme-linux-gnu", {GNU}, LEXICON_OK, "x86_64-linux-gnu"},
@@ -412,8 +410,9 @@ static const struct row {
   {translated, "linux/amd64", {OCI, 0, DEBIAN}, LEXICON_NEEDS_C_LIBRARY, NULL},
   {translated, "windows/amd64", {OCI, GLIBC, DEBIAN}, LEXICON_TRIPLE_WITHOUT_NAME, NULL},
   {translated, "js/wasm", {GO, 0, OCI}, LEXICON_NAME_WITHOUT_TRIPLE, NULL},
-  {translate_error, "linux/amd64", {OCI, 0, DEBIAN}, LEXICON_OK, "No name in the other dialect: linux/amd64"},
-  {translate_error, "js/wasm", {GO, 0, OCI}, LEXICON_OK, "No triple has this name: js/wasm"},
+  {translate_error, "linux/amd64", {OCI, 0, DEBIAN}, LEXICON_OK,
+      "No name in the other dialect: linux/amd64\n  linux/amd64\n  ^^^^^^^^^^^"},
+  {translate_error, "js/wasm", {GO, 0, OCI}, LEXICON_OK, "No triple has this name: js/wasm\n  js/wasm\n  ^^^^^^^"},
   {translate_reason, "linux/amd64", {OCI, 0, DEBIAN}, LEXICON_OK, SAY_LIBRARY},
   {translate_reason, "plan9/386", {GO, 0, OCI}, LEXICON_OK, "Plan 9 is no known name"},
 
@@ -477,7 +476,7 @@ static void try_row(const struct row *row) {
     fill(out, sizeof out);
     length = 0;
     EXPECT(row->call(&it, out, room, &length) == LEXICON_TOO_SMALL && length == size);
-    if (row->call != settled_lines && row->call != error_line && row->call != error_text && row->call != read_error &&
+    if (row->call != settled_lines && row->call != error_text && row->call != read_error &&
         row->call != translate_error) {
       EXPECT(is_filled(out, sizeof out));
     } else {
@@ -500,12 +499,10 @@ static void try_bad_errors(void) {
   fill(out, sizeof out);
   for (size_t i = 0; i < sizeof bad / sizeof *bad; i++) {
     it.error = bad[i];
-    EXPECT(error_line(&it, out, 8, &length) == LEXICON_NO_SUCH_VALUE &&
-        error_text(&it, out, 8, &length) == LEXICON_NO_SUCH_VALUE);
+    EXPECT(error_text(&it, out, 8, &length) == LEXICON_NO_SUCH_VALUE);
     EXPECT(suggestion(&it, out, 8, &length) == LEXICON_NO_SUGGESTION);
   }
-  EXPECT(lexicon_error_line(it.text, 3, NULL, out, 8, NULL) == LEXICON_NO_SUCH_VALUE &&
-      lexicon_error_text(it.text, 3, NULL, out, 8, NULL) == LEXICON_NO_SUCH_VALUE);
+  EXPECT(lexicon_error_text(it.text, 3, NULL, out, 8, NULL) == LEXICON_NO_SUCH_VALUE);
   EXPECT(lexicon_suggestion(it.text, 3, NULL, out, 8, NULL) == LEXICON_NO_SUGGESTION && length == 77 &&
       is_filled(out, sizeof out));
   EXPECT(lexicon_parse_strict("x86_64-linx", 11, &it.triple, &it.error) == LEXICON_UNRECOGNIZED_VENDOR &&
@@ -522,9 +519,9 @@ static void try_bad_errors(void) {
 /* Sizes that no memory has, of which one is 4 with a bit more. What is there isn't looked at, and nothing is
    written. */
 static void try_too_large(void) {
-  static writes *const calls[] = {settled_lines, error_line, error_text, suggestion, parsed, strict, read, meaning,
+  static writes *const calls[] = {settled_lines, error_text, suggestion, name_suggestion, parsed, strict, read, meaning,
       change, translated, number};
-  static writes *const strings[] = {reason, translate_reason, name_suggestion};
+  static writes *const strings[] = {reason, translate_reason};
   const size_t sizes[] = {(size_t)PTRDIFF_MAX + 1, (size_t)PTRDIFF_MAX + 5, SIZE_MAX};
   struct asked it = asked_of("x86_64-linux"), other = it;
   struct lexicon_sources of;
@@ -548,17 +545,17 @@ static void try_too_large(void) {
     EXPECT(lexicon_facts(&it.triple, (struct lexicon_triple_facts *)(void *)out, sizes[i]) == LEXICON_TOO_LARGE);
   }
   it.size = 12; /* of an array */
-  for (size_t most = PTRDIFF_MAX / sizeof(struct lexicon_change) + 1; most; most <<= 1)
-    EXPECT(lexicon_targets(it.text, it.size, (struct lexicon_change *)(void *)out, most, &length) == LEXICON_TOO_LARGE &&
-        lexicon_targets("\xff", 1, (struct lexicon_change *)(void *)out, most, &length) == LEXICON_TOO_LARGE);
+  for (size_t most = PTRDIFF_MAX / sizeof(struct lexicon_part) + 1; most; most <<= 1)
+    EXPECT(lexicon_targets(it.text, it.size, (struct lexicon_part *)(void *)out, most, &length) == LEXICON_TOO_LARGE &&
+        lexicon_targets("\xff", 1, (struct lexicon_part *)(void *)out, most, &length) == LEXICON_TOO_LARGE);
   it.size = SIZE_MAX;
   it.numbers[0] = it.numbers[2] = 77;
   EXPECT(written(&it, out, SIZE_MAX, &length) == LEXICON_TOO_LARGE &&
       suggestion(&it, out, SIZE_MAX, &length) == LEXICON_TOO_LARGE);
   it.size = 12;
   EXPECT(translated(&it, out, SIZE_MAX, &length) == LEXICON_TOO_LARGE &&
-      suggestion(&it, out, SIZE_MAX, &length) == LEXICON_TOO_LARGE);
-  EXPECT(lexicon_error_line(it.text, it.size, NULL, out, SIZE_MAX, &length) == LEXICON_TOO_LARGE);
+      suggestion(&it, out, SIZE_MAX, &length) == LEXICON_TOO_LARGE &&
+      name_suggestion(&it, out, SIZE_MAX, &length) == LEXICON_TOO_LARGE);
   EXPECT(lexicon_error_text(it.text, it.size, NULL, out, SIZE_MAX, &length) == LEXICON_TOO_LARGE);
   it.triple.environment = 255;
   EXPECT(vendor_suggestion(&it, out, sizeof out, &length) == LEXICON_NO_SUCH_VALUE);
@@ -577,9 +574,8 @@ static void try_pairs(void) {
       {"riscv32imc-esp-espidf", "riscv32imc-espressif-espidf-unknown-elf", false, true}};
   for (size_t i = 0; i < sizeof pairs / sizeof *pairs; i++) {
     struct lexicon_triple first = asked_of(pairs[i].first).triple, second = asked_of(pairs[i].second).triple;
-    bool equal = !pairs[i].equal, same = !pairs[i].same;
-    EXPECT(lexicon_equal(&first, &second, &equal) == LEXICON_OK && equal == pairs[i].equal);
-    EXPECT(lexicon_same_target(&first, &second, &same) == LEXICON_OK && same == pairs[i].same);
+    EXPECT(lexicon_equal(&first, &second) == pairs[i].equal);
+    EXPECT(lexicon_same_target(&first, &second) == pairs[i].same);
   }
 }
 

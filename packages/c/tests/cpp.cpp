@@ -263,7 +263,7 @@ static void try_names() {
   try_names_of<FloatAbi>("soft");
   try_names_of<ArmProfile>("A");
   try_names_of<Signedness>("signed");
-  try_names_of<LinuxLibc>("glibc");
+  try_names_of<ChosenLibc>("glibc");
   try_names_of<Origin>("given");
   EXPECT(name(Vendor::Custom).empty() && dialect_named("docker") == Dialect::Oci && !dialect_named("podman") &&
       version().substr(0, 5) == LEXICON_VERSION);
@@ -292,7 +292,7 @@ static void try_dialects() {
   versions.glibc = {2, 17, 0};
   EXPECT(parsed("aarch64-linux-android").versioned_name_in(Dialect::Python, versions) == "android_21_arm64_v8a");
   EXPECT(parsed("x86_64-linux-gnu").versioned_name_in(Dialect::Python, versions) == "manylinux_2_17_x86_64");
-  EXPECT(Triple::translate("linux/amd64", Dialect::Oci, Dialect::Python, LinuxLibc::Glibc, nullptr, versions) ==
+  EXPECT(Triple::translate("linux/amd64", Dialect::Oci, Dialect::Python, ChosenLibc::Glibc, nullptr, versions) ==
       "manylinux_2_17_x86_64");
   versions.glibc = {1, 2, 0};
   EXPECT(!parsed("x86_64-linux-gnu").versioned_name_in(Dialect::Python, versions, &reason) &&
@@ -301,15 +301,15 @@ static void try_dialects() {
 
 static void try_translation() {
   ParseError error;
-  EXPECT(parsed("armv7-acme-linux").completed(LinuxLibc::Musl).printed() == "armv7-acme-linux-musleabihf");
-  EXPECT(parsed("x86_64-linux").completed(static_cast<LinuxLibc>(9)) == parsed("x86_64-linux"));
-  EXPECT(Triple::translate("linux/arm64/v8", Dialect::Oci, Dialect::Rust, LinuxLibc::Glibc) ==
+  EXPECT(parsed("armv7-acme-linux").completed(ChosenLibc::Musl).printed() == "armv7-acme-linux-musleabihf");
+  EXPECT(parsed("x86_64-linux").completed(static_cast<ChosenLibc>(9)) == parsed("x86_64-linux"));
+  EXPECT(Triple::translate("linux/arm64/v8", Dialect::Oci, Dialect::Rust, ChosenLibc::Glibc) ==
       "aarch64-unknown-linux-gnu");
   EXPECT(Triple::translate("x86_64-w64-mingw32", std::nullopt, Dialect::Node) == "win32-x64-gnu");
   EXPECT(!Triple::translate("linux/arm64", Dialect::Oci, Dialect::Debian, std::nullopt, &error) &&
       error.status == LEXICON_NEEDS_C_LIBRARY);
   EXPECT(error.line == "No name in the other dialect: linux/arm64");
-  EXPECT(shown(error) == error.line.raw + "\n  linux/arm64\n  ^^^^^^^^^^^ it depends on the C library: say glibc or musl");
+  EXPECT(shown(error) == error.line + "\n  linux/arm64\n  ^^^^^^^^^^^ it depends on the C library: say glibc or musl");
   auto found = changes("amd64-unknown-freebsd13.2");
   EXPECT(found.size() == 2 && found[0].part == "amd64" && found[0].names == "x86_64" && found[1].start == 14 &&
       found[1].end == 25);

@@ -84,12 +84,6 @@ static size_t printed(const struct lexicon_triple *triple, int region, char **te
   return strlen(*text);
 }
 
-static bool are_equal(const struct lexicon_triple *first, const struct lexicon_triple *second) {
-  bool answer = false;
-  CHECK(lexicon_equal(first, second, &answer) == LEXICON_OK);
-  return answer;
-}
-
 /* Whether every field that is not read is 0. */
 static bool has_zeros(const struct lexicon_triple *it) {
   bool no_vendor = it->custom_vendor == NULL && it->custom_vendor_size == 0;
@@ -119,7 +113,7 @@ static void try_names(const struct lexicon_triple *triple) {
     CHECK(status == LEXICON_OK || error.reason != NULL);
     if (status != LEXICON_OK) continue;
     CHECK(lexicon_write(dialect, &shape, again, sizeof again, NULL, NULL) == LEXICON_OK && strcmp(again, name) == 0);
-    CHECK(lexicon_translate(dialect, name, length, LEXICON_LINUX_LIBC_NONE, NULL, dialect, again, sizeof again, NULL,
+    CHECK(lexicon_translate(dialect, name, length, LEXICON_CHOSEN_LIBC_NONE, NULL, dialect, again, sizeof again, NULL,
         NULL) == LEXICON_OK);
     CHECK(strcmp(again, name) == 0);
   }
@@ -215,15 +209,14 @@ static void try_translations(const char *text, size_t size) {
 static void try_triple(const struct lexicon_triple *triple) {
   struct lexicon_triple settled = *triple, again;
   struct lexicon_triple_facts facts;
-  bool comes_back = false, same = false;
   char *text, *settled_text;
   CHECK(lexicon_settle(&settled) == LEXICON_OK && has_zeros(&settled));
-  CHECK(lexicon_comes_back(triple, &comes_back) == LEXICON_OK);
-  CHECK(lexicon_same_target(triple, &settled, &same) == LEXICON_OK && same);
+  CHECK(lexicon_same_target(triple, &settled));
   size_t length = printed(triple, 2, &text);
-  CHECK(lexicon_parse(text, length, &again, NULL) == LEXICON_OK && are_equal(&again, triple) == comes_back);
+  CHECK(lexicon_parse(text, length, &again, NULL) == LEXICON_OK);
+  CHECK(lexicon_equal(&again, triple) == lexicon_comes_back(triple));
   size_t settled_length = printed(&settled, 3, &settled_text);
-  CHECK(lexicon_parse(settled_text, settled_length, &again, NULL) == LEXICON_OK && are_equal(&again, &settled));
+  CHECK(lexicon_parse(settled_text, settled_length, &again, NULL) == LEXICON_OK && lexicon_equal(&again, &settled));
   CHECK(lexicon_all_facts(triple, &facts) == LEXICON_OK &&
       facts.has_custom_vendor == (triple->vendor == LEXICON_VENDOR_CUSTOM));
   for (size_t size = 0; size <= sizeof facts + 2; size++) {
@@ -233,21 +226,21 @@ static void try_triple(const struct lexicon_triple *triple) {
     CHECK(memcmp(some, &facts, size < sizeof facts ? size : sizeof facts) == 0);
     for (size_t i = sizeof facts; i < size; i++) CHECK(some[i] == 0); /* of a newer header */
   }
-  for (uint32_t libc = LEXICON_LINUX_LIBC_GLIBC; libc <= LEXICON_LINUX_LIBC_GNULLVM; libc++) {
+  for (uint32_t libc = LEXICON_CHOSEN_LIBC_GLIBC; libc <= LEXICON_CHOSEN_LIBC_GNULLVM; libc++) {
     struct lexicon_triple completed = *triple;
     CHECK(lexicon_complete(&completed, libc) == LEXICON_OK && has_zeros(&completed));
-    uint8_t system = libc <= LEXICON_LINUX_LIBC_MUSL ? LEXICON_OPERATING_SYSTEM_LINUX
+    uint8_t system = libc <= LEXICON_CHOSEN_LIBC_MUSL ? LEXICON_OPERATING_SYSTEM_LINUX
         : LEXICON_OPERATING_SYSTEM_WINDOWS;
     bool is_open = triple->operating_system == system && triple->environment == LEXICON_ENVIRONMENT_UNKNOWN &&
                    (system != LEXICON_OPERATING_SYSTEM_LINUX || triple->architecture != LEXICON_ARCHITECTURE_ARM);
     CHECK((completed.environment != triple->environment) == is_open);
     completed.environment = triple->environment;
-    CHECK(are_equal(&completed, triple));
+    CHECK(lexicon_equal(&completed, triple));
   }
   settled = *triple;
-  CHECK(lexicon_complete(&settled, LEXICON_LINUX_LIBC_NONE) == LEXICON_NO_SUCH_C_LIBRARY &&
+  CHECK(lexicon_complete(&settled, LEXICON_CHOSEN_LIBC_NONE) == LEXICON_NO_SUCH_C_LIBRARY &&
       lexicon_complete(&settled, 6) == LEXICON_NO_SUCH_C_LIBRARY);
-  CHECK(are_equal(&settled, triple));
+  CHECK(lexicon_equal(&settled, triple));
   try_names(triple);
   try_texts(triple);
   try_versions(triple);
@@ -290,13 +283,11 @@ static uint32_t expected_status(const struct lexicon_triple *it) {
 }
 
 /* All calls give the status, and change nothing. */
-static void try_bad(const struct lexicon_triple *bad, const struct lexicon_triple *other, uint32_t other_status,
-    uint32_t status) {
+static void try_bad(const struct lexicon_triple *bad, const struct lexicon_triple *other, uint32_t status) {
   struct lexicon_triple copy = *bad;
   struct lexicon_triple_facts facts;
   char out[64];
   size_t length = 77;
-  bool answer = true;
   memset(&facts, 0xa5, sizeof facts);
   memset(out, 0xa5, sizeof out);
   for (size_t i = 0; i < sizeof texts / sizeof *texts; i++) {
@@ -304,13 +295,12 @@ static void try_bad(const struct lexicon_triple *bad, const struct lexicon_tripl
   }
   CHECK(lexicon_facts(bad, &facts, sizeof facts) == status && is_unchanged(&facts, sizeof facts));
   CHECK(lexicon_settle(&copy) == status && memcmp(&copy, bad, sizeof copy) == 0);
-  CHECK(lexicon_complete(&copy, LEXICON_LINUX_LIBC_MUSL) == status && memcmp(&copy, bad, sizeof copy) == 0);
+  CHECK(lexicon_complete(&copy, LEXICON_CHOSEN_LIBC_MUSL) == status && memcmp(&copy, bad, sizeof copy) == 0);
   struct lexicon_os_version version;
   memset(&version, 0xa5, sizeof version);
   CHECK(lexicon_macos_version(bad, &version) == status && is_unchanged(&version, sizeof version));
-  CHECK(lexicon_comes_back(bad, &answer) == status && lexicon_equal(bad, other, &answer) == status && answer);
-  CHECK(lexicon_equal(other, bad, &answer) == (other_status ? other_status : status) && answer);
-  CHECK(lexicon_same_target(other, bad, &answer) == (other_status ? other_status : status) && answer);
+  CHECK(!lexicon_comes_back(bad) && !lexicon_equal(bad, bad) && !lexicon_same_target(bad, bad));
+  CHECK(!lexicon_equal(bad, other) && !lexicon_equal(other, bad) && !lexicon_same_target(other, bad));
 }
 
 /* An arbitrary struct. By the first byte its numbers are small, so that most are values. */
@@ -336,7 +326,7 @@ static struct lexicon_triple *take_triple(struct input *input, int region, int v
 static uint32_t try_struct(const struct lexicon_triple *it, const struct lexicon_triple *other) {
   uint32_t status = expected_status(it);
   if (status == LEXICON_OK) try_triple(it);
-  else try_bad(it, other, expected_status(other), status);
+  else try_bad(it, other, status);
   return status;
 }
 
@@ -345,23 +335,21 @@ static void try_structs(struct input *input) {
   uint32_t status = try_struct(first, second), other = try_struct(second, first);
   if (status == LEXICON_OK && other == LEXICON_OK) {
     struct lexicon_triple a = *first, b = *second;
-    bool same = false;
     CHECK(lexicon_settle(&a) == LEXICON_OK && lexicon_settle(&b) == LEXICON_OK);
-    CHECK(lexicon_same_target(first, second, &same) == LEXICON_OK && same == are_equal(&a, &b));
-    CHECK(are_equal(first, second) == are_equal(second, first));
+    CHECK(lexicon_same_target(first, second) == lexicon_equal(&a, &b));
+    CHECK(lexicon_equal(first, second) == lexicon_equal(second, first));
   }
 }
 
-/* Both texts of an error, which begin with the same line, with each size of buffer that matters. */
+/* The text of an error, with each size of buffer that matters. */
 static void try_error(const char *text, size_t size, const struct lexicon_error *error) {
-  size_t line = 77, whole = 77, again = 0;
-  enum lexicon_status status = lexicon_error_line(text, size, error, NULL, 0, &line);
-  CHECK(lexicon_error_text(text, size, error, NULL, 0, &whole) == status);
+  size_t whole = 77, again = 0;
+  enum lexicon_status status = lexicon_error_text(text, size, error, NULL, 0, &whole);
   if (status == LEXICON_NO_SUCH_VALUE) {
-    CHECK(line == 77 && whole == 77);
+    CHECK(whole == 77);
     return;
   }
-  CHECK(status == LEXICON_TOO_SMALL && line <= 56 + error->end - error->start && whole > line);
+  CHECK(status == LEXICON_TOO_SMALL);
   char *out = (char *)before_guard(2, whole + 1);
   CHECK(lexicon_error_text(text, size, error, out, whole + 1, &again) == LEXICON_OK && again == whole &&
       strlen(out) == whole);
@@ -371,19 +359,17 @@ static void try_error(const char *text, size_t size, const struct lexicon_error 
   bool has_part = error->status != LEXICON_NOT_UTF8;
   CHECK(of_name || strncmp(out, has_part ? "Unrecognized " : "Not UTF-8", 9) == 0);
   for (const char *it = out; *it; it++) CHECK((*it >= ' ' && *it <= '~') || *it == '\n');
-  const char *part = out + line - (error->end - error->start);
+  const char *part = has_part ? strchr(out, ':') + 2 : out;
   const char *under = strrchr(out, '\n') + 1, *shown = strchr(out, '\n') + 1;
   size_t indent = strspn(under, " "), carets = strspn(under + indent, "^"), width = strcspn(part, "\n");
   if (has_part) CHECK(carets == (width ? width : 1) && strncmp(shown + indent, part, width) == 0);
   out = (char *)before_guard(2, whole / 2 + 1);
   CHECK(lexicon_error_text(text, size, error, out, whole / 2 + 1, &again) == LEXICON_TOO_SMALL && again == whole);
   CHECK(strlen(out) <= whole / 2 && strlen(out) + 4 > whole / 2);
-  out = (char *)before_guard(2, line + 1);
-  CHECK(lexicon_error_line(text, size, error, out, line + 1, &again) == LEXICON_OK && again == line && out[line] == 0);
   size_t room = error->end - error->start + LEXICON_MAX_GROWTH + 1;
   out = (char *)before_guard(2, room);
   status = lexicon_suggestion(text, size, error, out, room, &again);
-  CHECK(status == LEXICON_OK ? again == strlen(out) : status == LEXICON_NO_SUGGESTION && again == line);
+  CHECK(status == LEXICON_OK ? again == strlen(out) : status == LEXICON_NO_SUGGESTION && again == whole);
   uint32_t number, field = error->status - 1;
   size_t first = strcspn(out, "-"); /* windows-gnu is two names */
   if (status == LEXICON_OK) while (lexicon_number(field, out, first, &number) != LEXICON_OK) CHECK(++field < 5);
@@ -400,7 +386,7 @@ static void try_source(const struct lexicon_source *it, size_t size) {
 /* Of a text that is parsed, both calls write the same triple, which is well and points into the text. */
 static void try_parsed(const char *text, size_t size, const struct lexicon_triple *triple,
     const struct lexicon_triple *explained) {
-  CHECK(are_equal(triple, explained) && expected_status(triple) == LEXICON_OK);
+  CHECK(lexicon_equal(triple, explained) && expected_status(triple) == LEXICON_OK);
   bool is_custom = triple->vendor == LEXICON_VENDOR_CUSTOM;
   CHECK(!is_custom ||
       (triple->custom_vendor >= text && triple->custom_vendor + triple->custom_vendor_size <= text + size));
@@ -413,26 +399,25 @@ static void try_parsed(const char *text, size_t size, const struct lexicon_tripl
 /* The changes of a text are parts of it, from its start to its end. One that parses without a custom vendor has none.
    */
 static void try_changes(const char *text, size_t size, uint32_t parsed, const struct lexicon_triple *triple) {
-  struct lexicon_change change;
+  struct lexicon_part part;
   uint32_t status;
   size_t number = 0, last = 0, length = 77;
   for (;; number++) {
-    memset(&change, 0xa5, sizeof change);
+    memset(&part, 0xa5, sizeof part);
     char *names = (char *)before_guard(2, size + 30);
-    status = lexicon_changes(text, size, number, &change, names, size + 30, &length);
+    status = lexicon_changes(text, size, number, &part, names, size + 30, &length);
     if (status != LEXICON_OK) break;
-    CHECK(length > 0 && length == strlen(names) && last <= change.start && change.start <= change.end &&
-        change.end <= size);
-    last = change.end;
+    CHECK(length > 0 && length == strlen(names) && last <= part.start && part.start <= part.end && part.end <= size);
+    last = part.end;
   }
   CHECK(status == LEXICON_NO_SUCH_CHANGE || (status == LEXICON_NOT_UTF8 && number == 0));
-  CHECK(is_unchanged(&change, sizeof change) && (parsed == LEXICON_NOT_UTF8) == (status == LEXICON_NOT_UTF8));
+  CHECK(is_unchanged(&part, sizeof part) && (parsed == LEXICON_NOT_UTF8) == (status == LEXICON_NOT_UTF8));
   CHECK(number == 0 || parsed != LEXICON_OK || triple->vendor == LEXICON_VENDOR_CUSTOM);
 }
 
 /* The targets in a text are parts of it, from its start to its end. */
 static void try_targets(const char *text, size_t size, uint32_t parsed) {
-  struct lexicon_change parts[4];
+  struct lexicon_part parts[4];
   size_t count = 77, last = 0;
   memset(parts, 0xa5, sizeof parts);
   uint32_t status = lexicon_targets(text, size, parts, 3, &count);
@@ -466,14 +451,14 @@ static void try_meanings(const char *text, size_t size, uint32_t parsed) {
     if (!is_own) last = it->dialect;
     CHECK(said == it->status || is_of_several || (is_own && parsed == LEXICON_OK));
     CHECK(expected_status(&it->triple) == LEXICON_OK && has_zeros(&it->triple));
-    if (it->status == LEXICON_OK) CHECK(is_own || is_of_several || are_equal(&it->triple, &read));
+    if (it->status == LEXICON_OK) CHECK(is_own || is_of_several || lexicon_equal(&it->triple, &read));
     else CHECK(it->status == LEXICON_NAME_WITHOUT_TRIPLE && it->note != NULL && !is_own);
   }
   CHECK(lexicon_readers(text, size, found, LEXICON_MAX_MEANINGS, &count) == LEXICON_OK);
   for (size_t number = 0; number < count; number++) {
     const struct lexicon_meaning *it = &found[number];
     CHECK(lexicon_read(it->dialect, text, size, &read, NULL) == it->status && (it->status == LEXICON_OK
-        ? lexicon_settle(&read) == LEXICON_OK && are_equal(&it->triple, &read) : count == 1 && it->note != NULL));
+        ? lexicon_settle(&read) == LEXICON_OK && lexicon_equal(&it->triple, &read) : count == 1 && it->note != NULL));
   }
 }
 
@@ -488,12 +473,14 @@ static void try_read(const char *text, size_t size, uint32_t parsed, const struc
     uint32_t status = lexicon_read(dialect, text, size, &triple, &error);
     CHECK((status == LEXICON_NO_SUCH_DIALECT) == (dialect > LAST_DIALECT));
     CHECK(status == LEXICON_OK || (error.reason != NULL) == (status == LEXICON_NAME_WITHOUT_TRIPLE));
-    const char *meant = lexicon_name_suggestion(dialect, text, size);
-    if (meant != NULL) {
-      struct lexicon_triple suggested;
-      struct lexicon_error none;
-      CHECK(status == LEXICON_UNKNOWN_NAME);
-      CHECK(lexicon_read(dialect, meant, strlen(meant), &suggested, &none) == LEXICON_OK);
+    char meant[37];
+    size_t length = 77;
+    uint32_t suggested = lexicon_name_suggestion(dialect, text, size, meant, sizeof meant, &length);
+    CHECK(suggested == LEXICON_OK ? status == LEXICON_UNKNOWN_NAME && length == strlen(meant)
+        : suggested == LEXICON_NO_SUGGESTION && length == 77);
+    if (suggested == LEXICON_OK) {
+      struct lexicon_triple of;
+      CHECK(lexicon_read(dialect, meant, length, &of, NULL) == LEXICON_OK);
     }
     if (status == LEXICON_OK) {
       CHECK(is_unchanged(&error, sizeof error) && expected_status(&triple) == LEXICON_OK && has_zeros(&triple));
@@ -513,7 +500,7 @@ static void try_read(const char *text, size_t size, uint32_t parsed, const struc
       continue;
     }
     if (parsed == LEXICON_OK && same->vendor != LEXICON_VENDOR_CUSTOM) {
-      CHECK(status == LEXICON_OK && are_equal(&triple, same));
+      CHECK(status == LEXICON_OK && lexicon_equal(&triple, same));
     } else {
       CHECK(status <= LEXICON_NOT_UTF8);
     }
@@ -595,7 +582,7 @@ static void try_zero_ended(const char *text, size_t size) {
   const uint32_t strict = lexicon_parse_strict(LEXICON_Z(same), &triple, &none);
   CHECK(strict == (is_custom ? LEXICON_UNRECOGNIZED_VENDOR : status) &&
       lexicon_parse_strict(text, size, &parsed, NULL) == strict);
-  CHECK(strict == LEXICON_OK ? are_equal(&triple, &parsed) : is_unchanged(&triple, sizeof triple));
+  CHECK(strict == LEXICON_OK ? lexicon_equal(&triple, &parsed) : is_unchanged(&triple, sizeof triple));
   CHECK(strict == LEXICON_OK || (none.status == strict && none.start <= none.end && none.end <= size));
   CHECK((uint32_t)lexicon_dialect_named(same) <= LAST_DIALECT);
 }

@@ -5,7 +5,7 @@ use clap::error::ErrorKind;
 use clap::{value_parser, Arg, ArgAction, ArgMatches, Command, ValueHint};
 use std::num::NonZeroUsize;
 use std::path::PathBuf;
-use target_names::{Dialect, LinuxLibc};
+use target_names::{ChosenLibc, Dialect};
 
 // written by tools/names/write: the dialects that are only read
 fn is_only_read(dialect: Dialect) -> bool {
@@ -198,7 +198,7 @@ pub fn dialect_of(arguments: &ArgMatches, option: &str) -> Option<Dialect> {
     word.parse().ok()
 }
 
-pub fn libcs_of(arguments: &ArgMatches) -> Vec<LinuxLibc> {
+pub fn libcs_of(arguments: &ArgMatches) -> Vec<ChosenLibc> {
     let words = arguments.try_get_many::<String>("libc").ok().flatten();
     let libcs = words.unwrap_or_default().map(|word| word.parse().ok());
     libcs.flatten().collect()

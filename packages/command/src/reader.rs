@@ -6,7 +6,7 @@ use clap::ArgMatches;
 use std::cell::Cell;
 use target_lexicon::{OperatingSystem, Source, Sources, TripleRef, VendorRef};
 use target_names::{
-    is_near_name, is_vendor_of_rustc, meanings, read, vendor_suggestion, Dialect, LinuxLibc, Meaning, NameError,
+    is_near_name, is_vendor_of_rustc, meanings, read, vendor_suggestion, ChosenLibc, Dialect, Meaning, NameError,
     NameOf, TargetInfo, WordIs,
 };
 
@@ -26,9 +26,9 @@ pub struct Reader {
     /// Whether strings that are spelled like triples are read instead.
     pub is_spelled: bool,
     /// The C library that the user says, for a triple of Linux or Windows that states none.
-    pub libc: Option<LinuxLibc>,
+    pub libc: Option<ChosenLibc>,
     /// That one, and the one of the other system, if the user says two.
-    libcs: Vec<LinuxLibc>,
+    libcs: Vec<ChosenLibc>,
     /// Whether an answer differs from that without it.
     needs_libc: Cell<bool>,
     is_strict: bool,
@@ -162,14 +162,14 @@ impl Reader {
 
     /// The triple with the C library that the user says.
     fn completed<'a>(&self, triple: TripleRef<'a>) -> TripleRef<'a> {
-        let complete = |triple: TripleRef<'a>, libc: &LinuxLibc| triple.with_c_library(*libc);
+        let complete = |triple: TripleRef<'a>, libc: &ChosenLibc| triple.with_c_library(*libc);
         let completed = self.libcs.iter().fold(triple, complete);
         self.needs_libc_if(|| completed != triple);
         completed
     }
 
     /// The C library that the user says for the system of a triple.
-    pub fn libc_for(&self, triple: TripleRef<'_>) -> Option<LinuxLibc> {
+    pub fn libc_for(&self, triple: TripleRef<'_>) -> Option<ChosenLibc> {
         let is_windows = triple.operating_system == OperatingSystem::Windows;
         let mut libcs = self.libcs.iter().copied();
         libcs.find(|it| is_of_windows(it.name()) == is_windows).or(self.libc)
@@ -183,7 +183,7 @@ impl Reader {
     }
 
     /// The C library that the user says, if each answer is the same without it.
-    pub fn needless_libc(&self) -> Option<LinuxLibc> {
+    pub fn needless_libc(&self) -> Option<ChosenLibc> {
         self.libc.filter(|_| !self.needs_libc.get())
     }
 }

@@ -5,7 +5,7 @@ use std::borrow::Cow;
 use std::fmt::Display;
 use std::io::{self, Write};
 use target_lexicon::TripleRef;
-use target_names::{Dialect, LinuxLibc, Name, RustcCfg, Visible};
+use target_names::{ChosenLibc, Dialect, Name, RustcCfg, Visible};
 
 /// Puts each part on a page.
 macro_rules! show {
@@ -34,7 +34,7 @@ macro_rules! shown {
 
 shown!(visible String Cow<'_, str>);
 // A custom vendor has lower-case letters, digits and few signs.
-shown!(plain usize TripleRef<'_> Dialect LinuxLibc Name RustcCfg<'_>);
+shown!(plain usize TripleRef<'_> Dialect ChosenLibc Name RustcCfg<'_>);
 
 fn plain<T>(value: T) -> T {
     value

@@ -62,7 +62,7 @@ export type ArmProfile = "A" | "R" | "M";
 
 export type Signedness = "signed" | "unsigned";
 
-export type LinuxLibc = "glibc" | "musl" | "msvc" | "mingw" | "gnullvm";
+export type ChosenLibc = "glibc" | "musl" | "msvc" | "mingw" | "gnullvm";
 
 /** What a compiler asks of a triple; null where there is no answer. */
 export interface Facts {

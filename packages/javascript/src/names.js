@@ -21,7 +21,7 @@ const C_LIBRARIES = [null, "bionic", "glibc", "mingw", "msvc", "musl", "newlib",
 const FLOAT_ABIS = [null, "soft", "hard"];
 const ARM_PROFILES = [null, "A", "R", "M"];
 const SIGNEDNESS = [null, "signed", "unsigned"];
-const LINUX_LIBCS = [null, "glibc", "musl", "msvc", "mingw", "gnullvm"];
+const CHOSEN_LIBCS = [null, "glibc", "musl", "msvc", "mingw", "gnullvm"];
 
 const FACTS_SIZE = 28;
 

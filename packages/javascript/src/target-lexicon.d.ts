@@ -167,7 +167,7 @@ export class Triple {
   /**
    * The triple with the usual environment of a C library, if it is of Linux and states none; any other one as it is.
    */
-  complete(libc: LinuxLibc): Triple;
+  complete(libc: ChosenLibc): Triple;
   /** The canonical form: two canonical triples with the same printed string are equal, so the string is a key. */
   settle(): Triple;
   /** The printed string of the canonical form: the key of the target, which all its spellings have. */
@@ -195,7 +195,7 @@ export class Triple {
  * Python don't: from one of the latter to one of the former, say `libc`. Throws a ParseError if the name isn't read, or
  * what it means has no name.
  */
-export function translate(name: string, from: Dialect | null, to: Dialect, libc?: LinuxLibc | null,
+export function translate(name: string, from: Dialect | null, to: Dialect, libc?: ChosenLibc | null,
   versions?: NamedVersions | null): string;
 
 /** What a string means to a tool that has it as a name; without a dialect, as a triple or as one that is spelled so. */

@@ -14,7 +14,7 @@ const ORIGINS = ["not given", "given", "implied", "alias"]; // where a value com
 // bits); the string of a custom vendor and its size are at 12 and 16.
 const FIRST = 0, SECOND = 20, LENGTH = 40, ANSWER = 44, ERROR = 48, FACTS = 64, VENDOR = 12, SOURCE_SIZE = 12;
 const SOURCE_TABLE = FACTS + ((FACTS_SIZE + 3) & ~3), TEXTS = SOURCE_TABLE + FIELDS.length * SOURCE_SIZE;
-const RANGE = ERROR + 4; // that of an error, or of a change
+const RANGE = ERROR + 4; // that of an error, or a part
 const REASON = ERROR + 12; // why a name isn't read or translated
 const MAX_MEANINGS = 32, MEANING_SIZE = 32, MEANING_NOTE = 28; // of a struct after a dialect, a status and a triple
 const PAGE = 65536;
@@ -190,8 +190,7 @@ class Instance {
     const one = this.triple(first);
     const more = second ? [this.triple(second, SECOND, one.used).start] : [];
     // The second's string may have grown the memory, but it moved nothing.
-    check(this.call(name, one.start, ...more, this.base + ANSWER));
-    return this.bytes[this.base + ANSWER] === 1;
+    return this.call(name, one.start, ...more) === 1;
   }
 }
 
@@ -248,8 +247,8 @@ function dialectOf(name) {
 
 /** The number of a C library of Linux in target_lexicon.h. */
 function libcOf(name) {
-  const number = LINUX_LIBCS.indexOf(name);
-  const hint = () => (name === "gnu" ? "; did you mean glibc or mingw?" : meant(name, LINUX_LIBCS.slice(1)));
+  const number = CHOSEN_LIBCS.indexOf(name);
+  const hint = () => (name === "gnu" ? "; did you mean glibc or mingw?" : meant(name, CHOSEN_LIBCS.slice(1)));
   if (number < 1) throw new TypeError(`there is no C library ${String(name)}${hint()}`);
   return number;
 }
@@ -348,7 +347,7 @@ function errorAt(it, status, text, given, dialect = 0) {
     return failure(status);
   const [range, [start, end]] = rangesAt(it, RANGE, text, given[1]), reason = it.string(it.number(REASON));
   const written = (name) => it.written(name, given[1], ...given, it.error(status, ...range));
-  const suggestion = status === UNKNOWN_NAME ? it.string(it.call("name_suggestion", dialect, ...given))
+  const suggestion = status === UNKNOWN_NAME ? it.written("name_suggestion", given[1], dialect, ...given)
     : written("suggestion");
   let report = written("error_text");
   if (reason !== null) report += ` ${reason}`;

@@ -3,8 +3,8 @@ import {
   DIALECTS, FIELDS, ParseError, Triple, changes, host, load, meanings, namesOf, settleAll, translate, version,
 } from "target-lexicon";
 import type {
-  Architecture, BinaryFormat, Change, Dialect, Environment, Explained, Explanation, Facts, Field, Given, GivenVersion,
-  KnownVendor, LinuxLibc, Meaning, OperatingSystem, Values, Vendor, Version,
+  Architecture, BinaryFormat, Change, ChosenLibc, Dialect, Environment, Explained, Explanation, Facts, Field, Given,
+  GivenVersion, KnownVendor, Meaning, OperatingSystem, Values, Vendor, Version,
 } from "target-lexicon";
 
 // The types are the same, and neither is wider.
@@ -38,7 +38,7 @@ const ofSource: Same<Explanation["fields"], { [Name in Field]: Explained<Values[
 const lists: [readonly Field[], readonly Dialect[], readonly KnownVendor[], readonly Architecture[]] =
   [FIELDS, DIALECTS, namesOf("vendor"), namesOf("architecture")];
 
-const triple = Triple.read("linux/arm64", "docker"), libc: LinuxLibc = "musl", model: Facts["dataModel"] = "LP64";
+const triple = Triple.read("linux/arm64", "docker"), libc: ChosenLibc = "musl", model: Facts["dataModel"] = "LP64";
 const words = [triple.nameIn("python", { glibc: { major: 2, minor: 17 } }), Triple.read("x", null),
   translate("linux/arm64", "oci", "debian", libc), translate("x", null, "go")];
 

@@ -1,13 +1,13 @@
 //! Writes `targets.csv`: each triple that a name means, also with each C library that it may have, and what each tool calls it. `tools/write` runs it.
 use std::collections::BTreeMap;
 use target_lexicon::{Environment, OperatingSystem, TripleRef};
-use target_names::{Dialect, LinuxLibc, TargetInfo};
+use target_names::{ChosenLibc, Dialect, TargetInfo};
 
 /// A triple, and the same with each C library that names may leave out.
 fn completed(triple: TripleRef<'static>) -> impl Iterator<Item = TripleRef<'static>> {
-    let libraries: &[LinuxLibc] = match (triple.operating_system, triple.environment) {
-        (OperatingSystem::Linux, Environment::Unknown) => &[LinuxLibc::Glibc, LinuxLibc::Musl],
-        (OperatingSystem::Windows, Environment::Unknown) => &[LinuxLibc::Msvc, LinuxLibc::Mingw],
+    let libraries: &[ChosenLibc] = match (triple.operating_system, triple.environment) {
+        (OperatingSystem::Linux, Environment::Unknown) => &[ChosenLibc::Glibc, ChosenLibc::Musl],
+        (OperatingSystem::Windows, Environment::Unknown) => &[ChosenLibc::Msvc, ChosenLibc::Mingw],
         _ => &[],
     };
     let with = libraries.iter().map(move |it| triple.with_c_library(*it));

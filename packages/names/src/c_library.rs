@@ -1,18 +1,18 @@
 //! The environment that a C library gives to a triple of Linux or Windows.
 use crate::shape::arm_of_version;
-use crate::LinuxLibc;
+use crate::ChosenLibc;
 use target_lexicon::{Architecture, ArmArchitecture, Environment, OperatingSystem, TripleRef};
 
-impl LinuxLibc {
+impl ChosenLibc {
     /// Its system, and the usual environment on an architecture.
     fn environment(self, architecture: Architecture) -> (OperatingSystem, Environment) {
         use Environment::*;
         let (usual, soft, hard, bits64) = match self {
-            LinuxLibc::Msvc => return (OperatingSystem::Windows, Msvc),
-            LinuxLibc::Mingw => return (OperatingSystem::Windows, Gnu),
-            LinuxLibc::Gnullvm => return (OperatingSystem::Windows, GnuLlvm),
-            LinuxLibc::Glibc => (Gnu, Gnueabi, Gnueabihf, Gnuabi64),
-            LinuxLibc::Musl => (Musl, Musleabi, Musleabihf, Muslabi64),
+            ChosenLibc::Msvc => return (OperatingSystem::Windows, Msvc),
+            ChosenLibc::Mingw => return (OperatingSystem::Windows, Gnu),
+            ChosenLibc::Gnullvm => return (OperatingSystem::Windows, GnuLlvm),
+            ChosenLibc::Glibc => (Gnu, Gnueabi, Gnueabihf, Gnuabi64),
+            ChosenLibc::Musl => (Musl, Musleabi, Musleabihf, Muslabi64),
         };
         let environment = match architecture {
             Architecture::Arm(arm) => match arm_of_version(arm) {
@@ -30,7 +30,7 @@ impl LinuxLibc {
 }
 
 /// The answer of [`TargetInfo::with_c_library`].
-pub(crate) fn complete<'a>(triple: &TripleRef<'a>, c_library: LinuxLibc) -> TripleRef<'a> {
+pub(crate) fn complete<'a>(triple: &TripleRef<'a>, c_library: ChosenLibc) -> TripleRef<'a> {
     let (system, environment) = c_library.environment(triple.architecture);
     let mut completed = *triple;
     if triple.environment == Environment::Unknown && triple.operating_system == system {

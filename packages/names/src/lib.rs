@@ -3,12 +3,12 @@
 //!
 //! ```
 //! use target_lexicon::TripleRef;
-//! use target_names::{Dialect, LinuxLibc, TargetInfo};
+//! use target_names::{ChosenLibc, Dialect, TargetInfo};
 //!
 //! let platform = Dialect::Oci.read("linux/arm64").unwrap();
 //! assert_eq!(platform, TripleRef::from_str("aarch64-unknown-linux").unwrap());
 //! // The platform doesn't state the C library: the caller does.
-//! let triple = platform.with_c_library(LinuxLibc::Glibc);
+//! let triple = platform.with_c_library(ChosenLibc::Glibc);
 //! assert_eq!(Dialect::Debian.write(triple).unwrap(), "arm64");
 //! assert_eq!(triple.rustc_cfg().target_env, "gnu");
 //! ```
@@ -95,7 +95,7 @@ pub use suggestions::{
     is_visible, known_names, suggestion, suggestion_in, vendor_suggestion, visible, Suggest,
     Suggestion, Visible, SHOWN,
 };
-pub use table::{ArmProfile, CLibrary, Dialect, FloatAbi, LinuxLibc, Signedness, WriteError};
+pub use table::{ArmProfile, CLibrary, ChosenLibc, Dialect, FloatAbi, Signedness, WriteError};
 pub use target_info::TargetInfo;
 pub use text::{is_near_name, targets_in, words_in, TargetsIn, Word, WordIs};
 pub use translation::TranslateError;

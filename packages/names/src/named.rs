@@ -1,5 +1,5 @@
 //! Values are displayed as their names, and most are in the order of these.
-use crate::{ArmProfile, CLibrary, Dialect, FloatAbi, LinuxLibc, Name, NameOf, Signedness};
+use crate::{ArmProfile, CLibrary, ChosenLibc, Dialect, FloatAbi, Name, NameOf, Signedness};
 use core::cmp::Ordering;
 use core::fmt;
 
@@ -42,7 +42,7 @@ ordered! {
     CLibrary, name;
     Dialect, name;
     FloatAbi, name;
-    LinuxLibc, name;
+    ChosenLibc, name;
     Signedness, name;
     Name, as_str;
 }

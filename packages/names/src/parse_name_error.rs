@@ -1,22 +1,22 @@
 //! Why a word is no dialect, in an error that owns it.
 use crate::suggestions::visible;
 use crate::table::OTHER_NAMES;
-use crate::{Dialect, LinuxLibc};
+use crate::{ChosenLibc, Dialect};
 use alloc::boxed::Box;
 use core::fmt;
 use core::str::FromStr;
 
-/// Why a word is no [`Dialect`], or no [`LinuxLibc`]: there is none of that name.
+/// Why a word is no [`Dialect`], or no [`ChosenLibc`]: there is none of that name.
 ///
 /// # Examples
 ///
 /// ```
-/// use target_names::{Dialect, LinuxLibc};
+/// use target_names::{ChosenLibc, Dialect};
 ///
 /// let error = "golang".parse::<Dialect>().unwrap_err();
 /// assert_eq!((error.word(), error.suggestion()), ("golang", Some("go")));
 /// assert_eq!(error.to_string(), "Unknown dialect: golang; did you mean `go`?");
-/// let error = "gnu".parse::<LinuxLibc>().unwrap_err();
+/// let error = "gnu".parse::<ChosenLibc>().unwrap_err();
 /// assert_eq!(error.to_string(), "Unknown C library: gnu; it is glibc, musl, msvc, mingw or gnullvm");
 /// ```
 #[derive(Clone, Debug, PartialEq, Eq, Hash)]
@@ -98,13 +98,13 @@ impl FromStr for Dialect {
     }
 }
 
-impl FromStr for LinuxLibc {
+impl FromStr for ChosenLibc {
     type Err = UnknownWord;
 
     /// The C library of a name: `glibc` or `musl`.
     #[inline]
     fn from_str(word: &str) -> Result<Self, UnknownWord> {
-        use LinuxLibc::*;
+        use ChosenLibc::*;
         let mut all = [Glibc, Musl, Msvc, Mingw, Gnullvm].into_iter();
         let found = all.find(|it| it.name() == word);
         found.ok_or_else(|| UnknownWord::new(word, false))

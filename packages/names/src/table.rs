@@ -281,9 +281,9 @@ impl ArmProfile {
     }
 }
 
-/// A C library of Linux or Windows, which gives a triple its environment. On Windows it is an ABI too.
+/// A C library of Linux or Windows, which gives a triple its environment: on Windows an ABI too.
 #[derive(Clone, Copy, Debug, PartialEq, Eq, Hash)]
-pub enum LinuxLibc {
+pub enum ChosenLibc {
     /// Linux, with the GNU C library.
     Glibc,
     /// Linux, with musl.
@@ -296,23 +296,23 @@ pub enum LinuxLibc {
     Gnullvm,
 }
 
-impl LinuxLibc {
+impl ChosenLibc {
     /// The name.
     ///
     /// # Examples
     ///
     /// ```
-    /// assert_eq!(target_names::LinuxLibc::Glibc.name(), "glibc");
+    /// assert_eq!(target_names::ChosenLibc::Glibc.name(), "glibc");
     /// ```
     #[must_use]
     #[inline]
     pub const fn name(self) -> &'static str {
         match self {
-            LinuxLibc::Glibc => "glibc",
-            LinuxLibc::Musl => "musl",
-            LinuxLibc::Msvc => "msvc",
-            LinuxLibc::Mingw => "mingw",
-            LinuxLibc::Gnullvm => "gnullvm",
+            ChosenLibc::Glibc => "glibc",
+            ChosenLibc::Musl => "musl",
+            ChosenLibc::Msvc => "msvc",
+            ChosenLibc::Mingw => "mingw",
+            ChosenLibc::Gnullvm => "gnullvm",
         }
     }
 }

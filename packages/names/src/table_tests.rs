@@ -3,7 +3,7 @@ use crate::dialect::{has_version, Row, Way};
 use crate::shape::{version, AbiRule, Rules};
 use crate::suggestions::{fit_alone, known_names, Form, Place, FIRST_RULES, LATER_RULES};
 use crate::table::{refusals, KERNELS, MAKERS, SYSTEMS};
-use crate::{changes, read, Dialect, Evidence, LinuxLibc, NameError, TargetInfo, VersionOf, Versions};
+use crate::{changes, read, ChosenLibc, Dialect, Evidence, NameError, TargetInfo, VersionOf, Versions};
 use alloc::{format, string::String, string::ToString, vec::Vec};
 use core::str::FromStr;
 use target_lexicon::{
@@ -233,7 +233,7 @@ fn names_with_a_version_are_read() {
 
 #[test]
 fn completion_fills_only_a_gap() {
-    use LinuxLibc::*;
+    use ChosenLibc::*;
     let has_dropped = |it: &&Dialect| matches!(it.table().rules.abi, AbiRule::Dropped);
     each_triple(|triple| {
         for library in [Glibc, Musl, Msvc, Mingw, Gnullvm] {

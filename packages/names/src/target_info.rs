@@ -1,7 +1,7 @@
 //! What other tools and drivers say of a triple.
 use crate::{
-    apple_versions, arm, c_library, driver, object_format, rustc_cfg, ArmProfile, CLibrary,
-    FloatAbi, LinuxLibc, LlvmTarget, MultiarchTuple, RustcCfg, Signedness, TypeLayout, TypeSizes,
+    apple_versions, arm, c_library, driver, object_format, rustc_cfg, ArmProfile, CLibrary, ChosenLibc, FloatAbi,
+    LlvmTarget, MultiarchTuple, RustcCfg, Signedness, TypeLayout, TypeSizes,
 };
 use target_lexicon::{BinaryFormat, DeploymentTarget, TripleRef};
 
@@ -85,16 +85,16 @@ pub trait TargetInfo<'a>: Copy + Into<TripleRef<'a>> {
     /// # Examples
     ///
     /// ```
-    /// use target_names::{Dialect, LinuxLibc, TargetInfo};
+    /// use target_names::{ChosenLibc, Dialect, TargetInfo};
     ///
     /// let platform = Dialect::Oci.read("linux/arm/v7").unwrap();
     /// assert_eq!(Dialect::Debian.write(&platform), None);
-    /// let triple = platform.with_c_library(LinuxLibc::Glibc);
+    /// let triple = platform.with_c_library(ChosenLibc::Glibc);
     /// assert_eq!(triple.to_string(), "armv7-unknown-linux-gnueabihf");
     /// assert_eq!(Dialect::Debian.write(&triple).unwrap(), "armhf");
     /// ```
     #[must_use]
-    fn with_c_library(self, c_library: LinuxLibc) -> TripleRef<'a> {
+    fn with_c_library(self, c_library: ChosenLibc) -> TripleRef<'a> {
         c_library::complete(&self.into(), c_library)
     }
 

@@ -4,7 +4,7 @@
 use crate::dialect::{has_version, is_written, text_in, Row, Sense, Way, MAX_LENGTH};
 use crate::shape::{is_another_target, version};
 use crate::table::WRITE_REASONS;
-use crate::{Dialect, LinuxLibc, Name, NameError, TargetInfo, VersionOf, Versions, WriteError};
+use crate::{ChosenLibc, Dialect, Name, NameError, TargetInfo, VersionOf, Versions, WriteError};
 use core::fmt;
 use target_lexicon::{
     Architecture, ArmArchitecture, Environment, OperatingSystem, Riscv64Architecture, TripleRef,
@@ -71,17 +71,17 @@ impl Dialect {
     ///
     /// ```
     /// use target_lexicon::TripleRef;
-    /// use target_names::{LinuxLibc, Dialect};
+    /// use target_names::{ChosenLibc, Dialect};
     ///
     /// let triple = TripleRef::from_str("aarch64-unknown-linux").unwrap();
-    /// let name = Dialect::Node.write_with(&triple, Some(LinuxLibc::Musl)).unwrap();
+    /// let name = Dialect::Node.write_with(&triple, Some(ChosenLibc::Musl)).unwrap();
     /// assert_eq!(name.as_str(), "linux-arm64-musl");
     /// ```
     #[inline]
     pub fn write_with<'t>(
         self,
         triple: impl Into<TripleRef<'t>>,
-        c_library: Option<LinuxLibc>,
+        c_library: Option<ChosenLibc>,
     ) -> Result<Name, WriteError> {
         self.write_at(triple, "", c_library)
     }
@@ -107,11 +107,11 @@ impl Dialect {
         self,
         triple: impl Into<TripleRef<'t>>,
         level: &str,
-        c_library: Option<LinuxLibc>,
+        c_library: Option<ChosenLibc>,
     ) -> Result<Name, WriteError> {
         let triple = triple.into();
         let triple = c_library.map_or(triple, |it| triple.with_c_library(it));
-        let is_of_linux = matches!(c_library, Some(LinuxLibc::Glibc | LinuxLibc::Musl));
+        let is_of_linux = matches!(c_library, Some(ChosenLibc::Glibc | ChosenLibc::Musl));
         match self.name_at(&triple, level) {
             Some(_) if is_of_linux && self.would_state_c_library(&triple) => {
                 Err(WriteError::NeedsArmVersion)
@@ -161,7 +161,7 @@ impl Dialect {
     pub fn write_with_versions<'t>(
         self,
         triple: impl Into<TripleRef<'t>>,
-        c_library: Option<LinuxLibc>,
+        c_library: Option<ChosenLibc>,
         versions: &Versions,
     ) -> Result<Name, WriteError> {
         self.write_all(&triple.into(), "", c_library, versions)
@@ -172,7 +172,7 @@ impl Dialect {
         self,
         triple: &TripleRef<'_>,
         level: &str,
-        c_library: Option<LinuxLibc>,
+        c_library: Option<ChosenLibc>,
         versions: &Versions,
     ) -> Result<Name, WriteError> {
         let completed = c_library.map_or(*triple, |it| triple.with_c_library(it));
@@ -181,7 +181,7 @@ impl Dialect {
             return Ok(name);
         }
         // A version of a C library that isn't said.
-        let libraries = [LinuxLibc::Glibc, LinuxLibc::Musl].map(|it| completed.with_c_library(it));
+        let libraries = [ChosenLibc::Glibc, ChosenLibc::Musl].map(|it| completed.with_c_library(it));
         let would_state = |it: &TripleRef<'_>| versions.of(*it).is_some() && self.states_version(it);
         if version.is_none() && libraries.iter().any(would_state) {
             return Err(WriteError::NeedsCLibrary);
@@ -207,11 +207,11 @@ impl Dialect {
     /// # Examples
     ///
     /// ```
-    /// use target_names::{Dialect, LinuxLibc, TranslateError, WriteError};
+    /// use target_names::{ChosenLibc, Dialect, TranslateError, WriteError};
     ///
-    /// let name = Dialect::Oci.translate("linux/arm64/v8", Some(LinuxLibc::Glibc), Dialect::Gnu);
+    /// let name = Dialect::Oci.translate("linux/arm64/v8", Some(ChosenLibc::Glibc), Dialect::Gnu);
     /// assert_eq!(name.unwrap().as_str(), "aarch64-linux-gnu");
-    /// let name = Dialect::Oci.translate("windows/amd64", Some(LinuxLibc::Msvc), Dialect::Rust);
+    /// let name = Dialect::Oci.translate("windows/amd64", Some(ChosenLibc::Msvc), Dialect::Rust);
     /// assert_eq!(name.unwrap().as_str(), "x86_64-pc-windows-msvc");
     /// let name = Dialect::Debian.translate("arm64", None, Dialect::Oci);
     /// assert_eq!(name.unwrap().as_str(), "linux/arm64");
@@ -222,7 +222,7 @@ impl Dialect {
     pub fn translate(
         self,
         name: &str,
-        c_library: Option<LinuxLibc>,
+        c_library: Option<ChosenLibc>,
         to: Dialect,
     ) -> Result<Name, TranslateError> {
         self.translate_with(name, c_library, &Versions::none(), to)
@@ -237,17 +237,17 @@ impl Dialect {
     /// # Examples
     ///
     /// ```
-    /// use target_names::{Dialect, LinuxLibc, VersionOf, Versions};
+    /// use target_names::{ChosenLibc, Dialect, VersionOf, Versions};
     ///
     /// let versions = Versions::none().with(VersionOf::Glibc, 2, 17);
-    /// let tag = Dialect::Oci.translate_with("linux/amd64", Some(LinuxLibc::Glibc), &versions, Dialect::Python);
+    /// let tag = Dialect::Oci.translate_with("linux/amd64", Some(ChosenLibc::Glibc), &versions, Dialect::Python);
     /// assert_eq!(tag.unwrap().as_str(), "manylinux_2_17_x86_64");
     /// ```
     #[inline]
     pub fn translate_with(
         self,
         name: &str,
-        c_library: Option<LinuxLibc>,
+        c_library: Option<ChosenLibc>,
         versions: &Versions,
         to: Dialect,
     ) -> Result<Name, TranslateError> {
@@ -293,7 +293,7 @@ impl Dialect {
     /// The reason, if with a C library the triple has a name. It is given why without one it has none.
     #[inline]
     fn why_c_library(self, triple: &TripleRef<'_>, why: WriteError) -> Option<WriteError> {
-        use LinuxLibc::*;
+        use ChosenLibc::*;
         let (c_libraries, reason) = match triple.operating_system {
             _ if triple.environment != Environment::Unknown => return None,
             OperatingSystem::Linux => ([Glibc, Musl], WriteError::NeedsCLibrary),
@@ -303,21 +303,21 @@ impl Dialect {
             }
             _ => return None,
         };
-        let is_helped = |libc: &LinuxLibc| self.write(triple.with_c_library(*libc)).is_some();
+        let is_helped = |libc: &ChosenLibc| self.write(triple.with_c_library(*libc)).is_some();
         c_libraries.iter().any(is_helped).then_some(reason)
     }
 
     /// The reason, if another version of the machine has a name.
     #[inline]
     fn why_machine(self, triple: &TripleRef<'_>) -> Option<WriteError> {
-        let libraries = [None, Some(LinuxLibc::Glibc), Some(LinuxLibc::Musl)];
+        let libraries = [None, Some(ChosenLibc::Glibc), Some(ChosenLibc::Musl)];
         let has = |architecture| {
             let other = TripleRef {
                 architecture,
                 ..*triple
             };
             let completed =
-                |it: &Option<LinuxLibc>| it.map_or(other, |it| other.with_c_library(it));
+                |it: &Option<ChosenLibc>| it.map_or(other, |it| other.with_c_library(it));
             let mut completed = libraries.iter().map(completed);
             architecture != triple.architecture
                 && completed.any(|it| self.write(it).is_some() || self.states_version(&it))

@@ -2,8 +2,8 @@
 use std::fmt::{self, Display, Write};
 use target_lexicon::{Field, PointerWidth, TripleRef};
 use target_names::{
-    changes, meanings, read, suggestions, targets_in, vendor_suggestion, visible, Dialect, Evidence, FloatAbi, LinuxLibc, Meaning,
-    Mistake, NameError, NameOf, Said, Suggest as _, TargetInfo, VersionOf, Versions, WordIs, SHOWN,
+    changes, meanings, read, suggestions, targets_in, vendor_suggestion, visible, ChosenLibc, Dialect, Evidence,
+    FloatAbi, Meaning, Mistake, NameError, NameOf, Said, Suggest as _, TargetInfo, VersionOf, Versions, WordIs, SHOWN,
 };
 
 /// A writer with room for so many bytes.
@@ -41,7 +41,7 @@ fn what_is_displayed_fails_as_its_writer_does() {
     }
     for word in ["foo", "golang"] {
         fails(&word.parse::<Dialect>().unwrap_err());
-        fails(&word.parse::<LinuxLibc>().unwrap_err());
+        fails(&word.parse::<ChosenLibc>().unwrap_err());
     }
     changes("arm-none-unknown-eabi-macos13-mingw32").for_each(|it| fails(&it.names));
     changes("x86_64-nuttx").for_each(|it| fails(&it.names));
@@ -613,7 +613,7 @@ fn names_are_suggested_for_unknown_ones() {
 
 #[test]
 fn only_an_unknown_dialect_has_a_suggestion() {
-    assert_eq!("golang".parse::<LinuxLibc>().unwrap_err().suggestion(), None);
+    assert_eq!("golang".parse::<ChosenLibc>().unwrap_err().suggestion(), None);
 }
 
 #[test]

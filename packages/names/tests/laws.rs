@@ -5,8 +5,8 @@ use proptest::sample::select;
 use proptest::test_runner::FileFailurePersistence;
 use target_lexicon::{Field, TripleRef};
 use target_names::{
-    changes, known_names, meanings, read, suggestion, Dialect, Evidence, FloatAbi, LinuxLibc,
-    NameError, TargetInfo, VersionOf, Versions,
+    changes, known_names, meanings, read, suggestion, ChosenLibc, Dialect, Evidence, FloatAbi, NameError, TargetInfo,
+    VersionOf, Versions,
 };
 
 const FIELDS: [Field; 5] = [
@@ -17,7 +17,7 @@ const FIELDS: [Field; 5] = [
     Field::BinaryFormat,
 ];
 
-fn libraries() -> impl Iterator<Item = LinuxLibc> {
+fn libraries() -> impl Iterator<Item = ChosenLibc> {
     let names = "glibc musl msvc mingw gnullvm".split(' ');
     names.map(|it| it.parse().unwrap())
 }
@@ -195,7 +195,7 @@ proptest! {
             for library in libraries() {
                 let full = it.with_c_library(library);
                 prop_assert_eq!(full.endianness(), it.endianness());
-                prop_assert_eq!(full.pointer_width().ok(), full.with_c_library(LinuxLibc::Glibc).pointer_width().ok());
+                prop_assert_eq!(full.pointer_width().ok(), full.with_c_library(ChosenLibc::Glibc).pointer_width().ok());
             }
         }
     }

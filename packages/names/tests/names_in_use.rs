@@ -2,8 +2,8 @@
 use std::collections::BTreeSet;
 use target_lexicon::{Architecture, TripleRef};
 use target_names::{
-    meanings, suggestions, CLibrary, Dialect, Evidence, LinuxLibc, Meaning, NameError, NameOf,
-    TargetInfo, VersionOf, Versions, TranslateError,
+    meanings, suggestions, CLibrary, ChosenLibc, Dialect, Evidence, Meaning, NameError, NameOf, TargetInfo, VersionOf,
+    Versions, TranslateError,
 };
 
 /// The lines of a file that aren't comments, cell by cell.
@@ -22,7 +22,7 @@ fn names_in_use_lead_to_other_tools() {
         };
         assert!(!source.is_empty() && !answers.is_empty(), "{row:?}");
         let from: Dialect = dialect.parse().unwrap();
-        let said = (*libc != "-").then(|| libc.parse::<LinuxLibc>().unwrap());
+        let said = (*libc != "-").then(|| libc.parse::<ChosenLibc>().unwrap());
         for answer in answers {
             let (to, expected) = answer.split_once('=').unwrap();
             let name = name.replace("\\n", "\n");

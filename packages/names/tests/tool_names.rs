@@ -2,8 +2,8 @@
 use target_lexicon::{DeploymentTarget, Endianness, Field, PointerWidth, Triple, TripleRef};
 use target_lexicon::{Named as _, TripleExt as _};
 use target_names::{
-    known_names, suggestion, suggestions, visible, Dialect, LinuxLibc, Suggest as _, TargetInfo,
-    TypeLayout, TypeSizes, VersionOf, Versions,
+    known_names, suggestion, suggestions, visible, ChosenLibc, Dialect, Suggest as _, TargetInfo, TypeLayout,
+    TypeSizes, VersionOf, Versions,
 };
 
 /// A triple, and after `=` its C library, how floating-point arguments are passed, whether it is like Unix, and the size and alignment of
@@ -438,7 +438,7 @@ fn an_error_shows_printable_ascii() {
             }
         }
         shows(format!("{c}").parse::<Dialect>().unwrap_err().to_string());
-        shows(format!("{c}").parse::<LinuxLibc>().unwrap_err().to_string());
+        shows(format!("{c}").parse::<ChosenLibc>().unwrap_err().to_string());
     }
 }
 

@@ -3,8 +3,8 @@ use std::collections::{BTreeSet, HashSet};
 use std::fmt::{self, Debug, Display, Write as _};
 use target_lexicon::{Triple, TripleRef};
 use target_names::{
-    read, vendor_suggestion, visible, CLibrary, Dialect, Evidence, FloatAbi, LinuxLibc, Name,
-    Signedness, Suggest as _, TargetInfo as _, UnknownWord, SHOWN,
+    read, vendor_suggestion, visible, CLibrary, ChosenLibc, Dialect, Evidence, FloatAbi, Name, Signedness, Suggest as
+    _, TargetInfo as _, UnknownWord, SHOWN,
 };
 
 #[test]
@@ -63,7 +63,7 @@ fn in_order_of_names<T: Ord + Display>(all: &[T]) {
 #[test]
 fn values_are_in_the_order_of_their_names() {
     in_order_of_names(Dialect::ALL);
-    in_order_of_names(&["glibc", "musl", "msvc", "mingw", "gnullvm"].map(|it| it.parse::<LinuxLibc>().unwrap()));
+    in_order_of_names(&["glibc", "musl", "msvc", "mingw", "gnullvm"].map(|it| it.parse::<ChosenLibc>().unwrap()));
     in_order_of_names(&[FloatAbi::Soft, FloatAbi::Hard]);
     in_order_of_names(&[Signedness::Unsigned, Signedness::Signed]);
     in_order_of_names(&[CLibrary::Musl, CLibrary::Bionic, CLibrary::System, CLibrary::Glibc, CLibrary::Msvc]);
@@ -81,7 +81,8 @@ fn differ<T: PartialEq + Clone + Debug>(all: &[T]) {
 
 #[test]
 fn what_says_something_else_is_another_one() {
-    differ(&["foo".parse::<Dialect>().unwrap_err(), "foo".parse::<LinuxLibc>().unwrap_err(), "bar".parse::<Dialect>().unwrap_err()]);
+    let other = "foo".parse::<ChosenLibc>().unwrap_err();
+    differ(&["foo".parse::<Dialect>().unwrap_err(), other, "bar".parse::<Dialect>().unwrap_err()]);
     let triples = ["avr", "arm", "avr-pc", "avr-pc-linux", "avr-pc-linux-musl", "avr-pc-linux-coff"];
     let triples = triples.map(|it| TripleRef::from_str(it).unwrap());
     differ(&triples.map(|it| it.llvm_target()));
@@ -120,7 +121,7 @@ fn a_writer_that_fails_is_noticed() {
         &Dialect::Go.write_with(custom, None).map_or_else(|it| it.to_string(), |it| it.to_string()),
         &Dialect::Gnu.translate("foo", None, Dialect::Go).unwrap_err(),
         &Dialect::Oci.translate("linux/386", None, Dialect::Debian).unwrap_err(),
-        &"foo".parse::<LinuxLibc>().unwrap_err(),
+        &"foo".parse::<ChosenLibc>().unwrap_err(),
     ];
     let others = mistakes.iter().flatten().map(|it| it as &dyn Display).chain(spelled.iter().map(|it| it as _));
     let others = others.chain(words.iter().map(|it| it as _));

@@ -63,11 +63,10 @@ class Lines(unittest.TestCase):
             self.assertEqual((Triple.from_fields(*fields), target_lexicon.explain(line).triple), (it, it))
             self.assertIs(it.replace(binary_format=None).binary_format, it.implied_format)
             self.assertIs(it.comes_back(), Triple(str(it)) == it)
-            settled, is_equal = it.settle(), _library.c_bool()
+            settled = it.settle()
             self.assertEqual((settled.settle(), Triple(it.canonical)), (settled, settled))
-            _library.check(_library.equal(it._struct, last._struct, is_equal))
             self.assertEqual((it == last, it.same_target(last), it.same_target(settled)),
-                             (is_equal.value, settled == last.settle(), True))
+                             (_library.equal(it._struct, last._struct), settled == last.settle(), True))
             last = it
 
     def test_columns(self):

@@ -8,7 +8,7 @@ import unittest
 
 import target_lexicon
 import lists
-from target_lexicon import CustomVendor, Dialect, LinuxLibc, ParseError, Triple, _dialects
+from target_lexicon import ChosenLibc, CustomVendor, Dialect, ParseError, Triple, _dialects
 
 UNKNOWN, WITHOUT = "Unknown name: ", "No triple has this name: "
 NAMES = lists.names()
@@ -27,7 +27,7 @@ class Table(unittest.TestCase):
         for way, of in ("read", _dialects.READ), ("written", _dialects.WRITTEN):
             self.assertEqual(set(of), {it["tool"] for it in tools if it[way]})
             self.assertEqual(set(of), {it.tool for it in NAMES if getattr(it, way)})
-        self.assertEqual(set(typing.get_args(_dialects.LinuxLibcName)), {*LinuxLibc})
+        self.assertEqual(set(typing.get_args(_dialects.ChosenLibcName)), {*ChosenLibc})
         self.assertIs(Dialect("docker"), Dialect.OCI)
 
     def test_rows(self):
@@ -137,7 +137,7 @@ class Names(unittest.TestCase):
 
     def test_completed(self):
         for text, libc, completed in (("aarch64-linux", "glibc", "aarch64-unknown-linux-gnu"),
-                                      ("armv7-acme-linux", LinuxLibc.MUSL, "armv7-acme-linux-musleabihf"),
+                                      ("armv7-acme-linux", ChosenLibc.MUSL, "armv7-acme-linux-musleabihf"),
                                       ("x86_64-linux-gnu", "musl", "x86_64-unknown-linux-gnu"),
                                       ("x86_64-pc-windows", "msvc", "x86_64-pc-windows-msvc"),
                                       ("x86_64-pc-windows", "mingw", "x86_64-pc-windows-gnu"),
@@ -148,7 +148,7 @@ class Names(unittest.TestCase):
     def test_translated(self):
         for words, translated in ((("linux/arm64/v8", "oci", "rust", "glibc"), "aarch64-unknown-linux-gnu"),
                                   (("arm64", "debian", "go"), "linux/arm64"),
-                                  (("linux/amd64", Dialect.OCI, Dialect.DEBIAN, LinuxLibc.MUSL), "musl-linux-amd64"),
+                                  (("linux/amd64", Dialect.OCI, Dialect.DEBIAN, ChosenLibc.MUSL), "musl-linux-amd64"),
                                   (("x86_64-w64-mingw32", None, "node"), "win32-x64-gnu")):
             self.assertEqual(target_lexicon.translate(*words), translated)
         versions = {"glibc": (2, 17), "macos": [11], "freebsd": (14, 1)}
@@ -216,7 +216,7 @@ class Names(unittest.TestCase):
         libcs = [linux.complete, lambda it: target_lexicon.translate("amd64", "debian", "go", it)]
         for calls, what, names, wrong in ((dialects, "dialect", Dialect,
                                            ("Go", "", "none", "g\u00f6", target_lexicon.Architecture.ARM)),
-                                          (libcs, "C library", LinuxLibc, ("gnu", "", "Glibc"))):
+                                          (libcs, "C library", ChosenLibc, ("gnu", "", "Glibc"))):
             for call, value in itertools.product(calls, wrong):
                 with self.assertRaisesRegex(
                     ValueError, f"the {what} must be one of {', '.join(names)}, not ") as caught:

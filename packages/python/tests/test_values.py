@@ -11,7 +11,7 @@ from target_lexicon import CustomVendor, OperatingSystem, Origin, ParseError, Tr
 # answer.
 FIELDS = ("ARCHITECTURE", "VENDOR", "OPERATING_SYSTEM", "ENVIRONMENT", "BINARY_FORMAT")
 OTHERS = ("ENDIANNESS", "CALLING_CONVENTION", "DATA_MODEL", "C_LIBRARY", "FLOAT_ABI", "ARM_PROFILE", "SIGNEDNESS",
-          "DIALECT", "LINUX_LIBC")
+          "DIALECT", "CHOSEN_LIBC")
 ENUMERATIONS = {it: getattr(target_lexicon, it.title().replace("_", "")) for it in (*FIELDS, "FAMILY", *OTHERS)}
 
 
@@ -30,8 +30,8 @@ class Values(unittest.TestCase):
         for field, prefix in enumerate(FIELDS):
             of = ENUMERATIONS[prefix]
             for number, member in enumerate(of):
-                self.assertEqual((_library.name(field, number), _library.number(field, member.value.encode())),
-                                 (member.value, (0, number)))
+                name = member.value.encode()
+                self.assertEqual((_library.name(field, number), _library.number(field, name)), (name, (0, number)))
                 self.assertIs(of.parse(member.value), member)
                 self.assertIs(of(member.value), member)
                 self.assertIs(getattr(Triple("-".join([*before[:field], member])), prefix.lower()), member)

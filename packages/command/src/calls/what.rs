@@ -3,7 +3,7 @@ use super::*;
 use crate::arguments::written;
 use crate::refusal::reason;
 use target_lexicon::{OperatingSystem, VendorRef};
-use target_names::{meanings, vendor_suggestion, Dialect, Evidence, LinuxLibc, Meaning, Meant};
+use target_names::{meanings, vendor_suggestion, ChosenLibc, Dialect, Evidence, Meaning, Meant};
 
 pub fn command() -> Command {
     of_targets(
@@ -39,13 +39,13 @@ struct Meanings<'a> {
     meanings: Vec<(TripleRef<'a>, Option<&'static str>, Vec<&'static str>)>,
     without_triple: Vec<(&'static str, &'static str)>,
     known: Option<String>,
-    libc: Option<LinuxLibc>,
+    libc: Option<ChosenLibc>,
     /// Whether a meaning states no C library, and has that of `libc` here.
     is_completed: bool,
 }
 
 impl<'a> Meanings<'a> {
-    fn of(text: &'a str, libc: Option<LinuxLibc>) -> Result<Self, Refusal<'a>> {
+    fn of(text: &'a str, libc: Option<ChosenLibc>) -> Result<Self, Refusal<'a>> {
         let mut what =
             Meanings { text, meanings: Vec::new(), without_triple: Vec::new(), known: None, libc, is_completed: false };
         for Meaning { of, triple, level } in meanings(text) {

@@ -17,7 +17,7 @@ from ._facts import ArmProfile, CallingConvention, CLibrary, DataModel, Endianne
 from ._fields import CustomVendor
 from ._library import LIBRARY_PATH, LIBRARY_VERSION, LibraryError
 from ._library import VERSION as __version__
-from ._names import Dialect, DialectName, LinuxLibc, LinuxLibcName
+from ._names import ChosenLibc, ChosenLibcName, Dialect, DialectName
 from ._translation import Change, Meaning, Target, TranslationError, changes, meanings, targets_in, translate
 from ._triple import Keep, Triple, Version
 from ._values import Architecture, BinaryFormat, Environment, Family, OperatingSystem, Vendor
@@ -31,6 +31,8 @@ __all__ = [
     "CLibrary",
     "CallingConvention",
     "Change",
+    "ChosenLibc",
+    "ChosenLibcName",
     "CustomVendor",
     "DataModel",
     "Dialect",
@@ -44,8 +46,6 @@ __all__ = [
     "FloatAbi",
     "Keep",
     "LibraryError",
-    "LinuxLibc",
-    "LinuxLibcName",
     "Meaning",
     "OperatingSystem",
     "Origin",

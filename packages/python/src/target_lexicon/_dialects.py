@@ -2,7 +2,7 @@
 from typing import Type, Union
 
 from ._named import NamedValue, shown
-from ._names import ONLY_READ, ONLY_WRITTEN, OTHER_NAMES, Dialect, DialectName, LinuxLibc, LinuxLibcName
+from ._names import ONLY_READ, ONLY_WRITTEN, OTHER_NAMES, ChosenLibc, ChosenLibcName, Dialect, DialectName
 
 #: The number in the library for C of no dialect: the string is spelled like a triple.
 NO_DIALECT = 0
@@ -17,9 +17,9 @@ def dialect_number(dialect: Union[Dialect, DialectName]) -> int:
     return _number(OTHER_NAMES.get(dialect, dialect) if isinstance(dialect, str) else dialect, Dialect, "dialect")
 
 
-def libc_number(libc: Union[LinuxLibc, LinuxLibcName]) -> int:
+def libc_number(libc: Union[ChosenLibc, ChosenLibcName]) -> int:
     """The number in the library for C of a C library of Linux, given as a member or by its name."""
-    return _number(libc, LinuxLibc, "C library")
+    return _number(libc, ChosenLibc, "C library")
 
 
 def _number(value: str, of: Type[NamedValue], what: str) -> int:

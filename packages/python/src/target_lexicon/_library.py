@@ -108,8 +108,8 @@ class VersionsStruct(Struct):
     _fields_ = [(name, VersionStruct) for name in VERSIONS_OF]
 
 
-class ChangeStruct(Struct):
-    """`struct lexicon_change`."""
+class PartStruct(Struct):
+    """`struct lexicon_part`."""
 
     _fields_ = [("start", c_size_t), ("end", c_size_t)]
 
@@ -183,16 +183,6 @@ def _or_memory_error(call: Callable[..., Any]) -> Callable[..., Any]:
     return checked
 
 
-def _returning(name: str, *arguments: Any) -> Callable[..., Optional[str]]:
-    """A call that returns a string, or None. Where C takes a string and its size, it takes the string."""
-    call = _declare(name, *arguments, result=c_char_p)
-
-    def decoded(*values: Any) -> Optional[str]:
-        found = call(*(part for it in values for part in ((it, len(it)) if isinstance(it, bytes) else (it,))))
-        return None if found is None else found.decode()
-    return decoded
-
-
 def _writing(name: str, *arguments: Any) -> Callable[..., Any]:
     """A call that writes a string into a buffer, which follows these arguments. It returns the string, which has no
     zero byte, or None if there is none."""
@@ -228,9 +218,10 @@ explain = _declare("lexicon_explain", c_char_p, c_size_t, _TRIPLE, POINTER(Sourc
 settle = _declare("lexicon_settle", _TRIPLE)
 settle_lines = _declare("lexicon_settle_lines", c_char_p, c_size_t, c_void_p, c_size_t, _SIZE,
                         library=_RELEASING)
-comes_back = _declare("lexicon_comes_back", _TRIPLE, POINTER(c_bool))
-equal = _declare("lexicon_equal", _TRIPLE, _TRIPLE, POINTER(c_bool))
-same_target = _declare("lexicon_same_target", _TRIPLE, _TRIPLE, POINTER(c_bool))
+comes_back: Callable[[TripleStruct], bool] = _declare("lexicon_comes_back", _TRIPLE, result=c_bool)
+equal = _declare("lexicon_equal", _TRIPLE, _TRIPLE, result=c_bool)
+same_target: Callable[[TripleStruct, TripleStruct], bool] = _declare("lexicon_same_target", _TRIPLE, _TRIPLE,
+                                                                     result=c_bool)
 facts = _declare("lexicon_facts", _TRIPLE, POINTER(FactsStruct), c_size_t)
 printed: Callable[[TripleStruct], str] = _writing("lexicon_print", _TRIPLE)
 llvm_target: Callable[[TripleStruct], str] = _writing("lexicon_llvm_target", _TRIPLE)
@@ -242,20 +233,18 @@ _write_versioned = _declare("lexicon_write_versioned", c_uint32, _TRIPLE, POINTE
 complete = _declare("lexicon_complete", _TRIPLE, c_uint32)
 _translate = _declare("lexicon_translate", c_uint32, c_char_p, c_size_t, c_uint32, POINTER(VersionsStruct), c_uint32,
                       c_void_p, c_size_t, _SIZE, _ERROR)
-_change = _writing("lexicon_changes", c_char_p, c_size_t, c_size_t, POINTER(ChangeStruct))
+_change = _writing("lexicon_changes", c_char_p, c_size_t, c_size_t, POINTER(PartStruct))
 _meanings, _readers = (_declare(f"lexicon_{name}", c_char_p, c_size_t, POINTER(MeaningStruct), c_size_t, _SIZE)
                        for name in ("meanings", "readers"))
-_targets = _declare("lexicon_targets", c_char_p, c_size_t, POINTER(ChangeStruct), c_size_t, _SIZE,
+_targets = _declare("lexicon_targets", c_char_p, c_size_t, POINTER(PartStruct), c_size_t, _SIZE,
                     library=_RELEASING)
 _number = _declare("lexicon_number", c_uint32, c_char_p, c_size_t, POINTER(c_uint32))
-_error_line = _writing("lexicon_error_line", c_char_p, c_size_t, _ERROR)
+_error_text = _writing("lexicon_error_text", c_char_p, c_size_t, _ERROR)
 _suggestion = _writing("lexicon_suggestion", c_char_p, c_size_t, _ERROR)
 vendor_suggestion: Callable[[TripleStruct], Optional[str]] = _writing("lexicon_vendor_suggestion", _TRIPLE)
-
-# The nearest of the names that a dialect reads, if it doesn't know this one; None if it does, or if none is near.
-name_suggestion = _returning("lexicon_name_suggestion", c_uint32, c_char_p, c_size_t)
+_name_suggestion = _writing("lexicon_name_suggestion", c_uint32, c_char_p, c_size_t)
 # The name of the value of a field with this number, or None if there is none.
-name = _returning("lexicon_name", c_uint32, c_uint32)
+name: Callable[[int, int], Optional[bytes]] = _declare("lexicon_name", c_uint32, c_uint32, result=c_char_p)
 
 #: The target that the library was built for.
 HOST = _host().decode()
@@ -292,12 +281,18 @@ def check(status: int) -> None:
 
 def error_line(status: int, part: str) -> str:
     """The line of an error: what was expected, and the part that was refused, which may have any character."""
-    return f"{_error_line(None, 0, ErrorStruct(status))}{part}"
+    return f"{_error_text(None, 0, ErrorStruct(status)).partition(chr(10))[0]}{part}"
 
 
 def suggestion(status: int, text: bytes, start: int, end: int) -> Optional[str]:
     """What may have been meant by the part of a text that is refused with this status."""
     found: Optional[str] = _suggestion(text, len(text), ErrorStruct(status, start, end))
+    return found
+
+
+def name_suggestion(dialect: int, text: bytes) -> Optional[str]:
+    """The nearest of the names that a dialect reads, if it doesn't know this one; else None."""
+    found: Optional[str] = _name_suggestion(dialect, text, len(text))
     return found
 
 
@@ -344,11 +339,11 @@ def readers(text: ctypes.Array[c_char]) -> Sequence[MeaningStruct]:
 def changes(text: bytes) -> Iterator[Tuple[int, int, str]]:
     """The range in bytes of each part that is read as other names, and these names."""
     for number in itertools.count():
-        change = ChangeStruct()
-        names = _change(text, len(text), number, change)
+        part = PartStruct()
+        names = _change(text, len(text), number, part)
         if names is None:
             return
-        yield change.start, change.end, names
+        yield part.start, part.end, names
 
 
 def targets(text: bytes) -> Iterator[Tuple[int, int]]:
@@ -356,7 +351,7 @@ def targets(text: bytes) -> Iterator[Tuple[int, int]]:
     count = c_size_t(len(text) // 16 + 1)  # enough for most texts, which are then read once
     while True:
         size = count.value
-        parts = (ChangeStruct * size)()
+        parts = (PartStruct * size)()
         status = _targets(text, len(text), parts, size, count)
         if status != TOO_SMALL:
             check(status)
@@ -371,5 +366,5 @@ def number(field: int, text: bytes) -> Tuple[int, int]:
 
 def check_names(field: int, names: Sequence[str]) -> None:
     """Raises an ImportError unless the library has these names in the field, and no others."""
-    if name(field, len(names) - 1) != names[-1] or name(field, len(names)) is not None:
+    if name(field, len(names) - 1) != names[-1].encode() or name(field, len(names)) is not None:
         raise ImportError(f"{LIBRARY_PATH} has other names than this package, so they don't go together")

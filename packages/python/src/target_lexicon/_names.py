@@ -85,7 +85,7 @@ ONLY_READ = [Dialect.UNAME]
 ONLY_WRITTEN: List[Dialect] = []
 
 
-class LinuxLibc(NamedValue):
+class ChosenLibc(NamedValue):
     """A C library of Linux or Windows, which the caller says where a name doesn't state it."""
 
     #: Linux, with the GNU C library.
@@ -101,4 +101,4 @@ class LinuxLibc(NamedValue):
 
 
 #: The names of the C libraries.
-LinuxLibcName = Literal["glibc", "musl", "msvc", "mingw", "gnullvm"]
+ChosenLibcName = Literal["glibc", "musl", "msvc", "mingw", "gnullvm"]

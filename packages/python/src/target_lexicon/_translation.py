@@ -7,7 +7,7 @@ from . import _library, _names
 from ._dialects import NO_DIALECT, dialect_number, libc_number
 from ._errors import ParseError, encoded, range_in
 from ._named import shown
-from ._names import Dialect, DialectName, LinuxLibc, LinuxLibcName
+from ._names import ChosenLibc, ChosenLibcName, Dialect, DialectName
 from ._triple import Triple, _triple_of, versions_struct
 
 # How many characters of a name a message shows.
@@ -52,7 +52,7 @@ class TranslationError(ParseError):
 
 def translate(
     name: str, source: Union[Dialect, DialectName, None], target: Union[Dialect, DialectName],
-    libc: Union[LinuxLibc, LinuxLibcName, None] = None, **versions: Sequence[int],
+    libc: Union[ChosenLibc, ChosenLibcName, None] = None, **versions: Sequence[int],
 ) -> str:
     """The name in the dialect `target` of what a name of the dialect `source` means.
 

@@ -15,7 +15,7 @@ from ._errors import ParseError, encoded, refusal
 from ._facts import Facts, FactsOfTriple
 from ._fields import CustomVendor
 from ._named import Immutable, NamedValue, shown
-from ._names import FIELDS, Dialect, DialectName, LinuxLibc, LinuxLibcName
+from ._names import FIELDS, ChosenLibc, ChosenLibcName, Dialect, DialectName
 from ._values import Architecture, BinaryFormat, Environment, OperatingSystem, Vendor
 
 if TYPE_CHECKING:
@@ -318,13 +318,13 @@ class Triple(FactsOfTriple, Immutable):
         """
         return _library.write(dialect_number(dialect), self._struct, versions_struct(versions))[1]
 
-    def complete(self, libc: Union[LinuxLibc, LinuxLibcName]) -> Triple:
+    def complete(self, libc: Union[ChosenLibc, ChosenLibcName]) -> Triple:
         """The triple with the usual environment of a C library, if it is of Linux and states none; any other one as it
         is.
 
         >>> Triple.read("linux/arm/v7", "oci").complete("glibc")
         Triple('armv7-unknown-linux-gnueabihf')
-        >>> Triple("aarch64-unknown-linux").complete(LinuxLibc.MUSL)
+        >>> Triple("aarch64-unknown-linux").complete(ChosenLibc.MUSL)
         Triple('aarch64-unknown-linux-musl')
         """
         return self._changed(_library.complete, libc_number(libc))
@@ -344,9 +344,7 @@ class Triple(FactsOfTriple, Immutable):
         >>> Triple("armv6k-nintendo-horizon-gnu").comes_back()
         False
         """
-        answer = ctypes.c_bool()
-        _library.check(_library.comes_back(self._struct, answer))
-        return answer.value
+        return _library.comes_back(self._struct)
 
     def same_target(self, other: Triple) -> bool:
         """Whether both triples have the same canonical form.
@@ -356,9 +354,7 @@ class Triple(FactsOfTriple, Immutable):
         """
         if not isinstance(other, Triple):
             raise TypeError(f"the other triple must be a Triple, not {type(other).__name__}")
-        answer = ctypes.c_bool()
-        _library.check(_library.same_target(self._struct, other._struct, answer))
-        return answer.value
+        return _library.same_target(self._struct, other._struct)
 
     def replace(
         self,

@@ -4,7 +4,7 @@
 #![no_main]
 use core::fmt::{self, Write as _};
 use target_lexicon::{CDataModel, Field, Source, TripleExt, TripleRef, VendorRef, HOST};
-use target_names::{read, Dialect, LinuxLibc, Suggest as _, TargetInfo};
+use target_names::{read, ChosenLibc, Dialect, Suggest as _, TargetInfo};
 
 /// Compares what is written with a string.
 struct Left(&'static str);
@@ -55,7 +55,7 @@ pub extern "C" fn main() -> i32 {
     assert_eq!(HOST.pointer_width().ok(), TripleRef::from(&HOST).pointer_width().ok());
     assert!(HOST.comes_back() && custom != HOST);
     let platform = Dialect::Oci.read("linux/arm64").unwrap();
-    let triple = platform.with_c_library(LinuxLibc::Musl);
+    let triple = platform.with_c_library(ChosenLibc::Musl);
     assert_eq!(Dialect::Rust.write(triple).unwrap(), "aarch64-unknown-linux-musl");
     assert_eq!(read("amd64-unknown-linux").unwrap().rustc_cfg().target_arch, "x86_64");
     assert_eq!(Dialect::Go.suggestion("linux/amd46"), Some("linux/amd64"));
