@@ -15,6 +15,7 @@ Mut = namedtuple("Mut", "cell path")  # a mutable borrow
 Slice = namedtuple("Slice", "cell path low high")  # one of a range of bytes
 Checked = namedtuple("Checked", "code")  # a result and whether it overflows
 Tag = namedtuple("Tag", "value place")  # a discriminant
+BITWISE = {"BitAnd": "N.land", "BitOr": "N.lor", "BitXor": "N.lxor"}
 COMPARE = {"Eq": "({0} == {1})", "Ne": "(negb ({0} == {1}))", "Lt": "({0} <? {1})", "Le": "({0} <=? {1})",
            "Gt": "({1} <? {0})", "Ge": "({1} <=? {0})"}
 ORDERING = {"Less": "Lt", "Equal": "Eq", "Greater": "Gt"}
@@ -382,10 +383,10 @@ class Body:
             return f"({x} {'/' if name == 'Div' else 'mod'} {y})"
         if name in ("Shl", "Shr") and self.type_of(left) in BITS:
             return self.emit(f"{name.lower()}_in {BITS[self.type_of(left)]} {x} {y}", "n")
-        if name == "BitXor" and type in BITS:
-            return f"(N.lxor {x} {y})"
-        if name == "BitOr" and (type in BITS or type == "bool"):
-            return f"(N.lor {x} {y})" if type != "bool" else f"({x} || {y})"
+        if name in BITWISE and type in BITS:
+            return f"({BITWISE[name]} {x} {y})"
+        if name == "BitOr" and type == "bool":
+            return f"({x} || {y})"
         raise Unknown(f"{name} of {type}")
 
     # ---- calls

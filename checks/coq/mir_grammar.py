@@ -137,7 +137,7 @@ def operand(text):
     raise Unknown(f"the operand const {text}")
 
 
-BINARY = "Eq Ne Lt Le Gt Ge Div Rem BitOr BitXor Shl Shr AddWithOverflow SubWithOverflow MulWithOverflow".split()
+BINARY = "Eq Ne Lt Le Gt Ge Div Rem BitAnd BitOr BitXor Shl Shr AddWithOverflow SubWithOverflow MulWithOverflow".split()
 CAST = r"((?:copy|move) (?:\S+|\(.*\))) as (.*) \((IntToInt|PointerCoercion\(Unsize, Implicit\)|Transmute)\)"
 
 

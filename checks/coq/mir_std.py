@@ -30,6 +30,7 @@ STD = {
     "std::num::<impl u64>::from_le_bytes": "(from_le_bytes {0})",
     "std::num::<impl u32>::from_le_bytes": "(from_le_bytes {0})",
     "std::num::<impl u64>::wrapping_mul": "(wrapping_mul 64 {0} {1})",
+    "std::num::<impl u64>::trailing_zeros": "(trailing_zeros 64 {0})",
     "std::num::<impl usize>::saturating_add": "(saturating_add usize_bits {0} {1})",
     "std::option::Option::is_some": "(option_is_some {0})",
     "std::option::Option::is_none": "(option_is_none {0})",

@@ -384,6 +384,8 @@ class Body:
         def made(code, type):
             if type and WIDTH.get(type[1]) is None:
                 raise Unknown(f"{type} as {it[2]}")
+            if type and WIDTH[type[1]] <= (32 if it[2] == USIZE else WIDTH[it[2][1]]):  # a `usize` has 32 bits or more
+                return k(code, it[2])
             return k(f"({code} mod {'2 ^ usize_bits' if it[2] == USIZE else 2 ** WIDTH[it[2][1]]})", it[2])
         return self.ex(it[1], env, made)
 

@@ -15,6 +15,7 @@ use crate::reading::Reading;
 use crate::refusal::Refusal;
 use crate::triple::Triple;
 use crate::triple_ref::TripleRef;
+// In Rust: use crate::search::first_dash.
 use std::alloc::Global;
 
 /// The first part of a string, and what follows its dash, if it has one.
@@ -24,6 +25,7 @@ pub fn first_part(text: &str) -> (&str, Option<&str>)
     ensures size { IfSome result.1
         (λ rest. length text.now ≡ length result.0.now + 1 + length rest.now) }
 {
+    // In Rust instead: match first_dash(text.as_bytes()) {
     match text.as_bytes().iter().position(|&byte| byte == b'-') {
         Some(at) => (&text[..at], Some(&text[at + 1..])),
         None => (text, None),

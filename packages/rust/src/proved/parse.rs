@@ -6,11 +6,12 @@ use crate::proved::explanation::{Explanation, Source, Sources, TextPart};
 use crate::proved::reading::Reading;
 use crate::proved::refusal::Refusal;
 use crate::proved::triple_ref::TripleRef;
+use crate::search::first_dash;
 
 /// The first part of a string, and what follows its dash, if it has one.
 #[inline(always)]
 pub fn first_part(text: &str) -> (&str, Option<&str>) {
-    match text.as_bytes().iter().position(|&byte| byte == b'-') {
+    match first_dash(text.as_bytes()) {
         Some(at) => (&text[..at], Some(&text[at + 1..])),
         None => (text, None),
     }
