@@ -1,24 +1,25 @@
 -- Printed strings are at most so much longer than the string that was parsed, and the canonical form makes no string
 -- longer.
-use Rattle.std.proofs.Common.{◌≡◌, ◌≢◌, ◌∙◌, ℕ, zero, suc, ◌+◌, ◌≤◌, ◌<◌, ◌^◌, List, [], ◌∷◌, length, Bool, true, false, true≢false, not, ◌&&◌, ◌||◌, Option, Some, None, is_some, unwrap_or, refl, sym, ap, subst, arith, inl, inr}
+use Rattle.std.proofs.Common.{◌≡◌, ◌≢◌, ◌∙◌, ℕ, zero, suc, ◌+◌, ◌≤◌, ◌<◌, ◌^◌, List, [], ◌∷◌, length, nat_le, Bool, true, false, true≢false, not, ◌&&◌, ◌||◌, Option, Some, None, is_some, unwrap_or, refl, sym, ap, subst, arith, inl, inr}
 use Rattle.std.specs.{List.join_with_byte, List.slice_get, Prelude.MatchOption}
-use Rattle.std.proofs.{lemmas.List.length-append, lemmas.Bool.and_parts, lemmas.Bool.not-true, Math.Bool.and-false, Math.Bool.or-true}
+use Rattle.std.proofs.{lemmas.List.length-append, lemmas.Bool.and_parts, lemmas.Bool.leb-true, lemmas.Bool.not-true, Math.Bool.and-false, Math.Bool.or-true}
 use Rattle.lexicon_fields.specs.Names.{dash}
 use Rattle.target_lexicon.specs.Values.{Architecture, OperatingSystem, Environment, BinaryFormat, VendorValue, Known, Values, values, is_unknown_vendor, is_clever_without_system, is_same_format}
-use Rattle.target_lexicon.specs.{ImpliedFormat.default_binary_format, ImpliedFormat.implied_format, NormalStep.normal_step, NormalStep.elf_if_unknown}
+use Rattle.target_lexicon.specs.{ImpliedFormat.default_binary_format, ImpliedFormat.implied_format, ImpliedFormat.wasm_or_elf, NormalStep.normal_step, NormalStep.elf_if_unknown}
 use Rattle.target_lexicon.specs.{FixedPoints.PrintedStringsGrowAtMost, FixedPoints.CanonicalStringsGrowAtMost, FixedPoints.RefusedPartsDoNotGrow}
 use Rattle.target_lexicon.specs.SpecialStrings.{SpecialRow, special_triple, special_string, special_values, implies_newlib}
 use Rattle.target_lexicon.specs.ExceptionFacts.{HasFieldsOf, HasSystemOf, HasSpecialFields, HidesNewlib, PrintsTheEspIdfString, ShowsOnlyNone}
-use Rattle.target_lexicon.specs.Printing.{architecture_implies_format, is_none_or_unknown, shows_vendor, shows_operating_system, shows_environment, shows_implied_format, shows_binary_format, shows_unknowns, shown_names, cons_if, string_of, text_with}
+use Rattle.target_lexicon.specs.Printing.{architecture_implies_format, environment_implies_format, is_none_or_unknown, shows_vendor, shows_operating_system, shows_environment, shows_implied_format, shows_binary_format, shows_unknowns, shown_names, cons_if, string_of, text_with}
 use Rattle.target_lexicon.specs.{Field.Field, Field.field_number, Field.parses_as, GreedyReading.field_for, GreedyReading.open_fields}
 use Rattle.target_lexicon.specs.Parsing.{ArePartsOf, HoldsParts, IsLeastPlacement, IsValueOf, PartsParseAs, expected_after, part_at}
 use Rattle.target_lexicon.proofs.GreedyPlacement.{cases_Option, fields_from, first-least, greedy-finds, greedy-least, least-unique, left_from, open-follows}
-use Rattle.lexicon_fields.specs.{declared.architecture.clever.CleverArchitecture.CleverArchitecture, Architecture.architecture_name, Architecture.architecture_of, Laws.TextsAreNames, Laws.NamesGrowAtMost, Laws.NamesAreShort, Laws.max_name_length, Vendor.vendor_name, Vendor.known_vendor_name, Vendor.vendor_of}
+use Rattle.lexicon_fields.specs.{declared.architecture.clever.CleverArchitecture.CleverArchitecture, Architecture.architecture_name, Architecture.architecture_of, Architecture.architecture_texts, Laws.TextsAreNames, Laws.NamesGrowAtMost, Laws.NamesAreShort, Laws.max_name_length, Vendor.vendor_name, Vendor.known_vendor_name, Vendor.vendor_of}
 use Rattle.lexicon_fields.specs.declared.known_vendor.KnownVendor.TheVariants.{Unknown, Espressif}
 use Rattle.lexicon_fields.specs.{OperatingSystem.operating_system_name, OperatingSystem.operating_system_of, Environment.environment_name, Environment.environment_of, ArchitectureQueries.is_clever}
 use Rattle.lexicon_fields.specs.BinaryFormat.{binary_format_name, binary_format_of}
 use Rattle.target_lexicon.proofs.SpecialRows.{RowFacts, row_of_fields, row_of_system, row_of_text, fields_of_special, prints_row}
 use Rattle.target_lexicon.proofs.{NamesAcross.environment_of-format, PrintingLemmas.printed_names, ReadParts.absent, RoundTrips.is_same_format-is, RoundTrips.without_system, StepCases.step_cases}
+use Rattle.lexicon_fields.proofs.LookUpLemmas.{value_named-all}
 use Rattle.target_lexicon.specs.Values.architecture
 use Rattle.target_lexicon.specs.Values.operating_system
 use Rattle.target_lexicon.specs.Values.environment
@@ -96,37 +97,31 @@ system_growth-within : (s : OperatingSystem) → (4 ≤ system_growth s) × (sys
 system_growth-within operating_system.Unknown = (omega arith, omega arith)
 system_growth-within _ = (omega arith, omega arith)
 
--- an implied format that is shown is short if the system is unknown
-
 is_same_format-self : (f : BinaryFormat) → is_same_format f f ≡ true
 is_same_format-self binary_format.Unknown = refl
 is_same_format-self _ = refl
 
-abbrev IsShort : Architecture → VendorValue → OperatingSystem → Environment → Type 0
-IsShort a v s e = weight (cons_if (shows_implied_format (values a v s e (implied_format a s e))) (binary_format_name (implied_format a s e)) []) + system_growth s ≤ 12
+-- the format that is shown of an architecture alone, with its dash
+abbrev alone_size : Architecture → ℕ
+alone_size a =
+    weight (cons_if (not (architecture_implies_format a) && not (is_same_format (wasm_or_elf a) binary_format.Unknown))
+    (binary_format_name (wasm_or_elf a)) [])
 
--- each architecture by itself, as the table says
-unknown_system-short : (a : Architecture) (v : VendorValue) (e : Environment) → IsShort a v operating_system.Unknown e
-unfolding implied_format
-unknown_system-short architecture.Unknown v e = first_of (omega (arith, weight-cons_if), omega (arith, weight-hidden))
-unknown_system-short _ v e = first_of (omega (arith, weight-cons_if), omega (arith, weight-hidden))
+-- only an architecture whose format is short may have an alias that is shorter than its name
+alone-growth : (text : List ℕ) (a : Architecture) → architecture_of text ≡ Some a
+    → length (architecture_name a) + alone_size a ≤ length text + 6
+unfolding architecture_of
+alone-growth text a found =
+    leb-true _ _ (value_named-all (λ pair. nat_le (length (architecture_name pair.1) + alone_size pair.1) (length pair.0 + 6))
+    architecture_texts text a refl found)
+
+weight-fewer : (a s e f : Bool) (part : List ℕ) → weight (cons_if (a && s && e && f) part []) ≤ weight (cons_if (a && f) part [])
+weight-fewer true true true f part = omega arith
+weight-fewer _ _ _ _ part = omega arith
 
 format-short : (f : BinaryFormat) → length (binary_format_name f) ≤ 7
 format-short binary_format.Unknown = omega arith
 format-short _ = omega arith
-
-implied_format-short : (a : Architecture) (v : VendorValue) (s : OperatingSystem) (e : Environment) → IsShort a v s e
-implied_format-short a v operating_system.Unknown e = unknown_system-short a v e
-implied_format-short a v s e = omega (arith, weight-cons_if, format-short (implied_format a s e))
-
-shows_unknowns-implied : (f : BinaryFormat) → (is_same_format f binary_format.Unknown && not (is_same_format f f)) ≡ false
-shows_unknowns-implied binary_format.Unknown = refl
-shows_unknowns-implied _ = refl
-
--- the format is shown with an unknown environment that is shown
-pub unknowns-shown : (t : Values) → shows_unknowns t ≡ true → shows_binary_format t ≡ true
-unfolding shows_binary_format
-unknowns-shown t shown = let other : is_same_format t.binary_format (default_binary_format t) ≡ false = not-true _ (and_parts _ _ shown).1 in rw other refl
 
 -- a special string is not longer than the parts that are shown otherwise
 
@@ -185,14 +180,28 @@ unknown-last l (p ∷ ps) near =
       | inr some ↦ rw some.1 (unknown-next l p ps some.0 _ near some.1 (unknown-last some.0 ps))
     ]
 
-module _ (formats : TextsAreNames binary_format_name binary_format_of) (environments : TextsAreNames environment_name environment_of) where
-  format-growth : (t : Values) (part : Option (List ℕ)) → IsValueOf binary_format_of (default_binary_format t) part t.binary_format
-      → weight (cons_if (shows_binary_format t) (binary_format_name t.binary_format) []) + system_growth t.operating_system ≤ size_of part + 12
+module _ (formats : TextsAreNames binary_format_name binary_format_of) (environments : TextsAreNames environment_name environment_of)
+    (architectures : NamesGrowAtMost 2 architecture_name architecture_of) (machine : List ℕ) where
+  -- the names of the architecture and of an implied format that is shown, and the growth of the system
+  abbrev IsShort : Architecture → VendorValue → OperatingSystem → Environment → Type 0
+  IsShort a v s e = length (architecture_name a)
+      + (weight (cons_if (shows_implied_format (values a v s e (implied_format a s e))) (binary_format_name (implied_format a s e)) []) + system_growth s)
+      ≤ length machine + 14
+
+  implied_format-short : (a : Architecture) (v : VendorValue) (s : OperatingSystem) (e : Environment) → architecture_of machine ≡ Some a → IsShort a v s e
+  unfolding implied_format
+  implied_format-short a v operating_system.Unknown e found =
+      omega (arith, alone-growth machine a found, weight-fewer (not (architecture_implies_format a)) true (not (environment_implies_format e)) (not (is_same_format (wasm_or_elf a) binary_format.Unknown)) (binary_format_name (wasm_or_elf a)))
+  implied_format-short a v s e found = omega (arith, architectures machine a found, weight-cons_if, format-short (implied_format a s e))
+
+  format-growth : (t : Values) (part : Option (List ℕ)) → architecture_of machine ≡ Some t.architecture → IsValueOf binary_format_of (default_binary_format t) part t.binary_format
+      → length (architecture_name t.architecture) + (weight (cons_if (shows_binary_format t) (binary_format_name t.binary_format) []) + system_growth t.operating_system)
+      ≤ length machine + (size_of part + 14)
   unfolding shows_binary_format
-  format-growth t None is =
-      rw (is, is_same_format-self (default_binary_format t)) (omega (arith, implied_format-short t.architecture t.vendor t.operating_system t.environment))
-  format-growth t (Some p) is =
-      omega (arith, weight-cons_if (shows_binary_format t) (binary_format_name t.binary_format) [], ap length (formats p t.binary_format is), (system_growth-within t.operating_system).1)
+  format-growth t None found is =
+      rw (is, is_same_format-self (default_binary_format t)) (omega (arith, implied_format-short t.architecture t.vendor t.operating_system t.environment found))
+  format-growth t (Some p) found is =
+      omega (arith, weight-cons_if (shows_binary_format t) (binary_format_name t.binary_format) [], ap length (formats p t.binary_format is), (system_growth-within t.operating_system).1, architectures machine t.architecture found)
 
   environment-growth : (t : Values) (part : Option (List ℕ)) (rest : List (List ℕ)) → IsValueOf environment_of environment.Unknown part t.environment
       → weight (cons_if (shows_environment t) (environment_name t.environment) rest) ≤ size_of part + weight rest
@@ -201,61 +210,63 @@ module _ (formats : TextsAreNames binary_format_name binary_format_of) (environm
   environment-growth t (Some p) rest is =
       omega (arith, weight-cons_if (shows_environment t) (environment_name t.environment) rest, ap length (environments p t.environment is))
 
-  -- the parts that are shown after the system
-  after_system-growth : (t : Values) (e f : Option (List ℕ)) (b : Bool) → shows_unknowns t ≡ b → IsValueOf environment_of environment.Unknown e t.environment
+  -- the architecture, and the parts that are shown after the system
+  after_system-growth : (t : Values) (e f : Option (List ℕ)) (b : Bool) → shows_unknowns t ≡ b → architecture_of machine ≡ Some t.architecture
+      → IsValueOf environment_of environment.Unknown e t.environment
       → IsValueOf binary_format_of (default_binary_format t) f t.binary_format → (f ≡ Some (binary_format_name binary_format.Unknown) → e ≢ None)
-      → weight (after_system b t) + system_growth t.operating_system ≤ size_of e + (size_of f + 12)
-  after_system-growth t e f false shown is_e is_f last =
-      omega (arith, environment-growth t e (cons_if (shows_binary_format t) (binary_format_name t.binary_format) []) is_e, format-growth t f is_f)
-  after_system-growth t e None true shown is_e is_f last =
+      → length (architecture_name t.architecture) + (weight (after_system b t) + system_growth t.operating_system) ≤ length machine + (size_of e + (size_of f + 14))
+  after_system-growth t e f false shown found is_e is_f last =
+      omega (arith, environment-growth t e (cons_if (shows_binary_format t) (binary_format_name t.binary_format) []) is_e, format-growth t f found is_f)
+  after_system-growth t e None true shown found is_e is_f last =
       let differs : is_same_format t.binary_format (default_binary_format t) ≡ false = not-true _ (and_parts _ _ shown).1 in
       absurd (true≢false (sym (is_same_format-self (default_binary_format t)) ∙ rw is_f at differs))
-  after_system-growth t None (Some p) true shown is_e is_f last =
+  after_system-growth t None (Some p) true shown found is_e is_f last =
       let unknown : t.binary_format ≡ binary_format.Unknown = is_same_format-is _ _ (and_parts _ _ (and_parts _ _ shown).0).1 in
       absurd (last (ap Some (sym (formats p t.binary_format is_f) ∙ ap binary_format_name unknown)) refl)
-  after_system-growth t (Some q) (Some p) true shown is_e is_f last =
-      omega (arith, ap length (formats p t.binary_format is_f), ap length (environments q t.environment is_e), (system_growth-within t.operating_system).1)
+  after_system-growth t (Some q) (Some p) true shown found is_e is_f last =
+      omega (arith, ap length (formats p t.binary_format is_f), ap length (environments q t.environment is_e), (system_growth-within t.operating_system).1, architectures machine t.architecture found)
 
-  module _ (architectures : NamesGrowAtMost 2 architecture_name architecture_of) (vendors : TextsAreNames vendor_name vendor_of) (systems : NamesGrowAtMost 4 operating_system_name operating_system_of) where
-    abbrev GrowsAtMost : List ℕ → Values → Type 0
-    GrowsAtMost text t = length (string_of t) ≤ length text + 22
+module _ (formats : TextsAreNames binary_format_name binary_format_of) (environments : TextsAreNames environment_name environment_of)
+    (architectures : NamesGrowAtMost 2 architecture_name architecture_of) (vendors : TextsAreNames vendor_name vendor_of)
+    (systems : NamesGrowAtMost 4 operating_system_name operating_system_of) where
+  abbrev GrowsAtMost : List ℕ → Values → Type 0
+  GrowsAtMost text t = length (string_of t) ≤ length text + 22
 
-    by_fields : (p : List ℕ) (ps : List (List ℕ)) (t : Values) → left_from (Some field.Vendor) ps ≡ [] → HoldsParts (p ∷ ps) (field.Architecture ∷ fields_from (Some field.Vendor) ps) t
-        → GrowsAtMost (join_with_byte dash (p ∷ ps)) t
-    unfolding string_of
-    by_fields p ps t done holds =
-        special-short t (shows_unknowns t) _ (omega (
-          arith,
-          architectures p t.architecture holds.architecture,
-          value-growth vendor_name vendor_of (Known Unknown) 0 (λ _. 8) (λ text x found. omega (arith, ap length (vendors text x found))) (λ x. omega arith) (omega arith) _ t.vendor holds.vendor,
-          value-growth operating_system_name operating_system_of operating_system.Unknown 4 system_growth systems (λ s. (system_growth-within s).0) (omega arith) _ t.operating_system holds.operating_system,
-          after_system-growth t _ _ (shows_unknowns t) refl holds.environment holds.binary_format (unknown-last field.Architecture ps (omega arith)),
-          weight-parts t (shows_unknowns t),
-          weight-shown t (shows_unknowns t),
-          weight-joined p ps,
-          weight-next p ps field.Architecture (weight-fields field.Architecture ps done),
-        ))
+  by_fields : (p : List ℕ) (ps : List (List ℕ)) (t : Values) → left_from (Some field.Vendor) ps ≡ [] → HoldsParts (p ∷ ps) (field.Architecture ∷ fields_from (Some field.Vendor) ps) t
+      → GrowsAtMost (join_with_byte dash (p ∷ ps)) t
+  unfolding string_of
+  by_fields p ps t done holds =
+      special-short t (shows_unknowns t) _ (omega (
+        arith,
+        value-growth vendor_name vendor_of (Known Unknown) 0 (λ _. 8) (λ text x found. omega (arith, ap length (vendors text x found))) (λ x. omega arith) (omega arith) _ t.vendor holds.vendor,
+        value-growth operating_system_name operating_system_of operating_system.Unknown 4 system_growth systems (λ s. (system_growth-within s).0) (omega arith) _ t.operating_system holds.operating_system,
+        after_system-growth formats environments architectures p t _ _ (shows_unknowns t) refl holds.architecture holds.environment holds.binary_format (unknown-last field.Architecture ps (omega arith)),
+        weight-parts t (shows_unknowns t),
+        weight-shown t (shows_unknowns t),
+        weight-joined p ps,
+        weight-next p ps field.Architecture (weight-fields field.Architecture ps done),
+      ))
 
-    by_placement : (parts : List (List ℕ)) (fs : List Field) (t : Values) → parts ≢ [] → IsLeastPlacement parts fs → HoldsParts parts fs t → GrowsAtMost (join_with_byte dash parts) t
-    by_placement [] fs t some least holds = absurd (some refl)
-    by_placement (p ∷ ps) fs t some least holds =
-        let found = greedy-finds p ps (fs, least.placed) in
-        let same = least-unique (p ∷ ps) fs _ least (greedy-least p ps found.0 found.1) in
-        by_fields p ps t found.1 (subst (λ gs. HoldsParts (p ∷ ps) gs t) same holds)
+  by_placement : (parts : List (List ℕ)) (fs : List Field) (t : Values) → parts ≢ [] → IsLeastPlacement parts fs → HoldsParts parts fs t → GrowsAtMost (join_with_byte dash parts) t
+  by_placement [] fs t some least holds = absurd (some refl)
+  by_placement (p ∷ ps) fs t some least holds =
+      let found = greedy-finds p ps (fs, least.placed) in
+      let same = least-unique (p ∷ ps) fs _ least (greedy-least p ps found.0 found.1) in
+      by_fields p ps t found.1 (subst (λ gs. HoldsParts (p ∷ ps) gs t) same holds)
 
-    row-grows : (row : SpecialRow) → RowFacts row → GrowsAtMost row.text (special_triple row)
-    unfolding string_of
-    row-grows row facts = rw (facts.prints environment.Newlib binary_format.Elf) (omega arith)
+  row-grows : (row : SpecialRow) → RowFacts row → GrowsAtMost row.text (special_triple row)
+  unfolding string_of
+  row-grows row facts = rw (facts.prints environment.Newlib binary_format.Elf) (omega arith)
 
-    by_special : (text : List ℕ) (t : Values) (o : Option Values) → special_values text ≡ o
-        → MatchOption o ((parts : List (List ℕ)) × ArePartsOf text parts × PartsParseAs parts t) (λ values. t ≡ values) → GrowsAtMost text t
-    by_special text t None is (parts, are, (fs, least, holds)) = subst (λ (x : List ℕ). GrowsAtMost x t) are.joined (by_placement parts fs t are.some least holds)
-    by_special text t (Some u) is same =
-        let at = row_of_text text u is in
-        subst (GrowsAtMost text) (sym (same ∙ at.2)) (subst (λ (x : List ℕ). GrowsAtMost x (special_triple at.0)) (sym at.1) (row-grows at.0 at.3))
+  by_special : (text : List ℕ) (t : Values) (o : Option Values) → special_values text ≡ o
+      → MatchOption o ((parts : List (List ℕ)) × ArePartsOf text parts × PartsParseAs parts t) (λ values. t ≡ values) → GrowsAtMost text t
+  by_special text t None is (parts, are, (fs, least, holds)) = subst (λ (x : List ℕ). GrowsAtMost x t) are.joined (by_placement parts fs t are.some least holds)
+  by_special text t (Some u) is same =
+      let at = row_of_text text u is in
+      subst (GrowsAtMost text) (sym (same ∙ at.2)) (subst (λ (x : List ℕ). GrowsAtMost x (special_triple at.0)) (sym at.1) (row-grows at.0 at.3))
 
-    pub printed_max_growth : PrintedStringsGrowAtMost
-    printed_max_growth text t reads = by_special text t (special_values text) refl reads
+  pub printed_max_growth : PrintedStringsGrowAtMost
+  printed_max_growth text t reads = by_special text t (special_values text) refl reads
 
 -- a refused part is a part of the string
 

@@ -2,7 +2,7 @@
 -- say "each row".
 use Rattle.std.proofs.Common.{◌≡◌, ◌∙◌, ℕ, ◌+◌, ◌≤◌, ◌<◌, ◌^◌, List, [], ◌∷◌, length, Bool, true, false, cond, Option, Some, None, Result, Ok, Err, inl, inr, ◌⊎◌, is_some, refl, sym, ap, arith}
 use Rattle.std.specs.{Prelude.map, Str.bytes_eq}
-use Rattle.std.proofs.{lemmas.Slice.Eq.bytes_eq-Decides, lemmas.Bool.cases_Bool, lemmas.Bool.false≢true, lemmas.Bool.true≢false}
+use Rattle.std.proofs.{lemmas.Slice.Eq.bytes_eq-Decides, lemmas.Bool.cases_Bool, lemmas.Bool.false≢true}
 use Rattle.lexicon_fields.specs.{Laws.HasVersionInRange, Names.value_named, Architecture.architecture_name, Vendor.known_vendor_name, OperatingSystem.operating_system_name, ArchitectureQueries.architecture_width}
 use Rattle.lexicon_fields.specs.{Architecture.architecture_of, Vendor.vendor_of, Vendor.known_vendor_of, Vendor.is_admitted, OperatingSystem.operating_system_of, OperatingSystem.fixed_operating_system_of, Environment.environment_of, BinaryFormat.binary_format_of}
 use Rattle.lexicon_fields.specs.declared.pointer_width.PointerWidth.TheVariants.{U32}
@@ -110,10 +110,6 @@ special_of_fields t has = let at = row_of_fields t has in ap is_some (prints_row
 
 pub no_special : (t : Values) → ¬ HasSpecialFields t → is_some (special_string t) ≡ false
 no_special t other = elim (cases_Bool (is_some (special_string t))) [ inl is ↦ absurd (other (fields_of_special t is)) | inr is ↦ is ]
-
-pub none_of_not : {A : Type 0} (o : Option A) → is_some o ≡ false → o ≡ None
-none_of_not None is = refl
-none_of_not (Some x) is = absurd (true≢false is)
 
 -- and vendor and system of a row if and only if they imply `Newlib`
 
