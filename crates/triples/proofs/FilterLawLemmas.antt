@@ -1,13 +1,16 @@
 -- The laws of what a filter writes and how it ends.
-use Rattle.std.proofs.Common.{◌≡◌, ◌↔◌, ◌∙◌, ℕ, ◌-◌, ◌^◌, ◌<◌, inl, inr, Bool, true, false, List, [], ◌∷◌, ◌++◌, codes, length, Result, Ok, Err, refl, sym, ap, subst, arith}
+use Rattle.std.proofs.Common.{◌≡◌, ◌↔◌, ◌∙◌, ℕ, ◌-◌, ◌^◌, ◌<◌, inl, inr, Bool, true, false, List, [], ◌∷◌, ◌++◌, codes}
+use Rattle.std.proofs.Common.{length, Result, Ok, Err, refl, sym, ap, subst, arith}
 use Rattle.std.proofs.lemmas.Bool.{cases_lt}
 use Rattle.std.proofs.lemmas.Str.{IsUtf8-from_is_utf8, is_utf8-from_IsUtf8}
 use Rattle.std.specs.List.{AllByRecursion, AllZip}
 use Rattle.std.specs.Str.{IsUtf8, is_utf8}
 use Rattle.target_lexicon.specs.{Laws.EveryStringHasOneOutcome, Refusal.refusal_line}
 use Rattle.triples.specs.Filter.{AreFilterAnswers, IsFilterAnswer, complete_lines, not_utf8, too_long}
-use Rattle.triples.specs.FilterLaws.{ErrorsOfFiltersAreExact, EveryInputIsFiltered, FilterGives, FiltersAgreeWithRuns, FiltersEndOneWay, run_mode}
-use Rattle.triples.specs.{Lines.lines_of, Output.Answer, Output.Shown, Output.Refused, Output.AreAnswers, Output.IsAnswer, Output.IsLineOutput, Output.IsOutput, Output.shown_by, Output.written_lines}
+use Rattle.triples.specs.FilterLaws.{ErrorsOfFiltersAreExact, EveryInputIsFiltered, FilterGives, FiltersAgreeWithRuns}
+use Rattle.triples.specs.FilterLaws.{FiltersEndOneWay, run_mode}
+use Rattle.triples.specs.{Lines.lines_of, Output.Answer, Output.Shown, Output.Refused, Output.AreAnswers}
+use Rattle.triples.specs.{Output.IsAnswer, Output.IsLineOutput, Output.IsOutput, Output.shown_by, Output.written_lines}
 use Rattle.triples.specs.Run.{Use, Takes}
 use Rattle.triples.specs.declared.filter_error.FilterError.{FilterError}
 use Rattle.triples.specs.declared.filter_error.FilterError.TheVariants as filter_error

@@ -1,16 +1,22 @@
 -- Answers in a buffer, and the lines that were answered so far.
-use Rattle.std.proofs.Common.{◌≡◌, ◌∙◌, ℕ, ◌+◌, ◌-◌, ◌<◌, ◌≤◌, ◌==◌, Bool, true, false, List, [], ◌∷◌, ◌++◌, codes, length, take, drop, Option, Some, None, inl, inr, ◌⊎◌, refl, sym, ap, subst, append_assoc, lit≤, option_map, arith}
+use Rattle.std.proofs.Common.{◌≡◌, ◌∙◌, ℕ, ◌+◌, ◌-◌, ◌<◌, ◌≤◌, ◌==◌, Bool, true, false, List, [], ◌∷◌, ◌++◌, codes}
+use Rattle.std.proofs.Common.{length, take, drop, Option, Some, None, inl, inr, ◌⊎◌, refl, sym, ap, subst, append_assoc}
+use Rattle.std.proofs.Common.{lit≤, option_map, arith}
 use Rattle.std.proofs.lemmas.List.{append-nil, length-append, length-drop, length-take, take_all, drop-drop}
 use Rattle.std.proofs.lemmas.List.Elements.{All-append}
 use Rattle.std.proofs.lemmas.List.Splits.{slice_split_at, slice_split_none, length-slice_split}
 use Rattle.std.specs.List.{AllZip, AllByRecursion, slice_split}
 use Rattle.std.specs.Str.{IsUtf8}
 use Rattle.target_lexicon.specs.{CallingConvention.convention_name, DataModel.model_name}
-use Rattle.target_lexicon.specs.Queries.{endianness_name, width_name, endianness, pointer_width, calling_convention, data_model}
-use Rattle.target_lexicon.specs.{FixedPoints.PrintedStringsGrowAtMost, FixedPoints.CanonicalStringsGrowAtMost, Laws.EveryStringHasOneOutcome, Printing.string_of, Parsing.ParsesAs, Parsing.IsRefusedAs, Refusal.Refusal, Refusal.refusal_line, Values.Values}
+use Rattle.target_lexicon.specs.Queries.{endianness_name, width_name, endianness, pointer_width, calling_convention}
+use Rattle.target_lexicon.specs.Queries.{data_model}
+use Rattle.target_lexicon.specs.{FixedPoints.PrintedStringsGrowAtMost, FixedPoints.CanonicalStringsGrowAtMost}
+use Rattle.target_lexicon.specs.{Laws.EveryStringHasOneOutcome, Printing.string_of, Parsing.ParsesAs}
+use Rattle.target_lexicon.specs.{Parsing.IsRefusedAs, Refusal.Refusal, Refusal.refusal_line, Values.Values}
 use Rattle.target_lexicon.proofs.WordLengths.{short-endianness, short-width, short-convention, short-model}
 use Rattle.triples.specs.{Facts.facts_of, Facts.spaced_word, Filter.AreFilterAnswers, Filter.IsFilterAnswer}
-use Rattle.triples.specs.FilterSteps.{AnswersLines, AnswersRest, HasNoFeed, IsFilteredTo, IsLate, IsLineAnswer, IsLineEnd, IsShortAnswer, Pushes, PushesAnswer, with_feeds}
+use Rattle.triples.specs.FilterSteps.{AnswersLines, AnswersRest, HasNoFeed, IsFilteredTo, IsLate, IsLineAnswer}
+use Rattle.triples.specs.FilterSteps.{IsLineEnd, IsShortAnswer, Pushes, PushesAnswer, with_feeds}
 use Rattle.triples.specs.Lines.{line_feed, lines_of, ended_lines_of, parts_without_empty_last, parts_without_last}
 use Rattle.triples.specs.Output.{Answer, Shown, Refused, shown_by, written_lines}
 use Rattle.triples.specs.declared.line_mode.LineMode.{LineMode}

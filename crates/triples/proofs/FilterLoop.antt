@@ -1,23 +1,28 @@
 -- A filter between its reads, and its ends.
-use Rattle.std.proofs.Common.{◌≡◌, ◌↔◌, ◌∙◌, ℕ, ◌+◌, ◌-◌, ◌^◌, ◌<◌, ◌≤◌, ◌⊎◌, inl, inr, Bool, true, false, List, [], ◌∷◌, ◌++◌, length, take, drop, Option, Result, Ok, Err, refl, sym, ap, subst, append_assoc, arith, rules}
+use Rattle.std.proofs.Common.{◌≡◌, ◌↔◌, ◌∙◌, ℕ, ◌+◌, ◌-◌, ◌^◌, ◌<◌, ◌≤◌, ◌⊎◌, inl, inr, Bool, true, false, List, []}
+use Rattle.std.proofs.Common.{◌∷◌, ◌++◌, length, take, drop, Option, Result, Ok, Err, refl, sym, ap, subst}
+use Rattle.std.proofs.Common.{append_assoc, arith, rules}
 use Rattle.std.proofs.lemmas.List.{append-nil, length-append, length-take, take-append-drop, take-append-le, take_all}
 use Rattle.std.proofs.Math.Seq.{take-append-add, take-append_seam}
 use Rattle.std.proofs.lemmas.List.{places, length-drop}
 use borrow.Rule.Slice.PartMut.{put_mid, post_of}
-use Rattle.std.specs.Io.KnownBytes.{IsAtEnd, Keeps}
+use Rattle.std.specs.Io.KnownBytes.{Consumes, IsAtEnd, Keeps}
 use Rattle.std.specs.Prelude.{IsErrOf, OnErr, OnOk}
-use Rattle.triples.specs.Calls.{Call, After, Ended, Failed, Moved, bytes_of, ends_last, stops_last}
-use Rattle.triples.specs.{Filter.AreFilterAnswers, Filter.FilterEndsAs, Filter.IsPrompt, Filter.ReadsPromptly, Filter.complete_lines, Lines.ended_lines_of}
+use Rattle.triples.specs.Calls.{Call, After, Ended, Failed, Moved, bytes_of, ends_last, failures_in, stops_in, stops_last}
+use Rattle.triples.specs.{Filter.AreFilterAnswers, Filter.FilterEndsAs, Filter.IsPrompt, Filter.ReadsPromptly}
+use Rattle.triples.specs.{Filter.complete_lines, Lines.ended_lines_of}
 use Rattle.triples.specs.FilterSteps.{HasNoFeed, IsFilteredTo, IsKept, IsLate, LinesAnswered, RestAnswered}
-use Rattle.triples.specs.Run.{Use, Gives, Takes, IsReadWhole, IsUnfailed, IsWrittenWhole, HasFailed, OnlyMoves, StopsLast, StopsOnce, use_of}
+use Rattle.triples.specs.Run.{Use, Gives, Takes, IsReadWhole, IsUnfailed, IsWrittenWhole, HasFailed, OnlyMoves}
+use Rattle.triples.specs.Run.{StopsLast, StopsOnce, use_of}
 use Rattle.std.proofs.lemmas.Bool.{ne_eqb}
-use Rattle.triples.specs.Streams.{calls, finds_end, inner, is_ended, moved, read_call, stops, stops_by}
+use Rattle.triples.specs.Streams.{calls, inner, moved, read_call}
 use Rattle.triples.specs.declared.counted.Counted.{Counted}
 use Rattle.triples.specs.declared.filter_error.FilterError.{FilterError}
 use Rattle.triples.specs.declared.filter_error.FilterError.TheVariants as filter_error
 use Rattle.triples.specs.declared.line_mode.LineMode.{LineMode}
 use Rattle.target_lexicon.specs.Laws.{EveryStringHasOneOutcome}
-use Rattle.triples.proofs.FilterLemmas.{filtered-none, filtered-then, filtered-more, filtered-end, filtered-part, filtered-so-far, late-no-feed, no-bytes}
+use Rattle.triples.proofs.FilterLemmas.{filtered-none, filtered-then, filtered-more, filtered-end, filtered-part}
+use Rattle.triples.proofs.FilterLemmas.{filtered-so-far, late-no-feed, no-bytes}
 use Rattle.triples.proofs.UseLemmas.{gives-kept, gives-none, gives-then, not-both, takes-none, takes-part, takes-then}
 
 -- the reads that gave these bytes, each after the answers to all lines that had ended
@@ -165,14 +170,14 @@ module _ {A B : Type 0} (rem : A → Option (List ℕ)) (con : B → Option (Lis
     read-prompt call w is = let more = more-reads call is in (call ∷ (After (moved w1) ∷ more.0), more.1, more.3)
 
     -- a read that failed
-    pub ends-read : Keeps (rem (inner r1)) (rem (inner r2)) → moved r2 ≡ moved r1 ++ [] → HasFailed (use_of rem r1 r2) → stops r2 ≡ stops r1 + 1 → is_ended r2 ≡ false
-        → calls r2 ≡ Failed ∷ (After (moved w1) ∷ calls r1)
+    pub ends-read : Keeps (rem (inner r1)) (rem (inner r2)) → calls r2 ≡ Failed ∷ (After (moved w1) ∷ calls r1)
         → FilterEndsAs mode size (use_of rem r0 r2) (use_of con w0 w1) (Err filter_error.Read)
-    ends-read keeps same failed stopped ended is =
-        as-read mode size (use_of rem r0 r2) (use_of con w0 w1) state.bytes state.output state.output (gives-kept rem r0 r1 r2 state.bytes state.given keeps same) state.taken
-        (subst (λ (b : Bool). AreFilterAnswers mode size (complete_lines b state.bytes) state.output) (sym ended) so-far) (read-prompt Failed w1 is)
-        refl (omega (arith, failed, state.input_unfailed))
-        (omega (arith, stopped, state.only_reads), ap stops_last is)
+    ends-read keeps is =
+        as-read mode size (use_of rem r0 r2) (use_of con w0 w1) state.bytes state.output state.output
+        (gives-kept rem r0 r1 r2 state.bytes state.given keeps (ap bytes_of is ∙ append-nil _)) state.taken
+        (subst (λ (b : Bool). AreFilterAnswers mode size (complete_lines b state.bytes) state.output) (sym (ap ends_last is)) so-far) (read-prompt Failed w1 is)
+        refl (omega (arith, ap failures_in is, state.input_unfailed))
+        (omega (arith, ap stops_in is, state.only_reads), ap stops_last is)
         state.written_unfailed state.only_writes
 
     -- all reads were made
@@ -184,35 +189,49 @@ module _ {A B : Type 0} (rem : A → Option (List ℕ)) (con : B → Option (Lis
         refl state.input_unfailed state.only_reads state.written_unfailed state.only_writes (omega (arith, all, state.counted))
 
     -- a read found the end, and the last line was answered
-    module _ (given : List ℕ) (none : given ≡ []) (gives : Gives (use_of rem r1 r2) given) (unfailed : IsUnfailed (use_of rem r1 r2)) (stopped : stops r2 ≡ stops r1 + 1) (ended : is_ended r2 ≡ true)
-        (is : calls r2 ≡ Ended ∷ (After (moved w1) ∷ calls r1)) (at_end : IsAtEnd (rem (inner r2))) (short : length held < size) where
+    module _ (known : Consumes (rem (inner r1)) (rem (inner r2)) []) (is : calls r2 ≡ Ended ∷ (After (moved w1) ∷ calls r1))
+        (at_end : IsAtEnd (rem (inner r2))) (short : length held < size) where
       free : HasNoFeed (state.before ++ held)
       free = late-no-feed late size state.before held state.is_late state.none
 
       all-given : Gives (use_of rem r0 r2) state.bytes
       all-given =
-          subst (λ (t : List ℕ). Gives (use_of rem r0 r2) t) (ap (λ (t : List ℕ). state.bytes ++ t) none ∙ append-nil state.bytes) (gives-then rem r0 r1 r2 state.bytes given state.given gives)
+          subst (λ (t : List ℕ). Gives (use_of rem r0 r2) t) (append-nil state.bytes)
+          (gives-then rem r0 r1 r2 state.bytes [] state.given (record { moved = ap bytes_of is ∙ append-nil _; known = known }))
+
+      unfailed : IsUnfailed (use_of rem r0 r2)
+      unfailed = omega (arith, ap failures_in is, state.input_unfailed)
 
       last : StopsLast (use_of rem r0 r2)
-      last = (omega (arith, stopped, state.only_reads), ap stops_last is)
+      last = (omega (arith, ap stops_in is, state.only_reads), ap stops_last is)
 
       pub ends-rest : (result : Result (Unit {0}) FilterError) → RestAnswered mode late held (use_of con w1 w2) result → FilterEndsAs mode size (use_of rem r0 r2) (use_of con w0 w2) result
       ends-rest (Ok u) done =
           let whole = filtered-end mode size state.bytes (state.before ++ held) state.output done.1 state.filtered free (done.3.rest size state.before short state.is_late) in
           as-ok mode size (use_of rem r0 r2) (use_of con w0 w2) state.bytes (state.output ++ done.1) (state.output ++ done.1) all-given (takes-then con w0 w1 w2 state.output done.1 state.taken done.2)
-          (subst (λ (b : Bool). AreFilterAnswers mode size (complete_lines b state.bytes) (state.output ++ done.1)) (sym ended) whole) (read-prompt Ended w2 is)
-          refl (ended, at_end, unfailed ∙ state.input_unfailed, last)
+          (subst (λ (b : Bool). AreFilterAnswers mode size (complete_lines b state.bytes) (state.output ++ done.1)) (sym (ap ends_last is)) whole) (read-prompt Ended w2 is)
+          refl (ap ends_last is, at_end, unfailed, last)
           (done.0.0, done.0.1 ∙ state.written_unfailed, (omega (arith, done.0.2.0, state.only_writes), done.0.2.1))
       ends-rest (Err e) done =
           let whole = filtered-end mode size state.bytes (state.before ++ held) state.output done.2 state.filtered free (done.3.rest size state.before short state.is_late) in
           let part = takes-part con w0 w1 w2 state.output done.2 state.taken (done.4, done.5) in
           subst (λ (f : FilterError). FilterEndsAs mode size (use_of rem r0 r2) (use_of con w0 w2) (Err f)) (sym done.0)
           (as-write mode size (use_of rem r0 r2) (use_of con w0 w2) state.bytes (state.output ++ done.2) (take part.0 (state.output ++ done.2)) all-given part.1
-          (subst (λ (b : Bool). AreFilterAnswers mode size (complete_lines b state.bytes) (state.output ++ done.2)) (sym ended) whole) (read-prompt Ended w2 is)
-          part.0 refl (unfailed ∙ state.input_unfailed) (inr last) (omega (arith, done.1, state.written_unfailed)) (omega (arith, done.6.0, state.only_writes), done.6.1))
+          (subst (λ (b : Bool). AreFilterAnswers mode size (complete_lines b state.bytes) (state.output ++ done.2)) (sym (ap ends_last is)) whole) (read-prompt Ended w2 is)
+          part.0 refl unfailed (inr last) (omega (arith, done.1, state.written_unfailed)) (omega (arith, done.6.0, state.only_writes), done.6.1))
 
-    module _ (more : List ℕ) (gives : Gives (use_of rem r1 r2) more) (unfailed : IsUnfailed (use_of rem r1 r2)) (moves : OnlyMoves (use_of rem r1 r2)) (ended : is_ended r2 ≡ false)
-        (made : calls r2 ≡ Moved more ∷ (After (moved w1) ∷ calls r1)) (piece : List ℕ) (is : piece ≡ held ++ more) (fits : length piece ≤ size) where
+    module _ (more : List ℕ) (known : Consumes (rem (inner r1)) (rem (inner r2)) more) (made : calls r2 ≡ Moved more ∷ (After (moved w1) ∷ calls r1))
+        (piece : List ℕ) (is : piece ≡ held ++ more) (fits : length piece ≤ size) where
+      all-given-more : Gives (use_of rem r0 r2) (state.bytes ++ more)
+      all-given-more = gives-then rem r0 r1 r2 state.bytes more state.given
+          (record { moved = ap bytes_of made ∙ ap (λ (t : List ℕ). t ++ more) (append-nil _); known = known })
+
+      unfailed-more : IsUnfailed (use_of rem r0 r2)
+      unfailed-more = omega (arith, ap failures_in made, state.input_unfailed)
+
+      only-reads-more : OnlyMoves (use_of rem r0 r2)
+      only-reads-more = omega (arith, ap stops_in made, state.only_reads)
+
       -- the lines so far, up to what is held and what came
       far : IsFilteredTo mode size (state.bytes ++ more) (state.before ++ piece) state.output
       far =
@@ -229,16 +248,16 @@ module _ {A B : Type 0} (rem : A → Option (List ℕ)) (con : B → Option (Lis
             bytes = state.bytes ++ more;
             output = state.output ++ done.3;
             before = next.0;
-            given = gives-then rem r0 r1 r2 state.bytes more state.given gives;
+            given = all-given-more;
             taken = takes-then con w0 w1 w2 state.output done.3 state.taken done.4;
             filtered = filtered-then mode size (state.bytes ++ more) (state.before ++ piece) (next.0 ++ drop start piece) state.output done.3 far next.1;
             is_late = next.2;
             none = done.2;
             counted = omega (arith, some, state.counted, length-append state.bytes more);
-            not_ended = λ _. ended;
-            input_unfailed = unfailed ∙ state.input_unfailed;
+            not_ended = λ _. ap ends_last made;
+            input_unfailed = unfailed-more;
             written_unfailed = done.0 ∙ state.written_unfailed;
-            only_reads = moves ∙ state.only_reads;
+            only_reads = only-reads-more;
             only_writes = done.6 ∙ state.only_writes;
             prompt = (let all = more-reads (Moved more) made in
                 (Moved more ∷ (After (moved w1) ∷ all.0), all.1, ap (λ (t : List ℕ). t ++ more) (append-nil (bytes_of all.0) ∙ all.2), all.3));
@@ -253,10 +272,10 @@ module _ {A B : Type 0} (rem : A → Option (List ℕ)) (con : B → Option (Lis
           let written = state.output ++ done.2 in
           let so_far = filtered-then mode size (state.bytes ++ more) (state.before ++ piece) (next.0 ++ done.4) state.output done.2 far next.1 in
           let all = filtered-part mode size one (state.bytes ++ more) (next.0 ++ done.4) written so_far in
-          as-write mode size (use_of rem r0 r2) (use_of con w0 w2) (state.bytes ++ more) all.0 (take part.0 written) (gives-then rem r0 r1 r2 state.bytes more state.given gives) part.1
-          (subst (λ (b : Bool). AreFilterAnswers mode size (complete_lines b (state.bytes ++ more)) all.0) (sym ended) all.1) (read-prompt (Moved more) w2 made)
+          as-write mode size (use_of rem r0 r2) (use_of con w0 w2) (state.bytes ++ more) all.0 (take part.0 written) all-given-more part.1
+          (subst (λ (b : Bool). AreFilterAnswers mode size (complete_lines b (state.bytes ++ more)) all.0) (sym (ap ends_last made)) all.1) (read-prompt (Moved more) w2 made)
           (length (take part.0 written)) (beginning part.0 written all.2 ∙ ap (λ (t : List ℕ). take (length (take part.0 written)) t) (sym all.3))
-          (unfailed ∙ state.input_unfailed) (inl (moves ∙ state.only_reads)) (omega (arith, done.1, state.written_unfailed)) (omega (arith, done.8.0, state.only_writes), done.8.1)
+          unfailed-more (inl only-reads-more) (omega (arith, done.1, state.written_unfailed)) (omega (arith, done.8.0, state.only_writes), done.8.1)
 
 -- what is held after the lines that ended
 pub between-kept : {A B : Type 0} (rem : A → Option (List ℕ)) (con : B → Option (List ℕ)) (mode : LineMode) (size : ℕ) (late late_after : Bool) (rest new : List ℕ) (held : ℕ) (input written : Use) (count : ℕ)
@@ -287,12 +306,11 @@ length-read held xs ys within size = search (rules, places)
 
 -- a read that gave some byte moved it, and one that gave none, with room for one, found the end
 pub some-read : (count : ℕ) (buffer : List ℕ) → (count ≡ 0 → ⊥)
-    → (finds_end {E = ⊥} (Ok count) buffer ≡ false) × (stops_by {E = ⊥} (Ok count) buffer ≡ 0) × (read_call {E = ⊥} (Ok count) buffer ≡ Moved (take count buffer))
-some-read count buffer some = rw (ne_eqb count 0 some) (refl, refl, refl)
+    → read_call {E = ⊥} (Ok count) buffer ≡ Moved (take count buffer)
+some-read count buffer some = rw (ne_eqb count 0 some) refl
 
-pub none-read : (count : ℕ) (buffer : List ℕ) → count ≡ 0 → 0 < length buffer
-    → (finds_end {E = ⊥} (Ok count) buffer ≡ true) × (stops_by {E = ⊥} (Ok count) buffer ≡ 1) × (read_call {E = ⊥} (Ok count) buffer ≡ Ended)
-none-read count buffer none room = rw (none, ne_eqb (length buffer) 0 (λ bad. omega (arith, bad, room))) (refl, refl, refl)
+pub none-read : (count : ℕ) (buffer : List ℕ) → count ≡ 0 → 0 < length buffer → read_call {E = ⊥} (Ok count) buffer ≡ Ended
+none-read count buffer none room = rw (none, ne_eqb (length buffer) 0 (λ bad. omega (arith, bad, room))) refl
 
 -- the length of a slice from an index to the end
 pub part-length : (start : ℕ) (xs : List ℕ) → length (take (length xs - start) (drop start xs)) ≡ length xs - start

@@ -1,5 +1,6 @@
 -- The answers of mode `json`.
-use Rattle.std.proofs.Common.{◌≡◌, ℕ, ◌<◌, false, List, [], ◌∷◌, Some, None, MatchOption, Option, map, length, refl, sym, subst, arith}
+use Rattle.std.proofs.Common.{◌≡◌, ℕ, ◌<◌, false, List, [], ◌∷◌, Some, None, MatchOption, Option, map, length, refl}
+use Rattle.std.proofs.Common.{sym, subst, arith}
 use Rattle.serde_json.specs.{Data.Data, Read.read, Find.as_array, View.items_of, Written.items_have_float}
 use Rattle.serde_json.proofs.OnLiterals.{serde_json_on_literals}
 use Rattle.target_lexicon.specs.{Json.json_of, Values.Values}

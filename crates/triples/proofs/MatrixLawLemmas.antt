@@ -1,11 +1,18 @@
 -- The laws of mode `matrix`.
-use Rattle.std.proofs.Common.{◌≡◌, ℕ, Bool, true, false, ◌||◌, not, List, [], ◌∷◌, ◌++◌, cond, map, take, if◌then◌else◌, refl, sym, ap, ◌∙◌, subst}
-use Rattle.std.proofs.{lemmas.List.append-nil, Math.Bool.or-false, Math.Bool.or-true, lemmas.Bool.not-false, lemmas.List.Elements.filter-append}
+use Rattle.std.proofs.Common.{◌≡◌, ℕ, Bool, true, false, ◌||◌, not, List, [], ◌∷◌, ◌++◌, cond, map, take, if◌then◌else◌}
+use Rattle.std.proofs.Common.{refl, sym, ap, ◌∙◌, subst}
+use Rattle.std.proofs.{lemmas.List.append-nil, Math.Bool.or-false, Math.Bool.or-true, lemmas.Bool.not-false}
+use Rattle.std.proofs.{lemmas.List.Elements.filter-append}
 use Rattle.std.proofs.lemmas.Slice.Eq.{bytes_eq-Decides}
 use Rattle.std.specs.{Cmp.Lexicographic.same_text, List.filter, List.list_any, Str.bytes_eq}
-use Rattle.target_lexicon.specs.{FixedPoints.ParsedTriplesArePlain, FixedPoints.RoundIsNormalStep, FixedPoints.CanonicalStringsAreKeys, FixedPoints.canonical_values, FixedPoints.canonical_string, NormalStep.normal_step, Laws.EqualTextsEqualTriples, Laws.EveryStringHasOneOutcome, Printing.string_of, Parsing.ParsesAs, Values.Values}
-use Rattle.triples.specs.MatrixLaws.{EntriesAreCanonicalTriples, entries_of, is_refusal, FirstEntriesStayInOrder, EachCanonicalTripleHasAnEntry, only_entries, MatricesAreTheirOwn}
-use Rattle.triples.specs.Output.{Answer, Shown, Refused, IsAnswer, AreAnswers, shows, is_kept_after, kept_answers, matrix_of, answer_bytes}
+use Rattle.target_lexicon.specs.{FixedPoints.ParsedTriplesArePlain, FixedPoints.RoundIsNormalStep}
+use Rattle.target_lexicon.specs.{FixedPoints.CanonicalStringsAreKeys, FixedPoints.canonical_values}
+use Rattle.target_lexicon.specs.{FixedPoints.canonical_string, NormalStep.normal_step, Laws.EqualTextsEqualTriples}
+use Rattle.target_lexicon.specs.{Laws.EveryStringHasOneOutcome, Printing.string_of, Parsing.ParsesAs, Values.Values}
+use Rattle.triples.specs.MatrixLaws.{EntriesAreCanonicalTriples, entries_of, is_refusal, FirstEntriesStayInOrder}
+use Rattle.triples.specs.MatrixLaws.{EachCanonicalTripleHasAnEntry, only_entries, MatricesAreTheirOwn}
+use Rattle.triples.specs.Output.{Answer, Shown, Refused, IsAnswer, AreAnswers, shows, is_kept_after, kept_answers}
+use Rattle.triples.specs.Output.{matrix_of, answer_bytes}
 use Rattle.triples.proofs.AnswerLemmas.{if_stays, push-any, staying-push}
 
 -- two lines that parse have the same entry if and only if their canonical triples are equal

@@ -1,11 +1,16 @@
 -- Each input has an outcome in each mode.
-use Rattle.std.proofs.Common.{◌≡◌, ◌≢◌, ◌⊎◌, ℕ, zero, suc, ◌<◌, Bool, true, false, List, [], ◌∷◌, ◌++◌, codes, Option, Some, None, MatchOption, inl, inr, Result, Ok, Err, refl, sym, ap, subst, ◌∙◌, arith}
+use Rattle.std.proofs.Common.{◌≡◌, ◌≢◌, ◌⊎◌, ℕ, zero, suc, ◌<◌, Bool, true, false, List, [], ◌∷◌, ◌++◌, codes, Option}
+use Rattle.std.proofs.Common.{Some, None, MatchOption, inl, inr, Result, Ok, Err, refl, sym, ap, subst, ◌∙◌, arith}
 use Rattle.std.proofs.lemmas.List.{append-nil}
 use Rattle.std.proofs.lemmas.Str.{IsUtf8-from_is_utf8, is_utf8-from_IsUtf8}
 use Rattle.std.specs.Str.{IsUtf8, is_utf8}
-use Rattle.serde_json.specs.{Data.Data, Data.Items, Data.no_items, Data.item, Find.as_array, Find.as_str, Read.read, Written.compact_text}
-use Rattle.target_lexicon.specs.Json.{JsonParsesAs, JsonErrorValue, NotText, Parse, Element, IsElementParsed, IsJsonErrorOf, ElementsParseAs, IsFirstError, list_json_of, list_error_line}
-use Rattle.target_lexicon.specs.{FixedPoints.canonical_string, Laws.EveryStringHasOneOutcome, Printing.string_of, Parsing.ParsesAs, Parsing.IsRefusedAs, Refusal.Refusal, Refusal.refusal_line, Values.Values}
+use Rattle.serde_json.specs.{Data.Data, Data.Items, Data.no_items, Data.item, Find.as_array, Find.as_str, Read.read}
+use Rattle.serde_json.specs.{Written.compact_text}
+use Rattle.target_lexicon.specs.Json.{JsonParsesAs, JsonErrorValue, NotText, Parse, Element, IsElementParsed}
+use Rattle.target_lexicon.specs.Json.{IsJsonErrorOf, ElementsParseAs, IsFirstError, list_json_of, list_error_line}
+use Rattle.target_lexicon.specs.{FixedPoints.canonical_string, Laws.EveryStringHasOneOutcome, Printing.string_of}
+use Rattle.target_lexicon.specs.{Parsing.ParsesAs, Parsing.IsRefusedAs, Refusal.Refusal, Refusal.refusal_line}
+use Rattle.target_lexicon.specs.{Values.Values}
 use Rattle.triples.specs.{Facts.text_with_facts, Lines.line_feed, Lines.lines_of}
 use Rattle.triples.specs.Output.{Answer, Shown, Refused, AreAnswers, matrix_of, written_lines}
 use Rattle.triples.specs.Calls.{Moved, Ended, Flushed}

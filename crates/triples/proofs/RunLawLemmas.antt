@@ -1,9 +1,12 @@
 -- The laws of how runs end.
-use Rattle.std.proofs.Common.{◌≡◌, ◌≢◌, ◌↔◌, ℕ, List, [], take, Option, None, MatchOption, IsErrAnd, IsErrOf, IsTrue, Result, Ok, Err, refl, sym, subst, ◌∙◌, ap, inl, inr, ◌<◌, length}
+use Rattle.std.proofs.Common.{◌≡◌, ◌≢◌, ◌↔◌, ℕ, List, [], take, Option, None, MatchOption, IsErrAnd, IsErrOf, IsTrue}
+use Rattle.std.proofs.Common.{Result, Ok, Err, refl, sym, subst, ◌∙◌, ap, inl, inr, ◌<◌, length}
 use Rattle.std.specs.Str.{IsUtf8}
 use Rattle.serde_json.specs.{Data.Data, Find.as_array, Read.read}
 use Rattle.target_lexicon.specs.Laws.{EveryStringHasOneOutcome}
-use Rattle.triples.specs.{JsonOutput.IsJsonInputErrorOf, Output.IsOutput, Run.Use, Run.Gives, Run.Takes, Run.TakesBeginning, Run.IsReadWhole, Run.IsUnfailed, Run.HasFailed, Run.RunEnds, Run.EndsAs, Run.IsUntouched, Run.StopsLast, Calls.ends_last, Calls.failures_in, Calls.stops_in}
+use Rattle.triples.specs.{JsonOutput.IsJsonInputErrorOf, Output.IsOutput, Run.Use, Run.Gives, Run.Takes}
+use Rattle.triples.specs.{Run.TakesBeginning, Run.IsReadWhole, Run.IsUnfailed, Run.HasFailed, Run.RunEnds, Run.EndsAs}
+use Rattle.triples.specs.{Run.IsUntouched, Run.StopsLast, Calls.ends_last, Calls.failures_in, Calls.stops_in}
 use Rattle.triples.specs.{Private.HasNoOutput}
 use Rattle.triples.specs.RunLaws.{RunGives, RunsEndOneWay, IsJudged, ErrorsOfRunsAreExact}
 use Rattle.triples.specs.declared.mode.Mode.{Mode}

@@ -1,11 +1,17 @@
 -- An input has at most one output in a mode, and none if it isn't a JSON list.
-use Rattle.std.proofs.Common.{◌≡◌, ◌≢◌, ℕ, zero, suc, List, [], ◌∷◌, ◌++◌, codes, Option, Some, None, MatchOption, inl, inr, refl, sym, ap, subst, ◌∙◌, arith}
+use Rattle.std.proofs.Common.{◌≡◌, ◌≢◌, ℕ, zero, suc, List, [], ◌∷◌, ◌++◌, codes, Option, Some, None, MatchOption, inl}
+use Rattle.std.proofs.Common.{inr, refl, sym, ap, subst, ◌∙◌, arith}
 use Rattle.std.proofs.lemmas.Bool.{cases_lt}
-use Rattle.serde_json.specs.{Data.Data, Data.string, Data.Items, Data.no_items, Data.item, Find.as_array, Find.as_str, Find.get_item, Read.read, Written.compact_text}
-use Rattle.target_lexicon.specs.{Json.JsonParsesAs, Json.JsonErrorValue, Json.NotText, Json.Parse, Json.Element, Json.IsJsonErrorOf, Json.ElementsParseAs, Json.IsFirstError, Json.list_json_of, Json.list_error_line}
-use Rattle.target_lexicon.specs.{FixedPoints.canonical_string, Laws.EveryStringHasOneOutcome, Printing.string_of, Parsing.ParsesAs, Refusal.Refusal, Refusal.refusal_line, Values.Values}
+use Rattle.serde_json.specs.{Data.Data, Data.string, Data.Items, Data.no_items, Data.item, Find.as_array, Find.as_str}
+use Rattle.serde_json.specs.{Find.get_item, Read.read, Written.compact_text}
+use Rattle.target_lexicon.specs.{Json.JsonParsesAs, Json.JsonErrorValue, Json.NotText, Json.Parse, Json.Element}
+use Rattle.target_lexicon.specs.{Json.IsJsonErrorOf, Json.ElementsParseAs, Json.IsFirstError, Json.list_json_of}
+use Rattle.target_lexicon.specs.{Json.list_error_line}
+use Rattle.target_lexicon.specs.{FixedPoints.canonical_string, Laws.EveryStringHasOneOutcome, Printing.string_of}
+use Rattle.target_lexicon.specs.{Parsing.ParsesAs, Refusal.Refusal, Refusal.refusal_line, Values.Values}
 use Rattle.triples.specs.{Facts.text_with_facts, JsonOutput.IsJsonAnswer, Lines.line_feed, Lines.lines_of}
-use Rattle.triples.specs.Output.{Answer, Shown, Refused, IsAnswer, AreAnswers, IsLineOutput, IsOutput, matrix_of, written_lines}
+use Rattle.triples.specs.Output.{Answer, Shown, Refused, IsAnswer, AreAnswers, IsLineOutput, IsOutput, matrix_of}
+use Rattle.triples.specs.Output.{written_lines}
 use Rattle.triples.specs.declared.mode.Mode.{Mode}
 use Rattle.triples.specs.declared.mode.Mode.TheVariants.{Print, Show, Settle, Json, Matrix}
 

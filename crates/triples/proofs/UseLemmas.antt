@@ -1,7 +1,10 @@
 -- What reads gave and writes took, call after call; and which input and output that makes.
-use Rattle.std.proofs.Common.{◌≡◌, ◌∙◌, ℕ, ◌+◌, ◌≤◌, inl, inr, List, [], ◌++◌, length, take, drop, Option, Some, None, sym, ap, subst, append_assoc, arith}
-use Rattle.std.proofs.{lemmas.List.append-nil, lemmas.List.append_cancel_left, lemmas.List.length-append, lemmas.List.take-append-drop}
-use Rattle.std.proofs.{KnownBytes.Appends-nil, KnownBytes.Appends-trans, KnownBytes.Appends-kept, KnownBytes.Consumes-nil, KnownBytes.Consumes-trans, KnownBytes.Consumes-kept}
+use Rattle.std.proofs.Common.{◌≡◌, ◌∙◌, ℕ, ◌+◌, ◌≤◌, inl, inr, List, [], ◌++◌, length, take, drop, Option, Some, None}
+use Rattle.std.proofs.Common.{sym, ap, subst, append_assoc, arith}
+use Rattle.std.proofs.{lemmas.List.append-nil, lemmas.List.append_cancel_left, lemmas.List.length-append}
+use Rattle.std.proofs.{lemmas.List.take-append-drop}
+use Rattle.std.proofs.{KnownBytes.Appends-nil, KnownBytes.Appends-trans, KnownBytes.Appends-kept}
+use Rattle.std.proofs.{KnownBytes.Consumes-nil, KnownBytes.Consumes-trans, KnownBytes.Consumes-kept}
 use Rattle.std.proofs.Math.Seq.{take-append-add, take-append_seam}
 use Rattle.std.specs.Io.KnownBytes.{Appends, Consumes, IsAtEnd, Keeps}
 use Rattle.triples.specs.Run.{Use, Gives, Takes, TakesBeginning, IsReadWhole, IsUnfailed, HasFailed, use_of}

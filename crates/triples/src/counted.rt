@@ -1,6 +1,6 @@
 //! A reader or writer with a trace of its calls, and so with a count of its failures. Only this file can change these,
 //! so that no other contract can claim a call, a failure, or bytes, that there were not.
-ghost use Rattle.std.specs.Prelude.{◌≡◌, ◌+◌, ◌∷◌, ◌++◌, [], false, IsTrue, is_ok};
+ghost use Rattle.std.specs.Prelude.{◌≡◌, ◌+◌, ◌∷◌, ◌++◌, [], IsTrue, is_ok};
 ghost use Rattle.std.specs.Io.{ReadsAtMost, WritesAtMost};
 ghost use Rattle.std.specs.Io.KnownBytes.{Keeps, ReadConsumes, WriteAppends};
 ghost use Rattle.triples.specs.Calls.{After, stops_last};
@@ -73,11 +73,6 @@ impl<R: Read> Counted<R> {
             result buf.new }
         ensures call { calls self.new
             ≡ read_call result buf.new ∷ (After (moved writer.now) ∷ calls self.old) }
-        ensures count { failures self.new ≡ failures self.old + failures_of result }
-        ensures moved { moved self.new ≡ moved self.old ++ moved_by result buf.new }
-        ensures stops { stops self.new ≡ stops self.old + stops_by result buf.new }
-        ensures last { stops_last (calls self.new) ≡ is_last_by result buf.new }
-        ensures ended { is_ended self.new ≡ finds_end result buf.new }
     {
         self.trace = self.trace.after(&writer.trace);
         self.read(buf)
@@ -95,7 +90,6 @@ impl<W: Write> Counted<W> {
         ensures moved { moved self.new ≡ moved self.old ++ moved_by result buf.now }
         ensures stops { stops self.new ≡ stops self.old + stops_by result buf.now }
         ensures last { stops_last (calls self.new) ≡ is_last_by result buf.now }
-        ensures ended { is_ended self.new ≡ false }
     {
         let answer = self.inner.write(buf);
         match answer {

@@ -1,6 +1,7 @@
 -- The lines before `start` were answered: what has gone to the writer and what is used of the buffer are their answers.
 use Rattle.std.proofs.Common.{◌-◌, ◌≤◌, ◌++◌, ℕ, List, length, take, drop}
-use Rattle.triples.specs.{FilterSteps.AnswersLines, FilterSteps.HasNoFeed, Run.IsUnfailed, Run.OnlyMoves, Run.Takes, Run.use_of}
+use Rattle.triples.specs.{FilterSteps.AnswersLines, FilterSteps.HasNoFeed, Run.IsUnfailed, Run.OnlyMoves, Run.Takes}
+use Rattle.triples.specs.{Run.use_of}
 use Rattle.triples.proofs.filter.answer_lines.Given as goal
 
 abbrev pub invariant-loop-at : goal.invariant-loop-at

@@ -1,11 +1,15 @@
 -- The loop keeps what holds between two reads; each way out of it is one of the ends of `FilterEnds`.
-use Rattle.std.proofs.Common.{◌≡◌, ◌∙◌, ◌+◌, ◌-◌, ◌^◌, ◌<◌, ◌≤◌, ◌++◌, ℕ, List, [], ◌∷◌, length, take, drop, refl, ap, subst, arith}
+use Rattle.std.proofs.Common.{◌≡◌, ◌∙◌, ◌+◌, ◌-◌, ◌^◌, ◌<◌, ◌≤◌, ◌++◌, ℕ, List, [], ◌∷◌, length, take, drop, refl, ap}
+use Rattle.std.proofs.Common.{subst, arith}
 use Rattle.std.proofs.lemmas.List.{length-append, length-take}
 use Rattle.std.proofs.lemmas.Slice.{take-put_mid_below}
 use borrow.Rule.Slice.PartMut.{put_mid}
-use Rattle.triples.specs.{Calls.Call, Calls.After, Run.use_of, Streams.calls, Streams.moved}
+use Rattle.std.specs.Io.KnownBytes.{Consumes}
+use Rattle.triples.specs.{Calls.Call, Calls.After, Run.use_of, Streams.calls, Streams.inner, Streams.moved}
 use Rattle.triples.specs.FilterSteps.{IsKept, RestAnswered}
-use Rattle.triples.proofs.FilterLoop.{between-none, between-more, between-kept, ends-read, ends-rest, ends-write, ends-endless, read-piece, length-read, none-read, part-length, searched-front, some-read}
+use Rattle.triples.proofs.FilterLoop.{between-none, between-more, between-kept, ends-read, ends-rest, ends-write}
+use Rattle.triples.proofs.FilterLoop.{ends-endless, read-piece, length-read, none-read, part-length, searched-front}
+use Rattle.triples.proofs.FilterLoop.{some-read}
 use Rattle.triples.proofs.filter.filter.Goals as goal
 
 pub loop-init : goal.loop-init
@@ -34,10 +38,7 @@ loop-preserved g c =
     let whole = length-read c.loop.held c.loop.input c.read_after.new.buf (omega (arith, inv.held)) given in
     let next =
     between-more g.R.Read.remaining g.W.Write.contents c.args.mode size c.args.r.now c.loop.r c.read_after.new.self c.args.w.now c.loop.w c.answer_lines.new.w c.loop.is_late held c.loop.counter inv.state
-    more (record { moved = read.moved; known = read.bytes.0 }) (omega (arith, read.count))
-    (omega (arith, read.stops, made.1))
-    (read.ended ∙ made.0)
-    (read.call ∙ ap (λ (call : Call). call ∷ (After (moved c.loop.w) ∷ calls c.loop.r)) made.2) piece is fits
+    more read.bytes.0 (read.call ∙ ap (λ (call : Call). call ∷ (After (moved c.loop.w) ∷ calls c.loop.r)) made) piece is fits
     c.in-Ok-answer_lines.start c.in-Ok-answer_lines.late some c.in-Ok-answer_lines.ensures.lines in
     let keeps =
     subst (λ (n : ℕ). IsKept n c.in-Ok-answer_lines.late (drop c.in-Ok-answer_lines.start piece) c.keep_rest.new.buffer c.keep_rest.result.0 c.keep_rest.result.1) (whole ∙ inv.same_length) kept.kept in
@@ -63,7 +64,7 @@ returns-in_default g c =
     record {
       ends =
           ends-read g.R.Read.remaining g.W.Write.contents c.args.mode (length c.args.input.now) c.args.r.now c.loop.r c.read_after.new.self c.args.w.now c.loop.w c.loop.w c.loop.is_late
-          (take c.loop.held c.loop.input) c.loop.counter c.loop.invariant.state failed.bytes failed.moved failed.count failed.stops failed.ended failed.call;
+          (take c.loop.held c.loop.input) c.loop.counter c.loop.invariant.state failed.bytes failed.call;
     }
 
 pub returns-then-taken-eq0 : goal.returns-then-taken-eq0
@@ -82,11 +83,8 @@ returns-then-taken-eq0 g c =
     record {
       ends =
           ends-rest g.R.Read.remaining g.W.Write.contents c.args.mode (length c.args.input.now) c.args.r.now c.loop.r c.read_after.new.self c.args.w.now c.loop.w c.finish.new.w c.loop.is_late
-          held c.loop.counter inv.state more none (record { moved = read.moved; known = read.bytes.0 })
-          (omega (arith, read.count))
-          (omega (arith, read.stops, made.1))
-          (read.ended ∙ made.0)
-          (read.call ∙ ap (λ (call : Call). call ∷ (After (moved c.loop.w) ∷ calls c.loop.r)) made.2)
+          held c.loop.counter inv.state (subst (λ (t : List ℕ). Consumes (g.R.Read.remaining (inner c.loop.r)) (g.R.Read.remaining (inner c.read_after.new.self)) t) none read.bytes.0)
+          (read.call ∙ ap (λ (call : Call). call ∷ (After (moved c.loop.w) ∷ calls c.loop.r)) made)
           (read.bytes.1 c.if-taken-eq0.true room) (omega (arith, length-take c.loop.held c.loop.input, inv.held, inv.same_length)) c.finish.result done;
     }
 
@@ -107,10 +105,8 @@ returns-in_default-answer_lines g c =
     record {
       ends =
           ends-write g.R.Read.remaining g.W.Write.contents c.args.mode size c.args.r.now c.loop.r c.read_after.new.self c.args.w.now c.loop.w c.answer_lines.new.w c.loop.is_late held c.loop.counter inv.state
-          more (record { moved = read.moved; known = read.bytes.0 }) (omega (arith, read.count))
-          (omega (arith, read.stops, made.1))
-          (read.ended ∙ made.0)
-          (read.call ∙ ap (λ (call : Call). call ∷ (After (moved c.loop.w) ∷ calls c.loop.r)) made.2) piece is fits c.every_string_has_one_outcome.ensures
+          more read.bytes.0 (read.call ∙ ap (λ (call : Call). call ∷ (After (moved c.loop.w) ∷ calls c.loop.r)) made)
+          piece is fits c.every_string_has_one_outcome.ensures
           c.in_default-answer_lines.field-0 c.in_default-answer_lines.ensures.lines;
     }
 

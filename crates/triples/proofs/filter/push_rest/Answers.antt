@@ -1,7 +1,8 @@
 use Rattle.std.proofs.Common.{◌≡◌, ◌∙◌, ◌==◌, ℕ, zero, suc, ◌<◌, true, false, List, length, sym, subst, arith}
 use Rattle.triples.specs.FilterSteps.{AnswersRest}
 use Rattle.triples.proofs.FilterLemmas.{rest-answered}
-use Rattle.triples.proofs.filter.push_rest.Goals.{else-not-is_late-via-then-not-is_late+else-is_empty, else-not-is_late-via-else-not-is_late}
+use Rattle.triples.proofs.filter.push_rest.Goals.{else-not-is_late-via-then-not-is_late+else-is_empty}
+use Rattle.triples.proofs.filter.push_rest.Goals.{else-not-is_late-via-else-not-is_late}
 use Rattle.triples.proofs.filter.push_rest.Goals as goal
 
 not-empty : (n : ℕ) → (n == 0) ≡ false → 0 < n
