@@ -112,8 +112,14 @@ class Bridge:
     def theorems(self, names, proofs):
         """Each theorem of the source of the functions that MIR has: there is what they compute, of which it is true."""
         texts = {file: re.sub(r"\(\*.*?\*\)", "", text, flags=re.S) for file, text in proofs.items()}
-        helpers = {m[1]: m[0] for text in texts.values() for m in re.finditer(
-            r"^Definition (\w+)(?:(?!\.\s).)*\.$", text, re.M | re.S) if "rs_" in m[0]}
+        said = [m for text in texts.values() for m in re.finditer(
+            r"^(Definition|Fixpoint|Inductive|Record|Notation|Infix|Let) (\S+)(?:(?!\.\s).)*\.$", text, re.M | re.S)]
+        helpers = {}
+        for m in said:  # in order, so that those that one needs come before
+            if re.search("|".join([r"\brs_", *(rf"\b{it}\b" for it in helpers)]), m[0]):
+                if m[1] != "Definition":
+                    raise Untranslated(f"{m[2]} has a function of the source, and isn't a Definition")
+                helpers[m[2]] = m[0]
         out = [f"Require Import Kit Specs Rust Code Configured Mir Bridge Same_mir {' '.join(texts)}.\n"]
         for file, text in texts.items():
             for m in re.finditer(r"^Theorem (\w+)(.*?)^ *Proof", text.replace(" Proof.", "\nProof."), re.M | re.S):
@@ -122,7 +128,10 @@ class Bridge:
         return "\n".join(out)
 
     def theorem(self, name, of, statement, helpers):
-        unfolded = [it for it in helpers if re.search(rf"\b{it}\b", statement)]
+        unfolded = []
+        for it in reversed(helpers):
+            if re.search(rf"\b{it}\b", statement + "".join(helpers[of] for of in unfolded)):
+                unfolded.append(it)
         words = {*re.findall(r"\brs_\w+", statement + "".join(helpers[it] for it in unfolded))}
         unfolded += [it for it in words if it.isupper() or it[3:].isupper()]
         functions = sorted(words - {*unfolded})

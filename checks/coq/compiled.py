@@ -57,7 +57,7 @@ def rustc(folder, features, *words, file="src/lib.rs", older=False):
             ran = subprocess.run(["rustc", *words, *of], cwd=folder, capture_output=True, text=True,
                                  env={**os.environ, "RUSTC_BOOTSTRAP": "1", "OUT_DIR": out})
             if ran.returncode:
-                raise NoCompiler(f"rustc doesn't write the MIR of {folder}: {' '.join(ran.stderr.split())[:300]}")
+                raise Untranslated(f"rustc doesn't write the MIR of {folder}: {' '.join(ran.stderr.split())[:300]}")
         mir, hir, read, expanded = (Path(out, it).read_text(encoding="utf-8") for it in "mir hir read expanded".split())
     if names := {*re.findall(r"^# env-dep:(\w+)", read, re.M)} - {"OUT_DIR"}:
         raise Untranslated(f"a variable of the environment, {min(names)}, is read when the crate is compiled")
@@ -97,9 +97,8 @@ def all_of(crate):
     return unwritten
 
 
-def same_without_alloc(root, crate, specs):
+def same_without_alloc(root, crate, known):
     """That each function without the feature `alloc` is written as with it, but for what owned names differ in."""
-    known = specs + "\n".join(shipped.configurations(root, specs)["no_alloc"][1])
     other = mir.Crate(*rustc(root / "packages/rust", []), known)
     all_of(other)
     ours = {code for _, _, code in crate.out}
@@ -174,19 +173,32 @@ def path(it):
     return f"<{owner} as {trait}>::{name}" if trait else f"{owner}::{name}" if owner else name
 
 
-def write(root, folder):
+def write(root, folder, translated=None):
     """Writes Mir.v, Same_mir.v, Compiled.v and mir.tsv, a list of the functions with their definition, the lemma that
-    it is the source's, and the theorems of that. Returns the theorems."""
+    it is the source's, and the theorems of that. Returns the theorems. The types are those of the translated source,
+    which is this one if it isn't said."""
+    try:
+        return written(root, folder, translated or root)
+    except NoCompiler:
+        raise
+    except (Untranslated, AttributeError, IndexError, KeyError, TypeError, ValueError) as why:
+        reason = str(why) if isinstance(why, Untranslated) else f"a form that isn't known: {why!r}"
+        if version().startswith(f"rustc {TRIED}."):
+            raise Untranslated(reason) from None
+        raise NoCompiler(f"{reason}, in what {version()} writes, while the form of {TRIED} is read") from None
+
+
+def written(root, folder, translated):
+    """`write`, with whatever error it has."""
     proofs = {it: HERE.joinpath(f"rust/{it}.v").read_text(encoding="utf-8") for it in shipped.CONFIGURATIONS["rust"][1]}
     theorems = re.findall(r"^Theorem (\w+)", "".join(proofs.values()), re.M)
     texts = {it: folder.joinpath(f"{it}.v").read_text(encoding="utf-8") for it in ("Specs", "Code", "Configured")}
-    try:
-        crate = source(root, "".join(texts.values()))
-    except (Unknown, AttributeError, IndexError, KeyError, TypeError, ValueError) as why:
-        kind = Unknown if f"rustc {TRIED}." in version() else NoCompiler
-        raise kind(f"{why}, in what {version()} writes, while the form of {TRIED} is read") from None
+    crate = source(root, "".join(texts.values()))
     unwritten = all_of(crate)
-    same_without_alloc(root, crate, texts["Specs"])
+    if unknown := [f"{why} (in {it})" for it, why in unwritten.items() if it not in LEFT_OUT]:
+        raise Untranslated(unknown[0])
+    without_alloc = shipped.configurations(translated, texts["Specs"])["no_alloc"][1]
+    same_without_alloc(root, crate, texts["Specs"] + "\n".join(without_alloc))
     put = lambda name, text: folder.joinpath(f"{name}.v").write_text(text, encoding="utf-8")  # noqa: E731
     put("Mir", "(* Written by checks/theorem from what rustc compiles. *)\n"
         "Require Import Kit Specs Rust Code Configured.\n\n"
@@ -202,9 +214,8 @@ def write(root, folder):
                 unwritten[path(it)] = "no function of the source is equal to it"
             lines.append("\t".join([path(it), title, lemma, " ".join(made.used.get(of, []))]))
     for it, why in unwritten.items():
-        known = LEFT_OUT.get(it)
-        if not known:
+        if it not in LEFT_OUT:
             raise Untranslated(f"{why} (in {it})")
-        lines.append(f"{it}\t\t\tnot proved: {known}")
+        lines.append(f"{it}\t\t\tnot proved: {LEFT_OUT[it]}")
     folder.joinpath("mir.tsv").write_text("\n".join(lines) + "\n", encoding="utf-8")
     return {f"mir_{it}": None for it in theorems}
