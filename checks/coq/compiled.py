@@ -40,6 +40,13 @@ LEFT_OUT = {
 OWNED = "mir_CustomVendor_as_str", "mir_Triple_step"
 
 
+# The numbers of a version in Rust are in the range that the theorems suppose.
+RANGE = """
+Theorem mir_versions_in_range : ∀ v, mir_range_DeploymentTarget v → IsVersionInRange v.
+Proof. intros v H. unfold mir_range_DeploymentTarget in H. repeat split; apply H. Qed.
+"""
+
+
 class NoCompiler(Untranslated):
     """Why there is no MIR that can be read."""
 
@@ -66,8 +73,8 @@ def rustc(folder, features, *words, file="src/lib.rs", older=False):
         if not (folder / it).is_relative_to(folder / "src"):
             raise Untranslated(f"the crate is compiled of {it}")
         conditions(it, folder.joinpath(it).read_text(encoding="utf-8"))
-    for it in re.findall(r"#!?\[\s*(\w+\(?\w*)", expanded):
-        if it.partition("(")[0] not in ATTRIBUTES and it != "feature(prelude_import":
+    for it in re.findall(r"#\s*!?\s*\[\s*([^\]]*)", expanded):
+        if re.match(r"\w*", it)[0] not in ATTRIBUTES and it != "feature(prelude_import)":
             raise Untranslated(f"the attribute {it}")
     return mir, hir
 
@@ -202,10 +209,10 @@ def written(root, folder, translated):
     put = lambda name, text: folder.joinpath(f"{name}.v").write_text(text, encoding="utf-8")  # noqa: E731
     put("Mir", "(* Written by checks/theorem from what rustc compiles. *)\n"
         "Require Import Kit Specs Rust Code Configured.\n\n"
-        + "\n".join(code for _, _, code in crate.out))
+        + "\n".join([*(code for _, _, code in crate.out), *crate.types.ranges()]))
     made = bridge.Bridge(crate, texts["Code"] + texts["Configured"])
     put("Same_mir", made.write())
-    put("Compiled", made.theorems(theorems, proofs))
+    put("Compiled", made.theorems(theorems, proofs) + RANGE)
     lines = ["function\tdefinition\tlemma\ttheorems"]
     for title, it, _ in crate.out:
         if it and not title.endswith("_pure"):
@@ -218,4 +225,4 @@ def written(root, folder, translated):
             raise Untranslated(f"{why} (in {it})")
         lines.append(f"{it}\t\t\tnot proved: {LEFT_OUT[it]}")
     folder.joinpath("mir.tsv").write_text("\n".join(lines) + "\n", encoding="utf-8")
-    return {f"mir_{it}": None for it in theorems}
+    return {f"mir_{it}": None for it in (*theorems, "versions_in_range")}

@@ -36,6 +36,7 @@ class Types:
     def __init__(self, declared, known, functions, out):
         self.declared, self.titles, self.constructors, self.fields = declared, {}, {**STD}, {}
         self.enums, self.records, self.functions, self.out = {}, {}, functions, out
+        self.numbers = {}  # the fields of numbers, with their type
         for title, text in re.findall(r"^Inductive (\w+)[^:\n]*: Type :=\n(.*?)\.\n", known, re.M | re.S):
             cases = re.findall(r"\| (\w+)(?: : ([^|]*?))?(?=\n|$)", text)
             self.enums[title] = [(name, max(0, len(of.split("→")) - 1)) for name, of in cases]
@@ -72,6 +73,12 @@ class Types:
         if count:
             raise Unknown(f"the parts of {path}")
         return []
+
+    def ranges(self):
+        """What Rust's types say of the numbers in each record: Coq's have no greatest number."""
+        for title in {title for title, _ in self.numbers}:
+            below = [f"{field} it < 2 ^ {BITS[of]}" for (it, field), of in sorted(self.numbers.items()) if it == title]
+            yield f"Definition mir_range_{title} (it : {title}) : Prop := {' ∧ '.join(below)}.\n"
 
     def declare(self, path, title, parts):
         """Declares a type that Coq doesn't have."""
@@ -181,7 +188,7 @@ class Crate:
         """The function of a key, with these types of arguments, or none."""
         found = self.by.get(key, [])
         if types:  # of another impl, such as of a reference, they are others
-            found = [it for it in found if all(a in (b, "?") or into for a, (_, b), into in zip(
+            found = [it for it in found if all(a == b or a == "?" and not key[0] or into for a, (_, b), into in zip(
                 types, it.parameters, it.into))]
         if len(found) > 1:
             raise Unknown(f"{len(found)} functions {key[2]} of {key[1]}")

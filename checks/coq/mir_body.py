@@ -188,6 +188,9 @@ class Body:
         if step[0] == ".":
             if re.match(r"std::ptr::(Unique|NonNull)<", step[2]):  # of a box
                 return value
+            title = self.types.titles.get(referred(type))
+            if step[2] in BITS and title in self.types.fields:
+                self.types.numbers[title, self.types.fields[title][step[1]]] = step[2]
             return self.parts(value, type).args[step[1]]
         index = str(step[1]) if step[0] == "[c]" else self.code(env[step[1]])
         if isinstance(value, (Mut, Slice)):

@@ -263,8 +263,8 @@ class Impl:
         own = re.search(r"^ {24}self_ty: Ty \{\n.*\n.*\n +kind: Path\(\n +Resolved\(\n +None,\n +Path \{\n.*\n +res: "
                         r"Def\(\n +(?:Struct|Enum),\n +" + DEFINED, head, re.M)
         self.owner = own[2] if own and own[1] == crate else None
-        trait = re.search(r"^ {24}of_trait: (?:None,|Some\(\n {28}TraitImplHeader \{\n(?: {32}.*\n)*? {32}trait_ref: TraitRef "
-                          r"\{\n +path: Path \{\n.*\n +res: Def\(\n +Trait,\n +" + DEFINED + ")", head, re.M)
+        trait = re.search(r"^ {24}of_trait: (?:None,|Some\(\n {28}TraitImplHeader \{\n(?: {32}.*\n)*? {32}trait_ref: "
+                          r"TraitRef \{\n +path: Path \{\n.*\n +res: Def\(\n +Trait,\n +" + DEFINED + ")", head, re.M)
         if not trait:
             raise Unknown(f"the trait of {path}")
         self.trait = trait[2] and (trait[2] if trait[1] == crate else std_trait(trait[2]))
