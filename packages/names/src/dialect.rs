@@ -1,6 +1,6 @@
 //! The dialects, whose names are read and written by the rows of [`TABLES`].
 use crate::gnu::read_as_gnu;
-use crate::levels::may_have_name;
+use crate::levels::{is_same, machine_at, may_have_name};
 use crate::loose::last_tag;
 use crate::name::Name;
 use crate::platform::row_of_platform;
@@ -256,7 +256,7 @@ impl Dialect {
     /// The name of a triple whose machine has a level: one that says the level, or one for which the level is low enough.
     pub(crate) fn name_at(self, triple: &TripleRef<'_>, level: &str) -> Option<Name> {
         let refined = TripleRef {
-            architecture: level.parse().unwrap_or(triple.architecture),
+            architecture: machine_at((triple.architecture, level)).unwrap_or(triple.architecture),
             ..*triple
         };
         let stated = self.name_of(&refined, level, None);
@@ -296,9 +296,10 @@ impl Dialect {
             let named = (shape.architecture, level);
             rules.spelled || may_have_name(machine, named, is_on_system)
         };
+        let states_level = |level: &str| !level.is_empty() && is_same(machine, (shape.architecture, level));
         let is_wanted = |row: &Row| match version {
             Some((major, minor)) => has_version(major, minor, row.0),
-            None if !level.is_empty() && level == self.level_of(row) => star_count(row.0) == 0,
+            None if states_level(self.level_of(row)) => star_count(row.0) == 0,
             None => is_written(row) && star_count(row.0) == stars,
         } && builds_for(self.level_of(row));
         let mut buffer = [0; MAX_LENGTH];

@@ -18,7 +18,7 @@ use crate::levels::is_at_most;
 use crate::shape::{unversioned, usual_vendor};
 use crate::suggestions::{fit_alone, known_names, visible, Abi, Place};
 use crate::table::WORDS;
-use crate::FloatAbi;
+use crate::{Dialect, FloatAbi};
 use core::fmt::{self, Write};
 use core::ops::Range;
 use target_lexicon::{
@@ -161,7 +161,9 @@ impl<'a> Evidence<'a> {
             self.say(text_of_width(text));
             return None;
         }
-        if let (Some(Kind::Machine), Some(b'_')) = (before, joint) {
+        // The ABI of x86-64 has levels such as `x86-64-v3`.
+        let is_level = joint == Some(b'_') || self.text[..word.start].ends_with("x86-64-");
+        if before == Some(Kind::Machine) && is_level {
             if let Some(level) = self.level_at(word.start) {
                 self.level.add(level);
                 return None;
@@ -175,7 +177,9 @@ impl<'a> Evidence<'a> {
                 && (is_joined || self.is_any_arm && text.len() < 3)
                 && !after.starts_with(|it: char| it.is_ascii_digit());
             let is_part = is_part || before == Some(Kind::Gnu) && text != "2";
-            let is_version = is_version(text) && !is_part;
+            // What a platform has after its machine is a level.
+            let is_level = before == Some(Kind::Machine) && joint == Some(b'/') && text.starts_with('v');
+            let is_version = is_version(text) && !is_part && !is_level;
             if has_begun && !is_version && self.unknown.is_none() {
                 self.unknown = Some((word.start, word.end));
             }
@@ -204,21 +208,19 @@ impl<'a> Evidence<'a> {
 
     /// The level of a machine that begins here in the text: `v3` of `amd64_v3`, and no version such as `v3.2.1`.
     fn level_at(&self, start: usize) -> Option<&'static str> {
-        const OF_ARM: [&str; 11] =
-            ["v8.1", "v8.2", "v8.3", "v8.4", "v8.5", "v8.6", "v8.7", "v8.8", "v8.9", "v9", "v9.9"];
         let rest = &self.text[start..];
-        let is_here = |level: &&&str| {
-            let after = rest.strip_prefix(**level).unwrap_or("0");
+        let is_here = |level: &str| {
+            let after = rest.strip_prefix(level).unwrap_or("0");
             let goes_on = after.strip_prefix('.').unwrap_or(after);
             !after.starts_with(is_letter_or_digit) && !goes_on.starts_with(|it: char| it.is_ascii_digit())
         };
-        match self.machine {
-            Said::One(Architecture::X86_64) => ["v2", "v3", "v4"].iter().find(is_here).copied(),
-            Said::One(Architecture::Aarch64(_)) if rest.starts_with("v9.0") => Some("v9"),
-            Said::One(Architecture::Aarch64(_)) if rest.starts_with("v9.") => Some("v9.9"),
-            Said::One(Architecture::Aarch64(_)) => OF_ARM.iter().find(is_here).copied(),
-            _ => None,
-        }
+        let platform = match self.machine {
+            Said::One(Architecture::X86_64) => "linux/amd64/",
+            Said::One(Architecture::Aarch64(_)) => "linux/arm64/",
+            _ => return None,
+        };
+        let mut levels = Dialect::Oci.table().levels.iter();
+        levels.find(|it| it.0.strip_prefix(platform).map_or(false, is_here)).map(|it| it.1)
     }
 
     fn has_begun(&self) -> bool {
@@ -509,7 +511,7 @@ impl<'a> Evidence<'a> {
 }
 
 /// A word for these says no level, and the machine may have any.
-fn has_no_level(machine: Architecture) -> bool {
+pub(crate) fn has_no_level(machine: Architecture) -> bool {
     use target_lexicon::{
         Riscv32Architecture::Riscv32 as Bits32, Riscv64Architecture::Riscv64 as Bits64,
     };

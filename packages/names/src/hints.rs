@@ -392,7 +392,11 @@ impl<'a> Meant<'a> {
         let of_triple = Meant::of_triple(word).filter(Meant::is_target);
         of_triple.or_else(|| {
             let evidence = &hints.evidence;
-            let is_known = evidence.machine() != Said::Unsaid && evidence.system() != Said::Unsaid;
+            let is_known = match (evidence.machine(), evidence.system()) {
+                (Said::Unsaid, _) => false,
+                (_, Said::Unsaid) => evidence.unknown_word().is_none() && !evidence.has_title(),
+                _ => true,
+            };
             let mut names = Dialect::ALL.iter().filter_map(|it| hints.name_of(*it));
             let name = names.find(|name| !word.contains(name)).filter(|_| !is_known)?;
             let part = TextPart { text: word, start: 0 };

@@ -6,7 +6,8 @@
 //!
 //! A name is written for a triple only if the triple's level is at most that for which the tool builds: otherwise the name
 //! would mean machines that don't run the program. A name that says no level, such as `arm`, is for all that the tool has.
-use target_lexicon::{Architecture, ArmArchitecture, Named as _};
+use crate::suggestions::known_names;
+use target_lexicon::{Architecture, ArmArchitecture, Field, Named as _};
 
 /// An architecture, and a level of it that no triple states, such as `v3` of x86-64, or nothing.
 pub(crate) type Machine<'a> = (Architecture, &'a str);
@@ -15,6 +16,18 @@ pub(crate) type Machine<'a> = (Architecture, &'a str);
 pub(crate) fn is_at_most(first: Machine<'_>, second: Machine<'_>) -> bool {
     let (first, second) = (level_of(first), level_of(second));
     first.0 == second.0 && first.1 & !second.1 == 0
+}
+
+/// Whether each of two machines runs what is built for the other.
+pub(crate) fn is_same(first: Machine<'_>, second: Machine<'_>) -> bool {
+    is_at_most(first, second) && is_at_most(second, first)
+}
+
+/// The known machine that is one of a level by itself, such as `riscv64a23` of `rva23u64`.
+pub(crate) fn machine_at(machine: Machine<'_>) -> Option<Architecture> {
+    let mut known = known_names(Field::Architecture).iter().filter_map(|it| it.parse().ok());
+    let mut same = || known.find(|it| !machine.1.is_empty() && is_same((*it, ""), machine));
+    machine.1.parse().ok().or_else(|| same())
 }
 
 /// Whether a name may be written for a machine whose row has the other. `is_on_system` says whether it names a system.
@@ -135,9 +148,8 @@ fn arm_level(arm: ArmArchitecture) -> u32 {
 mod tests {
     extern crate std;
     use super::*;
-    use crate::suggestions::known_names;
+    use crate::evidence::has_no_level;
     use std::vec::Vec;
-    use target_lexicon::Field;
 
     fn machine(text: &str) -> Machine<'_> {
         let (name, level) = text.split_once('@').unwrap_or((text, ""));
@@ -280,5 +292,37 @@ riscv32i riscv32im riscv32ima riscv32imac riscv32imafc riscv32gc";
         let may = |first, second| may_have_name(machine(first), machine(second), false);
         assert!(may("riscv32imac", "riscv32") && may("riscv64a23", "riscv64"));
         assert!(!may("riscv64a23", "riscv64imac"));
+    }
+
+    /// Each target of rustc as each tool's name, and back: who runs what the names say runs the program, except that some names
+    /// are for all levels of a machine, as each prefix of GNU's compilers is.
+    #[test]
+    fn names_keep_levels_there_and_back() {
+        use crate::{CLibrary, Dialect};
+        use std::string::ToString as _;
+        let (mut kept, mut unstated) = (0, 0);
+        for target in Dialect::Rust.names() {
+            let own = Dialect::Rust.sense(target).unwrap();
+            let c_library = CLibrary::of(&own.triple).and_then(|it| it.to_string().parse().ok());
+            for tool in Dialect::ALL {
+                let Ok(name) = Dialect::Rust.translate(target, c_library, *tool) else { continue };
+                let Ok(named) = tool.sense(name.as_str()) else { continue };
+                let back = tool.translate(name.as_str(), c_library, Dialect::Rust).ok();
+                let back = back.map(|it| Dialect::Rust.sense(it.as_str()).unwrap());
+                let machines = [Some(own), Some(named), back].map(|it| it.map(|it| (it.triple.architecture, it.level)));
+                let is_kept = |pair: &[Option<Machine<'_>>]| match *pair {
+                    [Some(first), Some(second)] => is_at_most(first, second),
+                    _ => true,
+                };
+                if machines.windows(2).all(is_kept) {
+                    kept += 1;
+                    continue;
+                }
+                let has_level = !named.level.is_empty() || !has_no_level(named.triple.architecture);
+                assert!(!has_level || *tool == Dialect::Gnu, "{target} {tool} {name} {machines:?}");
+                unstated += 1;
+            }
+        }
+        assert!(kept > 900 && unstated < 170, "{kept} {unstated}");
     }
 }

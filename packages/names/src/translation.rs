@@ -182,11 +182,11 @@ impl Dialect {
         }
         // A version of a C library that isn't said.
         let libraries = [ChosenLibc::Glibc, ChosenLibc::Musl].map(|it| completed.with_c_library(it));
-        let would_state = |it: &TripleRef<'_>| versions.of(*it).is_some() && self.states_version(it);
+        let would_state = |it: &TripleRef<'_>| versions.of(*it).is_some() && self.states_version(it, level);
         if version.is_none() && libraries.iter().any(would_state) {
             return Err(WriteError::NeedsCLibrary);
         }
-        if version.is_some() && self.states_version(&completed) {
+        if version.is_some() && self.states_version(&completed, level) {
             return Err(WriteError::OtherVersion);
         }
         self.write_at(triple, level, c_library)
@@ -320,7 +320,7 @@ impl Dialect {
                 |it: &Option<ChosenLibc>| it.map_or(other, |it| other.with_c_library(it));
             let mut completed = libraries.iter().map(completed);
             architecture != triple.architecture
-                && completed.any(|it| self.write(it).is_some() || self.states_version(&it))
+                && completed.any(|it| self.write(it).is_some() || self.states_version(&it, ""))
         };
         let is_helped = match triple.architecture {
             Architecture::Arm(_) => has(ARMV7) || has(Architecture::Arm(ArmArchitecture::Armv5te)),
@@ -385,7 +385,7 @@ impl Dialect {
                 };
             } else if text == whole && row.2 == Way::Read {
                 let is_versioned = |major: &u16| has_version(*major, 0, row.0);
-                return if FIRST_NUMBERS.iter().any(is_versioned) && self.states_version(triple) {
+                return if FIRST_NUMBERS.iter().any(is_versioned) && self.states_version(triple, "") {
                     WriteError::NeedsVersion
                 } else {
                     WriteError::OnlyReadNames
@@ -395,12 +395,11 @@ impl Dialect {
         why
     }
 
-    /// Whether names of the triple state a version.
+    /// Whether names of the triple, whose machine has a level, state a version.
     #[inline]
-    fn states_version(self, triple: &TripleRef<'_>) -> bool {
-        let Some(of) = VersionOf::of(*triple) else { return false };
-        let mut versions = FIRST_NUMBERS.iter().map(|it| Versions::none().with(of, *it, 0));
-        versions.any(|it| self.write_versioned(*triple, &it).is_some())
+    fn states_version(self, triple: &TripleRef<'_>, level: &str) -> bool {
+        let has_versions = VersionOf::of(*triple).is_some();
+        has_versions && FIRST_NUMBERS.iter().any(|it| self.name_of(triple, level, Some((*it, 0))).is_some())
     }
 
     /// Whether a triple has a name with a change.

@@ -120,7 +120,10 @@ newlib-game-linux-x64=its words name x86_64-unknown-linux
 linux-arm64-glibc2.28=its words name aarch64-unknown-linux-gnu
 linux-amd64-v3.2.1=its words name x86_64-unknown-linux
 linux_arm64_v9.0=its words name aarch64-unknown-linux of the level v9
-linux_arm64_v9.2=its words name aarch64-unknown-linux of the level v9.9
+linux_arm64_v9.2=its words name aarch64-unknown-linux of the level v9.2
+linux/arm64/v9.10=its words say aarch64, linux; here nobody knows `v9`
+x86-64-v3-linux=its words name x86_64-unknown-linux of the level v3
+x86-64-v3.1-linux=its words name x86_64-unknown-linux
 linux_arm64_v8.2=its words name aarch64-unknown-linux of the level v8.2
 linux_arm64_v8.0=its words name aarch64-unknown-linux
 ppc64-ibm-aix=its words name powerpc64-ibm-aix
@@ -448,7 +451,8 @@ fn meanings_are_those_of_each_tool() {
     // A file of pacman's may be MSYS2's too, unless it names a system, or a machine that MSYS2 doesn't have.
     assert_eq!(meant("linux-6.1-1-x86_64.pkg.tar.zst"), "pacman x86_64-unknown-linux-gnu");
     assert_eq!(meant("zlib-1-1-armv7h.pkg.tar.xz"), "pacman armv7-unknown-linux-gnueabihf");
-    assert_eq!(meant("zlib-1-1-x86_64.pkg.tar.zst") + &meant("zlib-1-1-any.pkg.tar.xz"), "");
+    assert_eq!(meant("zlib-1-1-any.pkg.tar.xz"), "pacman !no machine");
+    assert_eq!(meant("zlib-1-1-x86_64.pkg.tar.zst"), "");
 }
 
 #[test]
@@ -541,6 +545,8 @@ go linux_amd64_v1=-
 go foo_1.2_linux_amd64_v3.tar.gz=v3
 go linux_ppc64le_power9=power9
 oci linux/riscv64/rva22u64=rva22u64
+oci linux/arm64/v9.2=v9.2
+go linux_arm64_v9.0=v9
 rust ripgrep-14.1.0-arm-unknown-linux-gnueabihf.tar.gz=armv6";
 
 #[test]
@@ -556,12 +562,6 @@ fn what_is_around_a_name_keeps_its_level() {
         let is_same = |it: target_names::Name| Dialect::Debian.level(it.as_str()).unwrap_or("-") == level;
         assert!(level == "armv6" || debian.map_or(true, is_same), "{row} {debian:?}");
     }
-}
-
-#[test]
-fn a_level_without_a_name_of_its_own_is_no_half_name() {
-    let found = Dialect::Oci.translate("linux/arm64/v9.1", None, Dialect::Oci);
-    assert!(found.is_err(), "{found:?}");
 }
 
 /// Whichever two letters are swapped, and whichever is left out or doubled: a hint is of the machine that the name means to some tool.

@@ -2,8 +2,8 @@
 use std::collections::BTreeSet;
 use target_lexicon::{Architecture, TripleRef};
 use target_names::{
-    meanings, suggestions, CLibrary, ChosenLibc, Dialect, Evidence, Meaning, NameError, NameOf, TargetInfo, VersionOf,
-    Versions, TranslateError,
+    meanings, suggestions, CLibrary, ChosenLibc, Dialect, Evidence, Meaning, NameError, NameOf, TargetInfo,
+    TranslateError, VersionOf, Versions, WriteError,
 };
 
 /// The lines of a file that aren't comments, cell by cell.
@@ -107,6 +107,10 @@ fn tags_of_wheels_have_the_version_of_the_system_or_c_library() {
         let found = found.map_or_else(|why| format!("{why:?}"), |it| it.to_string());
         assert_eq!(found, expected, "{row}");
     }
+    // The version is right, and no name is for the level.
+    let versions = Versions::none().with(VersionOf::Glibc, 2, 28);
+    let found = Dialect::Oci.translate_with("linux/amd64/v3", Some(ChosenLibc::Glibc), &versions, Dialect::Python);
+    assert_eq!(found, Err(TranslateError::Write(WriteError::Baseline)));
 }
 
 /// From rustc to rustc each target that parses is its triple and itself. It has a note where it is more than its triple.
