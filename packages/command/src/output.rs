@@ -1,4 +1,5 @@
-//! The two outputs. What is written to one appears before what is written to the other later.
+//! The two outputs. What is written to one appears before what is written to the other later, except for an array, which
+//! is one line.
 use crate::fault::Fault;
 use crate::json::{Json, Object};
 use crate::shown::Page;
@@ -128,7 +129,9 @@ impl Outputs {
 
     /// Writes a refusal to standard error. `text` gets whether it has colours.
     pub fn refuse(&mut self, text: impl FnOnce(&mut Page<'_>, bool) -> io::Result<()>) -> Result<(), Fault> {
-        self.flush_out()?;
+        if self.layout != Some(Layout::Array) {
+            self.flush_out()?;
+        }
         text(&mut Page::new(&mut self.errors), self.has_color).map_err(|why| Fault::of_output("standard error", why))
     }
 

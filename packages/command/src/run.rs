@@ -118,9 +118,7 @@ impl<'a> Run<'a> {
             members.extend(refusal.members(&help));
             self.outputs.object(members)?;
         }
-        if !self.outputs.has_objects() || !self.call.has_refused_objects() || self.call.shows_refused() {
-            self.show(target, refusal)?;
-        }
+        self.show(target, refusal)?;
         if !self.outputs.has_objects() {
             self.skip_line()?;
         }

@@ -81,7 +81,7 @@ A word that people try has the right one, and the subcommands follow; nothing is
 The manual has each key of JSON:
 
   $ for call in explain facts settle 'settle --changes' 'translate --to gnu' what matrix 'check foo'; do
-  >   for key in $(command target-lexicon $call --json x86_64-linux-gnu | jq -r '.[] | keys[]'); do grep -qw "$key" manual || echo "$call: $key"; done
+  >   for key in $(command target-lexicon $call --json x86_64-linux-gnu 2> /dev/null | jq -r '.[] | keys[]'); do grep -qw "$key" manual || echo "$call: $key"; done
   > done
 
 ## Shells take the completions

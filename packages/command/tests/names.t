@@ -93,7 +93,7 @@ What another call or tool takes is said:
   !   note: it is a name of gnu and rust; it is a triple, which `target-lexicon facts` and `target-lexicon what` take
   !   note: it is a name of gnu and rust; it is a triple, which `target-lexicon translate --to debian` and `target-lexicon what` take
   $ for target in x86_64-freebsd13.2 x86_64-mingw32 aarch64-macos14 x86_64-linux5.10; do
-  >   target-lexicon explain --json $target
+  >   command target-lexicon explain --json $target 2> /dev/null
   > done | jq -r '.[].suggestion'
   freebsd
   windows-gnu
@@ -339,7 +339,7 @@ Targets of rustc are meant as they are:
 
 Of names that no tool has:
 
-  $ unknown() { echo "$1|$(target-lexicon what --json "$1" | said)"; }
+  $ unknown() { echo "$1|$(command target-lexicon what --json "$1" 2> /dev/null | said)"; }
   $ cat > unknown << 'END'
   > linux/amd46|linux/amd64|-
   > x86_64-linux-gnuu|x86_64-linux-gnu|-

@@ -79,7 +79,7 @@ It is an array, or lines:
   [1,"z80-unknown-unknown-elf"]
   [2,null]
   [3,"x86_64-unknown-linux"]
-  $ target-lexicon check --json-lines -f lines | jq -c .part
+  $ command target-lexicon check --json-lines -f lines 2> /dev/null | jq -c .part
   "foo"
   $ target-lexicon facts --json --json-lines z80 > /dev/null
   [2]
@@ -182,7 +182,7 @@ What isn't printable ASCII is escaped, and doesn't change where carets are; `che
   !   x86_64-\u{1b}[2J\u{202e}b\u{9b}\u{7f}\u{200b}\t'\-linux
   !          ^^^^^^^^^^^^^^^^^^^^^^^^^^^^^^^^^^^^^^^^^^
   [1]
-  $ target-lexicon explain --json "$hostile" | jq -r --arg hostile "$hostile" '.[] | .target == $hostile, .part == .target[7:-6]'
+  $ command target-lexicon explain --json "$hostile" 2> /dev/null | jq -r --arg hostile "$hostile" '.[] | .target == $hostile, .part == .target[7:-6]'
   true
   true
 

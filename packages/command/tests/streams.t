@@ -67,7 +67,7 @@ A line that isn't UTF-8 is refused, and the others are answered. A file that is 
   !          ^^^^^^^^
   ! 1 of 3 targets refused
   [1]
-  $ target-lexicon check --json -f bytes | jq -c '.[] | [.line, .error, .start]'
+  $ command target-lexicon check --json -f bytes 2> /dev/null | jq -c '.[] | [.line, .error, .start]'
   [2,"not UTF-8",7]
   $ target-lexicon check -q -f bytes
   [1]

@@ -297,6 +297,12 @@ It has only a status, and the first target that is refused ends it:
   [1]
   $ target-lexicon check --max-errors 2 --json -f lines
   [{"target":"x86_64-unknown-linux-gnuu","file":"lines","line":2,"error":"unrecognized environment","part":"gnuu","start":21,"end":25,"field":"environment","suggestion":"gnu","note":null},{"target":"foo","file":"lines","line":3,"error":"unrecognized architecture","part":"foo","start":0,"end":3,"field":"architecture","suggestion":null,"note":null}]
+  ! lines:2:22: error: unrecognized environment `gnuu`
+  !   x86_64-unknown-linux-gnuu
+  !                        ^^^^ did you mean `gnu`?
+  ! lines:3:1: error: unrecognized architecture `foo`
+  !   foo
+  !   ^^^
   ! 2 of 3 targets refused; ended there, as --max-errors says
   [1]
   $ target-lexicon check --max-errors 0 -f lines | grep -o "'--max-errors <N>'"

@@ -8,6 +8,7 @@ pub fn command() -> Command {
         "check",
         "Write only what is refused: nothing, if all targets parse",
         "In the text of a file, a name of any tool is right, and what resembles a name is wrong.\n\
+         In arguments and lines of -f, a custom vendor that resembles a name is wrong, too.\n\
          Of a folder all files are read, except what tools fetch and build.\n\n\
          Examples:\n  $ target-lexicon check --strict -f targets.txt\n  \
          $ target-lexicon check --format github .github/workflows/*.yml rust-toolchain.toml",

@@ -46,11 +46,6 @@ pub trait Call {
         true
     }
 
-    /// Whether it is also shown beside its object.
-    fn shows_refused(&self) -> bool {
-        false
-    }
-
     /// Ends what is written. `is_whole` says that no target was refused.
     fn end(&mut self, outputs: &mut Outputs, _is_whole: bool) -> Result<(), Fault> {
         outputs.end(true)

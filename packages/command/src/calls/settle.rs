@@ -29,10 +29,6 @@ impl Call for Settle {
         let answer: Answered<'a> = Canonical { triple, spelling }.into();
         Ok(Answered { warning, ..answer })
     }
-
-    fn shows_refused(&self) -> bool {
-        true
-    }
 }
 
 struct Canonical<'a> {
