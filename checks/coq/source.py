@@ -26,10 +26,12 @@ RENAMED = {"VendorRef_from_str": "VendorRef_from_text", **{f"TripleRef_{it}": f"
     "endianness", "pointer_width", "default_calling_convention", "data_model")}}
 # Functions in whose place the layer has one of its own: what Halves.v proves of both, which all others here call.
 REPLACED = {
-    "first_part": ("∀ text, are_bytes text = true → length text < limit → {} text = {} text", "exact first_part_by_a_loop"),
+    "first_part": ("∀ text, are_bytes text = true → length text < limit → {} text = {} text",
+                   "exact first_part_by_a_loop"),
     "row_of": ("∀ n text, are_bytes text = true → {} (9 + n) text = {} text", "exact row_of_by_halves"),
+    "OperatingSystem_from_str": ("∀ text, are_bytes text = true → {} text = {} text", "exact OperatingSystem_by_a_row"),
     **{f"{it}_from_str": ("∀ text, are_bytes text = true → {} text = Some ({} text)", f"exact {it}_by_a_row") for it in
-       """OperatingSystem Environment BinaryFormat ArmArchitecture Aarch64Architecture X86_32Architecture
+       """Environment BinaryFormat ArmArchitecture Aarch64Architecture X86_32Architecture
        Mips32Architecture Mips64Architecture Riscv32Architecture Riscv64Architecture CleverArchitecture
        Z80Architecture""".split()}}
 COUNTER = [it.split() for it in (", steps : & mut Steps", ", steps", "steps . tick ( ) ;", ", & mut Steps :: new ( )")]

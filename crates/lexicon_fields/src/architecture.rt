@@ -287,6 +287,7 @@ impl Architecture {
     /// ```
     /// assert_eq!(rt; target_lexicon::Architecture::Bpfel.into_str().as_str(), "bpfel");
     /// ```
+    // In Rust: #[inline].
     pub fn into_str(self) -> CowStr<'static>
         ensures name { cow_str_bytes result ≡ architecture_name self }
         ensures borrowed { IsBorrowedStr result }

@@ -66,6 +66,7 @@ impl BinaryFormat {
     /// ```
     /// assert_eq!(rt; target_lexicon::BinaryFormat::Elf.into_str().as_str(), "elf");
     /// ```
+    // In Rust: #[inline].
     pub fn into_str(self) -> CowStr<'static>
         ensures name { cow_str_bytes result ≡ binary_format_name self }
         ensures borrowed { IsBorrowedStr result }

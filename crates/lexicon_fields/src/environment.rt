@@ -124,6 +124,7 @@ impl Environment {
     /// ```
     /// assert_eq!(rt; target_lexicon::Environment::Msvc.into_str().as_str(), "msvc");
     /// ```
+    // In Rust: #[inline].
     pub fn into_str(self) -> CowStr<'static>
         ensures name { cow_str_bytes result ≡ environment_name self }
         ensures borrowed { IsBorrowedStr result }

@@ -295,6 +295,7 @@ impl FromStr for OperatingSystem {
 
     ghost from_str_gives = { λ s. MatchesLookup (spec.operating_system_of s) };
 
+    // In Rust: #[inline].
     fn from_str(s: &str) -> Result<OperatingSystem, ()> {
         OperatingSystem::from_str(s)
     }

@@ -1,56 +1,29 @@
-//! `from_str` of the types with few names, which crates/lexicon_fields documents: a comparison with each name takes less
-//! time than a hash and a table.
-use crate::proved::architecture::{
-    Aarch64Architecture, ArmArchitecture, CleverArchitecture, Mips32Architecture,
-    Mips64Architecture, Riscv32Architecture, Riscv64Architecture, X86_32Architecture,
-    Z80Architecture,
+//! `from_str` of some types, which crates/lexicon_fields documents. A system is found by its row; of the types with few
+//! names a comparison with each takes less time than a hash and a table.
+use crate::proved::table::Meaning;
+use crate::proved::{
+    Aarch64Architecture, ArmArchitecture, BinaryFormat, CleverArchitecture, Environment,
+    Mips32Architecture, Mips64Architecture, OperatingSystem, Riscv32Architecture,
+    Riscv64Architecture, X86_32Architecture, Z80Architecture,
 };
-use crate::proved::binary_format::BinaryFormat;
-use crate::proved::environment::Environment;
-use crate::proved::operating_system::OperatingSystem;
+use crate::search::row_of;
 
-// written by tools/names/write: the types with few names
 impl OperatingSystem {
-    #[inline(never)]
+    #[inline]
     pub(crate) fn from_str(s: &str) -> Result<Self, ()> {
-        Ok(match s {
-            "unknown" => OperatingSystem::Unknown,
-            "aix" => OperatingSystem::Aix,
-            "amdhsa" => OperatingSystem::AmdHsa,
-            "bitrig" => OperatingSystem::Bitrig,
-            "cloudabi" => OperatingSystem::Cloudabi,
-            "cuda" => OperatingSystem::Cuda,
-            "cygwin" => OperatingSystem::Cygwin,
-            "dragonfly" => OperatingSystem::Dragonfly,
-            "emscripten" => OperatingSystem::Emscripten,
-            "espidf" => OperatingSystem::Espidf,
-            "freebsd" => OperatingSystem::Freebsd,
-            "fuchsia" => OperatingSystem::Fuchsia,
-            "haiku" => OperatingSystem::Haiku,
-            "hermit" => OperatingSystem::Hermit,
-            "horizon" => OperatingSystem::Horizon,
-            "hurd" => OperatingSystem::Hurd,
-            "illumos" => OperatingSystem::Illumos,
-            "l4re" => OperatingSystem::L4re,
-            "linux" => OperatingSystem::Linux,
-            "nebulet" => OperatingSystem::Nebulet,
-            "netbsd" => OperatingSystem::Netbsd,
-            "none" => OperatingSystem::None_,
-            "openbsd" => OperatingSystem::Openbsd,
-            "psp" => OperatingSystem::Psp,
-            "redox" => OperatingSystem::Redox,
-            "solaris" => OperatingSystem::Solaris,
-            "solid_asp3" => OperatingSystem::SolidAsp3,
-            "uefi" => OperatingSystem::Uefi,
-            "vxworks" => OperatingSystem::VxWorks,
-            "wasi" => OperatingSystem::Wasi,
-            "wasip1" => OperatingSystem::WasiP1,
-            "wasip2" => OperatingSystem::WasiP2,
-            "windows" => OperatingSystem::Windows,
-            _ => return OperatingSystem::parse_darwin_like(s).ok_or(()),
-        })
+        let Some((_, meaning)) = row_of(s) else {
+            return OperatingSystem::parse_darwin_like(s).ok_or(());
+        };
+        match meaning {
+            Meaning::OperatingSystem(it) => Ok(*it),
+            Meaning::None => Ok(OperatingSystem::None_),
+            Meaning::Unknown => Ok(OperatingSystem::Unknown),
+            _ => Err(()),
+        }
     }
 }
+
+// written by tools/names/write: the types with few names
 impl Environment {
     #[inline]
     pub(crate) fn from_str(s: &str) -> Result<Self, ()> {

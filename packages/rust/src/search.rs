@@ -1,5 +1,5 @@
-//! The row of a string, by a hash, and its first dash, by eight bytes at once: in place of the binary search and the loop of
-//! the proved source, whose branches a processor mispredicts. Coq proves that both find the same.
+//! The row of a string, by a hash, and its first dash, among eight bytes at once: in place of the binary search and the
+//! loop of the proved source, whose branches a processor mispredicts. Coq proves that both find the same.
 #[allow(unused_imports)]
 use crate::compat::Chunks as _;
 use crate::proved::table::{Row, ROWS, ROW_COUNT};
@@ -22,11 +22,7 @@ pub(crate) fn row_of(text: &str) -> Option<&'static Row> {
     let row = usize::from(SLOTS[slot as usize]);
     let (own, found) = (&KEYS[row], &ROWS[row]);
     // of a string of at most 16 bytes the key has them all
-    if *own == key && (key.length <= 16 || found.0 == text) {
-        Some(found)
-    } else {
-        None
-    }
+    (*own == key && (key.length <= 16 || found.0 == text)).then_some(found)
 }
 
 /// The key of a string.

@@ -263,6 +263,7 @@ impl Architecture {
     /// ```
     /// assert_eq!(target_lexicon::Architecture::Bpfel.into_str(), "bpfel");
     /// ```
+    #[inline]
     #[cfg(feature = "alloc")]
     pub fn into_str(self) -> Cow<'static, str> {
         Cow::Borrowed(self.name())

@@ -41,6 +41,7 @@ impl BinaryFormat {
     /// ```
     /// assert_eq!(target_lexicon::BinaryFormat::Elf.into_str(), "elf");
     /// ```
+    #[inline]
     #[cfg(feature = "alloc")]
     pub fn into_str(self) -> Cow<'static, str> {
         Cow::Borrowed(self.name())

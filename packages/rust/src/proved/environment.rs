@@ -99,6 +99,7 @@ impl Environment {
     /// ```
     /// assert_eq!(target_lexicon::Environment::Msvc.into_str(), "msvc");
     /// ```
+    #[inline]
     #[cfg(feature = "alloc")]
     pub fn into_str(self) -> Cow<'static, str> {
         Cow::Borrowed(self.name())

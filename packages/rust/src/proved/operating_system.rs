@@ -227,6 +227,7 @@ fn version_after(prefix: &str, text: &str) -> Option<Option<DeploymentTarget>> {
 impl FromStr for OperatingSystem {
     type Err = ();
 
+    #[inline]
     fn from_str(s: &str) -> Result<OperatingSystem, ()> {
         OperatingSystem::from_str(s)
     }
