@@ -282,14 +282,15 @@ KINDS = "Const Enum ExternCrate Fn Impl Macro Mod Static Struct Trait TyAlias Ty
 def read_hir(text):
     """The fields of each struct, the variants of each enum with their number of fields, and the impls."""
     types, impls = {}, []
+    taken = {*BINARY, "Not", "PtrMetadata", *re.findall(r" name: Plain\(\n +(\w+)#", text)}  # of generics
     for block in re.split(r"^(?=DefId\(0:(?!0 ))", text, flags=re.M)[1:]:  # without the crate's root
         m, kind = re.match(DEFINED + " => OwnerNodes", block), re.search(r"^ {16}kind: (\w+)", block, re.M)
         if not m or not kind or kind[1] not in KINDS:
             raise Unknown(f"an item {block.splitlines()[0]} of kind {kind and kind[1]}")
         crate, path = m[1], m[2]
         is_type = kind[1] in ("Enum", "Struct")
-        if re.match(r"(core|alloc|std)(#\d+)?::", path) or is_type and ("::" not in path or path.islower()):
-            raise Unknown(f"{path}, whose name could be one of std's, or of a parameter")
+        if re.match(r"(core|alloc|std)(#\d+)?::", path) or is_type and (path in taken or path.islower()):
+            raise Unknown(f"{path}, whose name could be another one's")
         if is_type and "#" in path:
             raise Unknown(f"{path}, which isn't the only one of its path")
         if kind[1] == "Enum":
