@@ -3,7 +3,7 @@
 import { DIALECTS, FIELDS, WRITTEN } from "../src/names.js";
 import { ParseError, Triple, load, meanings, targetsIn, translate } from "../src/target-lexicon.js";
 import { factsEntry, meaningsOf, namesAndReasons, namesAtLevel, namesEntry, versionOf } from "./entries.mjs";
-import { found } from "./search.mjs";
+import { about, found } from "./search.mjs";
 
 const LABELS = {
   architecture: "Architecture", vendor: "Vendor", operatingSystem: "System", environment: "Environment",
@@ -398,6 +398,18 @@ function showCounts(counts) {
   byId("chips").hidden = counts.all === 0;
 }
 
+let calm;
+
+/** While somebody types, the status changes and isn't announced; after a pause it is. */
+function isTyping() {
+  clearTimeout(calm);
+  byId("status").setAttribute("aria-live", "off");
+  calm = setTimeout(() => {
+    byId("status").setAttribute("aria-live", "polite");
+    byId("status").replaceChildren(byId("status").textContent);
+  }, 700);
+}
+
 /** Says something in the status; `isAside` if the chips show it too. */
 function say(text, isAside = false) {
   byId("status").textContent = text;
@@ -578,11 +590,11 @@ function edited(isPage = false) {
   return show();
 }
 
-let known; // the targets, with their names in all tools
+let known; // the targets, with what they are searched by
 
 /** Shows the targets that the words of the search are about, which a click adds to the list. */
 function search() {
-  known ??= new Map(TARGETS.map((target) => [target, Object.values(Triple.parse(target).names()).filter(Boolean)]));
+  known ??= new Map(TARGETS.map((target) => [target, about(target, Triple.parse(target), VALUES)]));
   const { targets: all, unknown } = found(byId("search").value, known);
   const offers = all.slice(0, MOST_FOUND).map((target) => {
     const button = element("button", { type: "button", class: "offer", "aria-label": `Add ${target}` }, target);
@@ -595,7 +607,7 @@ function search() {
   const more = all.length - offers.length;
   const none = !all.length && byId("search").value.trim() ? [dim("no target has all these words")] : [];
   const words = unknown.map((word) => dim(`no target is about ${shown(word)}`));
-  byId("found").replaceChildren(...offers, ...(more > 0 ? [dim(`and ${more} more`)] : none), ...words);
+  byId("found").replaceChildren(...words, ...offers, ...(more > 0 ? [dim(`and ${more} more`)] : none));
 }
 
 async function copy(button, text, said) {
@@ -638,6 +650,7 @@ async function begin() {
   await load(unpacked());
   let waiting;
   field.addEventListener("input", () => {
+    isTyping();
     clearTimeout(waiting);
     waiting = setTimeout(edited, 50);
   });
