@@ -227,7 +227,8 @@ class Names(unittest.TestCase):
         for call in linux.name_in, linux.complete, lambda it: target_lexicon.translate("amd64", "debian", it):
             self.assertRaises(TypeError, call, None)
         self.assertRaisesRegex(ValueError, "did you mean glibc or mingw\\?$", linux.complete, "gnu")
-        for value, meant in ("Go", "go"), ("golang", "go"), ("rustc", "rust"), ("dotent", "dotnet"):
+        for value, meant in (("Go", "go"), ("golang", "go"), ("rustc", "rust"), ("dotent", "dotnet"),
+                             ("Docker", "docker")):
             self.assertRaisesRegex(ValueError, f", not {value}; did you mean {meant}\\?$", linux.name_in, value)
 
     def test_messages_escape_what_a_terminal_may_obey(self):

@@ -27,9 +27,9 @@ def _number(value: str, of: Type[NamedValue], what: str) -> int:
         raise TypeError(f"the {what} must be of type {of.__name__} or str, not {type(value).__name__}")
     names = list(of)
     if value not in names:
-        word = value.lower()
-        near = ["glibc or mingw"] if word == "gnu" else [it for it in names if word.startswith(it)]
-        near = near or [it for it in names if len(it) == len(word) and sorted(it) == sorted(word)]
+        word, known = value.lower(), [*names, *(OTHER_NAMES if of is Dialect else ())]
+        near = ["glibc or mingw"] if word == "gnu" else [it for it in known if word.startswith(it)]
+        near = near or [it for it in known if len(it) == len(word) and sorted(it) == sorted(word)]
         meant = f"; did you mean {near[0]}?" if near else ""
         raise ValueError(f"the {what} must be one of {', '.join(names)}, not {shown(value)}{meant}")
     return names.index(of(value)) + 1
