@@ -51,28 +51,29 @@ class NoCompiler(Untranslated):
     """Why there is no MIR that can be read."""
 
 
-def rustc(folder, features, *words, file="src/lib.rs", older=False):
-    """MIR and HIR of the crate in a folder, with these features, if nothing else decides what rustc compiles."""
+def rustc(folder, features, *words, at="", older=False):
+    """MIR and HIR of the crate in a folder, with these features, if nothing else decides what rustc compiles: in `/`,
+    from which the source's path begins with `at`, it takes no toolchain that a file above the folder names."""
     if not shutil.which("rustc"):
         raise NoCompiler("rustc isn't on the path, so that nothing is proved of its MIR; all else is")
     with tempfile.TemporaryDirectory(prefix="mir-") as out:
         Path(out, "host.rs").write_text(HOST, encoding="utf-8")
         words = [*CRATE, *FLAGS, *(f'--cfg=feature="{it}"' for it in features), *["--cfg=core_error"] * (not older),
-                 *words, str(file)]
+                 *words, f"{at or '/'}{str(folder / 'src/lib.rs')[1:]}"]
         for of in ([f"--emit=mir={out}/mir,dep-info={out}/read"], ["-Zunpretty=hir-tree", f"-o{out}/hir"],
                    ["-Zunpretty=expanded", f"-o{out}/expanded"]):
-            ran = subprocess.run(["rustc", *words, *of], cwd=folder, capture_output=True, text=True,
+            ran = subprocess.run(["rustc", *words, *of], cwd="/", capture_output=True, text=True,
                                  env={**os.environ, "RUSTC_BOOTSTRAP": "1", "OUT_DIR": out})
             if ran.returncode:
                 raise Untranslated(f"rustc doesn't write the MIR of {folder}: {' '.join(ran.stderr.split())[:300]}")
         mir, hir, read, expanded = (Path(out, it).read_text(encoding="utf-8") for it in "mir hir read expanded".split())
     if names := {*re.findall(r"^# env-dep:(\w+)", read, re.M)} - {"OUT_DIR"}:
         raise Untranslated(f"a variable of the environment, {min(names)}, is read when the crate is compiled")
-    files = {Path(it.replace("\\ ", " ")) for it in re.findall("^(\\S.*):$", read, re.M)} - {Path(out, "host.rs")}
+    files = {Path("/", it.replace("\\ ", " ")) for it in re.findall("^(\\S.*):$", read, re.M)} - {Path(out, "host.rs")}
     for it in files:
-        if not (folder / it).is_relative_to(folder / "src"):
+        if not Path(os.path.normpath(it)).is_relative_to(folder / "src"):
             raise Untranslated(f"the crate is compiled of {it}")
-        conditions(it, folder.joinpath(it).read_text(encoding="utf-8"))
+        conditions(it, it.read_text(encoding="utf-8"))
     for it in re.findall(r"#\s*!?\s*\[\s*([^\]]*)", expanded):
         if re.match(r"\w*", it)[0] not in ATTRIBUTES and it != "feature(prelude_import)":
             raise Untranslated(f"the attribute {it}")
@@ -106,7 +107,7 @@ def all_of(crate):
 
 def same_without_alloc(root, crate, known):
     """That each function without the feature `alloc` is written as with it, but for what owned names differ in."""
-    other = mir.Crate(*rustc(root / "packages/rust", []), known)
+    other = mir.Crate(*rustc(root.resolve() / "packages/rust", []), known)
     all_of(other)
     ours = {code for _, _, code in crate.out}
     for title, _, code in other.out:
@@ -115,7 +116,7 @@ def same_without_alloc(root, crate, known):
 
 
 def version():
-    return subprocess.run(["rustc", "--version"], capture_output=True, text=True).stdout.strip()
+    return subprocess.run(["rustc", "--version"], cwd="/", capture_output=True, text=True).stdout.strip()
 
 
 def same(main, other, where):
@@ -136,7 +137,7 @@ def source(root, known):
     crate = root.resolve() / "packages/rust"
     shipped.check_manifest(root)
     main = rustc(crate, ["alloc"])
-    same(main, rustc(crate, ["alloc"], "-Cdebug-assertions=off", file=crate / "src/lib.rs", older=True),
+    same(main, rustc(crate, ["alloc"], "-Cdebug-assertions=off", at="./", older=True),
          "without debug assertions, in another folder, as for an older rustc")
     same(main, rustc(crate, ["alloc", *FEATURES]), f"with {', '.join(FEATURES)}")
     return mir.Crate(*main, known)
