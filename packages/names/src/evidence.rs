@@ -284,6 +284,12 @@ impl<'a> Evidence<'a> {
         self.is_empty() && self.library == Said::Unsaid && self.floats == Said::Unsaid && self.form == Said::Unsaid
     }
 
+    /// Whether words say a machine and a system, and each is understood.
+    pub(crate) fn is_understood(&self) -> bool {
+        let has_machine = self.machine != Said::Unsaid || self.is_any_arm || self.is_other_machine;
+        has_machine && self.system != Said::Unsaid && self.unknown.is_none() && !self.has_title
+    }
+
     /// Whether a word that isn't understood comes before the first that says a machine or a system.
     pub(crate) fn has_title(&self) -> bool {
         self.has_title

@@ -28,8 +28,8 @@ use target_lexicon::{Architecture, Field, OperatingSystem, TextPart, TripleRef, 
 ///
 /// Of a word that is none of these, a part between slashes is given, or else one between dots, if it is one: that of
 /// `target/wasm32-wasip1/release` or of `[target.wasm32-wasip1]`. A word is a part of a pattern, and isn't given, if
-/// one of `$*%<>{}` is next to a dash of it: `${ARCH}-linux`. So keys, versions and the labels of runners aren't given.
-/// Nor is a name of which no word says a machine or a system, such as `js/wasm`.
+/// one of `$*%<>{}` is next to a dash of it, or `}` before a digit: `${ARCH}-linux`. So keys, versions and the labels
+/// of runners aren't given. Nor is a name of which no word says a machine or a system, such as `js/wasm`.
 ///
 /// Nothing is allocated, and the time is linear.
 ///
@@ -68,7 +68,8 @@ pub fn words_in(text: &str) -> TargetsIn<'_> {
     TargetsIn { is_list: false, is_check: true, ..targets_in(text) }
 }
 
-/// Whether a word in lower case is a letter more, less or other, or a swap, away from a name of a tool that has parts.
+/// Whether a word in lower case is a letter more, less or other, or a swap, away from a name of a tool that has parts. If
+/// all that it says is understood, as of Debian's `freebsd-arc`, it isn't meant as another.
 ///
 /// ```
 /// use target_names::is_near_name;
@@ -78,10 +79,11 @@ pub fn words_in(text: &str) -> TargetsIn<'_> {
 /// ```
 #[must_use]
 pub fn is_near_name(word: &str) -> bool {
+    let is_understood = || Evidence::of(word).is_understood();
     let (word, has_parts) = (word.as_bytes(), |it: &str| it.contains(['-', '/']));
     let is_near = |name: &str| is_one_edit(word, name.as_bytes()) && name.len() >= SHORTEST_NEAR && has_parts(name);
     let may_be = SHORTEST_NEAR <= word.len() + 1 && word.iter().any(|it| b"-/".contains(it)) && !word.contains(&b'.');
-    may_be && Dialect::ALL.iter().any(|it| it.rows().iter().any(|row| is_near(row.0)))
+    may_be && Dialect::ALL.iter().any(|it| it.rows().iter().any(|row| is_near(row.0))) && !is_understood()
 }
 
 /// Shorter names have too many words near them.
@@ -221,11 +223,15 @@ impl<'a> TargetsIn<'a> {
             if is_key {
                 self.is_value = KEYS.iter().any(|key| has(word, key)) && !CFG_OPTIONS.contains(&word);
             }
-            let is_end = |it: &str| it.ends_with(PATTERN) && word.starts_with(['-', '.', '_']);
+            let is_rest = word.starts_with(['-', '.', '_']) || before.ends_with('}') && word.starts_with(is_digit);
+            let is_end = |it: &str| it.ends_with(PATTERN) && is_rest;
             if is_end(before) || after.starts_with(PATTERN) && word.ends_with(['-', '.', '_']) {
                 continue;
             }
             let is_value = self.is_value && !is_key;
+            if !is_value && !word.contains(['-', '/', '_']) {
+                continue;
+            }
             let slashes = word.split('/').skip_while(|it| it.len() == word.len());
             let dots = word.split(['/', '.']).skip_while(|it| it.len() == word.len());
             let mut parts = once(word).chain(slashes).chain(dots).map(trimmed);
@@ -243,6 +249,10 @@ impl<'a> TargetsIn<'a> {
             }
         }
     }
+}
+
+fn is_digit(it: char) -> bool {
+    it.is_ascii_digit()
 }
 
 fn trimmed(word: &str) -> &str {

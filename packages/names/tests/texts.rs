@@ -54,6 +54,7 @@ const ROWS: &[(&str, &str)] = &[
     ("./configure --host=aarch64-linux-gnu CROSS_COMPILE=arm-linux-gnueabihf- ARCH=arm64", "aarch64-linux-gnu arm-linux-gnueabihf arm64"),
     ("zig build-exe a.zig -target x86_64-linux-musl -mcpu=x86_64_v3", "x86_64-linux-musl"),
     ("clang --target=x86_64-unknown-${OS} -o x86_64-* 'a-$i-linux-gnu'", ""),
+    ("compadd i{3..6}86-linux ia32-linux", ""),
     ("triple: amd64", "amd64"),
     ("platform: amd64", "amd64"),
     ("TARGET: amd64", "amd64"),
