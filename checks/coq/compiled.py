@@ -17,6 +17,7 @@ TRIED = "1.95"  # the version of rustc whose MIR was read; another one's may hav
 CRATE = ("--crate-name", "target_lexicon", "--edition=2021", "--crate-type=lib")
 FLAGS = ("-Copt-level=0", "-Coverflow-checks=on", "-Ztrim-diagnostic-paths=no")
 FEATURES = "std", "arch_zkasm", "arch_z80"  # of upstream
+UPSTREAM = "UpstreamCrate", "UpstreamTriple"  # the proofs about upstream's own crate
 # What the build script writes; the functions that answer it aren't proved.
 HOST = "Triple { architecture: Architecture::Unknown, vendor: Vendor::Unknown, operating_system: OperatingSystem::" \
        "Unknown, environment: Environment::Unknown, binary_format: BinaryFormat::Unknown }"
@@ -164,7 +165,7 @@ def upstream(_root, folder, crate):
         hir = cargo("-Zunpretty=hir-tree")
         cargo("--emit=mir")
         mir_of = "".join(it.read_text(encoding="utf-8") for it in Path(out).rglob("target_lexicon-*.mir"))
-        found = mir.Crate(mir_of, hir, folder.joinpath("Specs.v").read_text(encoding="utf-8"))
+        found = mir.Crate(mir_of, hir, folder.joinpath("Specs.v").read_text(encoding="utf-8"), True)
     for it, why in all_of(found).items():
         print(f"theorem: not written: {it}: {why}")
     written = sum(it is not None and not title.endswith("_pure") for title, it, _ in found.out)
@@ -172,7 +173,7 @@ def upstream(_root, folder, crate):
     folder.joinpath("UpstreamMir.v").write_text(
         "(* Written by checks/theorem from what rustc compiles. *)\nRequire Import Kit Specs Rust.\n\n"
         + "\n".join(code for _, _, code in found.out), encoding="utf-8")
-    proofs = HERE.joinpath("upstream/UpstreamCrate.v").read_text(encoding="utf-8")
+    proofs = "".join(HERE.joinpath(f"upstream/{it}.v").read_text(encoding="utf-8") for it in UPSTREAM)
     return dict.fromkeys(re.findall(r"^Theorem (\w+)", proofs, re.M))
 
 

@@ -7,7 +7,8 @@ from mir_grammar import Function, Unknown, clean, close, read_hir, read_mir, spl
 BITS = {"u8": "8", "u16": "16", "u32": "32", "u64": "64", "usize": "usize_bits"}
 TEXTS = ("str", "std::string::String", "std::vec::Vec<u8>")
 PLAIN = {"bool": "bool", "char": "ℕ", "()": "unit", "std::fmt::Error": "unit", "std::fmt::Formatter": "Formatter",
-         "std::cmp::Ordering": "comparison", "std::ops::Range<usize>": "(ℕ × ℕ)",
+         "std::cmp::Ordering": "comparison", "std::ops::Range<usize>": "(ℕ × ℕ)", "std::str::Chars": "(list ℕ)",
+         "std::str::Split<char>": "(list (list ℕ))", "std::num::ParseIntError": "unit",
          **dict.fromkeys(BITS, "ℕ"), **dict.fromkeys(TEXTS, "(list ℕ)")}
 STD = {"option": [("None", 0), ("Some", 1)], "Result": [("Result__Ok", 1), ("Result__Err", 1)],
        "comparison": [("Eq", 0), ("Gt", 0), ("Lt", 0)]}
@@ -145,12 +146,14 @@ def of_call(path):
 class Crate:
     """The functions of a crate, and those that are written as Coq."""
 
-    def __init__(self, mir, hir, known):
+    def __init__(self, mir, hir, known, local=False):
+        self.local = local  # whether a block that several others go on to is opaque in proofs
         self.functions, self.constants, self.statics = read_mir(mir)
         declared, self.impls = read_hir(hir)
         self.by, self.out, self.titles = {}, [], {}
         self.types = Types(declared, known, self.functions, self.out)
         self.written = {}  # what was written, or why it can't be
+        self.closures = {}
         if any(it.trait == "std::Drop" for it in self.impls):
             raise Unknown("an impl of Drop")
         if any(it.trait == "std::PartialEq" and "ne" in it.methods for it in self.impls):
@@ -206,6 +209,29 @@ class Crate:
         it.into, it.promoted, it.key = body.into, body.promoted, key
         self.by[key] = [it]
         return it
+
+    def closure(self, type):
+        """The function of a closure. Its first parameters are what it captures, or the `&mut` that a `&mut` is of."""
+        if type not in self.closures:
+            found = [it for it in self.functions if it.parameters and strip(it.parameters[0][1].removeprefix(
+                "&mut ")) == type]
+            if len(found) != 1:
+                raise Unknown(f"the closure {type}")
+            [it], path = found, found[0].path
+            owner = [of for of in self.functions if of.path == path[:path.index("::{closure#")]]
+            captured = dict(re.findall(r"\(\(?\*?_1\)?\.(\d+): ([^()]*)\)", it.text))
+            if not owner or re.search(r"^ *\(+\*?_1\b[^=]* = |= &mut \(+\*?_1\b", it.text, re.M) or \
+                    sorted(map(int, captured)) != [*range(len(captured))]:
+                raise Unknown(f"what {type} captures, or changes of it")
+            made = self.closures[type] = Function(path, "", it.result, it.text)
+            made.captured = [(len(it.types) + i, clean(captured[str(i)])) for i in range(len(captured))]
+            made.parameters = [(n, re.sub("^&mut (?=&mut )", "", of)) for n, of in made.captured] + it.parameters[1:]
+            made.types = it.types | dict(made.captured) | dict(made.parameters) | {1: f"&{type}"}
+            made.promoted, made.into = it.promoted, [False] * len(made.parameters)
+            trait, of, name = owner[0].key
+            made.key = trait, of, name + re.sub(r"\W+", "_", path[path.index("::{closure#"):]).rstrip("_")
+            self.by[made.key] = [made]
+        return self.closures[type]
 
     def all(self):
         """All functions but closures and constructors; a trait's own ones for each type that has the trait."""

@@ -8,14 +8,15 @@ from collections import namedtuple
 
 from mir import BITS, TEXTS, Unknown, arguments, of_call, referred, split, strip
 from mir_grammar import Function, close
-from mir_std import CLOSED, COUNTED, EQUAL, STD
+from mir_std import CLOSED, COUNTED, EQUAL, ITERATORS, MAPPED, STD
 
-Con = namedtuple("Con", "name args")  # a constructor of values; "tuple", "closure" and "branching" aren't Coq's
+Con = namedtuple("Con", "name args")  # a constructor of values; "tuple", "branching" and a closure aren't Coq's
 Mut = namedtuple("Mut", "cell path")  # a mutable borrow
 Slice = namedtuple("Slice", "cell path low high")  # one of a range of bytes
 Checked = namedtuple("Checked", "code")  # a result and whether it overflows
 Tag = namedtuple("Tag", "value place")  # a discriminant
 BITWISE = {"BitAnd": "N.land", "BitOr": "N.lor", "BitXor": "N.lxor"}
+Shown = namedtuple("Shown", "code")  # what `format_args!` has: an argument's code, or that of all pieces
 COMPARE = {"Eq": "({0} == {1})", "Ne": "(negb ({0} == {1}))", "Lt": "({0} <? {1})", "Le": "({0} <=? {1})",
            "Gt": "({1} <? {0})", "Ge": "({1} <=? {0})"}
 ORDERING = {"Less": "Lt", "Equal": "Eq", "Greater": "Gt"}
@@ -140,7 +141,7 @@ class Body:
             return value
         if isinstance(value, Con) and value.name == "tuple":
             return "(" + ", ".join(map(self.code, value.args)) + ")" if value.args else "tt"
-        if isinstance(value, Con) and value.name not in ("closure", "branching", "branch"):
+        if isinstance(value, Con) and value.name not in ("branching", "branch") and value.name[0] != "{":
             return f"({value.name} {' '.join(map(self.code, value.args))})" if value.args else value.name
         if isinstance(value, Tag):
             cases = self.cases(self.type_of(("copy", value.place)))
@@ -272,7 +273,7 @@ class Body:
         if kind == "text":
             return "[" + "; ".join(map(str, what)) + "]"
         if kind == "closure":
-            return Con("closure", [what])
+            return Con(what, [])
         if kind == "static":
             if what not in self.crate.statics:
                 raise Unknown(f"the constant {what}")
@@ -305,6 +306,8 @@ class Body:
         return self.inline(it)
 
     def aggregate(self, path, args, names=None):
+        if path.startswith("{closure@"):
+            return Con(path, args)
         if m := re.match(r"std::option::Option(?:::<.*>)?::(None|Some)$", path):
             return Con(m[1], args)
         if m := re.match(r"std::result::Result(?:::<.*>)?::(Ok|Err)$", path):
@@ -353,7 +356,10 @@ class Body:
         if kind == "tuple":
             return Con("tuple", [self.operand(part, env) for part in what])
         if kind == "array":
-            return "[" + "; ".join(self.code(self.operand(part, env)) for part in what) + "]"
+            items = [self.operand(part, env) for part in what]
+            if items and all(isinstance(it, Shown) for it in items):
+                return Con("tuple", items)
+            return "[" + "; ".join(map(self.code, items)) + "]"
         if kind == "repeat":
             return f"(List.repeat {self.code(self.operand(what, env))} {it[2]}%nat)"
         if kind == "aggregate":
@@ -378,6 +384,8 @@ class Body:
     def binary(self, name, left, right, env):
         x, y = self.code(self.operand(left, env)), self.code(self.operand(right, env))
         type = next((it for it in map(self.type_of, (left, right)) if it != "?"), "?")
+        if type == "char" and "number" not in (left[0], right[0]):
+            raise Unknown("a comparison of two characters, of which only ASCII ones are told apart")
         if name in COMPARE and (type in BITS or type == "char" or type == "isize" and name in ("Eq", "Ne")):
             return COMPARE[name].format(x, y)
         if name.endswith("WithOverflow") and type in BITS:
@@ -402,16 +410,27 @@ class Body:
             return values[0]  # the parameter is what this returns
         if trait == "std::Into" and (it := self.conversion(path.partition("::Into<")[2][:-len(">>::into")], types[0])):
             return self.own(it, values, types, env)
+        if trait in ("std::Fn", "std::FnMut", "std::FnOnce") and owner.startswith("{closure@"):
+            return self.own(*self.captures(self.read(values[0], env), values[1], env), [], env)
         plain = without_generics(path)
+        if plain.startswith("std::fmt::") and (it := self.formatted(plain, path, values, env)):
+            return it
         if form := STD.get(plain):
             code = form.format(*[self.code(self.read(it, env)) for it in values])
-            if plain.endswith("::split_once") and operands[1][0] != "number":  # which is an ASCII character
+            if plain.endswith(("::split_once", "::split")) and operands[1][0] != "number":  # which is an ASCII character
                 raise Unknown("a split at a character that isn't known")
             return self.emit(code[2:]) if code[0] == "?" else code
         if plain in COUNTED:
             n = re.search(r"::<(\w+)>$", path)[1]
             most = 2 ** int(BITS[n]) - 1 if n in BITS else None
             return COUNTED[plain].format(self.code(values[0]), n=n, most=most)
+        if plain in MAPPED:
+            return MAPPED[plain].format(self.code(values[0]), self.closure(values[1]))
+        if plain in ITERATORS:
+            name = self.new("left")
+            self.before.append((f"let {name} := {self.code(self.read(values[0], env))} in\n", ""))
+            self.store(*values[0], f"(tl {name})", env)
+            return f"(hd_error {name})"
         if plain in CLOSED:
             code = CLOSED[plain].format(self.code(self.read(values[0], env)), self.closure(values[1]))
             env.pop(values[0].cell)  # what is left of the iterator isn't known
@@ -443,6 +462,42 @@ class Body:
             return "tt"
         raise Unknown(f"the call of {path}")
 
+    def formatted(self, plain, path, values, env):
+        """What std's macros of formatting call, for strings, numbers and the crate's types without options."""
+        if plain == "std::fmt::rt::Argument::new_display":
+            type, value = strip(path[path.index("new_display::<") + 14:-1]), self.code(self.read(values[0], env))
+            if type in TEXTS or type in BITS:
+                return Shown(f"text_piece {value if type in TEXTS else f'(decimal {value})'}")
+            if it := self.crate.find(("std::Display", type, "fmt")):
+                return Shown(f"{self.crate.write(it)} fuel {value}")
+        elif plain == "std::fmt::Arguments::new":  # a template: a length and its bytes, 192 for an argument, and 0
+            template, pieces, arguments = [*map(int, values[0][1:-1].split("; "))], [], [*values[1].args]
+            while template[0]:
+                size = template.pop(0)
+                if size != 192 and size > 127:
+                    raise Unknown(f"the option {size} of formatting")
+                pieces.append(arguments.pop(0).code if size == 192 else
+                              f"text_piece [{'; '.join(map(str, template[:size]))}]")
+                template = template[0 if size == 192 else size:]
+            if len(template) > 1 or arguments:
+                raise Unknown("the end of a template of formatting")
+            return Shown(f"write_pieces [{'; '.join(pieces)}]")
+        elif plain == "std::fmt::format":
+            return self.emit(f"displayed ({values[0].code} (formatter_of []))")
+        elif plain == "std::fmt::Formatter::write_fmt":
+            name = self.emit(f"{values[1].code} {self.code(self.read(values[0], env))}")
+            self.store(*values[0], f"(snd {name})", env)
+            return f"(fst {name})"
+
+    def captures(self, closure, arguments, env):
+        """A closure's function, and the values of its parameters."""
+        it = self.crate.closure(closure.name)
+        if len(it.captured) != len(closure.args):
+            raise Unknown(f"what {closure.name} captures")
+        captured = [self.read(value, env) if type.startswith("&mut &mut ") else value
+                    for (_, type), value in zip(it.captured, closure.args)]
+        return it, captured + arguments.args
+
     def conversion(self, to, type):
         """The crate's own conversion to a type, or none."""
         return self.crate.find(("std::From", strip(to), "from"), [type])
@@ -472,13 +527,11 @@ class Body:
 
     def closure(self, value):
         """A closure that captures nothing, as a function of Coq."""
-        found = [it for it in self.crate.functions if it.parameters and value.args[0] in it.parameters[0][1]]
-        if len(found) != 1:
-            raise Unknown(f"the closure {value.args[0]}")
+        it = self.crate.closure(value.name)
+        if it.captured or len(it.parameters) != 1:
+            raise Unknown(f"what {value.name} captures")
         name = self.new("x")
-        body = Body(self.crate, found[0], True)
-        body.cells = []
-        return f"(λ {name}, {body.block(0, {found[0].parameters[1][0]: name}, {})})"
+        return f"(λ {name}, {Body(self.crate, it, True).block(0, {it.parameters[0][0]: name}, {})})"
 
     def equality(self, path, owner, name, types, values, env):
         """`==`, or `!=` by `==`: a type's own, or std's of the types' in it."""
@@ -502,10 +555,13 @@ class Body:
 
     # ---- blocks
     def whole(self):
-        env = {}
+        env = {n: Con(type, []) for n, type in self.f.types.items() if type.startswith("{closure@")}
         for n, type in self.f.parameters:
             is_mutable = type.startswith("&mut ")
             env[n], env[f"*{n}" if is_mutable else n] = Mut(f"*{n}", ()), f"v{n}"
+        if self.f.captured:
+            env[1] = Con("{closure}", [Mut(n, ()) if type.startswith("&mut &mut ") else env[n]
+                                       for n, type in self.f.captured])
         return self.block(0, env, {})
 
     def none(self):
@@ -556,7 +612,9 @@ class Body:
                                                                          for n in names}
             title = self.new(f"bb{it}_")
             binders = "".join(f" ({inner[n]} : {self.types.coq(self.type_at(n))})" for n in names) or " (_ : unit)"
-            joined.append((f"let {title} := λ{binders},\n{self.block(it, inner, joins)} in\n", ""))
+            code = f"λ{binders},\n{self.block(it, inner, joins)}"
+            as_let = f"let {title} := {code} in\n", ""
+            joined.append((f"local ({code}) (λ {title},\n", ")") if self.crate.local else as_let)
             joins = {**joins, it: (title, names, len(self.loops))}
         self.before = mine + joined
         code = self.end(end, env, joins)
@@ -648,6 +706,8 @@ class Body:
             return f"if {code} then {branch(cases.get(1, other))}\nelse {branch(cases.get(0, other))}"
         if type not in BITS and type != "char":
             raise Unknown(f"a switch of {type}")
+        if type == "char" and any(n > 127 for n in cases if n != "otherwise"):
+            raise Unknown("a character that isn't ASCII")
         found = branch(other)
         for n, b in reversed([it for it in cases.items() if it[0] != "otherwise"]):
             found = f"if {code} == {n} then {branch(b)}\nelse {found}"

@@ -197,6 +197,7 @@ class Function:
 
     def __init__(self, path, parameters, result, text):
         self.path, self.result, self.text, self.promoted, self.title = path, clean(result), text, {}, None
+        self.captured = []  # of a closure
         found = [re.fullmatch(r"_(\d+): (.*)", it, re.S) for it in split(parameters)]
         self.parameters = [(int(m[1]), clean(m[2])) for m in found]
         locals = re.findall(r"^ *let (?:mut )?_(\d+): (.*);$", text, re.M)

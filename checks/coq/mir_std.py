@@ -12,6 +12,8 @@ STD = {
         "<&str as std::convert::Into<std::string::String>>::into",
         "<std::string::String as std::convert::Into<std::borrow::Cow<str>>>::into",
         "<std::string::String as std::convert::From<&str>>::from",
+        "<str as std::borrow::ToOwned>::to_owned",
+        "std::hint::must_use",
         # numbers of a wider type
         "<u64 as std::convert::From<u32>>::from", "<u64 as std::convert::From<u8>>::from",
         "<usize as std::convert::From<u16>>::from",
@@ -22,9 +24,14 @@ STD = {
     "std::str::<impl str>::strip_prefix": "(strip_prefix {0} {1})",
     "std::str::<impl str>::split_once": "(split_once {0} {1})",
     "std::str::<impl str>::get": "(str_get {0} {1})",
+    "std::str::<impl str>::starts_with": "(starts_with N.eqb {0} {1})",
+    "std::str::<impl str>::split": "(slice_split (λ c, c == {1}) {0})",
+    "std::str::<impl str>::chars": "(chars {0})",
     "std::str::from_utf8": "? from_utf8 {0}",
     "std::slice::<impl [u8]>::split_first": "(split_first {0})",
     "std::num::<impl u8>::is_ascii_lowercase": "(u8_is_ascii_lowercase {0})",
+    "std::char::methods::<impl char>::is_ascii_lowercase": "(u8_is_ascii_lowercase {0})",
+    "std::char::methods::<impl char>::is_ascii_digit": "(char_is_ascii_digit {0})",
     "std::num::<impl u64>::from_le_bytes": "(from_le_bytes {0})",
     "std::num::<impl u32>::from_le_bytes": "(from_le_bytes {0})",
     "std::num::<impl u64>::wrapping_mul": "(wrapping_mul 64 {0} {1})",
@@ -33,6 +40,8 @@ STD = {
     "std::option::Option::is_some": "(option_is_some {0})",
     "std::option::Option::is_none": "(option_is_none {0})",
     "std::option::Option::ok_or": "(ok_or {0} {1})",
+    "std::option::Option::unwrap": "? {0}",
+    "std::result::Result::is_ok": "(result_is_ok {0})",
     "std::bool::<impl bool>::then_some": "(then_some {0} {1})",
     "<str as std::ops::Index<std::ops::RangeTo<usize>>>::index": "? str_between {0} 0 {1}",
     "<str as std::ops::Index<std::ops::RangeFrom<usize>>>::index": "? str_between {0} {1} (length {0})",
@@ -44,10 +53,14 @@ STD = {
 COUNTED = {"std::slice::<impl [u8]>::first_chunk": "(first_chunk {n} {0})",
            "std::slice::<impl [u8]>::last_chunk": "(last_chunk {n} {0})",
           "std::str::<impl str>::parse": "(parse_unsigned {most} {0})"}
-# These take a closure, and use up an iterator.
-CLOSED = {"<std::slice::Iter<u8> as std::iter::Iterator>::position": "(position {1} {0})",
+# These iterators are the lists of what is left.
+ITERATORS = ("<std::str::Split<char> as std::iter::Iterator>::next", "<std::str::Chars as std::iter::Iterator>::next")
+# These take a closure; the latter ones use up an iterator.
+MAPPED = {"std::result::Result::map_err": "(map_err {1} {0})"}
+CLOSED = {"<std::str::Chars as std::iter::Iterator>::any": "(existsb {1} {0})",
+          "<std::slice::Iter<u8> as std::iter::Iterator>::position": "(position {1} {0})",
           "<std::slice::Iter<u8> as std::iter::Iterator>::all": "(forallb {1} {0})"}
 # The equality of std's types.
 EQUAL = {"()": "(λ _ _ : unit, true)", "std::fmt::Error": "(λ _ _ : unit, true)", "bool": "Bool.eqb",
-         **dict.fromkeys(("u8", "u16", "u32", "u64", "usize", "char"), "N.eqb"),
+         **dict.fromkeys(("u8", "u16", "u32", "u64", "usize"), "N.eqb"),
          **dict.fromkeys(("str", "std::string::String", "[u8]"), "bytes_eq")}

@@ -19,7 +19,7 @@ WRITTEN = "Specs Code Configured Source Same Mir Same_mir Compiled UpstreamMir".
 PARTS = {"definitions": ([], definitions.FILES, definitions.write)}
 for part, (_, proofs) in shipped.CONFIGURATIONS.items():
     needed = ["definitions"] + ["rust"] * (part != "rust")
-    PARTS[part] = needed, ["Rust", "Code", "Configured", *proofs], functools.partial(shipped.write, part=part)
+    PARTS[part] = needed, ["Rust", "Std", "Code", "Configured", *proofs], functools.partial(shipped.write, part=part)
     if part == "rust":
         PARTS["mir"] = (needed + ["rust"], "Mir Bridge Same_mir Compiled".split(), compiled.write)
         PARTS["source"] = (needed + ["rust"], "Source Halves Same".split(), source.write)
