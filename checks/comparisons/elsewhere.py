@@ -263,7 +263,7 @@ class Comparison(Report):
         lines = output(f"{self.folder}/platforms", input="".join(f"{name}\n" for name in meanings)).splitlines()
         normal = dict(zip(meanings, lines, strict=True))
         self.fact("a name of OCI means what containerd's normal form of it means", (
-            (name, normal[name], self.read(normal[name], "oci"), it) for name, it in meanings.items()), "v8[.]")
+            (name, normal[name], self.read(normal[name], "oci"), it) for name, it in meanings.items()), "v[89][.]")
         self.fact("a name of OCI that is written is containerd's normal form", (
             (row.name, normal[row.name]) for row in self.rows_of("oci", ("rw",))))
 
