@@ -61,8 +61,8 @@ def rustc(folder, features, *words, at="", older=False):
         Path(out, "host.rs").write_text(HOST, encoding="utf-8")
         words = [*CRATE, *FLAGS, *(f'--cfg=feature="{it}"' for it in features), *["--cfg=core_error"] * (not older),
                  *words, f"{at or '/'}{str(folder / 'src/lib.rs')[1:]}"]
-        for of in ([f"--emit=mir={out}/mir,dep-info={out}/read"], ["-Zunpretty=hir-tree", f"-o{out}/hir"],
-                   ["-Zunpretty=expanded", f"-o{out}/expanded"]):
+        for of in ([f"--emit=mir={out}/mir,dep-info={out}/read", f"--out-dir={out}"],
+                   ["-Zunpretty=hir-tree", f"-o{out}/hir"], ["-Zunpretty=expanded", f"-o{out}/expanded"]):
             ran = subprocess.run(["rustc", *words, *of], cwd="/", capture_output=True, text=True,
                                  env={**os.environ, "RUSTC_BOOTSTRAP": "1", "OUT_DIR": out})
             if ran.returncode:
