@@ -95,7 +95,17 @@ static bool has_zeros(const struct lexicon_triple *it) {
 enum { LAST_DIALECT = 15 };
 /* end of what is written */
 
-/* The names of a triple that is well: each that is read means the shape, which has the same name. */
+/* Whether a name says a level of the machine, which its triple can't state. */
+static bool says_level(uint32_t dialect, const char *name, size_t length) {
+  struct lexicon_meaning found[LEXICON_MAX_MEANINGS];
+  size_t count = 0;
+  CHECK(lexicon_meanings(name, length, found, LEXICON_MAX_MEANINGS, &count) == LEXICON_OK);
+  while (count > 0 && (found[count - 1].dialect != dialect || found[count - 1].note == NULL)) count--;
+  return count > 0;
+}
+
+/* The names of a triple that is well: each that is read means the shape, which has the same name, unless that says a
+   level, which the triple's architecture has. */
 static void try_names(const struct lexicon_triple *triple) {
   for (uint32_t dialect = LEXICON_DIALECT_DEBIAN; dialect <= LAST_DIALECT; dialect++) {
     struct lexicon_triple shape;
@@ -112,7 +122,8 @@ static void try_names(const struct lexicon_triple *triple) {
     CHECK(status == LEXICON_OK || status == LEXICON_NAME_WITHOUT_TRIPLE);
     CHECK(status == LEXICON_OK || error.reason != NULL);
     if (status != LEXICON_OK) continue;
-    CHECK(lexicon_write(dialect, &shape, again, sizeof again, NULL, NULL) == LEXICON_OK && strcmp(again, name) == 0);
+    bool has_name = lexicon_write(dialect, &shape, again, sizeof again, NULL, NULL) == LEXICON_OK;
+    CHECK((has_name && strcmp(again, name) == 0) || says_level(dialect, name, length));
     CHECK(lexicon_translate(dialect, name, length, LEXICON_CHOSEN_LIBC_NONE, NULL, dialect, again, sizeof again, NULL,
         NULL) == LEXICON_OK);
     CHECK(strcmp(again, name) == 0);
