@@ -26,8 +26,8 @@ pub(crate) fn is_same(first: Machine<'_>, second: Machine<'_>) -> bool {
 /// The known machine that is one of a level by itself, such as `riscv64a23` of `rva23u64`.
 pub(crate) fn machine_at(machine: Machine<'_>) -> Option<Architecture> {
     let mut known = known_names(Field::Architecture).iter().filter_map(|it| it.parse().ok());
-    let mut same = || known.find(|it| !machine.1.is_empty() && is_same((*it, ""), machine));
-    machine.1.parse().ok().or_else(|| same())
+    let same = || known.find(|it| !machine.1.is_empty() && is_same((*it, ""), machine));
+    machine.1.parse().ok().or_else(same)
 }
 
 /// Whether a name may be written for a machine whose row has the other. `is_on_system` says whether it names a system.
