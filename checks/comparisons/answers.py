@@ -132,7 +132,7 @@ def main(options, _folder):
     parsed, outputs = [it for it in strings if it.answer.count("\t") > 1], mode_outputs(strings)
     inputs = dict.fromkeys(outputs, "".join(f"{it.asked}\n" for it in strings))
     inputs |= {"json": json_list(it.asked for it in parsed)}
-    outputs["json"] = [json_list(it.answer.split("\t")[10] for it in parsed)]
+    outputs["json"] = [json_list(it.answer.split("\t")[5] for it in parsed)]
     for name, program in crates.programs_there().items():
         for mode in (*crates.LINE_MODES, "json"):
             said = crates.answers([program, mode], inputs[mode].encode()).decode().splitlines()
