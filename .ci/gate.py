@@ -74,7 +74,6 @@ FIRST = [
     ("lists of names and the Rust source are what they are made from; what was reviewed of the statement is as it "
      "was", "tools/write --check", "rustfmt"),
     ("upstream's answers contradict each change of one cell of the table of names", "checks/upstream/cells", ""),
-    ("the published table of names is what its schema says", "checks/gate/table_of_names", "jsonschema"),
     ("no script has a warning", "checks/gate/scripts", "shellcheck pyflakes3"),
     ("nothing that another user of the machine plants reaches the gate", "checks/gate/planted", ""),
 ]
@@ -86,7 +85,7 @@ WITHOUT_PROOF = [[
      "a dependent",
      "packages/rust/test", "cargo", "rust coq"),
     ("the crate of other tools' names: each row, shape and rule, laws over generated strings, samples of the "
-     "documentation",
+     "documentation, the schema of the table",
      "packages/names/test", "cargo", "rust names"),
     ("the definitions, as Coq extracts them, say what upstream and the Rust crate answer; bad input",
      "checks/specification quick && checks/upstream/extracted/test", "cargo coqc ocamlopt",
@@ -112,7 +111,7 @@ WITHOUT_PROOF = [[
     ("the library for C is built and installed for the next steps", 'checks/gate/planted packages/c/install "$BUILT"',
      "cargo cc"),
     ("what other tools say of names and targets; suggestions keep the machine",
-     "checks/compare elsewhere && checks/compare llvm && checks/compare edits", "cargo cc", "rust names c comparisons"),
+     "checks/compare elsewhere && checks/compare llvm && checks/compare suggestions", "cargo cc", "rust names c comparisons"),
     ("the Python package: each answer, wheels, types, samples",
      f'packages/python/test "$BUILT/lib/libtarget_lexicon.so" {COMMANDS}/lines',
      "cargo cc hatchling", "rust names c python"),

@@ -1,14 +1,14 @@
 //! The modes of the program `triples` over the Rust crate, for tests that compare with it; the mode `cfg`, which writes
-//! rustc's options for each line, the mode `driver`, which writes what a compiler's driver asks, and the mode `edits`,
-//! which asks what is suggested for edits of names. It is the program `lines` of packages/command, which has what it
-//! needs, and isn't installed.
+//! rustc's options for each line, the mode `driver`, which writes what a compiler's driver asks, and the mode
+//! `suggestions`, which asks what is suggested for edits of names. It is the program `lines` of packages/command, which
+//! has what it needs, and isn't installed.
 #![forbid(unsafe_code)]
 
-mod edits;
 mod lines;
 #[allow(dead_code)] // its main
 #[path = "../../packages/names/examples/linkers.rs"]
 mod linkers;
+mod suggestions;
 
 use serde_json::Value;
 use std::io::{self, Read};
@@ -76,7 +76,7 @@ fn main() -> io::Result<ExitCode> {
         }
         Some("cfg") => each(|triple| triple.rustc_cfg().to_string(), "\n")?,
         Some("driver") => each(driver, "")?,
-        Some("edits") => edits::check(&io::read_to_string(io::stdin())?),
+        Some("suggestions") => suggestions::check(&io::read_to_string(io::stdin())?),
         _ => lines::answer(|triple| triple.settle().ok())?,
     }
     Ok(ExitCode::SUCCESS)

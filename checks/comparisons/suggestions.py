@@ -51,7 +51,7 @@ def main(_options, _folder):
     # A string that parses is what it prints as, and so is known.
     lines = [f"{kind}\t{name}\t{triple}\n" for (kind, name, triple), it in zip(names(), known)
              if not it.startswith("error: ")]
-    ran = subprocess.run([program, "edits"], input="".join(lines), text=True, capture_output=True, check=True)
+    ran = subprocess.run([program, "suggestions"], input="".join(lines), text=True, capture_output=True, check=True)
     print(ran.stdout, end="")
     found = sum(int(line.split()[-2]) for line in ran.stdout.splitlines() if line.endswith(" wrong"))
     return 1 if found or not ran.stdout else 0
