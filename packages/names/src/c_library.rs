@@ -1,4 +1,5 @@
 //! The environment that a C library gives to a triple of Linux or Windows.
+use crate::environment::environment_of;
 use crate::shape::arm_of_version;
 use crate::ChosenLibc;
 use target_lexicon::{Architecture, ArmArchitecture, Environment, OperatingSystem, TripleRef};
@@ -6,25 +7,25 @@ use target_lexicon::{Architecture, ArmArchitecture, Environment, OperatingSystem
 impl ChosenLibc {
     /// Its system, and the usual environment on an architecture.
     fn environment(self, architecture: Architecture) -> (OperatingSystem, Environment) {
-        use Environment::*;
-        let (usual, soft, hard, bits64) = match self {
-            ChosenLibc::Msvc => return (OperatingSystem::Windows, Msvc),
-            ChosenLibc::Mingw => return (OperatingSystem::Windows, Gnu),
-            ChosenLibc::Gnullvm => return (OperatingSystem::Windows, GnuLlvm),
-            ChosenLibc::Glibc => (Gnu, Gnueabi, Gnueabihf, Gnuabi64),
-            ChosenLibc::Musl => (Musl, Musleabi, Musleabihf, Muslabi64),
+        let library = match self {
+            ChosenLibc::Msvc => return (OperatingSystem::Windows, Environment::Msvc),
+            ChosenLibc::Mingw => return (OperatingSystem::Windows, Environment::Gnu),
+            ChosenLibc::Gnullvm => return (OperatingSystem::Windows, Environment::GnuLlvm),
+            ChosenLibc::Glibc => "gnu",
+            ChosenLibc::Musl => "musl",
         };
-        let environment = match architecture {
+        let abi = match architecture {
             Architecture::Arm(arm) => match arm_of_version(arm) {
                 // Which of the two isn't said.
-                ArmArchitecture::Arm => Unknown,
-                ArmArchitecture::Armv6 | ArmArchitecture::Armv7 | ArmArchitecture::Armv8 => hard,
-                ArmArchitecture::Armv5te => soft,
-                _ => usual,
+                ArmArchitecture::Arm => return (OperatingSystem::Linux, Environment::Unknown),
+                ArmArchitecture::Armv6 | ArmArchitecture::Armv7 | ArmArchitecture::Armv8 => "eabihf",
+                ArmArchitecture::Armv5te => "eabi",
+                _ => "",
             },
-            Architecture::Mips64(_) => bits64,
-            _ => usual,
+            Architecture::Mips64(_) => "abi64",
+            _ => "",
         };
+        let environment = environment_of(library, abi).unwrap_or(Environment::Unknown);
         (OperatingSystem::Linux, environment)
     }
 }

@@ -1,4 +1,5 @@
 //! What a compiler's driver asks of a triple besides the queries. `checks/compare llvm` asks rustc and clang of each of rustc's targets.
+use crate::environment::library_and_abi;
 use crate::rustc_cfg::unlisted_system;
 use crate::{CLibrary, FloatAbi, Signedness};
 use target_lexicon::{
@@ -36,19 +37,15 @@ impl CLibrary {
     /// The answer of [`TargetInfo::c_library`].
     #[inline]
     pub(crate) fn of(triple: &TripleRef<'_>) -> Option<CLibrary> {
-        use {Environment::*, OperatingSystem::*};
-        let has_gnu = matches!(
-            triple.environment,
-            Gnu | Gnuabi64 | Gnueabi | Gnueabihf | Gnuspe | Gnux32 | GnuIlp32 | GnuLlvm
-        );
-        match (triple.environment, triple.operating_system) {
-            (_, Hurd | Linux) if has_gnu => Some(CLibrary::Glibc),
-            (_, Windows) if has_gnu => Some(CLibrary::Mingw),
-            (Android | Androideabi, _) => Some(CLibrary::Bionic),
-            (Msvc, _) => Some(CLibrary::Msvc),
-            (Musl | Muslabi64 | Musleabi | Musleabihf | Ohos, _) => Some(CLibrary::Musl),
-            (Newlib, _) => Some(CLibrary::Newlib),
-            (Uclibc | Uclibceabi | Uclibceabihf, _) => Some(CLibrary::Uclibc),
+        use OperatingSystem::*;
+        match (library_and_abi(triple.environment).0, triple.operating_system) {
+            ("gnu" | "gnullvm", Hurd | Linux) => Some(CLibrary::Glibc),
+            ("gnu" | "gnullvm", Windows) => Some(CLibrary::Mingw),
+            ("bionic", _) => Some(CLibrary::Bionic),
+            ("msvc", _) => Some(CLibrary::Msvc),
+            ("musl" | "ohos", _) => Some(CLibrary::Musl),
+            ("newlib", _) => Some(CLibrary::Newlib),
+            ("uclibc", _) => Some(CLibrary::Uclibc),
             _ => library_of_system(triple),
         }
     }
@@ -72,19 +69,16 @@ fn library_of_system(triple: &TripleRef<'_>) -> Option<CLibrary> {
 impl FloatAbi {
     /// The answer of [`TargetInfo::float_abi`].
     #[inline]
-    pub(crate) const fn of(triple: &TripleRef<'_>) -> Option<FloatAbi> {
-        use Environment::*;
+    pub(crate) fn of(triple: &TripleRef<'_>) -> Option<FloatAbi> {
+        use OperatingSystem::*;
         let is_arm = matches!(triple.architecture, Architecture::Arm(_));
-        match (triple.environment, triple.operating_system) {
-            (Softfloat, _) => Some(FloatAbi::Soft),
-            _ if !is_arm => Option::None,
-            (Androideabi | Eabi | Gnueabi | Musleabi | Ohos | Uclibceabi, _) => {
-                Some(FloatAbi::Soft)
-            }
-            (Eabihf | Gnueabihf | Musleabihf | Uclibceabihf, _) => Some(FloatAbi::Hard),
-            (_, OperatingSystem::Freebsd | OperatingSystem::Horizon) => Some(FloatAbi::Hard),
-            (_, OperatingSystem::Windows | OperatingSystem::WatchOS(_)) => Some(FloatAbi::Hard),
-            _ => Option::None,
+        match (library_and_abi(triple.environment), triple.operating_system) {
+            ((_, "softfloat"), _) => Some(FloatAbi::Soft),
+            _ if !is_arm => None,
+            ((_, "eabi") | ("ohos", _), _) => Some(FloatAbi::Soft),
+            ((_, "eabihf"), _) => Some(FloatAbi::Hard),
+            (_, Freebsd | Horizon | Windows | WatchOS(_)) => Some(FloatAbi::Hard),
+            _ => None,
         }
     }
 }
@@ -113,12 +107,10 @@ impl Signedness {
 
 /// The answer of [`TargetInfo::has_emulated_tls`].
 #[inline]
-pub(crate) const fn has_emulated_tls(triple: &TripleRef<'_>) -> bool {
-    use {Environment::*, OperatingSystem::*};
-    matches!(
-        (triple.operating_system, triple.environment),
-        (Cygwin | Openbsd, _) | (Linux, Android | Androideabi | Ohos)
-    )
+pub(crate) fn has_emulated_tls(triple: &TripleRef<'_>) -> bool {
+    use OperatingSystem::*;
+    let library = library_and_abi(triple.environment).0;
+    matches!((triple.operating_system, library), (Cygwin | Openbsd, _) | (Linux, "bionic" | "ohos"))
 }
 
 /// The answer of [`TargetInfo::program_suffix`].

@@ -14,15 +14,16 @@
 //! What a system always has goes without saying, such as its usual vendor, or the floating-point arguments of Android.
 use crate::buffer::Buffer;
 use crate::dialect::Sense;
+use crate::environment::{is_on, library_and_abi};
 use crate::levels::is_at_most;
 use crate::shape::{unversioned, usual_vendor};
-use crate::suggestions::{fit_alone, known_names, visible, Abi, Place};
+use crate::suggestions::{fit_alone, known_names, visible, Place};
 use crate::table::WORDS;
 use crate::{Dialect, FloatAbi};
 use core::fmt::{self, Write};
 use core::ops::Range;
 use target_lexicon::{
-    Architecture, ArmArchitecture, Endianness, Environment, Field, Named as _, OperatingSystem,
+    Architecture, ArmArchitecture, Endianness, Environment, Field, OperatingSystem,
     PointerWidth, TripleRef, VendorRef,
 };
 
@@ -438,7 +439,6 @@ impl<'a> Evidence<'a> {
             Said::Contradicted => return false,
             said => said.one().or(bare.pointer_width().ok()),
         };
-        let abi = Abi::of(environment.name());
         let is_arms = matches!(environment, Environment::Androideabi);
         own(self.library, library)
             && has_form
@@ -446,7 +446,7 @@ impl<'a> Evidence<'a> {
             && width == triple.pointer_width().ok()
             && (environment != Environment::Android || !is_arm)
             && (!is_arms || is_arm)
-            && abi.map_or(true, |it| it.is_on(Some(machine)))
+            && is_on(environment, Some(machine))
             && (library.is_empty() || form == "n64" || !matches!(machine, Architecture::Mips64(_)))
     }
 
@@ -530,23 +530,15 @@ pub(crate) fn has_no_level(machine: Architecture) -> bool {
 
 /// The C library that an environment says, and what else. `None` of one that no word says.
 fn said_by(environment: Environment) -> Option<(&'static str, &'static str)> {
-    use Environment::*;
-    Some(match environment {
-        Unknown | Eabi | Eabihf => ("", ""),
-        Gnu | Gnueabi | Gnueabihf | Gnux32 | GnuIlp32 => ("gnu", ""),
-        Gnuabi64 => ("gnu", "n64"),
-        Gnuspe => ("gnu", "spe"),
-        GnuLlvm => ("gnullvm", ""),
-        Musl | Musleabi | Musleabihf => ("musl", ""),
-        Muslabi64 => ("musl", "n64"),
-        Uclibc | Uclibceabi | Uclibceabihf => ("uclibc", ""),
-        Msvc => ("msvc", ""),
-        Newlib => ("newlib", ""),
-        Android | Androideabi => ("", "android"),
-        Ohos => ("", "ohos"),
-        Macabi => ("", "macabi"),
-        Sim => ("", "sim"),
-        _ => return Option::None,
+    Some(match library_and_abi(environment) {
+        ("bionic", _) => ("", "android"),
+        ("ohos", _) => ("", "ohos"),
+        (library, "abi64") => (library, "n64"),
+        ("gnu", "spe") => ("gnu", "spe"),
+        ("", abi @ ("macabi" | "sim")) => ("", abi),
+        ("", "" | "softfloat" | "spe") if environment != Environment::Unknown => return None,
+        ("sgx", _) => return None,
+        (library, _) => (library, ""),
     })
 }
 

@@ -1,5 +1,6 @@
 //! Strings that are spelled like triples, as GNU's config.sub takes and completes them.
 use crate::buffer::Buffer;
+use crate::environment::library_and_abi;
 use crate::object_format::wasm_or;
 use crate::reading::{is_soft_floats, read};
 use crate::shape::usual_vendor;
@@ -148,6 +149,7 @@ fn complete(triple: &TripleRef<'_>, parts: &Parts<'_>) -> Result<TripleRef<'stat
     use {Environment::*, OperatingSystem as System};
     let is_format = |it: &str| it.parse::<BinaryFormat>().is_ok();
     let refused = |why| Err(NameError::WithoutTriple(why));
+    let library = library_and_abi(triple.environment).0;
     let (system, has_kernel) = (triple.operating_system, parts.kernel.is_some());
     let (operating_system, environment) = match (system, triple.environment, has_kernel) {
         (.., true) if parts.system.map_or(false, is_format) => return refused(refusals::KERNEL),
@@ -156,11 +158,9 @@ fn complete(triple: &TripleRef<'_>, parts: &Parts<'_>) -> Result<TripleRef<'stat
         (System::Unknown, none @ (Unknown | Eabi | Eabihf), _) => (System::None_, none),
         (System::Unknown, Gnu, false) => (System::Hurd, Gnu),
         (System::Unknown, android @ (Android | Androideabi), false) => (System::Linux, android),
-        (
-            System::Unknown,
-            Musl | Musleabi | Musleabihf | Muslabi64 | Newlib | Uclibc | Uclibceabi | Uclibceabihf,
-            false,
-        ) => return refused(refusals::C_LIBRARY),
+        (System::Unknown, _, false) if ["musl", "newlib", "uclibc"].contains(&library) => {
+            return refused(refusals::C_LIBRARY)
+        }
         (System::Unknown, ..) => return refused(refusals::ABI),
         (system @ System::Linux, other, true) => (system, other),
         (system @ System::VxWorks, spe @ Spe, true) => (system, spe),

@@ -49,6 +49,7 @@ mod buffer;
 mod c_library;
 mod dialect;
 mod driver;
+mod environment;
 mod errors;
 mod evidence;
 mod gnu;

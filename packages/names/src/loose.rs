@@ -1,5 +1,6 @@
 //! Names with what files and commands have around them.
 use crate::buffer::Buffer;
+use crate::environment::{environment_of, library_and_abi};
 use crate::hints::LONGEST_PATH;
 use crate::table::OF_CONFIG_SUB;
 use crate::dialect::Sense;
@@ -304,10 +305,8 @@ impl Dialect {
     fn read_uclibc(self, text: &str) -> Option<Found> {
         let found = self.read_written(format_args!("musl-{}", text.strip_prefix("uclibc-")?))?;
         Some(found.map(|it| {
-            let environment = match it.triple.environment {
-                Environment::Musleabihf => Environment::Uclibceabihf,
-                _ => Environment::Uclibc,
-            };
+            let abi = library_and_abi(it.triple.environment).1;
+            let environment = environment_of("uclibc", abi).unwrap_or(Environment::Uclibc);
             let triple = TripleRef { environment, ..it.triple };
             Sense { triple, ..it }
         }))

@@ -1,4 +1,5 @@
 //! The values of rustc's cfg options for a triple. `checks/compare elsewhere` asks rustc for those of each of its targets.
+use crate::environment::library_and_abi;
 use core::fmt;
 use target_lexicon::{
     Architecture, Endianness, Environment, KnownVendor, Mips32Architecture, Mips64Architecture,
@@ -138,11 +139,11 @@ fn target_arch(architecture: Architecture) -> &'static str {
 fn target_os(triple: &TripleRef<'_>) -> &'static str {
     use OperatingSystem::*;
     let system = triple.operating_system;
-    match (unlisted_system(triple), system, triple.environment) {
+    match (unlisted_system(triple), system, library_and_abi(triple.environment).0) {
         (Some("nuttx"), ..) => "nuttx",
         (Some("rtems"), ..) => "rtems",
         (Some("wasip3"), ..) | (_, WasiP1 | WasiP2, _) => "wasi",
-        (_, Linux, Environment::Android | Environment::Androideabi) => "android",
+        (_, Linux, "bionic") => "android",
         (_, Darwin(_) | MacOSX(_), _) => "macos",
         (_, VisionOS(_) | XROS(_), _) => "visionos",
         _ => system.prefix(),
@@ -151,18 +152,11 @@ fn target_os(triple: &TripleRef<'_>) -> &'static str {
 
 #[inline]
 fn target_env(triple: &TripleRef<'_>) -> &'static str {
-    use Environment::*;
-    match triple.environment {
-        Gnu | Gnuabi64 | Gnueabi | Gnueabihf | Gnuspe | Gnux32 | GnuIlp32 | GnuLlvm => "gnu",
-        Macabi => "macabi",
-        Msvc => "msvc",
-        Musl | Muslabi64 | Musleabi | Musleabihf => "musl",
-        Newlib => "newlib",
-        Ohos => "ohos",
-        Sgx => "sgx",
-        Sim => "sim",
-        Uclibc | Uclibceabi | Uclibceabihf => "uclibc",
-        _ => env_of_system(triple),
+    match library_and_abi(triple.environment) {
+        (_, abi @ ("macabi" | "sim")) => abi,
+        ("gnullvm", _) => "gnu",
+        ("" | "bionic", _) => env_of_system(triple),
+        (library, _) => library,
     }
 }
 
@@ -195,21 +189,11 @@ pub(super) fn is_simulator(triple: &TripleRef<'_>) -> bool {
 
 #[inline]
 fn target_abi(triple: &TripleRef<'_>) -> &'static str {
-    use Environment::*;
-    match (triple.vendor, triple.operating_system, triple.environment) {
+    match (triple.vendor, triple.operating_system, library_and_abi(triple.environment)) {
         (VendorRef::Known(KnownVendor::Uwp), OperatingSystem::Windows, _) => "uwp",
-        (VendorRef::Known(KnownVendor::Fortanix), _, Sgx) => "fortanix",
-        (_, _, Androideabi | Eabi | Gnueabi | Musleabi | Uclibceabi) => "eabi",
-        (_, _, Eabihf | Gnueabihf | Musleabihf | Uclibceabihf) => "eabihf",
-        (_, _, Gnuabi64 | Muslabi64) => "abi64",
-        (_, _, Gnuspe | Spe) => "spe",
-        (_, _, Gnux32) => "x32",
-        (_, _, GnuIlp32) => "ilp32",
-        (_, _, GnuLlvm) => "llvm",
-        (_, _, Macabi) => "macabi",
-        (_, _, Sim) => "sim",
-        (_, _, Softfloat) => "softfloat",
-        _ => abi_of_system(triple),
+        (VendorRef::Known(KnownVendor::Fortanix), _, ("sgx", _)) => "fortanix",
+        (_, _, (_, "")) => abi_of_system(triple),
+        (_, _, (_, abi)) => abi,
     }
 }
 

@@ -1,4 +1,5 @@
 //! The shape of a triple in a dialect: what names state.
+use crate::environment::library_and_abi;
 use crate::spelled::{is_like_system, is_of_machine, is_without_triple};
 use target_lexicon::{
     Architecture, ArmArchitecture, DeploymentTarget, Environment, KnownVendor, OperatingSystem,
@@ -86,23 +87,21 @@ impl Rules {
 impl AbiRule {
     /// The environment without an ABI that isn't stated.
     fn environment(self, system: OperatingSystem, environment: Environment) -> Environment {
-        use {Environment::*, OperatingSystem::*};
+        use OperatingSystem::*;
         let states_c_library = match (self, system, environment) {
-            (AbiRule::KeptOnSystems, None_, Eabihf) => return Eabi,
+            (AbiRule::KeptOnSystems, None_, Environment::Eabihf) => return Environment::Eabi,
             (AbiRule::KeptOnSystems | AbiRule::Kept, ..) => return environment,
             (AbiRule::KeptOnLinux | AbiRule::KeptOnLinuxAndWindows, Linux, _) => true,
             (AbiRule::KeptOnLinuxAndWindows, Windows, _) => true,
             _ => false,
         };
-        match environment {
-            Eabi | Eabihf | Environment::None => Environment::Unknown,
-            Gnu | Gnueabi | Gnueabihf | Gnuabi64 | Gnuspe | GnuLlvm | Musl | Musleabi
-            | Musleabihf | Muslabi64 | Uclibc | Uclibceabi | Uclibceabihf | Msvc
-                if !states_c_library =>
-            {
-                Environment::Unknown
-            }
-            other => other,
+        match library_and_abi(environment) {
+            ("", "eabi" | "eabihf") => Environment::Unknown,
+            _ if environment == Environment::None => Environment::Unknown,
+            // The width of a pointer.
+            (_, "ilp32" | "x32") => environment,
+            ("gnu" | "gnullvm" | "msvc" | "musl" | "uclibc", _) if !states_c_library => Environment::Unknown,
+            _ => environment,
         }
     }
 }
@@ -143,16 +142,20 @@ impl MachineRule {
         environment: Environment,
         arm: ArmArchitecture,
     ) -> ArmArchitecture {
-        use {ArmArchitecture::*, Environment::*};
-        match (self, environment, system) {
+        use ArmArchitecture::*;
+        let abi = match library_and_abi(environment) {
+            ("gnu" | "musl" | "uclibc", abi) => abi,
+            _ => "",
+        };
+        match (self, abi, system) {
             (MachineRule::Version | MachineRule::Alpine, ..) => arm_of_version(arm),
             // Packages for floating-point registers are for Armv7: that is an Arm on which they run, and one without a version.
-            (MachineRule::Packages, Gnueabihf | Musleabihf | Uclibceabihf, _) => match arm {
+            (MachineRule::Packages, "eabihf", _) => match arm {
                 Arm | Armv7a | Armv7ve | Thumbv7a | Thumbv7neon | Armv8 | Armv8a => Armv7,
                 other => other,
             },
             // Those without are for Armv5.
-            (MachineRule::Packages, Gnueabi | Musleabi | Uclibceabi, _) => {
+            (MachineRule::Packages, "eabi", _) => {
                 match arm_of_version(arm) {
                     Arm | Armv6 | Armv7 | Armv8 => Armv5te,
                     other => other,
@@ -163,10 +166,10 @@ impl MachineRule {
                 _ => Arm,
             },
             // Of rustc `arm` is Armv6, except on Android, where it is older. Armv8 in 32 bits runs programs of Armv7.
-            (MachineRule::Rustc, environment, OperatingSystem::Linux) => match (arm, environment) {
-                (Armv6 | Armv6j | Armv6k | Armv6z | Armv6kz | Armv6t2, _) => Arm,
-                (Armv7a | Armv7ve | Armv8 | Armv8a, _) => Armv7,
-                (other, _) => other,
+            (MachineRule::Rustc, _, OperatingSystem::Linux) => match arm {
+                Armv6 | Armv6j | Armv6k | Armv6z | Armv6kz | Armv6t2 => Arm,
+                Armv7a | Armv7ve | Armv8 | Armv8a => Armv7,
+                other => other,
             },
             // Windows has needed Armv7 from the first.
             (MachineRule::Rustc, _, OperatingSystem::Windows) => match arm {
