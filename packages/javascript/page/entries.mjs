@@ -27,15 +27,19 @@ export function factsEntry({ FIELDS, Triple }, text) {
   return { ...place(text), ...Object.fromEntries(entries) };
 }
 
+/** A triple with the C libraries that are chosen for those that state none. */
+export const completed = (triple, libcs) => libcs.reduce((it, libc) => it.complete(libc), triple);
+
 /**
- * The names of a triple in the dialects `written`, and the reasons of those without one. An Arm without a version gets
- * no C library: where one of Linux is chosen, it has no name in a dialect whose names state that.
+ * The names of a triple in the dialects that are written, and the reasons of those without one. An Arm without a
+ * version gets no C library: where one of Linux is chosen, it has no name in a dialect whose names state that.
  */
-export function namesAndReasons(triple, written, hasChosenLibc) {
+function namesAndReasons({ WRITTEN }, triple, libcs) {
   const all = triple.names(), names = {}, reasons = {},
     isBareArm = triple.architecture === "arm" && triple.operatingSystem === "linux" && triple.environment === "unknown";
-  const others = hasChosenLibc && isBareArm ? triple.with({ environment: "gnu" }).names() : all;
-  for (const dialect of written) {
+  const hasChosenLibc = libcs.some((it) => ["glibc", "musl"].includes(it)),
+    others = hasChosenLibc && isBareArm ? triple.with({ environment: "gnu" }).names() : all;
+  for (const dialect of WRITTEN) {
     const isMissing = all[dialect] === null;
     names[dialect] = all[dialect] === others[dialect] ? all[dialect] : null;
     if (names[dialect] === null) reasons[dialect] = triple.reasonWithoutName(isMissing ? dialect : "rust");
@@ -43,13 +47,10 @@ export function namesAndReasons(triple, written, hasChosenLibc) {
   return { names, reasons };
 }
 
-/**
- * Likewise of a tool's name that says a level of the machine, which its triple can't; `libcs` are the chosen C
- * libraries.
- */
-export function namesAtLevel({ ParseError, translate }, text, { triple, tools: [tool] }, written, libcs) {
+/** Likewise of a tool's name that says a level of the machine, which its triple can't. */
+function namesAtLevel({ ParseError, WRITTEN, translate }, text, triple, tool, libcs) {
   const names = {}, reasons = {}, libc = libcs.find((it) => !triple.complete(it).equals(triple)) ?? null;
-  for (const dialect of written) {
+  for (const dialect of WRITTEN) {
     try {
       names[dialect] = translate(text, tool, dialect, libc);
     } catch (error) {
@@ -60,6 +61,11 @@ export function namesAtLevel({ ParseError, translate }, text, { triple, tools: [
   }
   return { names, reasons };
 }
+
+/** Of what a text means; `libcs` are the chosen C libraries. */
+export const toolNames = (lexicon, text, { triple, level, tools }, libcs) =>
+  level === null ? namesAndReasons(lexicon, completed(triple, libcs), libcs)
+    : namesAtLevel(lexicon, text, triple, tools[0], libcs);
 
 /** What a name means: each triple at a level, with those that mean it, and the reasons of those that mean none. */
 export function meaningsOf({ Triple, meanings }, text) {
@@ -75,17 +81,14 @@ export function meaningsOf({ Triple, meanings }, text) {
 }
 
 /** Of what a name means; `libcs` are the chosen C libraries, of Linux and of Windows. */
-export function namesEntry(lexicon, text, written, libcs) {
-  const hasChosenLibc = libcs.some((it) => ["glibc", "musl"].includes(it)), merged = new Map(),
-    { found, withoutTriple } = meaningsOf(lexicon, text), order = ["triple", ...lexicon.DIALECTS, "spelling"];
+export function namesEntry(lexicon, text, libcs) {
+  const merged = new Map(), { found, withoutTriple } = meaningsOf(lexicon, text),
+    order = ["triple", ...lexicon.DIALECTS, "spelling"];
   for (const meaning of found) {
-    const { triple, level, tools } = meaning, it = libcs.reduce((it, libc) => it.complete(libc), triple),
-      { canonical } = it, key = `${canonical} ${level}`;
+    const { level, tools } = meaning, { canonical } = completed(meaning.triple, libcs), key = `${canonical} ${level}`;
     const all = [...merged.get(key)?.tools ?? [], ...tools];
     all.sort((one, other) => order.indexOf(one) - order.indexOf(other));
-    const names = level === null ? namesAndReasons(it, written, hasChosenLibc)
-      : namesAtLevel(lexicon, text, meaning, written, libcs);
-    merged.set(key, { canonical, level, tools: all, ...names });
+    merged.set(key, { canonical, level, tools: all, ...toolNames(lexicon, text, meaning, libcs) });
   }
   if (!found.length && !Object.keys(withoutTriple).length) return { ...place(text), error: "no tool has the name" };
   return { ...place(text), meanings: [...merged.values()], without_triple: withoutTriple };

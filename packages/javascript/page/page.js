@@ -1,9 +1,12 @@
-// The page: shows the targets and names of the text field in the table. `build` puts target-lexicon.js, the module,
-// entries.mjs and this file into one script.
+// The page: shows the targets and names of the text field in the table. rows.mjs says what they are, entries.mjs what
+// is copied, search.mjs what is found. `build` puts target-lexicon.js, the module, these and this file into one script.
 import { DIALECTS, FIELDS, WRITTEN } from "../src/names.js";
 import { ParseError, Triple, load, meanings, targetsIn, translate } from "../src/target-lexicon.js";
-import { factsEntry, meaningsOf, namesAndReasons, namesAtLevel, namesEntry, versionOf } from "./entries.mjs";
+import { factsEntry, namesEntry, toolNames, versionOf } from "./entries.mjs";
+import { byReason, driverFacts, grouped, rowOf } from "./rows.mjs";
 import { about, found } from "./search.mjs";
+
+const lexicon = { DIALECTS, FIELDS, ParseError, Triple, WRITTEN, meanings, translate };
 
 const LABELS = {
   architecture: "Architecture", vendor: "Vendor", operatingSystem: "System", environment: "Environment",
@@ -15,9 +18,6 @@ const TOOLS = { oci: "containers", gnu: "GNU", rust: "rustc", uname: "uname", rp
   dotnet: ".NET", conda: "conda",
   spelling: "LLVM", triple: "a triple" };
 const toolName = (tool) => TOOLS[tool] ?? tool[0].toUpperCase() + tool.slice(1);
-// The linkers of an object format.
-const LINKERS = { elf: "ld, ld.lld, mold", macho: "ld64, ld64.lld", coff: "link.exe, lld-link", wasm: "wasm-ld",
-  xcoff: "AIX's ld" };
 // The targets of which there are chips, with the word for one and for more. Those of a kind that is a mistake come
 // first.
 const KINDS = { all: ["target", "targets"], refused: ["refused"], suspicious: ["suspicious"],
@@ -109,25 +109,13 @@ function foldButton(row, text) {
   return button;
 }
 
-/** The keys of pairs, each with its values. */
-function grouped(pairs) {
-  const found = new Map();
-  for (const [key, value] of pairs) {
-    if (!found.has(key)) found.set(key, []);
-    found.get(key).push(value);
-  }
-  return found;
-}
-
 const listOf = (words) => words.length < 2 ? words.join()
   : `${words.slice(0, -1).join(", ")} and ${words[words.length - 1]}`;
 const toolsOf = (tools) => listOf(tools.map(toolName));
 
-/** A triple with the environment that is chosen for those that state none. */
+/** The C libraries that are chosen for targets that state none. */
 const CHOICES = ["linux", "windows"];
-const hasChosenLibc = () => byId("linux").value !== "";
-const chosenLibcs = () => CHOICES.map((id) => byId(id).value).filter(Boolean),
-  completed = (triple) => chosenLibcs().reduce((it, library) => it.complete(library), triple);
+const chosenLibcs = () => CHOICES.map((id) => byId(id).value).filter(Boolean);
 
 /** A name that a click copies. */
 function copied(name) {
@@ -139,167 +127,70 @@ function copied(name) {
 
 const pair = (term, ...answer) => element("div", {}, element("dt", {}, term), element("dd", {}, ...answer));
 
-/** What each tool calls a triple, or a name that says a level of its machine, and for those that have no name why. */
-function toolNames(triple, text, meaning) {
-  const isOfLevel = meaning && meaning.level !== null, lexicon = { ParseError, translate };
-  const { names, reasons } = isOfLevel ? namesAtLevel(lexicon, text, meaning, WRITTEN, chosenLibcs())
-    : namesAndReasons(triple, WRITTEN, hasChosenLibc());
-  const without = grouped(Object.entries(reasons).map(([dialect, reason]) => [reason, dialect]));
+/** What each tool calls the target of a row, and for those that have no name why. */
+function namesShown({ text, stated: triple, level, tools }) {
+  const { names, reasons } = toolNames(lexicon, text, { triple, level, tools }, chosenLibcs());
   const named = WRITTEN.filter((dialect) => names[dialect] !== null);
   const list = element("dl", {}, ...named.map((dialect) => pair(toolName(dialect), copied(names[dialect]))));
   const noneIn = ([reason, tools]) => element("p", {}, dim(`None in ${toolsOf(tools)}: `), `${reason}.`);
-  return [list, ...[...without].map(noneIn)];
-}
-
-/** What a driver asks, where there is an answer. */
-function factList(triple) {
-  const facts = triple.facts(), list = element("dl"),
-    isMingw = triple.operatingSystem === "windows" && triple.environment.startsWith("gnu");
-  const sizes = ["short", "int", "long", "longLong", "float", "double"].filter((it) => facts[`${it}Size`] !== null)
-    .map((it) => `${it === "longLong" ? "long long" : it} ${facts[`${it}Size`]}`);
-  const layout = (size, alignment) => size && `${size}, aligned to ${alignment}`;
-  for (const [term, answer] of Object.entries({
-    "calling convention": facts.defaultCallingConvention, "data model": facts.dataModel,
-    "object format": facts.objectFormat, linker: isMingw ? "ld of mingw-w64, ld.lld" : LINKERS[facts.objectFormat],
-    "C library": facts.cLibrary,
-    "floating point": facts.floatAbi, "C types in bytes": sizes.join(", "),
-    "long double": layout(facts.longDoubleSize, facts.longDoubleAlignment),
-    wchar_t: layout(facts.wcharSize, facts.wcharAlignment), "family": facts.family,
-    "Arm version": facts.armVersion, "Arm profile": facts.armProfile, "like Unix": facts.isUnix ? "yes" : "no",
-    "LLVM target": triple.llvmTarget(),
-    "Debian's multiarch tuple": triple.multiarchTuple(),
-  })) if (answer) list.append(pair(term, answer));
-  return list;
+  return [list, ...[...byReason(reasons)].map(noneIn)];
 }
 
 /** The cell with the button for names and facts, and the cell of these, which are looked up when they are shown. */
-function detailCells(triple, text, meaning) {
+function detailCells(target) {
   const inside = element("div"),
     details = element("td", { role: "cell", class: "names", colspan: 8, "aria-colspan": 8, hidden: "" }, inside);
-  const button = element("button", { type: "button", "aria-label": `Names and facts: ${shown(text)}` },
+  const button = element("button", { type: "button", "aria-label": `Names and facts: ${shown(target.text)}` },
     element("span", {}, "names"));
   const show = (isOpen) => {
     details.hidden = !isOpen;
     button.setAttribute("aria-expanded", isOpen);
     if (!isOpen || inside.firstChild) return;
-    inside.append(element("h2", {}, "In each tool"), ...toolNames(triple, text, meaning),
-      element("h2", {}, "For a linker and a driver"), factList(triple));
+    const facts = driverFacts(target.triple).map(([term, answer]) => pair(term, answer));
+    inside.append(element("h2", {}, "In each tool"), ...namesShown(target),
+      element("h2", {}, "For a linker and a driver"), element("dl", {}, ...facts));
   };
   button.addEventListener("click", () => show(details.hidden));
   return [show, element("td", { role: "cell", class: "elsewhere" }, button), details];
 }
 
-/** What a name means. That a single word is a bare machine to GNU nobody means who has the name from another tool. */
-function meantBy(text) {
-  const { found, withoutTriple } = meaningsOf({ Triple, meanings }, text),
-    isBare = ({ tools }) => !text.includes("-") && tools.every((it) => it === "gnu");
-  const isNamed = Object.keys(withoutTriple).length > 0 || found.some((it) => !isBare(it));
-  return { found: isNamed ? found.filter((it) => !isBare(it)) : found, withoutTriple };
+/** What tools mean by a text. */
+const meaningLines = ({ text, others }) => others.map(({ tools, meant, reason }) => element("p", {},
+  ...meant ? [`In ${toolsOf(tools)} it is `, offer(meant, text, meant), "."]
+    : [tools.length ? `In ${toolsOf(tools)} no triple means it: ${reason}.`
+      : `${reason[0].toUpperCase()}${reason.slice(1)}.`]));
+
+/** The head of a row, in which the part that is wrong or odd is marked. */
+function headOf({ text, kind, wrong }) {
+  if (!wrong) return header(text, text);
+  const part = shown(text.slice(wrong.start, wrong.end)) || "(empty)",
+    marked = kind === "refused" ? element("strong", { class: "wrong" }, part) : element("span", { class: "odd" }, part);
+  return header(text, text.slice(0, wrong.start), marked, text.slice(wrong.end));
 }
 
-/** What `Triple.read` gives: the triple or the error. */
-function readIn(text, dialect) {
-  try {
-    return { triple: Triple.read(text, dialect) };
-  } catch (error) {
-    if (!(error instanceof ParseError)) throw error;
-    return { error };
-  }
-}
-
-/**
- * What a name means that is a triple with a custom vendor. GNU drops each vendor, so it counts only where LLVM knows
- * the name too.
- */
-function meaningsOfCustom(text, { found, withoutTriple }) {
-  const others = found.filter(({ tools }) => tools.some((it) => it !== "gnu" && it !== "triple")),
-    { triple } = readIn(text);
-  return { found: triple && !triple.hasCustomVendor ? [{ triple: triple.settle(), tools: ["spelling"] }, ...others]
-    : others, withoutTriple };
-}
-
-/** Whether two triples are of the same target, up to a known vendor and how much is written of it. */
-const isSame = (one, own) => one.canonical === own.canonical
-  || !own.hasCustomVendor && one.architecture === own.architecture && one.operatingSystem === own.operatingSystem
-  && one.environment === own.environment && one.facts().objectFormat === own.facts().objectFormat;
-
-/**
- * Whether a string is a name of rustc's. Then it means itself, if it is a triple, and has one reason, if it is none.
- */
-const isOfRustc = ({ found, withoutTriple }) => "rust" in withoutTriple ||
-  found.some(({ tools }) => tools.includes("rust"));
-
-/**
- * What tools mean by a string, except by the meaning `own` that its row shows: a line for each, or the reason why no
- * triple has the name.
- */
-function* otherMeanings(meant, text, own) {
-  const isRustc = isOfRustc(meant), { rust, ...without } = meant.withoutTriple;
-  for (const { triple, tools } of meant.found) {
-    const named = tools.filter((it) => it !== "triple" && !(isRustc && ["gnu", "rust"].includes(it)));
-    if (named.length && !(own && isSame(triple, own)))
-      yield element("p", {}, `In ${toolsOf(named)} it is `, offer(triple.canonical, text, triple.canonical), ".");
-  }
-  if (isRustc) {
-    if (rust && (!own || own.operatingSystem === "unknown"))
-      yield element("p", {}, `${rust[0].toUpperCase()}${rust.slice(1)}.`);
-    return;
-  }
-  for (const [reason, tools] of grouped(Object.entries(without).map(([tool, reason]) => [reason, tool])))
-    yield element("p", {}, `In ${toolsOf(tools)} no triple means it: ${reason}.`);
-}
-
-/** A row of what a triple is; `fields` says where each value comes from. */
-function tripleRow(head, given, fields, text, isSuspicious, others, meaning) {
-  const triple = completed(given), facts = triple.facts();
-  const sources = triple.environment === given.environment ? fields
-    : { ...fields, environment: { origin: "chosen", part: triple.environment } };
+/** A row of what a triple is. */
+function tripleRow(target) {
+  const { text, triple, kind, fields, wrong, suggestion, tools, level, isSeveral } = target, facts = triple.facts(),
+    isSuspicious = kind === "suspicious", head = headOf(target), others = meaningLines(target);
+  if (suggestion) head.append(small(...question(suggestion, text, wrong)));
+  if (tools) head.append(small("a name of ", toolsOf(tools), level === null ? "" : `, for the machine's level ${level}`,
+    isSeveral ? ", of several machines" : ""));
   const row = element("tr", { role: "row", class: isSuspicious ? "suspicious" : "" }, head);
   head.classList.add("folds");
   head.append(...forms(triple, text));
-  row.append(...FIELDS.map((name) => fieldCell(triple, name, sources[name], text)));
+  row.append(...FIELDS.map((name) => fieldCell(triple, name, fields[name], text)));
   if (isSuspicious) row.children[2].querySelector("code").className = "odd";
   if (facts.objectFormat !== triple.binaryFormat) row.lastChild.append(small("objects ", code(facts.objectFormat)));
-  const [showNames, ...details] = detailCells(triple, text, meaning),
+  const [showNames, ...details] = detailCells(target),
     pointers = cell("Pointers", facts.pointerWidth ? `${facts.pointerWidth} bits` : dim("unknown"));
   pointers.firstChild.append(small(facts.endianness ? `${facts.endianness}-endian` : "byte order unknown"));
   row.append(pointers, details[0]);
   if (others.length)
     row.append(element("td", { role: "cell", class: "others", colspan: 8, "aria-colspan": 8 }, ...others));
   row.append(details[1]);
-  row.canonical = triple.canonical;
-  row.kind = isSuspicious ? "suspicious" : "other";
-  row.showNames = showNames;
   row.double = head.appendChild(small());
   head.append(foldButton(row, text));
-  return row;
-}
-
-function parsedRow({ text, triple, fields, suggestion }, all) {
-  const isRustc = isOfRustc(all), meant = triple.hasCustomVendor && !isRustc ? meaningsOfCustom(text, all) : all;
-  const { part, start, end } = fields.vendor, known = triple.hasCustomVendor && meant.found.length > 0;
-  const isSuspicious = !isRustc && Boolean(known || suggestion);
-  const head = isSuspicious && part !== null
-    ? header(text, text.slice(0, start), element("span", { class: "odd" }, shown(part)), text.slice(end))
-    : header(text, text);
-  const others = [...otherMeanings(meant, text, triple)];
-  if (isSuspicious && suggestion && !known) head.append(small(...question(suggestion, text, fields.vendor)));
-  return tripleRow(head, triple, fields, text, isSuspicious, others);
-}
-
-/** A row of a name of tools that is no triple: its first meaning is shown. */
-function namedRow(text, meant) {
-  const [meaning] = meant.found, { triple, level, tools } = meaning, head = header(text, text);
-  const fields = Object.fromEntries(FIELDS.map((name) =>
-    [name, name === "binaryFormat" ? { origin: "implied", part: null }
-      : { origin: "given", part: triple[name] === "unknown" ? null : triple[name] }]));
-  const isSeveral = meant.found.slice(1).some((it) => it.tools.some((tool) => tools.includes(tool)));
-  head.append(small("a name of ", toolsOf(tools), level === null ? "" : `, for the machine's level ${level}`,
-    isSeveral ? ", of several machines" : ""));
-  const row = tripleRow(head, triple, fields, text, false,
-    [...otherMeanings({ ...meant, found: meant.found.slice(1) }, text, triple)], meaning);
-  row.isName = true;
-  return row;
+  return Object.assign(row, { canonical: triple.canonical, isName: Boolean(tools), showNames });
 }
 
 function soFar(fields) {
@@ -309,42 +200,22 @@ function soFar(fields) {
   return [small("Before it: ", ...parts)];
 }
 
-/** The nearest names of tools for one that nobody knows: for each name, which tools have it. */
-function* nearestNames(text) {
-  const suggested = (dialect) => [readIn(text, dialect).error?.suggestion, dialect];
-  const found = DIALECTS.filter((dialect) => dialect !== "gnu").map(suggested).filter(([name]) => name);
-  for (const [name, tools] of grouped(found))
-    yield element("p", {}, "Did you mean ", offer(name, text, name), ` of ${toolsOf(tools)}?`);
-}
-
-const SEVERAL = ["x86_64-apple-darwin", "aarch64-apple-darwin"];
-
-function refusedRow({ text, error, fields, suggestion }, meant) {
-  const part = element("strong", { class: "wrong" }, shown(error.part) || "(empty)");
-  const head = header(text, text.slice(0, error.start), part, text.slice(error.end));
-  const others = text === "universal2"
-    ? [element("p", {}, "It is several machines: ",
-      ...SEVERAL.flatMap((it, at) => [at ? " and " : "", offer(it, text, it)]), ".")]
-      : [...otherMeanings(meant, text, null)];
-  const message = () => element("p", { class: "message" }, `${error.report.split(":", 1)[0]}: ${shown(error.part)}`);
-  const inside = others.length ? others : [message()];
-  if (!others.length) {
+function refusedRow(target) {
+  const { text, wrong: error, fields, suggestion, nearest } = target, inside = meaningLines(target);
+  if (!inside.length) {
+    inside.push(element("p", { class: "message" }, `${error.report.split(":", 1)[0]}: ${shown(error.part)}`));
     if (suggestion) inside.push(element("p", {}, ...question(suggestion, text, error)));
-    else if (error.start === 0) inside.push(...nearestNames(text));
+    for (const { name, tools } of nearest)
+      inside.push(element("p", {}, "Did you mean ", offer(name, text, name), ` of ${toolsOf(tools)}?`));
     inside.push(...soFar(fields));
   }
   const answer = element("td", { role: "cell", class: "refused", colspan: 7, "aria-colspan": 7 }, ...inside);
-  const row = element("tr", { role: "row", class: "refused" }, head, answer);
-  row.kind = "refused";
-  return row;
+  return element("tr", { role: "row", class: "refused" }, headOf(target), answer);
 }
 
-function rowOf(text) {
-  const explained = Triple.explain(text), meant = meantBy(text);
-  const row = !explained.error ? parsedRow(explained, meant) : meant.found.length ? namedRow(text, meant)
-    : refusedRow(explained, meant);
-  row.target = text;
-  return row;
+function rowFor(text) {
+  const target = rowOf(lexicon, text, chosenLibcs()), { kind } = target;
+  return Object.assign(kind === "refused" ? refusedRow(target) : tripleRow(target), { target: text, kind });
 }
 
 /** Says of a row if an earlier one is of the same target. `first` has the first target of each canonical form. */
@@ -453,7 +324,7 @@ async function show() {
   table.hidden = lines.length === 0;
   table.setAttribute("aria-busy", "true");
   for (const [index, line] of lines.entries()) {
-    const row = found[index] ?? rowOf(line), { kind } = row, place = places[kind];
+    const row = found[index] ?? rowFor(line), { kind } = row, place = places[kind];
     if (counts[kind] % GROUP === 0) {
       place.body = group(kind, counts[kind] / GROUP);
       place.next = place.body.firstElementChild;
@@ -661,8 +532,7 @@ async function begin() {
     show();
   });
   byId("search").addEventListener("input", search);
-  const lexicon = { DIALECTS, FIELDS, ParseError, Triple, meanings, translate };
-  for (const [id, entryOf] of [["copy_names", (text) => namesEntry(lexicon, text, WRITTEN, chosenLibcs())],
+  for (const [id, entryOf] of [["copy_names", (text) => namesEntry(lexicon, text, chosenLibcs())],
     ["copy_facts", (text) => factsEntry(lexicon, text)]]) byId(id).addEventListener("click",
     ({ currentTarget }) => copyJson(currentTarget, entryOf));
   byId("copy_link").addEventListener("click", ({ currentTarget }) => copyLink(currentTarget));

@@ -222,57 +222,62 @@ export function version() {
   return it.string(it.call("version"));
 }
 
-function stringOf(value) {
-  if (typeof value !== "string") throw new TypeError(`a target is a string, not ${kindOf(value)}`);
+/** What a value is, for the message that refuses it. */
+const kindOf = (value) => (value === null || value === undefined ? `${value}` : Array.isArray(value) ? "an array"
+  : typeof value === "object" ? "an object" : `a ${typeof value}`);
+
+/** An argument of the right kind, `form`. Of every other kind this is the error. */
+function checked(isRight, name, form, value) {
+  if (!isRight) throw new TypeError(`${name} is ${form}, not ${kindOf(value)}`);
   return value;
 }
+
+const stringOf = (value, name = "text") => checked(typeof value === "string", name, "a string", value);
+const objectOf = (value, name, form) =>
+  checked(kindOf(value) === "an object", name, `an object such as ${form}`, value);
 
 /**
  * The question whether one of these names was meant by a word: it is in capitals, goes on, or has its letters in
  * another order.
  */
 function meant(word, names) {
-  const lower = String(word).toLowerCase(), sorted = (it) => [...it].sort().join("");
+  const lower = word.toLowerCase(), sorted = (it) => [...it].sort().join("");
   const name = names.find((it) => lower.startsWith(it)) ?? names.find((it) => sorted(it) === sorted(lower));
   return name ? `; did you mean ${name}?` : "";
 }
 
 /** The number of a dialect in target_lexicon.h. */
-function dialectOf(name) {
-  const index = DIALECTS.indexOf(Object.hasOwn(OTHER_NAMES, name) ? OTHER_NAMES[name] : name);
+function dialectOf(value, argument = "dialect") {
+  const name = stringOf(value, argument),
+    index = DIALECTS.indexOf(Object.hasOwn(OTHER_NAMES, name) ? OTHER_NAMES[name] : name);
   const names = () => [...DIALECTS, ...Object.keys(OTHER_NAMES)];
-  if (index < 0) throw new TypeError(`there is no dialect ${String(name)}${meant(name, names())}`);
+  if (index < 0) throw new TypeError(`there is no dialect ${name}${meant(name, names())}`);
   return index + 1;
 }
 
 /** The number of a C library of Linux in target_lexicon.h. */
-function libcOf(name) {
-  const number = CHOSEN_LIBCS.indexOf(name);
+function libcOf(value) {
+  const name = stringOf(value, "libc"), number = CHOSEN_LIBCS.indexOf(name);
   const hint = () => (name === "gnu" ? "; did you mean glibc or mingw?" : meant(name, CHOSEN_LIBCS.slice(1)));
-  if (number < 1) throw new TypeError(`there is no C library ${String(name)}${hint()}`);
+  if (number < 1) throw new TypeError(`there is no C library ${name}${hint()}`);
   return number;
 }
 
 /** The largest number of each part of a version. */
 const LARGEST = Object.freeze({ major: 65535, minor: 255, patch: 255 });
 
-/** What a value is, for the message that refuses it. */
-const kindOf = (value) => (value === null || value === undefined ? `${value}` : Array.isArray(value) ? "an array"
-  : typeof value === "object" ? "an object" : `a ${typeof value}`);
-
 /**
  * A version as every call takes it, `{ major, minor, patch }`: its numbers, of which the last two are 0 if they are
  * left out.
  */
 function fullVersion(value) {
-  if (kindOf(value) !== "an object")
-    throw new TypeError(`a version is an object such as { major: 17, minor: 2 }, not ${kindOf(value)}`);
-  for (const part of Object.keys(value))
+  for (const part of Object.keys(objectOf(value, "version", "{ major: 17, minor: 2 }")))
     if (!Object.hasOwn(LARGEST, part)) throw new TypeError(`a version has no ${part}`);
   if (value.major === undefined) throw new TypeError("a version has a major: { major: 17, minor: 2 }");
   const { major, minor = 0, patch = 0 } = value, version = { major, minor, patch };
   for (const [part, most] of Object.entries(LARGEST)) {
     const number = version[part];
+    checked(typeof number === "number", part, "a number", number);
     if (!Number.isInteger(number) || number < 0 || number > most)
       throw new RangeError(`a version's ${part} is a whole number up to ${most}`);
   }
@@ -286,7 +291,8 @@ const VERSIONS_OF = ["glibc", "musl", "macos", "ios", "android", "freebsd", "net
 /** Where the versions that a name states are in the memory; 0 if there are none. Facts aren't needed meanwhile. */
 function versionsAt(it, values) {
   if (values === undefined || values === null) return 0;
-  const given = Object.entries(givenValues(values)), start = it.base + FACTS;
+  const given = Object.entries(givenValues(values, "versions", "{ glibc: { major: 2, minor: 17 } }")),
+    start = it.base + FACTS;
   for (const [name] of given) if (!VERSIONS_OF.includes(name)) throw new TypeError(`there are no versions of ${name}`);
   it.bytes.fill(0, start, start + 4 * VERSIONS_OF.length);
   for (const [name, value] of given) {
@@ -299,19 +305,10 @@ function versionsAt(it, values) {
 }
 
 /** The values of an argument, of which those that are undefined are as if left out. */
-function givenValues(values) {
-  if (typeof values === "string")
-    throw new TypeError("the values are an object; Triple.parse has the triple of a string");
-  if (kindOf(values) !== "an object")
-    throw new TypeError(`the values are an object such as { architecture: "x86_64" }, not ${kindOf(values)}`);
-  return Object.fromEntries(Object.entries(values).filter(([, value]) => value !== undefined));
-}
+const givenValues = (values, name = "values", form = '{ architecture: "x86_64" }') =>
+  Object.fromEntries(Object.entries(objectOf(values, name, form)).filter(([, value]) => value !== undefined));
 
-function tripleOf(value) {
-  if (!(value instanceof Triple))
-    throw new TypeError(`only a Triple can be compared with a Triple, not ${kindOf(value)}`);
-  return value;
-}
+const tripleOf = (value) => checked(value instanceof Triple, "other", "a Triple", value);
 
 export class ParseError extends Error {
   constructor(message, members) {
@@ -430,8 +427,7 @@ export class Triple {
     for (const field of Object.keys(values))
       if (!FIELDS.includes(field)) throw new TypeError(`a triple has no ${field}`);
     for (const [index, field] of FIELDS.entries()) {
-      const name = values[field] ?? "unknown";
-      if (typeof name !== "string") throw new TypeError(`${field} is a name, not ${kindOf(name)}`);
+      const name = stringOf(values[field] ?? "unknown", field);
       const known = field === "operatingSystem" ? it.numbers[index].get(name) ?? null : numberOf(field, name);
       if (known === null) throw new RangeError(`no ${field} has the name ${name}${nearest(it, index, name)}`);
       numbers[field] = known;
@@ -530,9 +526,9 @@ export class Triple {
 }
 
 export function translate(name, from, to, libc = null, versions = null) {
-  const it = instance(), source = from === null ? 0 : dialectOf(from), target = dialectOf(to),
+  const it = instance(), source = from === null ? 0 : dialectOf(from, "from"), target = dialectOf(to, "to"),
     number = libc === null ? 0 : libcOf(libc), said = versionsAt(it, versions);
-  const given = it.text(stringOf(name)), out = it.base + TEXTS + given[1];
+  const given = it.text(stringOf(name, "name")), out = it.base + TEXTS + given[1];
   const status = it.call("translate", source, ...given, number, said, target, out, ROOM, it.base + LENGTH,
     it.base + ERROR);
   if (status === OK) return it.read(out, it.number(LENGTH));
@@ -555,9 +551,8 @@ function meaningsBy(call, text) {
 export const meanings = (text) => meaningsBy("meanings", text);
 
 export function settleAll(targets) {
-  if (typeof targets === "string" || typeof targets?.[Symbol.iterator] !== "function")
-    throw new TypeError("the targets are an iterable of strings");
-  const lines = Array.from(targets, stringOf);
+  const isRight = typeof targets !== "string" && typeof targets?.[Symbol.iterator] === "function";
+  const lines = Array.from(checked(isRight, "targets", "an iterable of strings", targets), (it) => stringOf(it));
   if (lines.length === 0) return [];
   const text = lines.map((it) => (it.includes("\n") ? "" : it)).join("\n") + "\n";
   const it = instance(), given = it.text(text), size = given[1] + GROWTH * lines.length + 1;
@@ -614,7 +609,7 @@ function valueOf(field, part) {
 }
 
 export function namesOf(field) {
-  const names = instance().names[FIELDS.indexOf(field)];
+  const names = instance().names[FIELDS.indexOf(stringOf(field, "field"))];
   if (!names) throw new TypeError(`a triple has no ${field}`);
   return names;
 }

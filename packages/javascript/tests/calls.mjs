@@ -4,9 +4,10 @@ import assert from "node:assert/strict";
 import { readFileSync } from "node:fs";
 import { inspect } from "node:util";
 import { pathToFileURL } from "node:url";
+import { rowOf } from "../page/rows.mjs";
 import { differences } from "./compare.mjs";
 
-const [script, answers] = process.argv.slice(2), file = script.replace(/js$/, "wasm");
+const [script, file_of_answers] = process.argv.slice(2), file = script.replace(/js$/, "wasm");
 const all = await import(pathToFileURL(script));
 const { DIALECTS, FIELDS, ParseError, Triple, changes, host, load, meanings, namesOf } = all;
 const { settleAll, translate, version } = all;
@@ -20,6 +21,7 @@ const refusal = (text, call = Triple.parse) => {
   }
   assert.fail(`${text} was not refused`);
 };
+const { written: WRITTEN, answers } = JSON.parse(readFileSync(file_of_answers, "utf8"));
 const wasm = () => new WebAssembly.Module(readFileSync(file));
 
 // The table of names that the package has. Stars are numbers: 13 and 2 here.
@@ -43,9 +45,35 @@ const tests = {
     assert.throws(() => all.targetsIn(1), TypeError);
   },
   "answers are the command's": () => {
-    const { written, answers: wanted } = JSON.parse(readFileSync(answers, "utf8"));
-    assert(wanted.facts.length > 20000 && Object.keys(wanted).length > 30);
-    assert.deepEqual(differences({ ...all, WRITTEN: written }, wanted).slice(0, 5), []);
+    assert(answers.facts.length > 20000 && Object.keys(answers).length > 30);
+    assert.deepEqual(differences({ ...all, WRITTEN }, answers).slice(0, 5), []);
+  },
+  "what the page says of a target": () => {
+    const said = (text) => {
+      const { kind, wrong, suggestion = null, tools = [], others, nearest = [] } = rowOf(all, text, []);
+      return [kind, wrong?.part ?? null, suggestion, ...tools,
+        ...nearest.map(({ name, tools }) => `${name} of ${tools}`),
+        ...others.map(({ tools, meant, reason }) => `${tools}: ${meant ?? reason}`)];
+    };
+    for (const [text, ...wanted] of [
+      ["arm-unknown-linux-gnueabihf", "other", null, null], ["x86_64-sony-linux", "other", null, null],
+      ["x86_64-linx-gnu", "suspicious", "linx", "linux"], ["x86_64-pc-windws-msvc", "refused", "windws", "windows"],
+      ["aarch64-macos", "suspicious", "macos", null, "spelling: aarch64-unknown-macosx", "zig: aarch64-apple-darwin"],
+      ["i686-w64-windows-gnu", "suspicious", "w64", null, "spelling: i686-pc-windows-gnu"],
+      ["amd64", "other", null, null, "debian", "rpm", "go: a machine without a system",
+        "oci: half of a platform: containerd adds that of the host"],
+      ["linux/amd46", "refused", "linux/amd46", null, "linux/amd64 of go,oci"], ["amd65", "refused", "amd65", null],
+      ["universal2", "refused", "universal2", null, "python: x86_64-apple-darwin", "python: aarch64-apple-darwin"],
+    ]) assert.deepEqual(said(text), wanted);
+    const { triple, stated, fields } = rowOf(all, "linux/arm64", ["musl"]);
+    assert.deepEqual([`${triple}`, `${stated}`, fields.environment],
+      ["aarch64-unknown-linux-musl", "aarch64-unknown-linux", { origin: "chosen", part: "musl" }]);
+    // None of rustc's targets is suspicious or has a suggestion, and each that is refused has one reason.
+    for (const { name } of rows.filter((it) => it.tool === "rust" && it.sources.includes("rustc"))) {
+      const { kind, suggestion = null, others } = rowOf(all, name, []);
+      assert(kind !== "suspicious" && suggestion === null && others.every((it) => it.reason), name);
+      assert(kind === "refused" ? others.length === 1 : others.length < 2, name);
+    }
   },
   "names in dialects are those of the table": () => {
     const counts = { read: 0, written: 0, reason: 0 };
@@ -183,21 +211,28 @@ const tests = {
   },
   "a wrong argument has its error": () => {
     const linux = Triple.parse("x86_64-unknown-linux-gnu"), ios = Triple.parse("aarch64-apple-ios17");
-    const values = "the values are an object such as { architecture: \"x86_64\" }, not ",
-      form = "a version is an object such as { major: 17, minor: 2 }, not ";
+    const values = "values is an object such as { architecture: \"x86_64\" }, not ",
+      form = "version is an object such as { major: 17, minor: 2 }, not ";
     const whole = (part, most) => `a version's ${part} is a whole number up to ${most}`;
     for (const call of [Triple.parse, Triple.tryParse, Triple.explain, Triple.read, changes, meanings,
-      (it) => Triple.read(it, "go"), (it) => settleAll([it]), (it) => translate(it, "go", "oci")]) {
-      assert.throws(() => call(7), { name: "TypeError", message: "a target is a string, not a number" }, `${call}`);
+      (it) => Triple.read(it, "go"), (it) => settleAll(["avr", it])]) {
+      for (const [it, kind] of [[7, "a number"], [7n, "a bigint"], [null, "null"], [["avr"], "an array"],
+        [new String("avr"), "an object"], [() => "avr", "a function"]])
+        assert.throws(() => call(it), { name: "TypeError", message: `text is a string, not ${kind}` }, `${call}`);
     }
     for (const [kind, message, ...calls] of [
-      [TypeError, "a target is a string, not null", () => settleAll(["avr", null])],
-      [TypeError, "the targets are an iterable of strings", () => settleAll(7), () => settleAll("avr"),
-        () => settleAll(null)],
-      [TypeError, "a target is a string, not an array", () => Triple.parse(["avr"])],
-      [TypeError, "a target is a string, not an object", () => Triple.parse(new String("avr"))],
-      [TypeError, "only a Triple can be compared with a Triple, not a string", () => linux.equals("x"),
-        () => linux.sameTarget("x")],
+      [TypeError, "targets is an iterable of strings, not a number", () => settleAll(7)],
+      [TypeError, "targets is an iterable of strings, not a string", () => settleAll("avr")],
+      [TypeError, "other is a Triple, not a string", () => linux.equals("x"), () => linux.sameTarget("x")],
+      [TypeError, "name is a string, not an object", () => translate({}, "go", "oci")],
+      [TypeError, "from is a string, not an object", () => translate("x", {}, "oci")],
+      [TypeError, "to is a string, not null", () => translate("x", "go", null)],
+      [TypeError, "dialect is a string, not undefined", () => linux.nameIn(), () => linux.reasonWithoutName()],
+      [TypeError, "dialect is a string, not a symbol", () => Triple.read("x", Symbol("go"))],
+      [TypeError, "libc is a string, not an object", () => linux.complete({}), () => translate("x", "go", "oci", {})],
+      [TypeError, "field is a string, not a number", () => namesOf(7)],
+      [TypeError, "versions is an object such as { glibc: { major: 2, minor: 17 } }, not a string",
+        () => linux.nameIn("python", "2.17"), () => translate("linux/amd64", "go", "python", "glibc", "2.17")],
       [TypeError, "there is no dialect Debian; did you mean debian?", () => linux.nameIn("Debian"),
         () => linux.reasonWithoutName("Debian"), () => translate("x", "Debian", "go"),
         () => translate("x", "go", "Debian")],
@@ -205,21 +240,17 @@ const tests = {
       [TypeError, "there is no dialect dotent; did you mean dotnet?", () => linux.nameIn("dotent")],
       [TypeError, "there is no dialect Docker; did you mean docker?", () => linux.nameIn("Docker")],
       [TypeError, "there is no dialect podman", () => linux.nameIn("podman")],
-      [TypeError, "there is no dialect null", () => translate("x", "go", null), () => linux.nameIn(null)],
-      [TypeError, "there is no dialect Symbol(go)", () => linux.nameIn(Symbol("go"))],
       [TypeError, "there is no C library MUSL; did you mean musl?", () => linux.complete("MUSL"),
         () => translate("amd64", "debian", "go", "MUSL")],
-        [TypeError, "there is no C library null", () => linux.complete(null)],
       [TypeError, "there is no C library gnu; did you mean glibc or mingw?", () => linux.complete("gnu")],
       [TypeError, "a triple has no os", () => namesOf("os"), () => Triple.of({ os: "linux" }),
         () => linux.with({ os: "linux" })],
       [TypeError, `${values}undefined`, () => Triple.of(), () => linux.with()],
       [TypeError, `${values}null`, () => Triple.of(null)],
       [TypeError, `${values}an array`, () => Triple.of(["x86_64"])],
-      [TypeError, "the values are an object; Triple.parse has the triple of a string", () => Triple.of("avr"),
-        () => linux.with("avr")],
-      [TypeError, "architecture is a name, not a number", () => Triple.of({ architecture: 7 })],
-      [TypeError, "environment is a name, not a symbol", () => linux.with({ environment: Symbol("x") })],
+      [TypeError, `${values}a string`, () => Triple.of("avr"), () => linux.with("avr")],
+      [TypeError, "architecture is a string, not a number", () => Triple.of({ architecture: 7 })],
+      [TypeError, "environment is a string, not a symbol", () => linux.with({ environment: Symbol("x") })],
       [RangeError, "no environment has the name mulsl; did you mean musl?", () => linux.with({ environment: "mulsl" })],
       [RangeError, "no vendor has the name ACME", () => Triple.of({ vendor: "ACME" })],
       [RangeError, "no architecture has the name amd64; did you mean x86_64?",
@@ -233,7 +264,8 @@ const tests = {
       ...[[TypeError, `${form}an array`, [17, 2]], [TypeError, `${form}a string`, "17.2"],
         [TypeError, "a version has a major: { major: 17, minor: 2 }", {}],
         [TypeError, "a version has no micro", { major: 17, micro: 2 }],
-        [RangeError, whole("major", 65535), { major: 65536 }], [RangeError, whole("major", 65535), { major: "17" }],
+        [RangeError, whole("major", 65535), { major: 65536 }],
+        [TypeError, "major is a number, not a string", { major: "17" }],
         [RangeError, whole("minor", 255), { major: 1, minor: -1 }],
         [RangeError, whole("patch", 255), { major: 1, patch: 1.5 }],
       ].map(([kind, message, it]) => [kind, message, () => ios.with({ version: it }),

@@ -41,7 +41,7 @@ function translated({ ParseError, translate }, text, from, to, libc) {
 // By the words after which the command wrote: what target-lexicon.js answers to a text, of which the command's answer
 // has each key.
 const CALLS = { facts: factsEntry, explain: explained, read, cfg, translate: translated,
-  what: (lexicon, text, libc) => namesEntry(lexicon, text, lexicon.WRITTEN, libc ? [libc] : []) };
+  what: (lexicon, text, libc) => namesEntry(lexicon, text, libc ? [libc] : []) };
 
 /** Whether answers of target-lexicon.js to a text that parses agree. */
 function* agreeing({ FIELDS, Triple, settleAll }, text) {

@@ -1,8 +1,6 @@
 """The tests of the page: each opens it in Chromium, and types, presses and reads as a user does."""
-import csv
 import functools
 import json
-import pathlib
 import re
 import subprocess
 import time
@@ -11,7 +9,6 @@ import urllib.request
 
 from browser import Keys, Page
 
-TABLE = pathlib.Path(__file__).parents[2] / "names/names.csv"
 ROWS = "[...document.querySelectorAll('tbody tr')]"
 TARGETS = ROWS + ".map((row) => row.target)"
 STATUS = "document.getElementById('status').textContent"
@@ -379,14 +376,6 @@ def copies_a_name(page):
     same(page.run("navigator.clipboard.readText()"), "darwin/amd64")
 
 
-def says_that_a_name_is_of_several_machines(page):
-    typed(page, "macosx_11_0_universal2\nuniversal2", "2 targets: 0 parsed, 1 named by tools, 1 refused")
-    rows = page.run(CELLS)
-    same(rows[0], ["universal2", "It is several machines: x86_64-apple-darwin and aarch64-apple-darwin."])
-    assert "a name of Python, of several machines" in rows[1][0].replace(" ,", ","), rows[1]
-    assert any("aarch64-apple-macosx11.0.0" in it for it in rows[1][1:]), rows[1]
-
-
 def links_to_pages(page):
     """Those of Markdown are rendered, and their links lead somewhere."""
     links = page.run("[...document.querySelectorAll('.pages a')].map((it) => it.href)")
@@ -416,6 +405,8 @@ NAMES = {
     "x86_64-w64-mingw32": ("x86_64-pc-windows-gnu", "GNU and LLVM", "Go windows/amd64", None),
     "Linux x86_64": ("x86_64-unknown-linux-gnu", "uname", "pacman x86_64", None),
     "osx-arm64": ("aarch64-apple-darwin", ".NET and conda", "Zig aarch64-macos", None),
+    "macosx_11_0_universal2": ("x86_64-apple-macosx11.0.0", "Python, of several machines", "rustc x86_64-apple-darwin",
+                               "In Python it is aarch64-apple-macosx11.0.0."),
 }
 
 
@@ -426,7 +417,7 @@ def says_what_names_mean(page):
     for width in 1280, 390:
         page.size(width, 900)
         typed(page, "".join(f'- "{name}"\n' for name in NAMES))
-        same([page.run(STATUS), page.run(TARGETS)], ["6 targets: 0 parsed, 6 named by tools, 0 refused.", list(NAMES)])
+        same([page.run(STATUS), page.run(TARGETS)], ["7 targets: 0 parsed, 7 named by tools, 0 refused.", list(NAMES)])
         for number, (name, (key, tools, answer, other)) in enumerate(NAMES.items()):
             row = ROWS + f"[{number}]"
             page.run(f"{row}.querySelector({'.fold' if width == 390 else '.elsewhere button'!r}).click()")
@@ -465,36 +456,6 @@ def says_why_there_is_no_name(page):
     assert "rustc aarch64-unknown-linux-musl" in linux, f"{linux}"
     assert "rustc x86_64-pc-windows-gnu" in windows, f"{windows}"
     same(page.run(CELLS)[1][4], "musl chosen")
-
-
-def says_what_other_tools_mean(page):
-    typed(page, "aarch64-macos\narm-unknown-linux-gnueabihf\ni686-w64-windows-gnu\namd64")
-    same(page.run(STATUS), "4 targets: 3 parsed, 1 named by tools, 0 refused, 2 suspicious.")
-    same(page.run(OTHERS), [
-        "In LLVM it is aarch64-unknown-macosx.\n\nIn Zig it is aarch64-apple-darwin.",
-        "In LLVM it is i686-pc-windows-gnu.", None,
-        "In Go no triple means it: a machine without a system.\n\n"
-        "In containers no triple means it: half of a platform: containerd adds that of the host."])
-    press(page, "tbody .offer", 1)
-    page.until(f"{STATUS} === '4 targets: 3 parsed, 1 named by tools, 0 refused, 1 suspicious.'")
-    same([page.run(f"{TEXT}.split('\\n')[0]"), page.run(FOCUSED)], ["aarch64-apple-darwin", "i686-w64-windows-gnu"])
-
-
-def takes_targets_of_rustc(page):
-    """None is suspicious or has a suggestion, and each that is refused has one sentence of reason."""
-    with open(TABLE, newline="", encoding="utf-8") as table:
-        targets = "\n".join(it["name"] for it in csv.DictReader(table) if it["tool"] == "rust"
-                            and not it["recalled"])
-    typed(page, targets)
-    shown = page.run(ROWS + ".map((row) => [row.target, row.className, row.querySelectorAll('.offer').length,"
-                     " [...row.querySelectorAll('.refused p, .others p')].map((it) => it.textContent)])")
-    same(len(shown), len(targets.split()))
-    same([it for it in shown if "suspicious" in it[1] or it[2]], [])
-    refused = [it for it in shown if it[1] == "refused"]
-    same([it for it in refused if len(it[3]) != 1
-          or not re.fullmatch(r"A target of rustc that has no triple here: its \w+ is no known name\.", it[3][0])], [])
-    same([it for it in shown if it not in refused and (len(it[3]) > 1 or any("it is" in line for line in it[3]))], [])
-    return f"{len(shown)} targets, of which {len(refused)} are refused"
 
 
 def is_folded(page):
@@ -649,7 +610,7 @@ def copies_what_the_command_writes(command, page):
     choose(page, linux="glibc")
     for button, words in ("#copy_facts", ["facts"]), ("#copy_names", ["what", "--libc", "glibc"]):
         press(page, button)
-        page.until(f"{STATUS} === 'Copied 10 targets as JSON.'")
+        page.until(f"{STATUS} === 'Copied 11 targets as JSON.'")
         copied = json.loads(page.run("navigator.clipboard.readText()"))
         page.run("document.getElementById('status').textContent = ''")
         wanted = json.loads(subprocess.run([command, *words, "--json", *targets], capture_output=True,
@@ -712,10 +673,8 @@ def page_tests(url, folder, command):
     for test in (begins_with_targets, forbids_what_it_does_not_need, shows_fields, escapes_and_shortens, takes_lists,
                  refuses_and_suggests, mistakes_come_first, is_cleared, goes_back, takes_back,
                  announces_after_a_pause, is_searched, copies_a_name,
-                 says_that_a_name_is_of_several_machines,
                  links_to_pages, says_what_names_mean, says_what_a_driver_asks, says_why_there_is_no_name,
-                 says_what_other_tools_mean, takes_targets_of_rustc, is_folded,
-                 fits_each_width, is_accessible, has_a_link, takes_time_in_proportion,
+                 is_folded, fits_each_width, is_accessible, has_a_link, takes_time_in_proportion,
                  functools.partial(copies_what_the_command_writes, command), stays_responsive):
         yield getattr(test, "func", test).__name__.replace("_", " "), functools.partial(opened, f"{url}/", test)
     yield "opens a link", functools.partial(opens_a_link, url)
