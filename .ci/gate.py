@@ -92,10 +92,11 @@ WITHOUT_PROOF = [[
      "crates rust coq upstream"),
     ("Coq proves the laws of the definitions, and of the Rust source, which is the proved source and what rustc "
      "compiles; twelve edits of them, others on each day, are refused at their lemmas; bad input",
-     'checks/theorem --keep "$WORK/theorem" && checks/coq/edits "$WORK/theorem" 12 && checks/coq/test', "coqc rustc",
+     'checks/theorem mir source no_alloc ${UPSTREAM:+upstream "$UPSTREAM"} --keep "$WORK/theorem" && '
+     'checks/coq/edits "$WORK/theorem" 12 && checks/coq/test', "cargo coqc rustc",
      "crates rust coq"),
     ("they, and the table of names, say what upstream's own crate answers",
-     'if [ "$UPSTREAM" ]; then tools/port "$UPSTREAM" && checks/theorem upstream "$UPSTREAM"; '
+     'if [ "$UPSTREAM" ]; then tools/port "$UPSTREAM"; '
      'else echo "left out: upstream\'s crate (UPSTREAM isn\'t set)"; fi',
      "cargo coqc ocamlopt", "crates rust coq upstream"),
     ("the command `target-lexicon`: arguments, output and statuses", "packages/command/test", "cargo cram3 jq",

@@ -1,4 +1,5 @@
 """Lets rustc write what it compiles, its MIR, and writes that as Coq, with why it is the source, and its theorems."""
+import json
 import os
 import re
 import shutil
@@ -18,6 +19,7 @@ CRATE = ("--crate-name", "target_lexicon", "--edition=2021", "--crate-type=lib")
 FLAGS = ("-Copt-level=0", "-Coverflow-checks=on", "-Ztrim-diagnostic-paths=no")
 FEATURES = "std", "arch_zkasm", "arch_z80"  # of upstream
 UPSTREAM = "UpstreamCrate", "UpstreamTriple"  # the proofs about upstream's own crate
+BOTH = "Pairs", "Both"  # and about ours and it; Pairs is written
 # What the build script writes; the functions that answer it aren't proved.
 HOST = "Triple { architecture: Architecture::Unknown, vendor: Vendor::Unknown, operating_system: OperatingSystem::" \
        "Unknown, environment: Environment::Unknown, binary_format: BinaryFormat::Unknown }"
@@ -144,9 +146,9 @@ def source(root, known):
     return mir.Crate(*main, known)
 
 
-def upstream(_root, folder, crate):
-    """Writes UpstreamMir.v, what rustc compiles of a crate like upstream's, and prints which functions it can't write.
-    Returns the theorems."""
+def upstream(_root, folder, crate, is_compared=False):
+    """Writes UpstreamMir.v, what rustc compiles of a crate like upstream's, and prints which functions it can't write;
+    and Pairs.v, if it is compared with ours, which is proved before. Returns the theorems."""
     manifest = crate / "Cargo.toml"
     if not manifest.is_file():
         raise NoCompiler(f"{crate} has no Cargo.toml, so that nothing is proved of a crate there")
@@ -154,10 +156,17 @@ def upstream(_root, folder, crate):
         raise NoCompiler("cargo isn't on the path, so that nothing is proved of upstream's crate")
     have = [it for it in FEATURES if re.search(rf"^{it} *=", manifest.read_text(encoding="utf-8"), re.M)]
     with tempfile.TemporaryDirectory(prefix="mir-") as out:
+        # A package that needs it: then cargo needs neither what it needs for tests, nor to write into its folder.
+        Path(out, "src").mkdir()
+        Path(out, "src/lib.rs").touch()
+        Path(out, "Cargo.toml").write_text(
+            '[package]\nname = "needs"\n[dependencies.target-lexicon]\n'
+            f"path = {json.dumps(str(crate))}\nfeatures = {json.dumps(have)}\n[workspace]\n", encoding="utf-8")
+
         def cargo(*words):
             ran = subprocess.run([HERE.parents[1] / "tools/cargo", "rustc", "--quiet", "--offline", "--lib",
-                                  f"--features={','.join(have)}", f"--target-dir={out}", "--", *FLAGS,
-                                  "-Cdebug-assertions=off", *words], cwd=crate,
+                                  "--package=target-lexicon", f"--target-dir={out}", "--", *FLAGS,
+                                  "-Cdebug-assertions=off", *words], cwd=out,
                                  env={**os.environ, "RUSTC_BOOTSTRAP": "1"}, capture_output=True, text=True)
             if ran.returncode:
                 raise NoCompiler(f"{crate} doesn't build: {' '.join(ran.stderr.split())[-300:]}")
@@ -173,8 +182,28 @@ def upstream(_root, folder, crate):
     folder.joinpath("UpstreamMir.v").write_text(
         "(* Written by checks/theorem from what rustc compiles. *)\nRequire Import Kit Specs Rust.\n\n"
         + "\n".join(code for _, _, code in found.out), encoding="utf-8")
-    proofs = "".join(HERE.joinpath(f"upstream/{it}.v").read_text(encoding="utf-8") for it in UPSTREAM)
+    files = [*UPSTREAM, *BOTH[1:] * is_compared]
+    proofs = "".join(HERE.joinpath(f"upstream/{it}.v").read_text(encoding="utf-8") for it in files)
+    if is_compared:
+        if not folder.joinpath("Compiled.vo").exists():
+            raise NoCompiler("nothing is proved of our crate's MIR, so that upstream's isn't compared with it")
+        pairs(folder, proofs)
     return dict.fromkeys(re.findall(r"^Theorem (\w+)", proofs, re.M))
+
+
+def pairs(folder, proofs):
+    """Writes Pairs.v: that each function of both crates is the same one, if its types are, and no proof compares it."""
+    ours, its = (dict(re.findall(r"^(?:Definition|Fixpoint) (mir_\w+) \(fuel : nat\)(.*) :=$", folder.joinpath(
+        f"{it}.v").read_text(encoding="utf-8"), re.M)) for it in ("Mir", "UpstreamMir"))
+    others = [it for it in its if it in ours and not re.search(rf"\bIts\.{it}\b", proofs)]
+    same = [it for it in others if ours[it] == its[it]]
+    print(f"theorem: not compared with ours: {', '.join(it for it in others if it not in same)}")
+    lines = [f"(∀ n m{binders}, Mir.{it} n{args} = UpstreamMir.{it} m{args})" for it in same
+             for binders in [its[it].rpartition(" : option ")[0]]
+             for args in ["".join(re.findall(r"\((v\d+) :", binders)).replace("v", " v")]]
+    folder.joinpath("Pairs.v").write_text(
+        "(* Written by checks/theorem. *)\nRequire Import Kit Specs Rust.\nRequire Mir UpstreamMir.\n\n"
+        "Definition same_functions : Prop :=\n  " + "\n  ∧ ".join(lines) + ".\n", encoding="utf-8")
 
 
 def path(it):

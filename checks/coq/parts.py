@@ -12,7 +12,7 @@ from reading import Untranslated
 
 COQ = Path(__file__).resolve().parent
 # The files that are written, and that checks/coq has none of.
-WRITTEN = "Specs Code Configured Source Same Mir Same_mir Compiled UpstreamMir".split()
+WRITTEN = "Specs Code Configured Source Same Mir Same_mir Compiled UpstreamMir Pairs".split()
 # Each part, in order: the parts that it needs; its files in order, whose names are their own in all parts but that of
 # Configured; and the function of the root and the folder that writes the files that aren't in checks/coq, and returns
 # each theorem with the Coq name of its statement, or none.
