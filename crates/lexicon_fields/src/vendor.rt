@@ -8,6 +8,7 @@ ghost use Rattle.std.specs.Hash.{on_Alike, same_Alike};
 ghost use Rattle.lexicon_fields.specs.Vendor as spec;
 ghost use Rattle.lexicon_fields.specs.Vendor.{IsVendorErrorOf};
 
+use crate::known_vendor::KnownVendor;
 use crate::vendor_ref::VendorRef;
 use std::alloc::{AllocError, Global};
 // In Rust: #[cfg(feature = "alloc")], use alloc::{boxed::Box, string::String}.
@@ -192,7 +193,22 @@ impl Vendor {
     pub fn as_str(&self) -> &str
         ensures { result.now ≡ spec.vendor_name (spec.vendor_value self.now) }
     {
-        self.as_vendor_ref().as_str()
+        match self {
+            Vendor::Custom(custom) => custom.as_str(),
+            known => known.known_name(),
+        }
+    }
+
+    /// The name of a known vendor. By itself, rustc makes a table of it, which takes less time than a jump.
+    #[inline(never)]
+    fn known_name(&self) -> &'static str
+        ensures { spec.is_custom (spec.vendor_value self.now) ≡ false
+            → result.now ≡ spec.vendor_name (spec.vendor_value self.now) }
+    {
+        match self.as_vendor_ref() {
+            VendorRef::Known(known) => known.name(),
+            VendorRef::Custom(_) => KnownVendor::Unknown.name(),
+        }
     }
 
     /// Whether parsing can produce the vendor: it is known, or custom with a string that [`Vendor::Custom`] admits.

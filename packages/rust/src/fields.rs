@@ -25,7 +25,6 @@ impl OperatingSystem {
 
 // written by tools/names/write: the types with few names
 impl Environment {
-    #[inline]
     pub(crate) fn from_str(s: &str) -> Result<Self, ()> {
         Ok(match s {
             "unknown" => Environment::Unknown,
@@ -93,7 +92,6 @@ impl Aarch64Architecture {
     }
 }
 impl ArmArchitecture {
-    #[inline]
     pub(crate) fn from_str(s: &str) -> Result<Self, ()> {
         Ok(match s {
             "arm" => ArmArchitecture::Arm,
@@ -216,7 +214,6 @@ impl CleverArchitecture {
     }
 }
 impl Z80Architecture {
-    #[inline]
     pub(crate) fn from_str(s: &str) -> Result<Self, ()> {
         Ok(match s {
             "z80" => Z80Architecture::Z80,

@@ -1,6 +1,8 @@
 // @generated: erased from crates/lexicon_fields/src/vendor.rt by tools/erase. Don't edit it here.
 //! The vendors, of which a custom one owns its string or has a static one.
 
+use crate::proved::known_vendor::KnownVendor;
+use crate::proved::vendor_ref::VendorRef;
 #[cfg(feature = "alloc")]
 use alloc::{boxed::Box, string::String};
 use core::fmt;
@@ -115,7 +117,19 @@ impl Vendor {
     /// ```
     #[inline]
     pub fn as_str(&self) -> &str {
-        self.as_vendor_ref().as_str()
+        match self {
+            Vendor::Custom(custom) => custom.as_str(),
+            known => known.known_name(),
+        }
+    }
+
+    /// The name of a known vendor. By itself, rustc makes a table of it, which takes less time than a jump.
+    #[inline(never)]
+    fn known_name(&self) -> &'static str {
+        match self.as_vendor_ref() {
+            VendorRef::Known(known) => known.name(),
+            VendorRef::Custom(_) => KnownVendor::Unknown.name(),
+        }
     }
 
     /// Whether parsing can produce the vendor: it is known, or custom with a string that [`Vendor::Custom`] admits.
