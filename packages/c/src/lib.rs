@@ -127,8 +127,11 @@ impl From<DeploymentTarget> for Version {
 impl From<target_names::Meaning<'_>> for Meaning {
     fn from(it: target_names::Meaning<'_>) -> Meaning {
         let dialect = name_of_number(it.of);
-        match it.triple {
-            Ok(triple) => Meaning { dialect, status: OK, triple: triple.into(), note: it.level.map_or(null(), c_name) },
+        match it.sense {
+            Ok(it) => {
+                let note = if it.level.is_empty() { null() } else { c_name(it.level) };
+                Meaning { dialect, status: OK, triple: it.triple.into(), note }
+            }
             Err(why) => {
                 let triple = TripleRef::unknown().into();
                 Meaning { dialect, status: NAME_WITHOUT_TRIPLE, triple, note: c_reason(why) }
@@ -397,7 +400,10 @@ pub unsafe extern "C" fn lexicon_read(
 /// The triple that a name of a dialect means, or a string that is spelled like a triple.
 fn meant(dialect: Option<Dialect>, text: &str) -> Result<TripleRef<'_>, TextError> {
     match dialect {
-        Some(dialect) => dialect.read_loosely(text).map_err(|error| TextError::of_name(TranslateError::Read(error), text)),
+        Some(dialect) => match dialect.read_loosely(text) {
+            Ok(it) => Ok(it.triple),
+            Err(error) => Err(TextError::of_name(TranslateError::Read(error), text)),
+        },
         None => Ok(target_names::read(text)?),
     }
 }

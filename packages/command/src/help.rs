@@ -6,7 +6,7 @@ use crate::refusal::{Names, Refusal};
 use clap::ArgMatches;
 use std::collections::HashMap;
 use target_lexicon::TripleRef;
-use target_names::{meanings, readers, vendor_suggestion, Dialect, Evidence, Meant, Mistake, NameOf, Suggest as _};
+use target_names::{meanings, readers, vendor_suggestion, Dialect, Evidence, Meant, Mistake, NameOf, Sense, Suggest as _};
 
 #[derive(Clone)]
 pub struct Help {
@@ -114,10 +114,10 @@ fn has_extension(text: &str) -> bool {
 pub fn readers_note(command: &str, text: &str) -> Option<String> {
     let mut options = Vec::new();
     for meaning in readers(text) {
-        match (meaning.of, meaning.triple) {
+        match (meaning.of, meaning.sense) {
             (NameOf::Dialect(dialect), Ok(_)) => options.push(format!("`{command}--from {dialect}`")),
-            (_, Ok(meant)) => {
-                return Some(format!("other tools mean `{meant}`, which `target-lexicon settle --from llvm` gives"));
+            (_, Ok(Sense { triple, .. })) => {
+                return Some(format!("other tools mean `{triple}`, which `target-lexicon settle --from llvm` gives"));
             }
             (tool, Err(why)) => return Some(format!("it is a name of {} without a triple: {why}", tool.name())),
         }

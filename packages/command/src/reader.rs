@@ -97,7 +97,7 @@ impl Reader {
         let (triple, warning) = match self.from {
             None => self.stated(text)?,
             Some(dialect) => match dialect.read_loosely(text) {
-                Ok(triple) => (triple, None),
+                Ok(it) => (it.triple, None),
                 Err(error) => return Err(Refusal::of_name(text, dialect, error)),
             },
         };
@@ -120,11 +120,11 @@ impl Reader {
         };
         let tool = meanings(text).filter(|_| !is_known).find(is_of_tool);
         match (tool, is) {
-            (Some(Meaning { of: NameOf::Dialect(dialect), triple: Err(why), .. }), _) => {
+            (Some(Meaning { of: NameOf::Dialect(dialect), sense: Err(why) }), _) => {
                 Ok(Meant::NoTriple(Some(Refusal::of_name(text, dialect, NameError::WithoutTriple(why)))))
             }
-            (Some(Meaning { of: NameOf::Dialect(_) | NameOf::Spelling, triple: Ok(triple), .. }), _) => {
-                Ok(Meant::Triple(self.completed(triple), None))
+            (Some(Meaning { of: NameOf::Dialect(_) | NameOf::Spelling, sense: Ok(it) }), _) => {
+                Ok(Meant::Triple(self.completed(it.triple), None))
             }
             _ if word.is_unclear() && !self.is_strict => {
                 self.unclear.set(self.unclear.get() + 1);

@@ -7,7 +7,6 @@ use crate::platform::row_of_platform;
 use crate::shape::{is_another_target, unversioned, version, AbiRule, Rules};
 use crate::table::refusals::SEVERAL;
 use crate::table::{Dialect, DIALECT_NAMES, ONLY_WRITTEN, TABLES, VERSION_RANGES};
-use crate::Versions;
 use core::cmp::Ordering;
 use core::str::FromStr;
 use target_lexicon::{DeploymentTarget, OperatingSystem, TripleRef};
@@ -47,12 +46,33 @@ pub(super) type Numbers = Option<(u16, u8)>;
 /// The most bytes of a triple's text with a known vendor, and more.
 pub(super) const MAX_LENGTH: usize = 64;
 
-/// What a name means: a triple, and the level of its machine that the name says and no triple states, or an empty string. All that reads
-/// a name returns both, so that neither is lost by what stands around it.
-#[derive(Clone, Copy, Debug, PartialEq, Eq)]
-pub(crate) struct Sense {
-    pub triple: TripleRef<'static>,
+/// What a name means. Rows, shapes, files and the words of any text give it, and names are written for it, so that a level isn't lost by what
+/// is around a name. A triple is one whose machine has no level.
+#[derive(Clone, Copy, Debug, PartialEq, Eq, Hash)]
+pub struct Sense<'a> {
+    /// The canonical triple.
+    pub triple: TripleRef<'a>,
+    /// The level of its machine that the name says and no triple states, such as `v3` of x86-64, or an empty string.
     pub level: &'static str,
+}
+
+impl<'a> From<TripleRef<'a>> for Sense<'a> {
+    fn from(triple: TripleRef<'a>) -> Self {
+        Sense { triple, level: "" }
+    }
+}
+
+impl<'a> From<&TripleRef<'a>> for Sense<'a> {
+    fn from(triple: &TripleRef<'a>) -> Self {
+        (*triple).into()
+    }
+}
+
+#[cfg(feature = "alloc")]
+impl<'a> From<&'a target_lexicon::Triple> for Sense<'a> {
+    fn from(triple: &'a target_lexicon::Triple) -> Self {
+        TripleRef::from(triple).into()
+    }
 }
 
 /// Why a name isn't read.
@@ -123,7 +143,7 @@ impl Dialect {
     }
 
     /// What a name means by its row, or else by its spelling.
-    pub(crate) fn sense(self, name: &str) -> Result<Sense, NameError> {
+    pub(crate) fn sense(self, name: &str) -> Result<Sense<'static>, NameError> {
         let (triple, level) = match self.row_of(name) {
             Some((row, numbers)) => (meaning(row, numbers)?, self.level_of(row)),
             None if self.table().rules.spelled => (read_as_gnu(name)?, ""),
@@ -168,38 +188,9 @@ impl Dialect {
         notes.next().map(|it| it.1)
     }
 
-    /// The level of the machine that a name of this dialect says and its triple can't state: `v3` of `linux/amd64/v3`. `None` if it says none.
-    /// The name may have around it what [`read_loosely`](Dialect::read_loosely) takes. [`translate`](Dialect::translate) keeps the level.
-    ///
-    /// # Examples
-    ///
-    /// ```
-    /// use target_names::Dialect;
-    ///
-    /// assert_eq!(Dialect::Oci.level("linux/riscv64/rva22u64"), Some("rva22u64"));
-    /// assert_eq!(Dialect::Rust.level("arm-unknown-linux-gnueabihf"), Some("armv6"));
-    /// assert_eq!(Dialect::Rpm.level("foo-1-1.x86_64_v4.rpm"), Some("v4"));
-    /// assert_eq!(Dialect::Oci.level("linux/amd64"), None);
-    /// ```
-    #[must_use]
-    pub fn level(self, name: &str) -> Option<&'static str> {
-        let level = self.find(name).map_or("", |it| it.level);
-        (!level.is_empty()).then_some(level)
-    }
-
-    /// The triples that a name of this dialect means: several of a name such as `universal2`, which [`read`](Dialect::read) refuses, that
+    /// What a name of this dialect means: several triples of a name such as `universal2`, which [`read`](Dialect::read) refuses, that
     /// of every other name that is [read](Dialect::read_loosely), and none of others.
-    ///
-    /// # Examples
-    ///
-    /// ```
-    /// use target_names::Dialect;
-    ///
-    /// let both = Dialect::Rust.read_each("universal2-apple-darwin").map(|it| it.to_string());
-    /// assert!(both.eq(["x86_64-apple-darwin", "aarch64-apple-darwin"]));
-    /// assert_eq!(Dialect::Go.read_each("linux/amd64").count(), 1);
-    /// ```
-    pub fn read_each(self, name: &str) -> impl Iterator<Item = TripleRef<'static>> + Clone {
+    pub(crate) fn read_each(self, name: &str) -> impl Iterator<Item = Sense<'static>> + Clone {
         let is_tag = self == Dialect::Python;
         let tag = if is_tag { last_tag(name) } else { name };
         let (several, numbers) = match self.row_of(tag) {
@@ -208,7 +199,7 @@ impl Dialect {
         };
         let each = several.split('+');
         let each = each.filter_map(move |triple| with_numbers(triple, numbers).ok());
-        each.chain(self.read_loosely(name).ok())
+        each.map(Sense::from).chain(self.read_loosely(name).ok())
     }
 
     /// The name of a triple in this dialect: that of its [shape](Dialect::shape). `None` if it has none, and if its vendor
@@ -228,43 +219,20 @@ impl Dialect {
     /// ```
     #[must_use]
     pub fn write<'t>(self, triple: impl Into<TripleRef<'t>>) -> Option<Name> {
-        self.name_of(&triple.into(), "", None)
-    }
-
-    /// The name in this dialect that states a version which triples don't have: `manylinux_2_17_x86_64` of glibc 2.17,
-    /// `musllinux_1_2_aarch64` of musl 1.2, `macosx_11_0_arm64` of macOS 11.0, also for `darwin`, or `android_21_x86_64` of
-    /// Android's API level 21. `None` if there is no version of the triple's system or C library, or no name that
-    /// [`read`](Dialect::read) knows has such a version and means the triple. Nothing is allocated.
-    ///
-    /// # Examples
-    ///
-    /// ```
-    /// use target_lexicon::TripleRef;
-    /// use target_names::{Dialect, VersionOf, Versions};
-    ///
-    /// let triple = TripleRef::from_str("x86_64-unknown-linux-gnu").unwrap();
-    /// let versions = Versions::none().with(VersionOf::Glibc, 2, 17);
-    /// let name = Dialect::Python.write_versioned(&triple, &versions).unwrap();
-    /// assert_eq!(name.as_str(), "manylinux_2_17_x86_64");
-    /// ```
-    #[must_use]
-    pub fn write_versioned<'t>(self, triple: impl Into<TripleRef<'t>>, versions: &Versions) -> Option<Name> {
-        let triple = triple.into();
-        self.name_of(&triple, "", Some(versions.of(triple)?))
+        self.name_of(triple.into().into(), None)
     }
 
     /// The name of a triple whose machine has a level: one that says the level, or one for which the level is low enough.
-    pub(crate) fn name_at(self, triple: &TripleRef<'_>, level: &str) -> Option<Name> {
-        let refined = TripleRef {
-            architecture: machine_at((triple.architecture, level)).unwrap_or(triple.architecture),
-            ..*triple
-        };
-        let stated = self.name_of(&refined, level, None);
-        stated.or_else(|| self.name_of(triple, level, None))
+    pub(crate) fn name_at(self, meant: Sense<'_>) -> Option<Name> {
+        let Sense { triple, level } = meant;
+        let architecture = machine_at((triple.architecture, level)).unwrap_or(triple.architecture);
+        let refined = Sense { triple: TripleRef { architecture, ..triple }, level };
+        self.name_of(refined, None).or_else(|| self.name_of(meant, None))
     }
 
     /// The name of a triple, which states a version if one is said.
-    pub(crate) fn name_of(self, triple: &TripleRef<'_>, level: &str, version: Numbers) -> Option<Name> {
+    pub(crate) fn name_of(self, meant: Sense<'_>, version: Numbers) -> Option<Name> {
+        let Sense { ref triple, level } = meant;
         let mut rules = self.table().rules;
         if is_another_target(triple) || triple.vendor.is_custom() && rules.itself {
             let itself = self.row_of_itself(triple).filter(|_| version.is_none());
@@ -318,7 +286,7 @@ impl Dialect {
 
     /// The name without a version that is written for a triple, if a row has it.
     pub(crate) fn row_written(self, triple: &TripleRef<'_>) -> Option<&'static str> {
-        let name = self.name_of(triple, "", None)?;
+        let name = self.write(triple)?;
         let mut rows = self.rows().iter().filter(|row| is_written(row));
         rows.find(|row| name == row.0).map(|row| row.0)
     }

@@ -349,34 +349,34 @@ impl<'a> Evidence<'a> {
     }
 
     /// Whether the words name this, of a tool whose `arm` has 32 bits.
-    pub(crate) fn names(&self, sense: &Sense) -> bool {
+    pub(crate) fn names(&self, sense: &Sense<'_>) -> bool {
         let mut known = *self;
         if known.is_any_arm {
             known.add_machine(Architecture::Arm(ArmArchitecture::Arm));
         }
         // A tool's name may say a level that no word does.
-        let is_same = |level: &str| level == sense.level || level.is_empty();
-        known.target().map_or(false, |(triple, level)| triple == sense.triple && is_same(level))
+        let is_same = |it: Sense<'_>| it == *sense || it == sense.triple.into();
+        known.sense().map_or(false, is_same)
     }
 
     /// The triple that the words name: the one that says just what they say. `None` if they say a level of the machine, which no triple
-    /// states: [`target`](Evidence::target) has both.
+    /// states: [`sense`](Evidence::sense) has both.
     #[must_use]
     pub fn triple(&self) -> Option<TripleRef<'static>> {
-        let (triple, level) = self.target()?;
+        let Sense { triple, level } = self.sense()?;
         level.is_empty().then_some(triple)
     }
 
-    /// The triple that the words name, and the level of its machine that they say, or an empty string.
+    /// What the words name: the triple, and the level of its machine that they say.
     ///
     /// ```
     /// use target_names::Evidence;
     ///
-    /// let (triple, level) = Evidence::of("tool_1.2_linux_amd64_v3").target().unwrap();
-    /// assert_eq!((triple.to_string().as_str(), level), ("x86_64-unknown-linux", "v3"));
+    /// let sense = Evidence::of("tool_1.2_linux_amd64_v3").sense().unwrap();
+    /// assert_eq!((sense.triple.to_string().as_str(), sense.level), ("x86_64-unknown-linux", "v3"));
     /// ```
     #[must_use]
-    pub fn target(&self) -> Option<(TripleRef<'static>, &'static str)> {
+    pub fn sense(&self) -> Option<Sense<'static>> {
         let level = match self.level {
             Said::Unsaid => "",
             said => said.one()?,
@@ -403,7 +403,7 @@ impl<'a> Evidence<'a> {
             .filter_map(|it| it.parse().ok());
         let is_named = |it: &Environment| self.is_just(&of(*it), of(Environment::Unknown));
         let environment = names.find(is_named).filter(|_| is_whole)?;
-        Some((of(environment), level))
+        Some(Sense { triple: of(environment), level })
     }
 
     /// Whether an environment says just what the words say, on a triple without one.
@@ -544,11 +544,9 @@ fn said_by(environment: Environment) -> Option<(&'static str, &'static str)> {
 
 impl fmt::Display for Evidence<'_> {
     fn fmt(&self, f: &mut fmt::Formatter<'_>) -> fmt::Result {
-        match self.target() {
-            Some((triple, "")) => return write!(f, "its words name {triple}"),
-            Some((triple, level)) => {
-                return write!(f, "its words name {triple} of the level {level}")
-            }
+        match self.sense() {
+            Some(Sense { triple, level: "" }) => return write!(f, "its words name {triple}"),
+            Some(Sense { triple, level }) => return write!(f, "its words name {triple} of the level {level}"),
             None => {}
         }
         let is_other = self.system == Said::One(OTHER);

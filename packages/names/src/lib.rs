@@ -79,7 +79,7 @@ mod text;
 mod translation;
 mod versions;
 
-pub use dialect::NameError;
+pub use dialect::{NameError, Sense};
 pub use driver::{TypeLayout, TypeSizes};
 pub use evidence::{Evidence, Said};
 pub use hints::{suggestions, Meant, Mistake};

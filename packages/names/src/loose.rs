@@ -9,8 +9,8 @@ use core::fmt::{self, Write};
 use target_lexicon::{Architecture, ArmArchitecture, Environment, OperatingSystem, TripleRef};
 
 impl Dialect {
-    /// The triple that a name means, which may have around it what files and commands have. A name that
-    /// [`read`](Dialect::read) knows means the same. Nothing is allocated.
+    /// What a name means, which may have around it what files and commands have. A name that
+    /// [`read`](Dialect::read) knows means the same triple. Nothing is allocated.
     ///
     /// | Dialect | What may be around the name |
     /// |---|---|
@@ -44,17 +44,13 @@ impl Dialect {
     ///     (Dialect::Gnu, "aarch64-linux-gnu-", "aarch64-unknown-linux-gnu"),
     ///     (Dialect::Zig, "aarch64-macos.13.0...14.0", "aarch64-apple-macosx13.0.0"),
     /// ] {
-    ///     assert_eq!(dialect.read_loosely(text).unwrap().to_string(), triple);
+    ///     assert_eq!(dialect.read_loosely(text).unwrap().triple.to_string(), triple);
     /// }
+    /// assert_eq!(Dialect::Oci.read_loosely("linux/riscv64/rva22u64").unwrap().level, "rva22u64");
+    /// assert_eq!(Dialect::Rpm.read_loosely("foo-1-1.x86_64_v4.rpm").unwrap().level, "v4");
     /// ```
     #[inline]
-    pub fn read_loosely(self, text: &str) -> Result<TripleRef<'static>, NameError> {
-        self.find(text).map(|it| it.triple)
-    }
-
-    /// What a name means with what is around it.
-    #[inline]
-    pub(crate) fn find(self, text: &str) -> Found {
+    pub fn read_loosely(self, text: &str) -> Result<Sense<'static>, NameError> {
         let in_file = self.read_file(text);
         let found = in_file.or_else(|| self.read_version_of_glibc(text));
         let found = found.unwrap_or_else(|| self.sense(text));
@@ -98,7 +94,7 @@ impl Dialect {
         };
         let (start, found) = self.read_end(file, ['-', '_', '.'])?;
         let is_archive = matches!(self, Dialect::Go | Dialect::Node | Dialect::Rust);
-        let may_be = |it: &Sense| match is_archive {
+        let may_be = |it: &Sense<'_>| match is_archive {
             true => Evidence::of(file).names(it),
             false => may_be_package(&file[..start], &it.triple),
         };
@@ -314,7 +310,7 @@ impl Dialect {
 }
 
 /// What a name within a text means.
-pub(crate) type Found = Result<Sense, NameError>;
+type Found = Result<Sense<'static>, NameError>;
 
 /// No name that ends a file's or a package's name is longer, in bytes.
 const LONGEST_NAME: usize = 40;

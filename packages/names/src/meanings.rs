@@ -1,7 +1,7 @@
 //! What a name means to every tool that has it.
 use crate::spelled::is_of_machine;
 use crate::table::OF_CONFIG_SUB;
-use crate::{read, Dialect, Evidence, NameError, Said};
+use crate::{read, Dialect, Evidence, NameError, Said, Sense};
 use target_lexicon::{OperatingSystem, TripleRef, VendorRef};
 
 /// Whose name it is: that of a dialect, or of nobody but who spells triples. `Display` says it in a word.
@@ -41,10 +41,8 @@ impl NameOf {
 pub struct Meaning<'a> {
     /// Whose name it is.
     pub of: NameOf,
-    /// The canonical triple that it means, or why no triple has this name.
-    pub triple: Result<TripleRef<'a>, &'static str>,
-    /// The [level](Dialect::level) of the machine that the name says, and the triple can't state.
-    pub level: Option<&'static str>,
+    /// What it means, or why no triple has this name.
+    pub sense: Result<Sense<'a>, &'static str>,
 }
 
 /// What a name means: first as a triple, if it parses as one; then to each dialect that has it, in the order of [`Dialect::ALL`], with what
@@ -57,12 +55,12 @@ pub struct Meaning<'a> {
 /// ```
 /// use target_names::{meanings, Dialect, NameOf};
 ///
-/// let found = meanings("armhf").map(|it| (it.of.name(), it.triple.unwrap().to_string()));
+/// let found = meanings("armhf").map(|it| (it.of.name(), it.sense.unwrap().triple.to_string()));
 /// let triples = ["armv7-unknown-linux-gnueabihf", "armv6-unknown-linux-musleabihf"];
 /// assert!(found.eq([("debian", triples[0].into()), ("apk", triples[1].into())]));
 ///
 /// let plan_9 = meanings("plan9/amd64").next().unwrap();
-/// assert_eq!((plan_9.of, plan_9.triple), (NameOf::Dialect(Dialect::Go), Err("Plan 9 is no known name")));
+/// assert_eq!((plan_9.of, plan_9.sense), (NameOf::Dialect(Dialect::Go), Err("Plan 9 is no known name")));
 /// assert_eq!(meanings("x86_64-unknown-none").next().unwrap().of, NameOf::Triple);
 /// assert_eq!(meanings("foo/bar").next(), None);
 /// ```
@@ -81,20 +79,17 @@ pub fn meanings(text: &str) -> impl Iterator<Item = Meaning<'_>> + Clone {
             || !is_file
             || has_system()
             || !may_be_msys2()
-            || dialect.level(text).is_some()
+            || dialect.read_loosely(text).map_or(false, |it| !it.level.is_empty())
     };
     let to_dialect = move |dialect: &Dialect| {
-        let found = dialect.find(text);
-        let why = match found {
+        let why = match dialect.read_loosely(text) {
             Err(NameError::WithoutTriple(why)) if !OF_CONFIG_SUB.contains(&why) => Some(Err(why)),
             _ => None,
         };
-        let level = found.ok().map(|it| it.level).filter(|it| !it.is_empty());
         let of = NameOf::Dialect(*dialect);
         let each = dialect.read_each(text).map(Ok);
         let why = why.filter(|_| each.clone().next().is_none());
-        each.chain(why)
-            .map(move |triple| Meaning { of, triple, level })
+        each.chain(why).map(move |sense| Meaning { of, sense })
     };
     let of_dialects = Dialect::ALL.iter().filter(is_meant).flat_map(to_dialect);
     let is_triple = text.contains('-') || of_dialects.clone().next().is_none();
@@ -119,7 +114,7 @@ pub fn meanings(text: &str) -> impl Iterator<Item = Meaning<'_>> + Clone {
 /// assert_eq!(found("linux/amd64"), [Dialect::Go, Dialect::Oci].map(NameOf::Dialect));
 /// assert_eq!(found("aarch64--netbsd"), [NameOf::Spelling]);
 /// assert_eq!(found("x86_64-unknown-none"), []);
-/// assert!(readers("plan9/amd64").all(|it| it.triple == Err("Plan 9 is no known name")));
+/// assert!(readers("plan9/amd64").all(|it| it.sense == Err("Plan 9 is no known name")));
 /// ```
 pub fn readers(text: &str) -> impl Iterator<Item = Meaning<'_>> + Clone {
     let own = TripleRef::from_str(text).ok();
@@ -128,18 +123,18 @@ pub fn readers(text: &str) -> impl Iterator<Item = Meaning<'_>> + Clone {
     let is_name = own.is_none() && spelled.is_none();
     let named = Dialect::ALL.iter().filter(move |it| is_name && **it != Dialect::Gnu);
     let meaning = move |dialect: &Dialect| {
-        let (triple, level) = match dialect.find(text) {
-            Ok(it) => (Ok(it.triple.step()), Some(it.level).filter(|it| !it.is_empty())),
-            Err(NameError::WithoutTriple(why)) => (Err(why), None),
+        let sense = match dialect.read_loosely(text) {
+            Ok(it) => Ok(Sense { triple: it.triple.step(), ..it }),
+            Err(NameError::WithoutTriple(why)) => Err(why),
             Err(NameError::Unknown) => return None,
         };
-        Some(Meaning { of: NameOf::Dialect(*dialect), triple, level })
+        Some(Meaning { of: NameOf::Dialect(*dialect), sense })
     };
     let of_dialects = named.filter_map(meaning);
-    let reads = of_dialects.clone().filter(|it| it.triple.is_ok());
+    let reads = of_dialects.clone().filter(|it| it.sense.is_ok());
     let is_read = reads.clone().next().is_some();
     let without = of_dialects.filter(move |_| !is_read).take(1);
-    let spelled = spelled.map(|triple| Meaning { of: NameOf::Spelling, triple: Ok(triple.step()), level: None });
+    let spelled = spelled.map(|triple| Meaning { of: NameOf::Spelling, sense: Ok(triple.step().into()) });
     spelled.into_iter().chain(reads).chain(without)
 }
 
@@ -152,10 +147,6 @@ fn as_triple(text: &str) -> Option<Meaning<'_>> {
     };
     match triple.vendor {
         VendorRef::Custom(vendor) if is_of_machine(vendor) => None,
-        _ => Some(Meaning {
-            of,
-            triple: Ok(triple.step()),
-            level: None,
-        }),
+        _ => Some(Meaning { of, sense: Ok(triple.step().into()) }),
     }
 }

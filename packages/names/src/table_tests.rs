@@ -3,7 +3,7 @@ use crate::dialect::{has_version, Row, Way};
 use crate::shape::{version, AbiRule, Rules};
 use crate::suggestions::{fit_alone, known_names, Form, Place, FIRST_RULES, LATER_RULES};
 use crate::table::{refusals, KERNELS, MAKERS, SYSTEMS};
-use crate::{changes, read, ChosenLibc, Dialect, Evidence, NameError, TargetInfo, VersionOf, Versions};
+use crate::{changes, read, ChosenLibc, Dialect, Evidence, NameError, Sense, TargetInfo, VersionOf};
 use alloc::{format, string::String, string::ToString, vec::Vec};
 use core::str::FromStr;
 use target_lexicon::{
@@ -71,7 +71,7 @@ fn each_row_is_read_and_written() {
                 Way::Several => {
                     assert_eq!(found, without_triple(refusals::SEVERAL), "{at}");
                     let each: Vec<_> = row.1.split('+').map(|it| meaning(it, version)).collect();
-                    assert!(each.len() > 1 && dialect.read_each(&name).eq(each), "{at}");
+                    assert!(each.len() > 1 && dialect.read_each(&name).map(|it| it.triple).eq(each), "{at}");
                 }
                 Way::Both | Way::Read => assert_eq!(found, Ok(meaning(row.1, version)), "{at}"),
             }
@@ -80,7 +80,7 @@ fn each_row_is_read_and_written() {
                 let other = dialect.read(&format!("{name}~"));
                 assert_eq!(other, Err(NameError::Unknown), "{at}");
             }
-            for triple in dialect.read_each(&name) {
+            for Sense { triple, .. } in dialect.read_each(&name) {
                 assert_eq!(triple.step(), triple, "{at}: canonical");
             }
             let Ok(triple) = found else { continue };
@@ -199,9 +199,8 @@ fn names_with_a_version_are_read() {
     each_triple(|triple| {
         for dialect in Dialect::ALL.iter().filter(has_patterns) {
             for (major, minor) in [(1, 2), (2, 17), (11, 0), (21, 0), (99, 255), (10240, 0)] {
-                let of = VersionOf::of(triple);
-                let versions = of.map(|of| Versions::none().with(of, major, minor));
-                let Some(name) = versions.and_then(|it| dialect.write_versioned(triple, &it)) else {
+                let stated = VersionOf::of(triple).map(|_| (major, minor));
+                let Some(name) = stated.and_then(|it| dialect.name_of(triple.into(), Some(it))) else {
                     continue;
                 };
                 named += 1;

@@ -3,7 +3,7 @@ use crate::buffer::Buffer;
 use crate::evidence::only_machine;
 use crate::hints::LONGEST_PATH;
 use crate::suggestions::{architecture_of, edits_between, known_names, vendor_suggestion};
-use crate::{meanings, Dialect, Evidence, Meaning, Meant, NameOf, Said};
+use crate::{meanings, Dialect, Evidence, Meaning, Meant, NameOf, Said, Sense};
 use core::fmt::Write;
 use core::iter::once;
 use target_lexicon::{Architecture, Field, OperatingSystem, TextPart, TripleRef, VendorRef};
@@ -377,8 +377,8 @@ const RUNNERS: [&str; 3] = ["ubuntu", "macos", "windows"];
 
 /// Whether a name says a machine and a system, or is a triple with a known vendor and more after it.
 pub(crate) fn is_whole(word: &str) -> bool {
-    let is_target = |Meaning { of, triple, .. }| {
-        triple.map_or(true, |triple: TripleRef<'_>| {
+    let is_target = |Meaning { of, sense }: Meaning<'_>| {
+        sense.map_or(true, |Sense { triple, .. }| {
             let has_system = triple.operating_system != OperatingSystem::Unknown
                 || !triple.vendor.is_custom() && word.matches('-').count() > 1;
             triple.architecture != Architecture::Unknown
@@ -392,8 +392,8 @@ fn what(word: &str) -> WordIs<'_> {
     let first = meanings(word).next();
     // A custom vendor that resembles a name is no name, unless a tool has it.
     let is_misspelled = |it: &Meaning<'_>| {
-        let vendor = it.triple.ok().filter(|_| it.of == NameOf::Triple);
-        vendor.map_or(false, |triple| vendor_suggestion(triple).is_some())
+        let own = it.sense.ok().filter(|_| it.of == NameOf::Triple);
+        own.map_or(false, |it| vendor_suggestion(it.triple).is_some())
             && Dialect::all_with(word).all(|it| it == Dialect::Gnu)
     };
     let name = first.filter(|it| !is_misspelled(it));

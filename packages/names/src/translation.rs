@@ -60,12 +60,12 @@ impl fmt::Display for TranslateError {
 }
 
 impl Dialect {
-    /// The name in this dialect of a triple with a C library, if one is said: that of the triple
+    /// The name in this dialect of a triple, or of what a name means, with a C library if one is said: that of the triple
     /// [`with_c_library`](TargetInfo::with_c_library) returns. Nothing is allocated.
     ///
     /// # Errors
     ///
-    /// The triple has no name, and why.
+    /// There is no name, and why: names that the tool has for the triple may be for machines of a lower level.
     ///
     /// # Examples
     ///
@@ -76,43 +76,15 @@ impl Dialect {
     /// let triple = TripleRef::from_str("aarch64-unknown-linux").unwrap();
     /// let name = Dialect::Node.write_with(&triple, Some(ChosenLibc::Musl)).unwrap();
     /// assert_eq!(name.as_str(), "linux-arm64-musl");
+    /// let v3 = Dialect::Oci.read_loosely("linux/amd64/v3").unwrap();
+    /// assert_eq!(Dialect::Debian.write_with(v3, Some(ChosenLibc::Glibc)).unwrap().as_str(), "amd64v3");
+    /// assert!(Dialect::Rust.write_with(v3, Some(ChosenLibc::Glibc)).is_err());
     /// ```
-    #[inline]
-    pub fn write_with<'t>(
-        self,
-        triple: impl Into<TripleRef<'t>>,
-        c_library: Option<ChosenLibc>,
-    ) -> Result<Name, WriteError> {
-        self.write_at(triple, "", c_library)
-    }
-
-    /// The name in this dialect of a triple whose machine has a level that the triple can't state, as [`level`](Dialect::level) returns it, or
-    /// an empty one.
-    ///
-    /// # Errors
-    ///
-    /// The triple has no name, and why: names that the tool has for the triple may be for machines of a lower level.
-    ///
-    /// # Examples
-    ///
-    /// ```
-    /// use target_lexicon::TripleRef;
-    /// use target_names::Dialect;
-    ///
-    /// let triple = TripleRef::from_str("x86_64-unknown-linux-gnu").unwrap();
-    /// assert_eq!(Dialect::Debian.write_at(&triple, "v3", None).unwrap().as_str(), "amd64v3");
-    /// assert!(Dialect::Rust.write_at(&triple, "v3", None).is_err());
-    /// ```
-    pub fn write_at<'t>(
-        self,
-        triple: impl Into<TripleRef<'t>>,
-        level: &str,
-        c_library: Option<ChosenLibc>,
-    ) -> Result<Name, WriteError> {
-        let triple = triple.into();
-        let triple = c_library.map_or(triple, |it| triple.with_c_library(it));
+    pub fn write_with<'t>(self, meant: impl Into<Sense<'t>>, c_library: Option<ChosenLibc>) -> Result<Name, WriteError> {
+        let meant = completed(meant.into(), c_library);
+        let triple = meant.triple;
         let is_of_linux = matches!(c_library, Some(ChosenLibc::Glibc | ChosenLibc::Musl));
-        match self.name_at(&triple, level) {
+        match self.name_at(meant) {
             Some(_) if is_of_linux && self.would_state_c_library(&triple) => {
                 Err(WriteError::NeedsArmVersion)
             }
@@ -135,7 +107,8 @@ impl Dialect {
             && self.shape(&completed) != self.shape(triple)
     }
 
-    /// The name of a triple with a C library, if one is said, that states a version which triples don't have, as [`Dialect::write_versioned`] gives it. Where no name of
+    /// The same, with a version that triples don't have: `manylinux_2_17_x86_64` of glibc 2.17, `musllinux_1_2_aarch64` of musl 1.2,
+    /// `macosx_11_0_arm64` of macOS 11.0, also for `darwin`, or `android_21_x86_64` of Android's API level 21. Where no name of
     /// the triple states one, or none of its system and C library is said, it is the name without: `win_amd64` of Python.
     ///
     /// # Errors
@@ -157,45 +130,33 @@ impl Dialect {
     /// assert_eq!(tag("x86_64-pc-windows-msvc").unwrap(), "win_amd64");
     /// assert_eq!(tag("x86_64-unknown-freebsd"), Err(WriteError::NeedsVersion));
     /// ```
-    #[inline]
     pub fn write_with_versions<'t>(
         self,
-        triple: impl Into<TripleRef<'t>>,
+        meant: impl Into<Sense<'t>>,
         c_library: Option<ChosenLibc>,
         versions: &Versions,
     ) -> Result<Name, WriteError> {
-        self.write_all(&triple.into(), "", c_library, versions)
-    }
-
-    /// The name of a triple with all that is said of it besides.
-    fn write_all(
-        self,
-        triple: &TripleRef<'_>,
-        level: &str,
-        c_library: Option<ChosenLibc>,
-        versions: &Versions,
-    ) -> Result<Name, WriteError> {
-        let completed = c_library.map_or(*triple, |it| triple.with_c_library(it));
-        let version = versions.of(completed);
-        if let Some(name) = version.and_then(|it| self.name_of(&completed, level, Some(it))) {
+        let meant = completed(meant.into(), c_library);
+        let version = versions.of(meant.triple);
+        if let Some(name) = version.and_then(|it| self.name_of(meant, Some(it))) {
             return Ok(name);
         }
         // A version of a C library that isn't said.
-        let libraries = [ChosenLibc::Glibc, ChosenLibc::Musl].map(|it| completed.with_c_library(it));
-        let would_state = |it: &TripleRef<'_>| versions.of(*it).is_some() && self.states_version(it, level);
+        let libraries = [ChosenLibc::Glibc, ChosenLibc::Musl].map(|it| completed(meant, Some(it)));
+        let would_state = |it: &Sense<'_>| versions.of(it.triple).is_some() && self.states_version(*it);
         if version.is_none() && libraries.iter().any(would_state) {
             return Err(WriteError::NeedsCLibrary);
         }
-        if version.is_some() && self.states_version(&completed, level) {
+        if version.is_some() && self.states_version(meant) {
             return Err(WriteError::OtherVersion);
         }
-        self.write_at(triple, level, c_library)
+        self.write_with(meant, c_library)
     }
 
     /// The name in another dialect of what a name of this one means, with a C library if one is said. Nothing is
     /// allocated.
     ///
-    /// It is read [loosely](Dialect::read_loosely), [completed](TargetInfo::with_c_library) and written. The [level](Dialect::level) of the
+    /// It is read [loosely](Dialect::read_loosely), [completed](TargetInfo::with_c_library) and written. The level of the
     /// machine is kept: `linux/amd64/v3` is `x86_64_v3` of RPM, and `amd64v3` of Debian. Names of Debian, of GNU
     /// and of rustc state the C library of Linux, and those of Go, OCI and Python don't: from one of the latter to one of the
     /// former the C library has to be said. So has the ABI of Windows. It changes no name that states one.
@@ -251,12 +212,12 @@ impl Dialect {
         versions: &Versions,
         to: Dialect,
     ) -> Result<Name, TranslateError> {
-        let Sense { triple, level } = self.find(name).map_err(TranslateError::Read)?;
-        let found = to.write_all(&triple, level, c_library, versions);
+        let meant = self.read_loosely(name).map_err(TranslateError::Read)?;
+        let found = to.write_with_versions(meant, c_library, versions);
         // A name of the same tool stays if the one that is written says less: `manylinux_2_17_x86_64` of Python.
-        let says_less = |it: &Name| self.read(it.as_str()).map_or(false, |it| it != triple);
+        let says_less = |it: &Name| self.read(it.as_str()).map_or(false, |it| it != meant.triple);
         match found {
-            Ok(it) if self == to && says_less(&it) && self.read(name) == Ok(triple) => {
+            Ok(it) if self == to && says_less(&it) && self.read(name) == Ok(meant.triple) => {
                 Ok(Name::of(name).unwrap_or(it))
             }
             found => found.map_err(TranslateError::Write),
@@ -320,7 +281,7 @@ impl Dialect {
                 |it: &Option<ChosenLibc>| it.map_or(other, |it| other.with_c_library(it));
             let mut completed = libraries.iter().map(completed);
             architecture != triple.architecture
-                && completed.any(|it| self.write(it).is_some() || self.states_version(&it, ""))
+                && completed.any(|it| self.write(it).is_some() || self.states_version(it.into()))
         };
         let is_helped = match triple.architecture {
             Architecture::Arm(_) => has(ARMV7) || has(Architecture::Arm(ArmArchitecture::Armv5te)),
@@ -385,7 +346,7 @@ impl Dialect {
                 };
             } else if text == whole && row.2 == Way::Read {
                 let is_versioned = |major: &u16| has_version(*major, 0, row.0);
-                return if FIRST_NUMBERS.iter().any(is_versioned) && self.states_version(triple, "") {
+                return if FIRST_NUMBERS.iter().any(is_versioned) && self.states_version(triple.into()) {
                     WriteError::NeedsVersion
                 } else {
                     WriteError::OnlyReadNames
@@ -395,11 +356,11 @@ impl Dialect {
         why
     }
 
-    /// Whether names of the triple, whose machine has a level, state a version.
+    /// Whether names of what is meant state a version.
     #[inline]
-    fn states_version(self, triple: &TripleRef<'_>, level: &str) -> bool {
-        let has_versions = VersionOf::of(*triple).is_some();
-        has_versions && FIRST_NUMBERS.iter().any(|it| self.name_of(triple, level, Some((*it, 0))).is_some())
+    fn states_version(self, meant: Sense<'_>) -> bool {
+        let has_versions = VersionOf::of(meant.triple).is_some();
+        has_versions && FIRST_NUMBERS.iter().any(|it| self.name_of(meant, Some((*it, 0))).is_some())
     }
 
     /// Whether a triple has a name with a change.
@@ -408,6 +369,12 @@ impl Dialect {
         change(&mut other);
         self.write(other).is_some()
     }
+}
+
+/// What is meant, with a C library if one is said.
+fn completed(meant: Sense<'_>, c_library: Option<ChosenLibc>) -> Sense<'_> {
+    let triple = c_library.map_or(meant.triple, |it| meant.triple.with_c_library(it));
+    Sense { triple, ..meant }
 }
 
 const ARM: Architecture = Architecture::Arm(ArmArchitecture::Arm);

@@ -126,7 +126,7 @@ fn of_text(number: usize, text: &str) -> [(&'static str, String); 11] {
     let found = read(text);
     let change = |it: Change| format!("{:?}{}{:?}", it.part.range(), it.names, it.dropped_version().map(|it| it.text));
     let of_refusal = |why: Refusal| format!("{why}{:?}{}", why.range(), shown(why.suggestion_in(text)));
-    let of_dialect = |it: &Dialect| it.read_loosely(text).map_or_else(|why| why.to_string(), |it| it.to_string());
+    let of_dialect = |it: &Dialect| it.read_loosely(text).map_or_else(|why| why.to_string(), |it| it.triple.to_string());
     let refused = dialect
         .read(text)
         .err()
@@ -137,13 +137,14 @@ fn of_text(number: usize, text: &str) -> [(&'static str, String); 11] {
         WordIs::Unknown => format!("{}{}!", it.start(), it.text()),
     };
     let meaning = |it: Meaning| {
-        let triple = it.triple.map_or_else(|why| why.to_string(), |it| it.to_string());
-        format!("{}{triple}{}", it.of, shown(it.level))
+        let triple = it.sense.map_or_else(|why| why.to_string(), |it| it.triple.to_string());
+        let level = it.sense.ok().map(|it| it.level).filter(|it| !it.is_empty());
+        format!("{}{triple}{}", it.of, shown(level))
     };
-    let written = dialect.read_loosely(text).or(found).map(|it| {
+    let written = dialect.read_loosely(text).map(|it| it.triple).or(found).map(|it| {
         let versions = Versions::none().with(VersionOf::Glibc, 2, 17).with(VersionOf::Musl, 1, 2);
         let versions = versions.with(VersionOf::MacOs, 11, 0).with(VersionOf::Android, 21, 0);
-        let versioned = shown(dialect.write_versioned(it, &versions));
+        let versioned = shown(dialect.write_with_versions(it, None, &versions).ok());
         versioned + &to.write_with(it, library).map_or_else(|why| format!("{why:?}"), |it| it.to_string())
     });
     [

@@ -61,17 +61,17 @@ fn triple(text: &str) -> TripleRef<'_> {
 #[test]
 fn an_unknown_name_has_no_note_and_no_level() {
     for dialect in Dialect::ALL {
-        assert_eq!((dialect.note("nothing"), dialect.level("nothing")), (None, None));
+        assert_eq!((dialect.note("nothing"), dialect.read_loosely("nothing")), (None, Err(NameError::Unknown)));
     }
 }
 
 #[test]
 fn the_file_of_a_wheel_means_several_triples() {
-    let each = |dialect: Dialect, name| dialect.read_each(name).map(|it| it.to_string()).collect::<Vec<_>>().join(" ");
+    let each = |name| meanings(name).filter_map(|it| Some(it.sense.ok()?.triple.to_string())).collect::<Vec<_>>().join(" ");
     let wheel = "a-1.0-cp311-cp311-macosx_11_0_universal2.whl";
-    assert_eq!(each(Dialect::Python, wheel), "x86_64-apple-macosx11.0.0 aarch64-apple-macosx11.0.0");
+    assert_eq!(each(wheel), "x86_64-apple-macosx11.0.0 aarch64-apple-macosx11.0.0");
     // Only names of Python have tags.
-    assert_eq!(each(Dialect::Go, "py3-darwin_all"), "");
+    assert_eq!(each("py3-darwin_all"), "");
 }
 
 #[test]
@@ -79,7 +79,7 @@ fn a_triple_that_is_a_name_itself_has_no_version() {
     let unikraft = triple("x86_64-unikraft-linux-musl");
     assert_eq!(Dialect::Rust.write(unikraft).unwrap(), "x86_64-unikraft-linux-musl");
     let versions = Versions::none().with(VersionOf::Musl, 1, 2);
-    assert_eq!(Dialect::Rust.write_versioned(unikraft, &versions), None);
+    assert_eq!(Dialect::Rust.write_with_versions(unikraft, None, &versions).unwrap(), "x86_64-unikraft-linux-musl");
 }
 
 /// A text, and after `=` what its words say.
@@ -406,7 +406,7 @@ fn texts_have_names_in_them() {
     for (text, expected) in LOOSE.lines().map(|row| row.split_once('=').unwrap()) {
         let (dialect, name) = text.split_once(' ').unwrap();
         let dialect: Dialect = dialect.parse().unwrap();
-        assert_eq!(shown(dialect.read_loosely(name)), expected, "{text}");
+        assert_eq!(shown(dialect.read_loosely(name).map(|it| it.triple)), expected, "{text}");
     }
     // No longer string is a name.
     for length in 20..80 {
@@ -441,11 +441,11 @@ fn a_mistake_names_all_tools() {
 fn meanings_are_those_of_each_tool() {
     let meant = |text| {
         let shown =
-            |it: Meaning| format!("{} {}", it.of, it.triple.map_or_else(|why| format!("!{why}"), |it| it.to_string()));
+            |it: Meaning| format!("{} {}", it.of, it.sense.map_or_else(|why| format!("!{why}"), |it| it.triple.to_string()));
         meanings(text).map(shown).collect::<Vec<_>>().join(", ")
     };
     let horizon = meanings("armv7-nintendo-horizon-newlib").next().unwrap();
-    assert_eq!(horizon.triple, Ok(triple("armv7-nintendo-horizon")));
+    assert_eq!(horizon.sense, Ok(triple("armv7-nintendo-horizon").into()));
     assert_eq!(meant("darwin_all"), "go x86_64-apple-darwin, go aarch64-apple-darwin");
     assert_eq!(meant("plan9/amd64"), "go !Plan 9 is no known name");
     // A file of pacman's may be MSYS2's too, unless it names a system, or a machine that MSYS2 doesn't have.
@@ -554,12 +554,13 @@ fn what_is_around_a_name_keeps_its_level() {
     for (row, level) in LEVELS.lines().map(|row| row.split_once('=').unwrap()) {
         let (dialect, name) = row.split_once(' ').unwrap();
         let dialect: Dialect = dialect.parse().unwrap();
-        assert_eq!(dialect.level(name).unwrap_or("-"), level, "{row}");
+        let level = if level == "-" { "" } else { level };
+        assert_eq!(dialect.read_loosely(name).unwrap().level, level, "{row}");
         let mut meanings = meanings(name).filter(|it| it.of == NameOf::Dialect(dialect));
-        assert_eq!(meanings.next().unwrap().level.unwrap_or("-"), level, "{row}");
+        assert_eq!(meanings.next().unwrap().sense.unwrap().level, level, "{row}");
         // In Debian it has a name of this level, or none; `armhf` is for a higher one than Armv6.
         let debian = dialect.translate(name, "glibc".parse().ok(), Dialect::Debian);
-        let is_same = |it: target_names::Name| Dialect::Debian.level(it.as_str()).unwrap_or("-") == level;
+        let is_same = |it: target_names::Name| Dialect::Debian.read_loosely(it.as_str()).unwrap().level == level;
         assert!(level == "armv6" || debian.map_or(true, is_same), "{row} {debian:?}");
     }
 }

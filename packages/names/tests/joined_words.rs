@@ -158,8 +158,8 @@ fn answers_say_what_the_words_say() {
                     let name = join([system_word, machine, abi], form);
                     names += 1;
                     for meaning in meanings(&name) {
-                        if let (NameOf::Dialect(it), Ok(triple)) = (meaning.of, meaning.triple) {
-                            said.check(&triple, true, &name, it.name());
+                        if let (NameOf::Dialect(it), Ok(meant)) = (meaning.of, meaning.sense) {
+                            said.check(&meant.triple, true, &name, it.name());
                             answers += 1;
                         }
                     }

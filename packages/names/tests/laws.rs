@@ -223,7 +223,7 @@ proptest! {
             for dialect in Dialect::ALL {
                 let _ = dialect.write_with(it, None).map_err(|it| it.to_string());
                 let versions = VersionOf::ALL.into_iter().fold(Versions::none(), |all, it| all.with(it, u16::MAX, u8::MAX));
-                let _ = dialect.write_versioned(it, &versions);
+                let _ = dialect.write_with_versions(it, None, &versions);
             }
         }
     }

@@ -126,8 +126,7 @@ fn targets_of_rustc_are_themselves() {
         };
         assert_eq!(found, Ok(triple), "{target}");
         assert_eq!(Dialect::Rust.write(triple).unwrap(), target);
-        let (of, triple) = (NameOf::Triple, Ok(triple));
-        assert_eq!(meanings(target).next(), Some(Meaning { of, triple, level: None }));
+        assert_eq!(meanings(target).next(), Some(Meaning { of: NameOf::Triple, sense: Ok(triple.into()) }));
         parsed += 1;
         noted += usize::from(Dialect::Rust.note(target).is_some());
         // Nothing is offered instead of it.
@@ -150,7 +149,7 @@ fn rustc_targets() -> impl Iterator<Item = &'static str> {
 #[test]
 fn meanings_are_those_of_tools_and_then_the_triple() {
     let shown = |it: Meaning<'static>| {
-        let triple = it.triple.map_or_else(str::to_string, |it| it.to_string());
+        let triple = it.sense.map_or_else(str::to_string, |it| it.triple.to_string());
         format!("{} {triple}", it.of)
     };
     let meant = |text| meanings(text).map(shown).collect::<Vec<_>>();
@@ -169,9 +168,9 @@ fn meanings_are_those_of_tools_and_then_the_triple() {
 /// What the command shows of a name: the triples that it means, or why it has none, or what its words say.
 fn answer(name: &str) -> String {
     let (mut triples, mut whys) = (Vec::new(), Vec::new());
-    for Meaning { triple, .. } in meanings(name) {
-        let (answers, shown) = match triple {
-            Ok(triple) => (&mut triples, triple.to_string()),
+    for Meaning { sense, .. } in meanings(name) {
+        let (answers, shown) = match sense {
+            Ok(it) => (&mut triples, it.triple.to_string()),
             Err(why) => (&mut whys, format!("!{why}")),
         };
         if !answers.contains(&shown) {
@@ -294,7 +293,7 @@ fn fresh_names_get_no_wrong_answer() {
                 it => matches!(it, NameOf::Dialect(_)),
             };
             let tools = meanings(name).filter(|it| is_tool(it.of));
-            let tools = tools.filter_map(|it| Some((it.of.to_string(), it.triple.ok()?)));
+            let tools = tools.filter_map(|it| Some((it.of.to_string(), it.sense.ok()?.triple)));
             let words = Evidence::of(name)
                 .triple()
                 .map(|it| ("words".to_string(), it));

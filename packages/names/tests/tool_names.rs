@@ -405,8 +405,7 @@ fn calls_take_either_type_of_triple() {
     assert_eq!(Dialect::Go.write(&borrowed), Some(name));
     assert_eq!(Dialect::Go.write_with(&triple, None), Ok(name));
     let versions = Versions::none().with(VersionOf::MacOs, 11, 0);
-    let tag = Dialect::Python.write_with_versions(&triple, None, &versions).unwrap();
-    assert_eq!(Dialect::Python.write_versioned(&triple, &versions), Some(tag));
+    assert_eq!(Dialect::Python.write_with_versions(&triple, None, &versions).unwrap(), "macosx_11_0_arm64");
     assert!(triple.settles_as(&triple) && triple.settles_as(borrowed));
     assert!(borrowed.settles_as(&triple) && borrowed.settles_as(&borrowed));
     // Both types have the same methods.

@@ -88,7 +88,7 @@ impl Translate {
             return Ok(name);
         };
         let meant = from.read_loosely(text);
-        let libc = meant.map_or(reader.libc, |triple| reader.libc_for(triple));
+        let libc = meant.map_or(reader.libc, |it| reader.libc_for(it.triple));
         let name = from.translate_with(text, libc, &self.versions, to).map_err(|error| match error {
             TranslateError::Read(error) => Refusal::of_name(text, from, error),
             TranslateError::Write(error) => unwritten(error),

@@ -3,7 +3,7 @@ use super::*;
 use crate::arguments::written;
 use crate::refusal::reason;
 use target_lexicon::{OperatingSystem, VendorRef};
-use target_names::{meanings, vendor_suggestion, ChosenLibc, Dialect, Evidence, Meaning, Meant};
+use target_names::{meanings, vendor_suggestion, ChosenLibc, Dialect, Evidence, Meaning, Meant, Sense};
 
 pub fn command() -> Command {
     of_targets(
@@ -31,12 +31,12 @@ impl Call for What {
     }
 }
 
-/// What a name means: each triple, with the level of its machine and the tools that mean it, or `words`, if no tool does
+/// What a name means: each triple, with the level of its machine, and the tools that mean it, or `words`, if no tool does
 /// and the words of the name say just that; the reason of each tool that has the name for no triple; and otherwise what
 /// is known.
 struct Meanings<'a> {
     text: &'a str,
-    meanings: Vec<(TripleRef<'a>, Option<&'static str>, Vec<&'static str>)>,
+    meanings: Vec<(Sense<'a>, Vec<&'static str>)>,
     without_triple: Vec<(&'static str, &'static str)>,
     known: Option<String>,
     libc: Option<ChosenLibc>,
@@ -48,19 +48,17 @@ impl<'a> Meanings<'a> {
     fn of(text: &'a str, libc: Option<ChosenLibc>) -> Result<Self, Refusal<'a>> {
         let mut what =
             Meanings { text, meanings: Vec::new(), without_triple: Vec::new(), known: None, libc, is_completed: false };
-        for Meaning { of, triple, level } in meanings(text) {
-            match triple {
-                Ok(triple) => what.add(triple, level, of.name()),
+        for Meaning { of, sense } in meanings(text) {
+            match sense {
+                Ok(sense) => what.add(sense, of.name()),
                 Err(why) => what.without_triple.push((of.name(), why)),
             }
         }
         let evidence = Evidence::of(text);
         let is_name = !what.meanings.is_empty() || !what.without_triple.is_empty();
-        match evidence.target() {
+        match evidence.sense() {
             _ if what.is_certain() => {}
-            Some((triple, level)) if !is_name || has_system(&triple) => {
-                what.add(triple, Some(level).filter(|it| !it.is_empty()), WORDS)
-            }
+            Some(sense) if !is_name || has_system(&sense.triple) => what.add(sense, WORDS),
             _ if is_name => {}
             _ if evidence.is_empty() || Meant::by(text).is_some() => {
                 return Err(Refusal::unknown_to_all(text));
@@ -75,21 +73,20 @@ impl<'a> Meanings<'a> {
     fn is_certain(&self) -> bool {
         let is_target = |it: &TripleRef<'_>| !it.vendor.is_custom() && has_system(it);
         let is_rustc = |tools: &[&str]| tools.contains(&Dialect::Rust.name());
-        let is_meant = |(it, _, tools): &(TripleRef<'_>, _, Vec<_>)| is_target(it) || is_rustc(tools);
+        let is_meant = |(it, tools): &(Sense<'_>, Vec<_>)| is_target(&it.triple) || is_rustc(tools);
         self.meanings.iter().any(is_meant) || self.meanings.is_empty() && !self.without_triple.is_empty()
     }
 
-    fn add(&mut self, triple: TripleRef<'a>, level: Option<&'static str>, tool: &'static str) {
+    fn add(&mut self, sense: Sense<'a>, tool: &'static str) {
         let completed = match self.libc {
-            Some(libc) => triple.with_c_library(libc),
-            None => triple,
+            Some(libc) => sense.triple.with_c_library(libc),
+            None => sense.triple,
         };
-        self.is_completed |= completed != triple;
-        let triple = canonical(completed);
-        let same = |it: &&mut (TripleRef<'a>, _, _)| it.0 == triple && it.1 == level;
-        match self.meanings.iter_mut().find(same) {
-            Some((.., tools)) => tools.push(tool),
-            None => self.meanings.push((triple, level, vec![tool])),
+        self.is_completed |= completed != sense.triple;
+        let sense = Sense { triple: canonical(completed), ..sense };
+        match self.meanings.iter_mut().find(|it| it.0 == sense) {
+            Some((_, tools)) => tools.push(tool),
+            None => self.meanings.push((sense, vec![tool])),
         }
     }
 
@@ -102,7 +99,7 @@ impl<'a> Meanings<'a> {
     /// That the vendor of a meaning is custom, which may be a misspelling. Nothing of a target of rustc.
     fn note(&self, triple: &TripleRef<'_>) -> Option<String> {
         let VendorRef::Custom(vendor) = triple.vendor else { return None };
-        if self.meanings.iter().any(|(.., tools)| tools.contains(&Dialect::Rust.name())) {
+        if self.meanings.iter().any(|(_, tools)| tools.contains(&Dialect::Rust.name())) {
             return None;
         }
         let meant = vendor_suggestion(triple).map(|it| format!("; did you mean `{it}`?"));
@@ -122,22 +119,22 @@ impl Answer for Meanings<'_> {
     /// name for it, and a line for each reason why others have none; or what is known.
     fn write(&self, page: &mut Page<'_>) -> io::Result<()> {
         show!(page, visible(self.text), "\n")?;
-        for (triple, level, tools) in &self.meanings {
-            show!(page, "  is ", *triple)?;
-            if let Some(level) = level {
-                show!(page, " of the level ", *level)?;
+        for (sense, tools) in &self.meanings {
+            show!(page, "  is ", sense.triple)?;
+            if !sense.level.is_empty() {
+                show!(page, " of the level ", sense.level)?;
             }
             match tools[..] {
                 [WORDS] => page.put(", by its words\n")?,
                 _ => show!(page, ", as ", tools.join(", "), "\n")?,
             }
-            let own = self.note(triple).into_iter();
+            let own = self.note(&sense.triple).into_iter();
             for note in own.chain(self.notes(tools)) {
                 show!(page, "    note    ", note, "\n")?;
             }
             let mut unnamed: Vec<(&str, Vec<&str>)> = Vec::new();
             for dialect in written() {
-                match dialect.write_at(triple, level.unwrap_or(""), self.libc) {
+                match dialect.write_with(*sense, self.libc) {
                     Ok(name) => show!(page, "    ", padded(dialect, 8), name, "\n")?,
                     Err(error) => {
                         let (why, tool) = (reason(error), dialect.name());
@@ -159,20 +156,20 @@ impl Answer for Meanings<'_> {
     }
 
     fn members(&self) -> Object<'_> {
-        let meaning = |(triple, level, tools): &(TripleRef<'_>, Option<&'static str>, Vec<_>)| {
+        let meaning = |(sense, tools): &(Sense<'_>, Vec<_>)| {
             let (mut names, mut reasons) = (Object::new(), Object::new());
             for dialect in written() {
-                let name = dialect.write_at(triple, level.unwrap_or(""), self.libc);
+                let name = dialect.write_with(*sense, self.libc);
                 let why = name.as_ref().err().map(|it| it.reason());
                 reasons.extend(why.map(|it| (dialect.name(), it.into())));
                 names.push((dialect.name(), name.ok().map(|it| it.to_string()).into()));
             }
-            let own = self.note(triple).into_iter();
+            let own = self.note(&sense.triple).into_iter();
             let notes: Vec<String> = own.chain(self.notes(tools)).collect();
             let tools = tools.iter().map(|it| Json::from(*it));
             Json::Object(vec![
-                ("canonical", triple.to_string().into()),
-                ("level", (*level).into()),
+                ("canonical", sense.triple.to_string().into()),
+                ("level", (!sense.level.is_empty()).then_some(sense.level).into()),
                 ("tools", Json::List(tools.collect())),
                 ("note", (!notes.is_empty()).then(|| notes.join("; ")).into()),
                 ("names", Json::Object(names)),
