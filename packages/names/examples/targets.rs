@@ -39,22 +39,15 @@ pub fn lines() -> Vec<String> {
         let mut row = vec![
             target,
             triple.architecture.to_string(),
-            triple
-                .pointer_width()
-                .map_or(String::new(), |it| it.bits().to_string()),
-            triple
-                .endianness()
-                .map_or(String::new(), |it| format!("{it:?}").to_lowercase()),
+            triple.pointer_width().map_or(String::new(), |it| it.bits().to_string()),
+            triple.endianness().map_or(String::new(), |it| format!("{it:?}").to_lowercase()),
             triple.operating_system.to_string(),
             triple.c_library().map_or("", |it| it.name()).to_string(),
             triple.float_abi().map_or("", |it| it.name()).to_string(),
         ];
         let mut only_read = Vec::new();
         for tool in Dialect::ALL {
-            let first = names
-                .iter()
-                .find(|it| it.0 == *tool)
-                .map(|it| it.1.to_string());
+            let first = names.iter().find(|it| it.0 == *tool).map(|it| it.1.to_string());
             let written = tool.write(triple).map(|it| it.to_string());
             if written.is_none() && first.is_some() {
                 only_read.push(tool.name());

@@ -12,9 +12,7 @@ impl ArmProfile {
         };
         Some(match sub {
             Armv7a | Armv7k | Armv7s | Armv7ve | Thumbv7a | Thumbv7neon => ArmProfile::Application,
-            Armv8a | Armv8_1a | Armv8_2a | Armv8_3a | Armv8_4a | Armv8_5a => {
-                ArmProfile::Application
-            }
+            Armv8a | Armv8_1a | Armv8_2a | Armv8_3a | Armv8_4a | Armv8_5a => ArmProfile::Application,
             Armv7r | Armebv7r | Armv8r => ArmProfile::RealTime,
             Armv6m | Armv7m | Armv8mBase | Armv8mMain => ArmProfile::Microcontroller,
             Thumbv6m | Thumbv7em | Thumbv7m => ArmProfile::Microcontroller,

@@ -11,10 +11,7 @@ pub(super) struct Buffer<const SIZE: usize> {
 impl<const SIZE: usize> Buffer<SIZE> {
     #[inline]
     pub(super) fn new() -> Self {
-        Buffer {
-            bytes: [0; SIZE],
-            length: 0,
-        }
+        Buffer { bytes: [0; SIZE], length: 0 }
     }
 
     #[inline]

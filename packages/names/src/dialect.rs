@@ -245,9 +245,7 @@ impl Dialect {
         }
         let mut shape = rules.shape(triple);
         let numbers = match (version, &mut shape.operating_system) {
-            (None, system) => version_in(system)
-                .and_then(Option::take)
-                .map(|it| (it.major, it.minor)),
+            (None, system) => version_in(system).and_then(Option::take).map(|it| (it.major, it.minor)),
             // Of the two names of macOS the one that may have a version.
             (Some(_), system) => {
                 *system = match unversioned(*system) {
@@ -360,9 +358,7 @@ fn meaning(row: &Row, numbers: Numbers) -> Result<TripleRef<'static>, NameError>
 /// The triple of a row's text with some numbers.
 fn with_numbers(text: &'static str, numbers: Numbers) -> Result<TripleRef<'static>, NameError> {
     let mut triple = TripleRef::from_str(text).map_err(|_| NameError::Unknown)?;
-    if let (Some((major, minor)), Some(stated)) =
-        (numbers, version_in(&mut triple.operating_system))
-    {
+    if let (Some((major, minor)), Some(stated)) = (numbers, version_in(&mut triple.operating_system)) {
         *stated = Some(version(major, minor));
     }
     Ok(triple)
@@ -383,8 +379,7 @@ pub(super) fn numbers_of(pattern: &str, name: &str, tags: bool) -> Option<Number
     let mut numbers = None;
     for byte in pattern.bytes() {
         if byte == b'*' {
-            let (digits, after) =
-                rest.split_at(rest.iter().take_while(|it| it.is_ascii_digit()).count());
+            let (digits, after) = rest.split_at(rest.iter().take_while(|it| it.is_ascii_digit()).count());
             numbers = Some(match numbers {
                 None => (number(digits)?, 0),
                 Some((major, _)) => (major, number(digits)?),

@@ -2,9 +2,7 @@
 use crate::environment::library_and_abi;
 use crate::rustc_cfg::unlisted_system;
 use crate::{CLibrary, FloatAbi, Signedness};
-use target_lexicon::{
-    Architecture, CDataModel, Environment, OperatingSystem, PointerWidth, TripleRef,
-};
+use target_lexicon::{Architecture, CDataModel, Environment, OperatingSystem, PointerWidth, TripleRef};
 
 /// The size and the alignment of a type of C, in bytes.
 #[derive(Clone, Copy, Debug, PartialEq, Eq, Hash)]
@@ -91,9 +89,7 @@ impl Signedness {
         match (triple.architecture, triple.operating_system) {
             (_, Uefi | VxWorks) => None,
             (Aarch64(_) | Arm(_), Windows) => Some(Signedness::Signed),
-            (Aarch64(_) | Arm(_) | Powerpc | Powerpc64, system) if system.is_like_darwin() => {
-                Some(Signedness::Signed)
-            }
+            (Aarch64(_) | Arm(_) | Powerpc | Powerpc64, system) if system.is_like_darwin() => Some(Signedness::Signed),
             (Aarch64(_) | Arm(_) | Hexagon | Powerpc | Powerpc64 | Powerpc64le, _)
             | (Riscv32(_) | Riscv64(_) | S390x, _) => Some(Signedness::Unsigned),
             (Avr | Bpfeb | Bpfel | M68k | Mips32(_) | Mips64(_) | Msp430 | Nvptx64, _)
@@ -177,10 +173,7 @@ impl TypeLayout {
             (S390x | Sparc | Sparc64 | Sparcv9 | Wasm32 | Wasm64 | X86_64 | X86_64h, _) => 4,
             _ => return None,
         };
-        Some(TypeLayout {
-            size,
-            alignment: size,
-        })
+        Some(TypeLayout { size, alignment: size })
     }
 }
 
@@ -226,12 +219,7 @@ impl TypeSizes {
         match (triple.architecture, triple.operating_system) {
             (_, Uefi | VxWorks) => return None,
             (Msp430, _) => return Some(of_16_bits),
-            (Avr, _) => {
-                return Some(TypeSizes {
-                    double: 4,
-                    ..of_16_bits
-                })
-            }
+            (Avr, _) => return Some(TypeSizes { double: 4, ..of_16_bits }),
             _ => {}
         }
         match (TypeLayout::of_wchar(triple), triple.pointer_width()) {

@@ -47,7 +47,7 @@ pub(crate) fn environment_of(library: &str, abi: &str) -> Option<Environment> {
 
 /// Whether machines of an architecture, or all, have the ABI of an environment.
 pub(crate) fn is_on(environment: Environment, machine: Option<Architecture>) -> bool {
-    use Architecture::{Aarch64, Arm, Hexagon, Mips32, Mips64, Powerpc, X86_64, X86_64h};
+    use Architecture::{Aarch64, Arm, Hexagon, Mips32, Mips64, Powerpc, X86_64h, X86_64};
     match (library_and_abi(environment), machine) {
         (("", "eabi"), Some(Hexagon | Mips32(_) | Powerpc)) => true,
         ((_, "eabi" | "eabihf"), _) => matches!(machine, Some(Arm(_))),

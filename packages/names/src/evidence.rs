@@ -23,8 +23,7 @@ use crate::{Dialect, FloatAbi};
 use core::fmt::{self, Write};
 use core::ops::Range;
 use target_lexicon::{
-    Architecture, ArmArchitecture, Endianness, Environment, Field, OperatingSystem,
-    PointerWidth, TripleRef, VendorRef,
+    Architecture, ArmArchitecture, Endianness, Environment, Field, OperatingSystem, PointerWidth, TripleRef, VendorRef,
 };
 
 /// What words say of a property.
@@ -55,11 +54,7 @@ impl<T: Copy + PartialEq> Said<T> {
     }
 
     pub(crate) fn add(&mut self, it: T) {
-        *self = if self.allows(it) {
-            Said::One(it)
-        } else {
-            Said::Contradicted
-        };
+        *self = if self.allows(it) { Said::One(it) } else { Said::Contradicted };
     }
 }
 
@@ -124,10 +119,7 @@ impl<'a> Evidence<'a> {
     pub fn of(text: &'a str) -> Evidence<'a> {
         // GDB's `i386:x86-64` is one machine of a family.
         let start = if text.starts_with("i386:") { 5 } else { 0 };
-        let mut evidence = Evidence {
-            text,
-            ..Evidence::default()
-        };
+        let mut evidence = Evidence { text, ..Evidence::default() };
         let mut words = Words { text, at: start };
         let mut before = None;
         while let Some(word) = words.next() {
@@ -148,12 +140,7 @@ impl<'a> Evidence<'a> {
     }
 
     /// Takes a word, which says this or isn't known, after one that says a machine or a system, or another one.
-    fn take(
-        &mut self,
-        word: Range<usize>,
-        said: Option<&'static str>,
-        before: Option<Kind>,
-    ) -> Option<Kind> {
+    fn take(&mut self, word: Range<usize>, said: Option<&'static str>, before: Option<Kind>) -> Option<Kind> {
         let has_begun = self.has_begun();
         let text = &self.text[word.clone()];
         let is_number = text.bytes().all(|it| it.is_ascii_digit());
@@ -191,8 +178,8 @@ impl<'a> Evidence<'a> {
         // In a program's name `gnu`, `soft` and the like say nothing.
         let says = |kind: Kind| said.split(' ').any(|it| kind_of(it) == kind);
         let is_title = !has_begun && !says(Kind::Machine) && !says(Kind::System);
-        let may_be_title = ["gnu", "soft", "hard", "32", "64", "sim", "newlib", "neon", "ibm", "sun", "nvidia"]
-            .contains(&said);
+        let may_be_title =
+            ["gnu", "soft", "hard", "32", "64", "sim", "newlib", "neon", "ibm", "sun", "nvidia"].contains(&said);
         // What an ABI follows is a system, and no part of a name without a vendor: `arm-none-eabi-10.3-mac`.
         if self.system == Said::One("none") && before.is_none() && says(Kind::System) {
             self.system = Said::Contradicted;
@@ -304,9 +291,7 @@ impl<'a> Evidence<'a> {
         let is_arm = |it| matches!(it, Architecture::Arm(_) | Architecture::Aarch64(_));
         match self.machine {
             Said::One(it) if self.is_any_arm && !is_arm(it) => Said::Contradicted,
-            Said::Unsaid if self.is_any_arm && (self.floats != Said::Unsaid || !may_be_64) => {
-                Said::One(arm)
-            }
+            Said::Unsaid if self.is_any_arm && (self.floats != Said::Unsaid || !may_be_64) => Said::One(arm),
             said => said,
         }
     }
@@ -398,9 +383,7 @@ impl<'a> Evidence<'a> {
             triple.binary_format = triple.default_binary_format();
             triple
         };
-        let mut names = known_names(Field::Environment)
-            .iter()
-            .filter_map(|it| it.parse().ok());
+        let mut names = known_names(Field::Environment).iter().filter_map(|it| it.parse().ok());
         let is_named = |it: &Environment| self.is_just(&of(*it), of(Environment::Unknown));
         let environment = names.find(is_named).filter(|_| is_whole)?;
         Some(Sense { triple: of(environment), level })
@@ -419,13 +402,8 @@ impl<'a> Evidence<'a> {
             _ => said == Said::One(it),
         };
         // As in rustc, which has no `sim` on x86.
-        let is_simulator =
-            is_x86 && self.form == Said::One("sim") && bare.operating_system.is_like_darwin();
-        let has_form = if is_simulator {
-            form.is_empty()
-        } else {
-            own(self.form, form)
-        };
+        let is_simulator = is_x86 && self.form == Said::One("sim") && bare.operating_system.is_like_darwin();
+        let has_form = if is_simulator { form.is_empty() } else { own(self.form, form) };
         let floats = match self.floats {
             // A library of Arm has one of both ways.
             Said::Unsaid if is_arm && !library.is_empty() => return false,
@@ -463,8 +441,7 @@ impl<'a> Evidence<'a> {
             // A word such as `arm` says no version.
             Said::Unsaid => !self.is_any_arm || is_arm && has_no_version,
             Said::One(it) => {
-                is_at_most((it, ""), (machine, ""))
-                    && (is_at_most((machine, ""), (it, "")) || has_no_level(it))
+                is_at_most((it, ""), (machine, "")) && (is_at_most((machine, ""), (it, "")) || has_no_level(it))
             }
             Said::Contradicted => false,
         };
@@ -518,14 +495,9 @@ impl<'a> Evidence<'a> {
 
 /// A word for these says no level, and the machine may have any.
 pub(crate) fn has_no_level(machine: Architecture) -> bool {
-    use target_lexicon::{
-        Riscv32Architecture::Riscv32 as Bits32, Riscv64Architecture::Riscv64 as Bits64,
-    };
+    use target_lexicon::{Riscv32Architecture::Riscv32 as Bits32, Riscv64Architecture::Riscv64 as Bits64};
     use Architecture::*;
-    matches!(
-        machine,
-        Arm(ArmArchitecture::Arm | ArmArchitecture::Armeb) | Riscv32(Bits32) | Riscv64(Bits64)
-    )
+    matches!(machine, Arm(ArmArchitecture::Arm | ArmArchitecture::Armeb) | Riscv32(Bits32) | Riscv64(Bits64))
 }
 
 /// The C library that an environment says, and what else. `None` of one that no word says.
@@ -552,12 +524,8 @@ impl fmt::Display for Evidence<'_> {
         let is_other = self.system == Said::One(OTHER);
         let begin = match (self.machine(), self.system) {
             (Said::Contradicted, _) => return f.write_str("it names several machines"),
-            _ if self.is_other_machine => {
-                return f.write_str("it names a machine that no triple has")
-            }
-            (Said::Unsaid, Said::Unsaid) if !self.is_any_arm => {
-                return f.write_str("it names nothing known here")
-            }
+            _ if self.is_other_machine => return f.write_str("it names a machine that no triple has"),
+            (Said::Unsaid, Said::Unsaid) if !self.is_any_arm => return f.write_str("it names nothing known here"),
             (Said::Unsaid, Said::Unsaid) => {
                 return f.write_str("it names an Arm of 32 or of 64 bits, and no system");
             }
@@ -568,12 +536,8 @@ impl fmt::Display for Evidence<'_> {
             (_, Said::Unsaid) if self.unknown.is_none() => {
                 return f.write_str("it names a machine, and no system");
             }
-            _ if is_other => {
-                return f.write_str("it names a machine, and a system that no triple has")
-            }
-            (_, Said::Unsaid) => {
-                return f.write_str("it names a machine, and no system known here")
-            }
+            _ if is_other => return f.write_str("it names a machine, and a system that no triple has"),
+            (_, Said::Unsaid) => return f.write_str("it names a machine, and no system known here"),
             _ if self.unknown.is_some() => "its words say",
             _ => "no triple says all that its words say:",
         };
@@ -650,11 +614,7 @@ impl Iterator for Words<'_> {
 
     fn next(&mut self) -> Option<Word> {
         let bytes = self.text.as_bytes();
-        let is_letter = |at: usize| {
-            bytes
-                .get(at)
-                .map_or(false, |it| it.is_ascii_alphanumeric() || !it.is_ascii())
-        };
+        let is_letter = |at: usize| bytes.get(at).map_or(false, |it| it.is_ascii_alphanumeric() || !it.is_ascii());
         while self.at < bytes.len() && !is_letter(self.at) {
             self.at += 1;
         }
@@ -704,10 +664,7 @@ pub(crate) fn said(word: &str) -> Option<&'static str> {
         let has_versions = matches!(said, "version" | "musl" | "msvc") || name == "glibc";
         (is_system || has_versions).then_some(said)
     };
-    listed(word)
-        .or_else(|| machine_named(word))
-        .or_else(|| system_named(word))
-        .or_else(versioned)
+    listed(word).or_else(|| machine_named(word)).or_else(|| system_named(word)).or_else(versioned)
 }
 
 /// The machine of a text that is only a word for one, and not an Arm of 32 bits.
@@ -730,13 +687,7 @@ fn system_named(word: &str) -> Option<&'static str> {
 fn machine_named(word: &str) -> Option<&'static str> {
     let mut names = known_names(Field::Architecture).iter().copied();
     let known = names.find(|it| *it == word);
-    known.or_else(|| {
-        if word == "arm64" {
-            Some("aarch64")
-        } else {
-            Some(fit_alone(Place::First, word)?.names)
-        }
-    })
+    known.or_else(|| if word == "arm64" { Some("aarch64") } else { Some(fit_alone(Place::First, word)?.names) })
 }
 
 /// What two words say that are one for a machine, such as `x86_64` and `arm-v7`, unless the second is a version.
@@ -746,8 +697,7 @@ fn machine_of_pair(text: &str, first: &Word, second: &Word) -> Option<&'static s
     }
     let next = &text[second.clone()];
     let goes_on = text[second.end..].strip_prefix('.').unwrap_or("");
-    let is_version =
-        next.starts_with('v') || !text[..second.start].ends_with('_') && is_number(next);
+    let is_version = next.starts_with('v') || !text[..second.start].ends_with('_') && is_number(next);
     if is_version && goes_on.starts_with(|it: char| it.is_ascii_digit()) {
         return None;
     }

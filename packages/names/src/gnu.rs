@@ -9,9 +9,7 @@ use crate::suggestions::is_dropped_version;
 use crate::table::{refusals, KERNELS, MAKERS, NOT_MACHINES, NOT_SYSTEMS, OTHER_MAKERS, SYSTEMS};
 use crate::{Evidence, NameError, Said};
 use core::fmt::Write;
-use target_lexicon::{
-    BinaryFormat, Environment, Field, OperatingSystem, Refusal, TripleRef, VendorRef,
-};
+use target_lexicon::{BinaryFormat, Environment, Field, OperatingSystem, Refusal, TripleRef, VendorRef};
 
 /// The triple that a string means to config.sub, which is spelled like a triple; or why it has none, if that is known.
 pub(super) fn read_as_gnu(text: &str) -> Result<TripleRef<'static>, NameError> {
@@ -43,24 +41,15 @@ impl<'a> Parts<'a> {
             _ if parts.next().is_some() => return Err(NameError::WithoutTriple(refusals::PARTS)),
             (Some(maker), kernel, Some(system)) => (maker, kernel, Some(system)),
             (Some("android"), Some("linux"), None) => ("", Some("linux"), Some("android")),
-            (Some(kernel), Some(system), None) if is_kernel_of(kernel, system) => {
-                ("", Some(kernel), Some(system))
-            }
+            (Some(kernel), Some(system), None) if is_kernel_of(kernel, system) => ("", Some(kernel), Some(system)),
             (Some(maker), system @ Some(_), None) => (maker, None, system),
             // A sparc has SunOS, whoever made it.
-            (Some(maker), None, None) if is_one_of(MAKERS, maker) && machine != "sparc" => {
-                (maker, None, None)
-            }
+            (Some(maker), None, None) if is_one_of(MAKERS, maker) && machine != "sparc" => (maker, None, None),
             // The prefix of a compiler for a machine without a system.
             (Some(""), None, None) => ("", None, None),
             (system, ..) => ("", None, system),
         };
-        Ok(Parts {
-            machine,
-            maker,
-            kernel,
-            system,
-        })
+        Ok(Parts { machine, maker, kernel, system })
     }
 
     /// Writes the string without a maker, of whom only floating-point arguments say something.
@@ -110,16 +99,13 @@ fn is_kernel_of(kernel: &str, system: &str) -> bool {
 
 /// Whether a part is this name and a version of digits and dots.
 fn is_versioned(part: &str, name: &str) -> bool {
-    part.strip_prefix(name)
-        .map_or(false, |it| is_dropped_version(it.as_bytes()))
+    part.strip_prefix(name).map_or(false, |it| is_dropped_version(it.as_bytes()))
 }
 
 /// Whether a part is a system, a kernel, an environment or a word of a machine, which config.sub takes for a maker.
 fn is_system(part: &str) -> bool {
     let is_known = || is_like_system(part) || part.parse::<Environment>().is_ok();
-    is_one_of(KERNELS, part)
-        || is_of_machine(part)
-        || is_known() && !["none", "unknown", "softfloat"].contains(&part)
+    is_one_of(KERNELS, part) || is_of_machine(part) || is_known() && !["none", "unknown", "softfloat"].contains(&part)
 }
 
 /// Whether a part is a word for a system in names that no tool has.
@@ -137,9 +123,7 @@ fn why_refused(refusal: &Refusal<'_>) -> NameError {
     let mut systems = SYSTEMS.iter().filter(|it| may_be_versioned(part, it.0));
     match refusal.expected {
         _ if is_soft_floats(part) => NameError::WithoutTriple(refusals::SOFT_FLOATS),
-        Some(Field::OperatingSystem) => systems
-            .next()
-            .map_or(NameError::Unknown, |it| NameError::WithoutTriple(it.1)),
+        Some(Field::OperatingSystem) => systems.next().map_or(NameError::Unknown, |it| NameError::WithoutTriple(it.1)),
         _ => NameError::Unknown,
     }
 }
@@ -174,9 +158,7 @@ fn complete(triple: &TripleRef<'_>, parts: &Parts<'_>) -> Result<TripleRef<'stat
         operating_system,
         environment,
         binary_format: match (operating_system, triple.binary_format) {
-            (System::None_, BinaryFormat::Unknown) => {
-                wasm_or(BinaryFormat::Elf, triple.architecture)
-            }
+            (System::None_, BinaryFormat::Unknown) => wasm_or(BinaryFormat::Elf, triple.architecture),
             (_, other) => other,
         },
     })

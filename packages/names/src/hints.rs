@@ -5,7 +5,9 @@
 use crate::buffer::Buffer;
 use crate::dialect::Row;
 use crate::evidence::only_machine;
-use crate::suggestions::{edits_between, machine_of, meant, visible, vendor_suggestion, Machine, Suggest as _, Suggestion};
+use crate::suggestions::{
+    edits_between, machine_of, meant, vendor_suggestion, visible, Machine, Suggest as _, Suggestion,
+};
 use crate::table::SYSTEMS;
 use crate::text::is_whole;
 use crate::{changes, read, Dialect, Evidence, FloatAbi, NameError, Said};
@@ -40,13 +42,11 @@ impl fmt::Display for Mistake<'_> {
             Mistake::OtherTool(name) => {
                 f.write_str("it is a name of ")?;
                 let count = Dialect::all_with(name).count();
-                Dialect::all_with(name)
-                    .enumerate()
-                    .try_for_each(|(at, dialect)| match at {
-                        0 => write!(f, "{dialect}"),
-                        _ if at + 1 < count => write!(f, ", {dialect}"),
-                        _ => write!(f, " and {dialect}"),
-                    })
+                Dialect::all_with(name).enumerate().try_for_each(|(at, dialect)| match at {
+                    0 => write!(f, "{dialect}"),
+                    _ if at + 1 < count => write!(f, ", {dialect}"),
+                    _ => write!(f, " and {dialect}"),
+                })
             }
             Mistake::Path => f.write_str("it has a path"),
             Mistake::Part(name) => write!(f, "it is a part of a name, such as `{name}`"),
@@ -152,8 +152,7 @@ impl Dialect {
         }
         let slashes = text.match_indices(['/', '\\']).map(|(at, _)| at + 1);
         let ends = core::iter::once(0).chain(slashes).map(|at| &text[at..]);
-        let may_follow =
-            |after: &str| after.is_empty() || after.starts_with(['/', '\\']) && !self.has_slashes();
+        let may_follow = |after: &str| after.is_empty() || after.starts_with(['/', '\\']) && !self.has_slashes();
         let is_at = |end: &str, name: &str| end.strip_prefix(name).map_or(false, may_follow);
         let found = ends.flat_map(|end| self.names().filter(move |name| is_at(end, name)));
         found.max_by_key(|name| name.len())
@@ -190,8 +189,7 @@ impl Dialect {
         let machine = only_machine(name)?;
         let is_same = |row: &&Row| {
             let triple = TripleRef::from_str(row.1);
-            triple.map_or(false, |it| it.architecture == machine)
-                && only_machine(row.0) == Some(machine)
+            triple.map_or(false, |it| it.architecture == machine) && only_machine(row.0) == Some(machine)
         };
         self.rows_read().find(is_same).map(|row| row.0)
     }
@@ -217,11 +215,7 @@ impl<'a> Hints<'a> {
     /// A longer name gets no hint, so that none takes long.
     fn of(name: &'a str) -> Option<Self> {
         let is_short = name.len() <= LONGEST_PATH;
-        is_short.then(|| Hints {
-            name,
-            evidence: Evidence::of(name),
-            machines_near: Cell::new(None),
-        })
+        is_short.then(|| Hints { name, evidence: Evidence::of(name), machines_near: Cell::new(None) })
     }
 
     /// The answer of [`Dialect::suggestion`].
@@ -239,9 +233,7 @@ impl<'a> Hints<'a> {
             let triple = dialect.read(known).ok()?;
             return evidence.allows(&triple).then_some(known);
         }
-        let spelled = read(name)
-            .ok()
-            .filter(|it| !it.vendor.is_custom() && !has_number_of_abi(name));
+        let spelled = read(name).ok().filter(|it| !it.vendor.is_custom() && !has_number_of_abi(name));
         let said = evidence.triple().filter(|_| !evidence.has_title());
         let named = spelled.or(said);
         let known = named.and_then(|it| dialect.name_with_floats_of(&it));
@@ -254,9 +246,7 @@ impl<'a> Hints<'a> {
     /// The nearest name that contradicts nothing which the words say.
     fn nearest(&self, dialect: Dialect) -> Option<&'static str> {
         let name = self.name;
-        let allows = |row: &Row| {
-            TripleRef::from_str(row.1).map_or(false, |it| self.evidence.allows(&it))
-        };
+        let allows = |row: &Row| TripleRef::from_str(row.1).map_or(false, |it| self.evidence.allows(&it));
         let rows = dialect.rows_read().filter(|row| may_be_near(row, name));
         meant(
             name.as_bytes(),
@@ -302,9 +292,7 @@ impl<'a> Hints<'a> {
 /// A name with a dash for each separator, or nothing if it is longer than any that is near.
 fn joined(name: &str) -> Buffer<64> {
     let mut joined = Buffer::new();
-    let is_written = name
-        .chars()
-        .try_for_each(|it| joined.write_char(if "/_ .".contains(it) { '-' } else { it }));
+    let is_written = name.chars().try_for_each(|it| joined.write_char(if "/_ .".contains(it) { '-' } else { it }));
     is_written.map_or(Buffer::new(), |()| joined)
 }
 
@@ -430,9 +418,7 @@ impl<'a> Meant<'a> {
 fn keeps_systems(name: &str, other: &str) -> bool {
     let words = |text| str::split(text, |it: char| !it.is_ascii_alphanumeric());
     let is_system = |word: &&str| SYSTEMS.iter().any(|it| it.0 == *word);
-    words(name)
-        .filter(is_system)
-        .all(|word| words(other).any(|it| it == word))
+    words(name).filter(is_system).all(|word| words(other).any(|it| it == word))
 }
 
 /// The most bytes of a path in which a name is looked for, and of a name that gets a hint.

@@ -35,9 +35,7 @@ pub(crate) fn may_have_name(machine: Machine<'_>, named: Machine<'_>, is_on_syst
     use ArmArchitecture::{Arm, Armeb};
     match (machine.0, named) {
         // Without its version all that have the instruction set of Arm, and not only Thumb.
-        (Architecture::Arm(_), (Architecture::Arm(Arm | Armeb), "")) => {
-            level_of(machine).1 & MICRO == 0
-        }
+        (Architecture::Arm(_), (Architecture::Arm(Arm | Armeb), "")) => level_of(machine).1 & MICRO == 0,
         (Architecture::Riscv32(_) | Architecture::Riscv64(_), (_, "")) => {
             let is_stated = level_of(named).1 != 0;
             let on_systems = (named.0, if is_stated { "" } else { "gc" });
@@ -49,9 +47,7 @@ pub(crate) fn may_have_name(machine: Machine<'_>, named: Machine<'_>, is_on_syst
 
 /// The kind of a machine, and the bits of its level.
 fn level_of((architecture, word): Machine<'_>) -> (Architecture, u32) {
-    use target_lexicon::{
-        Riscv32Architecture as Bits32, Riscv64Architecture as Bits64, X86_32Architecture::*,
-    };
+    use target_lexicon::{Riscv32Architecture as Bits32, Riscv64Architecture as Bits64, X86_32Architecture::*};
     use Architecture::*;
     let (kind, bits) = match architecture {
         // Words for x86, such as `386` and `x86`, mean either of the last two.
@@ -83,9 +79,7 @@ fn level_of((architecture, word): Machine<'_>) -> (Architecture, u32) {
         (Riscv32(_) | Riscv64(_), "gc" | "rva20u64") => first(6),
         (Riscv64(_), "rva22u64") => first(7),
         (Riscv64(_), "rva23u64") => first(8),
-        (_, power) => power
-            .strip_prefix("power")
-            .map_or(0, |it| first(number(it))),
+        (_, power) => power.strip_prefix("power").map_or(0, |it| first(number(it))),
     };
     (kind, bits | stated)
 }
@@ -207,10 +201,7 @@ riscv32i riscv32im riscv32ima riscv32imac riscv32imafc riscv32gc";
             ("powerpc64le", "powerpc64"),
             ("powerpc64", "riscv32"),
         ] {
-            assert!(
-                !is_at_most(machine(first), machine(second)),
-                "{first} {second}"
-            );
+            assert!(!is_at_most(machine(first), machine(second)), "{first} {second}");
         }
         for (first, second) in [
             ("x86_64", "x86_64@v1"),
@@ -241,22 +232,13 @@ riscv32i riscv32im riscv32ima riscv32imac riscv32imafc riscv32gc";
             // No machine has a higher level than some number.
             ("aarch64@v8.99", "aarch64@v8.4000000000"),
         ] {
-            assert!(
-                is_at_most(machine(first), machine(second)),
-                "{first} {second}"
-            );
-            assert!(
-                is_at_most(machine(second), machine(first)),
-                "{second} {first}"
-            );
+            assert!(is_at_most(machine(first), machine(second)), "{first} {second}");
+            assert!(is_at_most(machine(second), machine(first)), "{second} {first}");
         }
-        let all = known_names(Field::Architecture)
-            .iter()
-            .map(|it| machine(it));
+        let all = known_names(Field::Architecture).iter().map(|it| machine(it));
         for (a, b, c) in all.clone().flat_map(|a| {
             let all = all.clone();
-            all.clone()
-                .flat_map(move |b| all.clone().map(move |c| (a, b, c)))
+            all.clone().flat_map(move |b| all.clone().map(move |c| (a, b, c)))
         }) {
             assert!(is_at_most(a, a));
             let is_through = is_at_most(a, b) && is_at_most(b, c);

@@ -93,8 +93,7 @@ pub use reading::{changes, read, Change, ChangedParts};
 pub use rustc_cfg::{is_vendor_of_rustc, RustcCfg};
 pub use spelled::Spelling;
 pub use suggestions::{
-    is_visible, known_names, suggestion, suggestion_in, vendor_suggestion, visible, Suggest,
-    Suggestion, Visible, SHOWN,
+    is_visible, known_names, suggestion, suggestion_in, vendor_suggestion, visible, Suggest, Suggestion, Visible, SHOWN,
 };
 pub use table::{ArmProfile, CLibrary, ChosenLibc, Dialect, FloatAbi, Signedness, WriteError};
 pub use target_info::TargetInfo;

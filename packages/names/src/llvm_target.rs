@@ -3,9 +3,8 @@ use crate::apple_versions::macos_version;
 use crate::rustc_cfg::{is_simulator, unlisted_system};
 use core::fmt;
 use target_lexicon::{
-    Aarch64Architecture, Architecture, ArmArchitecture, Environment, KnownVendor,
-    Mips32Architecture, OperatingSystem, Riscv32Architecture, Riscv64Architecture, TripleRef,
-    VendorRef,
+    Aarch64Architecture, Architecture, ArmArchitecture, Environment, KnownVendor, Mips32Architecture, OperatingSystem,
+    Riscv32Architecture, Riscv64Architecture, TripleRef, VendorRef,
 };
 
 /// The string that LLVM and clang take for a target, which is displayed. It is rustc's `llvm-target` for each of its targets that
@@ -40,9 +39,7 @@ fn machine(architecture: Architecture) -> Architecture {
     match architecture {
         Architecture::Riscv32(_) => Architecture::Riscv32(Riscv32Architecture::Riscv32),
         Architecture::Riscv64(_) => Architecture::Riscv64(Riscv64Architecture::Riscv64),
-        Architecture::Arm(ArmArchitecture::Thumbv7neon) => {
-            Architecture::Arm(ArmArchitecture::Armv7)
-        }
+        Architecture::Arm(ArmArchitecture::Thumbv7neon) => Architecture::Arm(ArmArchitecture::Armv7),
         other => other,
     }
 }
@@ -110,11 +107,9 @@ fn rest(triple: &TripleRef<'_>) -> Option<&'static str> {
         (X86_32(_), System::Netbsd, _) => "-unknown-netbsdelf",
         (Arm(_), System::Netbsd, Eabi) => "-unknown-netbsdelf-eabi",
         (Arm(_), System::Netbsd, Eabihf) => "-unknown-netbsdelf-eabihf",
-        (
-            Arm(ArmArchitecture::Armv7 | ArmArchitecture::Thumbv7neon),
-            System::Linux,
-            Androideabi,
-        ) => "-none-linux-android",
+        (Arm(ArmArchitecture::Armv7 | ArmArchitecture::Thumbv7neon), System::Linux, Androideabi) => {
+            "-none-linux-android"
+        }
         (Wasm32, System::WasiP1, Threads) | (Wasm32, System::Linux, Musl) => "-wasi",
         _ => return Option::None,
     })

@@ -1,9 +1,9 @@
 //! Names with what files and commands have around them.
 use crate::buffer::Buffer;
+use crate::dialect::Sense;
 use crate::environment::{environment_of, library_and_abi};
 use crate::hints::LONGEST_PATH;
 use crate::table::OF_CONFIG_SUB;
-use crate::dialect::Sense;
 use crate::{Dialect, Evidence, FloatAbi, NameError, Said};
 use core::fmt::{self, Write};
 use target_lexicon::{Architecture, ArmArchitecture, Environment, OperatingSystem, TripleRef};
@@ -73,9 +73,7 @@ impl Dialect {
             Dialect::Go => self.read_port(text),
             Dialect::Gnu => self.read_compiler(text),
             Dialect::Zig => self.read_versions(text),
-            Dialect::Debian => self
-                .read_uclibc(text)
-                .or_else(|| self.read_architecture(text)),
+            Dialect::Debian => self.read_uclibc(text).or_else(|| self.read_architecture(text)),
             _ => None,
         }
     }
@@ -87,9 +85,7 @@ impl Dialect {
             Dialect::Debian => text.strip_suffix(".deb")?,
             Dialect::Rpm => text.strip_suffix(".rpm")?,
             Dialect::Pacman => text.split_once(".pkg.tar")?.0,
-            Dialect::Go | Dialect::Node | Dialect::Rust => {
-                ARCHIVES.iter().find_map(|it| text.strip_suffix(it))?
-            }
+            Dialect::Go | Dialect::Node | Dialect::Rust => ARCHIVES.iter().find_map(|it| text.strip_suffix(it))?,
             _ => return None,
         };
         let (start, found) = self.read_end(file, ['-', '_', '.'])?;
@@ -220,9 +216,7 @@ impl Dialect {
             return None;
         }
         match self.read_written(format_args!("{machine}-{system}.{least}{library}"))? {
-            Err(NameError::Unknown) => {
-                self.read_written(format_args!("{machine}-{system}{library}"))
-            }
+            Err(NameError::Unknown) => self.read_written(format_args!("{machine}-{system}{library}")),
             found => Some(found),
         }
     }
@@ -243,10 +237,8 @@ impl Dialect {
     fn read_words(self, text: &str) -> Option<Found> {
         let is_space = |it: char| it.is_whitespace() || it == ',';
         let text = text.trim_matches(is_space);
-        let (system, machine) = text
-            .split_once(is_space)
-            .or_else(|| text.rsplit_once('-'))
-            .or_else(|| text.split_once('_'))?;
+        let (system, machine) =
+            text.split_once(is_space).or_else(|| text.rsplit_once('-')).or_else(|| text.split_once('_'))?;
         let words = || machine.split(is_space).filter(|it| !it.is_empty());
         match self.read_system_and_machine(system, words()) {
             None | Some(Err(NameError::Unknown)) => {
@@ -264,11 +256,7 @@ impl Dialect {
     }
 
     #[inline]
-    fn read_system_and_machine<'w>(
-        self,
-        system: &str,
-        mut machine: impl Iterator<Item = &'w str>,
-    ) -> Option<Found> {
+    fn read_system_and_machine<'w>(self, system: &str, mut machine: impl Iterator<Item = &'w str>) -> Option<Found> {
         let mut name = Text::new();
         match system.split_once("_NT-") {
             Some((kind, _)) => write!(name, "{kind}_NT-10.0").ok()?,
@@ -316,9 +304,7 @@ type Found = Result<Sense<'static>, NameError>;
 const LONGEST_NAME: usize = 40;
 
 /// What ends the names of archives and programs.
-const ARCHIVES: [&str; 7] = [
-    ".tar.gz", ".tar.xz", ".tar.zst", ".tar.bz2", ".tgz", ".zip", ".exe",
-];
+const ARCHIVES: [&str; 7] = [".tar.gz", ".tar.xz", ".tar.zst", ".tar.bz2", ".tgz", ".zip", ".exe"];
 
 /// What the folders of GoReleaser say of the machines that Go takes if nothing else is said.
 const USUAL_MACHINES: &str = "amd64_v1 arm64_v8.0 386_sse2 mips_hardfloat mipsle_hardfloat \
@@ -331,18 +317,8 @@ const TOOLS: &str = "gcc-ar gcc-nm gcc-ranlib gcov-dump gcov-tool lto-dump gcc g
     dllwrap";
 
 /// What `uname` prints after the machine.
-const AFTER_MACHINES: [&str; 10] = [
-    "GNU/Linux",
-    "Linux",
-    "GNU",
-    "Haiku",
-    "illumos",
-    "Android",
-    "Toybox",
-    "Msys",
-    "Cygwin",
-    "unknown",
-];
+const AFTER_MACHINES: [&str; 10] =
+    ["GNU/Linux", "Linux", "GNU", "Haiku", "illumos", "Android", "Toybox", "Msys", "Cygwin", "unknown"];
 
 /// The triple of Android on the machine of another one of Linux.
 fn on_android(triple: TripleRef<'static>) -> TripleRef<'static> {

@@ -37,9 +37,7 @@ impl Name {
     /// The name that a pattern makes with these numbers. A test writes each row with the longest ones: all fit.
     pub(super) fn filled(pattern: &str, numbers: Numbers) -> Name {
         let mut name = Buffer::new();
-        let mut numbers = numbers
-            .into_iter()
-            .flat_map(|(major, minor)| [major, u16::from(minor)]);
+        let mut numbers = numbers.into_iter().flat_map(|(major, minor)| [major, u16::from(minor)]);
         let mut pieces = pattern.split('*');
         let _ = name.write_str(pieces.next().unwrap_or(""));
         for (piece, number) in pieces.zip(&mut numbers) {

@@ -11,9 +11,7 @@ pub(crate) const fn object_format(triple: &TripleRef<'_>) -> BinaryFormat {
         _ if !matches!(given, BinaryFormat::Unknown) && given as u8 != implied as u8 => given,
         (BinaryFormat::Elf, Cygwin | Uefi, _) => BinaryFormat::Coff,
         (BinaryFormat::Unknown, _, Architecture::Unknown) => BinaryFormat::Unknown,
-        (BinaryFormat::Elf | BinaryFormat::Unknown, _, machine) => {
-            wasm_or(BinaryFormat::Elf, machine)
-        }
+        (BinaryFormat::Elf | BinaryFormat::Unknown, _, machine) => wasm_or(BinaryFormat::Elf, machine),
         _ => implied,
     }
 }

@@ -2,8 +2,8 @@
 use crate::environment::library_and_abi;
 use core::fmt;
 use target_lexicon::{
-    Architecture, Endianness, Environment, KnownVendor, Mips32Architecture, Mips64Architecture,
-    OperatingSystem, PointerWidth, TripleRef, VendorRef,
+    Architecture, Endianness, Environment, KnownVendor, Mips32Architecture, Mips64Architecture, OperatingSystem,
+    PointerWidth, TripleRef, VendorRef,
 };
 use target_lexicon::{Named as _, OperatingSystemExt as _};
 
@@ -106,9 +106,9 @@ impl fmt::Display for RustcCfg<'_> {
 #[inline]
 pub(super) fn unlisted_system<'a>(triple: &TripleRef<'a>) -> Option<&'a str> {
     match (triple.vendor, triple.operating_system) {
-        (VendorRef::Custom(system), OperatingSystem::Unknown) => ["nuttx", "rtems", "wasip3"]
-            .contains(&system)
-            .then_some(system),
+        (VendorRef::Custom(system), OperatingSystem::Unknown) => {
+            ["nuttx", "rtems", "wasip3"].contains(&system).then_some(system)
+        }
         _ => None,
     }
 }
@@ -181,10 +181,7 @@ fn env_of_system(triple: &TripleRef<'_>) -> &'static str {
 pub(super) fn is_simulator(triple: &TripleRef<'_>) -> bool {
     use {Architecture::*, OperatingSystem::*};
     matches!(triple.architecture, X86_32(_) | X86_64 | X86_64h)
-        && matches!(
-            triple.operating_system,
-            IOS(_) | TvOS(_) | VisionOS(_) | WatchOS(_) | XROS(_)
-        )
+        && matches!(triple.operating_system, IOS(_) | TvOS(_) | VisionOS(_) | WatchOS(_) | XROS(_))
 }
 
 #[inline]
@@ -256,8 +253,8 @@ pub fn is_vendor_of_rustc(vendor: &str) -> bool {
 
 /// The custom vendors of rustc's targets.
 const VENDORS: [&str; 13] = [
-    "esp", "esp32", "esp32s2", "esp32s3", "mti", "nuttx", "openwrt", "rtems", "sony", "unikraft",
-    "wali", "wasip3", "win7",
+    "esp", "esp32", "esp32s2", "esp32s3", "mti", "nuttx", "openwrt", "rtems", "sony", "unikraft", "wali", "wasip3",
+    "win7",
 ];
 
 #[cfg(test)]

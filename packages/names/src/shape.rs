@@ -2,8 +2,8 @@
 use crate::environment::library_and_abi;
 use crate::spelled::{is_like_system, is_of_machine, is_without_triple};
 use target_lexicon::{
-    Architecture, ArmArchitecture, DeploymentTarget, Environment, KnownVendor, OperatingSystem,
-    Riscv32Architecture, Riscv64Architecture, TripleRef, VendorRef, X86_32Architecture,
+    Architecture, ArmArchitecture, DeploymentTarget, Environment, KnownVendor, OperatingSystem, Riscv32Architecture,
+    Riscv64Architecture, TripleRef, VendorRef, X86_32Architecture,
 };
 
 /// How much of the architecture a dialect states.
@@ -114,10 +114,7 @@ impl MachineRule {
         environment: Environment,
         architecture: Architecture,
     ) -> Architecture {
-        use {
-            Architecture::*, Riscv32Architecture as Bits32, Riscv64Architecture as Bits64,
-            X86_32Architecture::*,
-        };
+        use {Architecture::*, Riscv32Architecture as Bits32, Riscv64Architecture as Bits64, X86_32Architecture::*};
         match (self, architecture) {
             (_, Arm(arm)) => Arm(self.arm(system, environment, arm)),
             (MachineRule::Rustc, Riscv32(Bits32::Riscv32)) => Riscv32(Bits32::Riscv32gc),
@@ -136,12 +133,7 @@ impl MachineRule {
     }
 
     /// The Arm without what isn't stated.
-    fn arm(
-        self,
-        system: OperatingSystem,
-        environment: Environment,
-        arm: ArmArchitecture,
-    ) -> ArmArchitecture {
+    fn arm(self, system: OperatingSystem, environment: Environment, arm: ArmArchitecture) -> ArmArchitecture {
         use ArmArchitecture::*;
         let abi = match library_and_abi(environment) {
             ("gnu" | "musl" | "uclibc", abi) => abi,
@@ -155,12 +147,10 @@ impl MachineRule {
                 other => other,
             },
             // Those without are for Armv5.
-            (MachineRule::Packages, "eabi", _) => {
-                match arm_of_version(arm) {
-                    Arm | Armv6 | Armv7 | Armv8 => Armv5te,
-                    other => other,
-                }
-            }
+            (MachineRule::Packages, "eabi", _) => match arm_of_version(arm) {
+                Arm | Armv6 | Armv7 | Armv8 => Armv5te,
+                other => other,
+            },
             (MachineRule::Order | MachineRule::Packages, ..) => match arm {
                 Armeb | Armebv7r | Thumbeb => Armeb,
                 _ => Arm,
@@ -214,11 +204,7 @@ fn two_numbers_of(stated: Option<DeploymentTarget>) -> Option<DeploymentTarget> 
 
 /// The version with these numbers and 0.
 pub(super) const fn version(major: u16, minor: u8) -> DeploymentTarget {
-    DeploymentTarget {
-        major,
-        minor,
-        patch: 0,
-    }
+    DeploymentTarget { major, minor, patch: 0 }
 }
 
 /// The vendor that triples on a system usually have.

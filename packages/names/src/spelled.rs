@@ -1,12 +1,8 @@
 //! What each part of a string spells.
-use crate::suggestions::{
-    architecture_of, first_part, fit, is_digit_or_dot, known_names, Form, Place, Reading,
-};
+use crate::suggestions::{architecture_of, first_part, fit, is_digit_or_dot, known_names, Form, Place, Reading};
 use crate::table::{NO_VENDORS, SYSTEMS};
 use core::fmt;
-use target_lexicon::{
-    Architecture, DeploymentTarget, Field, OperatingSystem, Refusal, TextPart, VendorRef,
-};
+use target_lexicon::{Architecture, DeploymentTarget, Field, OperatingSystem, Refusal, TextPart, VendorRef};
 
 /// The parts of a string that are left, each with the names that it spells.
 #[derive(Clone, Debug)]
@@ -23,13 +19,7 @@ pub(crate) struct SpelledParts<'a> {
 impl<'a> SpelledParts<'a> {
     #[inline]
     pub(crate) fn of(text: &'a str) -> Self {
-        SpelledParts {
-            text,
-            rest: Some(text),
-            place: Place::First,
-            hard_floats: false,
-            name: None,
-        }
+        SpelledParts { text, rest: Some(text), place: Place::First, hard_floats: false, name: None }
     }
 }
 
@@ -39,11 +29,7 @@ impl<'a> Iterator for SpelledParts<'a> {
     fn next(&mut self) -> Option<Self::Item> {
         let from = self.rest?;
         let (part, rest) = first_part(from);
-        let spelling = |names, version, system| Spelling {
-            names,
-            version,
-            system,
-        };
+        let spelling = |names, version, system| Spelling { names, version, system };
         // No rule fits the second of a pair.
         let found = fit(self.place, self.hard_floats, part, rest);
         let names = match (&found, self.name) {
@@ -79,11 +65,7 @@ pub struct Spelling<'a> {
 
 impl<'a> Spelling<'a> {
     /// Gives the names, which this part spells, to a reading.
-    pub(crate) fn give(
-        &self,
-        reading: &mut Reading<'a>,
-        part: TextPart<'a>,
-    ) -> Result<(), Refusal<'a>> {
+    pub(crate) fn give(&self, reading: &mut Reading<'a>, part: TextPart<'a>) -> Result<(), Refusal<'a>> {
         for names in [Some(self.names), self.system] {
             let mut left = names;
             while let Some(names) = left {

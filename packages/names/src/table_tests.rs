@@ -7,8 +7,8 @@ use crate::{changes, read, ChosenLibc, Dialect, Evidence, NameError, Sense, Targ
 use alloc::{format, string::String, string::ToString, vec::Vec};
 use core::str::FromStr;
 use target_lexicon::{
-    Architecture, ArmArchitecture, BinaryFormat, DeploymentTarget, Endianness, Environment, Field,
-    OperatingSystem, PointerWidth, TripleRef, VendorRef,
+    Architecture, ArmArchitecture, BinaryFormat, DeploymentTarget, Endianness, Environment, Field, OperatingSystem,
+    PointerWidth, TripleRef, VendorRef,
 };
 
 /// First and second numbers of versions at the bounds of what names may have, and between.
@@ -110,10 +110,7 @@ fn each_row_is_read_and_written() {
             assert!(is_both == is_itself || is_written_too && is_itself, "{at}");
         }
     }
-    assert!(
-        read_rows > 1300 && written_rows > 1000 && refused > 250,
-        "{read_rows} {written_rows} {refused}"
-    );
+    assert!(read_rows > 1300 && written_rows > 1000 && refused > 250, "{read_rows} {written_rows} {refused}");
 }
 
 #[test]
@@ -140,21 +137,12 @@ fn values<T: FromStr>(field: Field) -> Vec<T> {
 fn each_triple(mut f: impl FnMut(TripleRef<'static>)) {
     let versioned = "macosx0 macosx10.7 macosx11.0.3 ios17.2.1 ios65535.255.255 darwin20 tvos9.1";
     let mut systems: Vec<OperatingSystem> = values(Field::OperatingSystem);
-    systems.extend(
-        versioned
-            .split(' ')
-            .map(|it| it.parse::<OperatingSystem>().unwrap()),
-    );
+    systems.extend(versioned.split(' ').map(|it| it.parse::<OperatingSystem>().unwrap()));
     let environments: Vec<Environment> = values(Field::Environment);
     for architecture in values::<Architecture>(Field::Architecture) {
         for &operating_system in &systems {
             for &environment in &environments {
-                let mut triple = TripleRef {
-                    architecture,
-                    operating_system,
-                    environment,
-                    ..TripleRef::unknown()
-                };
+                let mut triple = TripleRef { architecture, operating_system, environment, ..TripleRef::unknown() };
                 triple.binary_format = triple.default_binary_format();
                 f(triple);
             }
@@ -205,10 +193,7 @@ fn names_with_a_version_are_read() {
                 };
                 named += 1;
                 let abi = AbiRule::Kept;
-                let rules = Rules {
-                    abi,
-                    ..dialect.table().rules
-                };
+                let rules = Rules { abi, ..dialect.table().rules };
                 let mut expected = rules.shape(&triple);
                 let version = Some(version(major, minor));
                 expected.operating_system = match triple.operating_system {
@@ -247,24 +232,11 @@ fn completion_fills_only_a_gap() {
                     != (Architecture::Arm(ArmArchitecture::Arm), OperatingSystem::Linux);
             let completed = triple.with_c_library(library);
             let environment = triple.environment;
-            assert_eq!(
-                TripleRef {
-                    environment,
-                    ..completed
-                },
-                triple
-            );
+            assert_eq!(TripleRef { environment, ..completed }, triple);
             assert_eq!(completed != triple, is_gap, "{triple} {library}");
             assert_eq!(answers(&completed), answers(&triple), "{triple} {library}");
-            for other in [Glibc, Musl, Msvc, Mingw, Gnullvm]
-                .into_iter()
-                .filter(|_| is_gap)
-            {
-                assert_eq!(
-                    completed.with_c_library(other),
-                    completed,
-                    "{triple} {library} {other}"
-                );
+            for other in [Glibc, Musl, Msvc, Mingw, Gnullvm].into_iter().filter(|_| is_gap) {
+                assert_eq!(completed.with_c_library(other), completed, "{triple} {library} {other}");
             }
             for dialect in Dialect::ALL.iter().filter(has_dropped) {
                 let shapes = (dialect.shape(&completed), dialect.shape(&triple));
@@ -279,18 +251,12 @@ fn given_object_formats_are_kept() {
     use {Architecture::*, OperatingSystem::*};
     let formats: Vec<BinaryFormat> = values(Field::BinaryFormat);
     each_triple(|triple| {
-        let is_other = matches!(triple.operating_system, Uefi | Cygwin)
-            || matches!(triple.architecture, Wasm32 | Wasm64);
+        let is_other =
+            matches!(triple.operating_system, Uefi | Cygwin) || matches!(triple.architecture, Wasm32 | Wasm64);
         for &given in formats.iter().filter(|it| **it != BinaryFormat::Unknown) {
-            let has_given = TripleRef {
-                binary_format: given,
-                ..triple
-            };
+            let has_given = TripleRef { binary_format: given, ..triple };
             let may_differ = is_other && given == triple.binary_format;
-            assert!(
-                has_given.object_format() == given || may_differ,
-                "{triple} {given}"
-            );
+            assert!(has_given.object_format() == given || may_differ, "{triple} {given}");
         }
     });
 }
@@ -308,29 +274,16 @@ fn each_rule_rewrites_an_unknown_part_once() {
         let fit = fit_alone(place, &part).unwrap_or_else(|| panic!("{part} is known"));
         assert_eq!(fit.names, names, "{part} has an earlier rule");
         for name in names.split('-') {
-            assert!(
-                fit_alone(place, &format!("{name}{}", fit.kept_version())).is_none(),
-                "{part}"
-            );
+            assert!(fit_alone(place, &format!("{name}{}", fit.kept_version())).is_none(), "{part}");
         }
     }
 }
 
 #[test]
 fn no_rule_fits_a_known_name() {
-    let fields = [
-        Field::Architecture,
-        Field::Vendor,
-        Field::OperatingSystem,
-        Field::Environment,
-        Field::BinaryFormat,
-    ];
+    let fields = [Field::Architecture, Field::Vendor, Field::OperatingSystem, Field::Environment, Field::BinaryFormat];
     let versioned = ["macosx10.7", "darwin20.1", "ios17.2.1", "arm64"];
-    for name in fields
-        .iter()
-        .flat_map(|it| known_names(*it))
-        .chain(&versioned)
-    {
+    for name in fields.iter().flat_map(|it| known_names(*it)).chain(&versioned) {
         for place in [Place::First, Place::Second, Place::AfterFirst] {
             assert!(fit_alone(place, name).is_none(), "{name}");
         }
@@ -343,52 +296,28 @@ fn words_of_config_sub_are_makers_kernels_and_systems() {
     let refused = |why| Err(NameError::WithoutTriple(why));
     // `mips` is the name of an architecture, which is no vendor.
     for maker in MAKERS.iter().filter(|it| VendorRef::from_str(it).is_ok()) {
-        assert_eq!(
-            read(format!("x86_64-{maker}")),
-            read("x86_64-none".into()),
-            "{maker}"
-        );
+        assert_eq!(read(format!("x86_64-{maker}")), read("x86_64-none".into()), "{maker}");
         assert!(read(format!("x86_64-{maker}-linux")).is_ok(), "{maker}");
     }
     for kernel in KERNELS {
         assert!(read(format!("x86_64-{kernel}")).is_err(), "{kernel}");
         let (_, why) = SYSTEMS.iter().find(|it| it.0 == *kernel).unwrap();
-        let why = if *kernel == "symbian" {
-            refusals::MAKER
-        } else {
-            why
-        };
-        assert_eq!(
-            read(format!("x86_64-{kernel}-gnu")),
-            refused(why),
-            "{kernel}"
-        );
+        let why = if *kernel == "symbian" { refusals::MAKER } else { why };
+        assert_eq!(read(format!("x86_64-{kernel}-gnu")), refused(why), "{kernel}");
     }
     // `sim` is an environment too.
     for (system, why) in SYSTEMS.iter().filter(|it| it.0 != "sim") {
-        assert_eq!(
-            read(format!("x86_64-pc-{system}")),
-            refused(why),
-            "{system}"
-        );
+        assert_eq!(read(format!("x86_64-pc-{system}")), refused(why), "{system}");
         let is_vendor = VendorRef::from_str(system).is_ok();
-        assert!(
-            !is_vendor || read(format!("x86_64-{system}")) == refused(why),
-            "{system}"
-        );
+        assert!(!is_vendor || read(format!("x86_64-{system}")) == refused(why), "{system}");
         assert!(why.ends_with(system));
     }
     assert_eq!(read("x86_64-foo".into()), Err(NameError::Unknown));
 }
 
 /// Names of which a word says another machine than the whole: little-endian ones of Node.
-const OTHERS: [&str; 5] = [
-    "linux-ppc64",
-    "linux-ppc64-gnu",
-    "linux-ppc64-musl",
-    "linux-ppc64-glibc",
-    "linuxmusl-ppc64",
-];
+const OTHERS: [&str; 5] =
+    ["linux-ppc64", "linux-ppc64-gnu", "linux-ppc64-musl", "linux-ppc64-glibc", "linuxmusl-ppc64"];
 
 #[test]
 fn hints_name_the_machine_that_tools_mean() {

@@ -264,7 +264,13 @@ const KEYS: [&str; 4] = ["target", "triple", "platform", "arch"];
 
 /// Options of rustc's `cfg`, whose values are words for a part of a target.
 const CFG_OPTIONS: [&str; 8] = [
-    "target_abi", "target_arch", "target_endian", "target_env", "target_family", "target_os", "target_pointer_width",
+    "target_abi",
+    "target_arch",
+    "target_endian",
+    "target_env",
+    "target_family",
+    "target_os",
+    "target_pointer_width",
     "target_vendor",
 ];
 
@@ -294,8 +300,7 @@ fn uncommented(line: &str) -> &str {
     let is_space = |it: Option<char>| it.map_or(true, char::is_whitespace);
     let is_comment = |at: usize| {
         let (before, after) = (&line[..at], &line[at + 1..]);
-        before.trim_start().is_empty()
-            || is_space(before.chars().next_back()) && is_space(after.chars().next())
+        before.trim_start().is_empty() || is_space(before.chars().next_back()) && is_space(after.chars().next())
     };
     let mut signs = line.match_indices('#').map(|it| it.0);
     signs.find(|at| is_comment(*at)).map_or(line, |at| &line[..at])
@@ -309,9 +314,7 @@ fn items(line: &str) -> impl Iterator<Item = &str> {
         let signs = ["- ", "* "].iter().find_map(|it| part.strip_prefix(it));
         let item = signs.unwrap_or(part).trim_matches(is_around);
         match item.split_once(" (") {
-            Some((item, note)) if note.find(')') == note.len().checked_sub(1) => {
-                item.trim_end_matches(is_around)
-            }
+            Some((item, note)) if note.find(')') == note.len().checked_sub(1) => item.trim_end_matches(is_around),
             _ => item,
         }
     });

@@ -7,8 +7,7 @@ use crate::table::WRITE_REASONS;
 use crate::{ChosenLibc, Dialect, Name, NameError, TargetInfo, VersionOf, Versions, WriteError};
 use core::fmt;
 use target_lexicon::{
-    Architecture, ArmArchitecture, Environment, OperatingSystem, Riscv64Architecture, TripleRef,
-    X86_32Architecture,
+    Architecture, ArmArchitecture, Environment, OperatingSystem, Riscv64Architecture, TripleRef, X86_32Architecture,
 };
 
 impl WriteError {
@@ -80,14 +79,16 @@ impl Dialect {
     /// assert_eq!(Dialect::Debian.write_with(v3, Some(ChosenLibc::Glibc)).unwrap().as_str(), "amd64v3");
     /// assert!(Dialect::Rust.write_with(v3, Some(ChosenLibc::Glibc)).is_err());
     /// ```
-    pub fn write_with<'t>(self, meant: impl Into<Sense<'t>>, c_library: Option<ChosenLibc>) -> Result<Name, WriteError> {
+    pub fn write_with<'t>(
+        self,
+        meant: impl Into<Sense<'t>>,
+        c_library: Option<ChosenLibc>,
+    ) -> Result<Name, WriteError> {
         let meant = completed(meant.into(), c_library);
         let triple = meant.triple;
         let is_of_linux = matches!(c_library, Some(ChosenLibc::Glibc | ChosenLibc::Musl));
         match self.name_at(meant) {
-            Some(_) if is_of_linux && self.would_state_c_library(&triple) => {
-                Err(WriteError::NeedsArmVersion)
-            }
+            Some(_) if is_of_linux && self.would_state_c_library(&triple) => Err(WriteError::NeedsArmVersion),
             Some(name) => Ok(name),
             None if self.write(triple).is_some() => Err(WriteError::Baseline),
             None => Err(self.why_unnamed(&triple)),
@@ -97,10 +98,7 @@ impl Dialect {
     /// Whether names would state the C library of an Arm on Linux, which gets none without a version.
     #[inline]
     fn would_state_c_library(self, triple: &TripleRef<'_>) -> bool {
-        let completed = TripleRef {
-            environment: Environment::Gnu,
-            ..*triple
-        };
+        let completed = TripleRef { environment: Environment::Gnu, ..*triple };
         triple.architecture == ARM
             && triple.operating_system == OperatingSystem::Linux
             && triple.environment == Environment::Unknown
@@ -180,12 +178,7 @@ impl Dialect {
     /// assert_eq!(error, TranslateError::Write(WriteError::NeedsCLibrary));
     /// ```
     #[inline]
-    pub fn translate(
-        self,
-        name: &str,
-        c_library: Option<ChosenLibc>,
-        to: Dialect,
-    ) -> Result<Name, TranslateError> {
+    pub fn translate(self, name: &str, c_library: Option<ChosenLibc>, to: Dialect) -> Result<Name, TranslateError> {
         self.translate_with(name, c_library, &Versions::none(), to)
     }
 
@@ -259,9 +252,7 @@ impl Dialect {
             _ if triple.environment != Environment::Unknown => return None,
             OperatingSystem::Linux => ([Glibc, Musl], WriteError::NeedsCLibrary),
             // The name would be that of a row with this machine and system. On Linux a C library may change the machine.
-            OperatingSystem::Windows if why != WriteError::NoMachine => {
-                ([Msvc, Mingw], WriteError::NeedsWindowsAbi)
-            }
+            OperatingSystem::Windows if why != WriteError::NoMachine => ([Msvc, Mingw], WriteError::NeedsWindowsAbi),
             _ => return None,
         };
         let is_helped = |libc: &ChosenLibc| self.write(triple.with_c_library(*libc)).is_some();
@@ -273,12 +264,8 @@ impl Dialect {
     fn why_machine(self, triple: &TripleRef<'_>) -> Option<WriteError> {
         let libraries = [None, Some(ChosenLibc::Glibc), Some(ChosenLibc::Musl)];
         let has = |architecture| {
-            let other = TripleRef {
-                architecture,
-                ..*triple
-            };
-            let completed =
-                |it: &Option<ChosenLibc>| it.map_or(other, |it| other.with_c_library(it));
+            let other = TripleRef { architecture, ..*triple };
+            let completed = |it: &Option<ChosenLibc>| it.map_or(other, |it| other.with_c_library(it));
             let mut completed = libraries.iter().map(completed);
             architecture != triple.architecture
                 && completed.any(|it| self.write(it).is_some() || self.states_version(it.into()))
@@ -322,13 +309,7 @@ impl Dialect {
         let shape = self.shape(triple);
         let (mut whole, mut bare) = ([0; MAX_LENGTH], [0; MAX_LENGTH]);
         let whole = text_in(&mut whole, &shape);
-        let bare = text_in(
-            &mut bare,
-            &TripleRef {
-                environment: Environment::Unknown,
-                ..shape
-            },
-        );
+        let bare = text_in(&mut bare, &TripleRef { environment: Environment::Unknown, ..shape });
         let system = after_machine(bare);
         let machine = &bare[..bare.len() - system.len()];
         let mut why = WriteError::NoMachineOnAnySystem;
@@ -339,9 +320,7 @@ impl Dialect {
                     WriteError::NoAbi => why,
                     _ if has_system(text, system) && begins(text, bare) => WriteError::NoAbi,
                     _ if has_system(text, system) => WriteError::NoMachine,
-                    WriteError::NoMachineOnAnySystem if has_machine(text, machine) => {
-                        WriteError::NoSystem
-                    }
+                    WriteError::NoMachineOnAnySystem if has_machine(text, machine) => WriteError::NoSystem,
                     _ => why,
                 };
             } else if text == whole && row.2 == Way::Read {

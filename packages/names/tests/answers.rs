@@ -2,12 +2,10 @@
 //! which the sums of answers are counted. `checks/compare` asks rustc, clang and LLVM of their targets, and other tests
 //! have what is right of some texts: here a rule that changes any other answer changes a line of answers.txt.
 use std::collections::BTreeMap;
-use target_lexicon::{
-    Architecture, Environment, Field, OperatingSystem, Refusal, TripleRef, VendorRef,
-};
+use target_lexicon::{Architecture, Environment, Field, OperatingSystem, Refusal, TripleRef, VendorRef};
 use target_names::{
-    changes, known_names, meanings, read, suggestions, targets_in, vendor_suggestion, Change, Dialect,
-    Evidence, Meaning, Suggest as _, TargetInfo, TypeLayout, VersionOf, Versions, Word, WordIs,
+    changes, known_names, meanings, read, suggestions, targets_in, vendor_suggestion, Change, Dialect, Evidence,
+    Meaning, Suggest as _, TargetInfo, TypeLayout, VersionOf, Versions, Word, WordIs,
 };
 
 /// Vendors that say something of a target: some of rustc's, and those that are systems.
@@ -126,7 +124,8 @@ fn of_text(number: usize, text: &str) -> [(&'static str, String); 11] {
     let found = read(text);
     let change = |it: Change| format!("{:?}{}{:?}", it.part.range(), it.names, it.dropped_version().map(|it| it.text));
     let of_refusal = |why: Refusal| format!("{why}{:?}{}", why.range(), shown(why.suggestion_in(text)));
-    let of_dialect = |it: &Dialect| it.read_loosely(text).map_or_else(|why| why.to_string(), |it| it.triple.to_string());
+    let of_dialect =
+        |it: &Dialect| it.read_loosely(text).map_or_else(|why| why.to_string(), |it| it.triple.to_string());
     let refused = dialect
         .read(text)
         .err()
@@ -211,7 +210,16 @@ fn wrapped(line: &str) -> String {
         width += 1 + word.chars().count();
         let is_long = width > 121 && !is_first;
         width = if is_long { 3 + word.chars().count() } else { width };
-        format!("{}{word}", if is_first { "" } else if is_long { "\n  " } else { " " })
+        format!(
+            "{}{word}",
+            if is_first {
+                ""
+            } else if is_long {
+                "\n  "
+            } else {
+                " "
+            }
+        )
     };
     line.split(' ').map(word).collect()
 }

@@ -67,7 +67,8 @@ fn an_unknown_name_has_no_note_and_no_level() {
 
 #[test]
 fn the_file_of_a_wheel_means_several_triples() {
-    let each = |name| meanings(name).filter_map(|it| Some(it.sense.ok()?.triple.to_string())).collect::<Vec<_>>().join(" ");
+    let each =
+        |name| meanings(name).filter_map(|it| Some(it.sense.ok()?.triple.to_string())).collect::<Vec<_>>().join(" ");
     let wheel = "a-1.0-cp311-cp311-macosx_11_0_universal2.whl";
     assert_eq!(each(wheel), "x86_64-apple-macosx11.0.0 aarch64-apple-macosx11.0.0");
     // Only names of Python have tags.
@@ -440,8 +441,9 @@ fn a_mistake_names_all_tools() {
 #[test]
 fn meanings_are_those_of_each_tool() {
     let meant = |text| {
-        let shown =
-            |it: Meaning| format!("{} {}", it.of, it.sense.map_or_else(|why| format!("!{why}"), |it| it.triple.to_string()));
+        let shown = |it: Meaning| {
+            format!("{} {}", it.of, it.sense.map_or_else(|why| format!("!{why}"), |it| it.triple.to_string()))
+        };
         meanings(text).map(shown).collect::<Vec<_>>().join(", ")
     };
     let horizon = meanings("armv7-nintendo-horizon-newlib").next().unwrap();

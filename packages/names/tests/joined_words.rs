@@ -114,8 +114,7 @@ fn is_android(triple: &TripleRef<'_>) -> bool {
 /// Systems on which floating-point arguments are passed in one way.
 fn is_always(triple: &TripleRef<'_>) -> bool {
     use OperatingSystem::{Freebsd, Windows};
-    matches!(triple.operating_system, Freebsd | Windows)
-        || triple.environment == Environment::Androideabi
+    matches!(triple.operating_system, Freebsd | Windows) || triple.environment == Environment::Androideabi
 }
 
 #[test]

@@ -9,13 +9,8 @@ use target_names::{
     VersionOf, Versions,
 };
 
-const FIELDS: [Field; 5] = [
-    Field::Architecture,
-    Field::Vendor,
-    Field::OperatingSystem,
-    Field::Environment,
-    Field::BinaryFormat,
-];
+const FIELDS: [Field; 5] =
+    [Field::Architecture, Field::Vendor, Field::OperatingSystem, Field::Environment, Field::BinaryFormat];
 
 fn libraries() -> impl Iterator<Item = ChosenLibc> {
     let names = "glibc musl msvc mingw gnullvm".split(' ');
@@ -38,12 +33,7 @@ fn other_spellings() -> impl Iterator<Item = &'static str> {
     let rows = include_str!("../elsewhere.tsv").lines();
     let rows = rows.filter_map(|row| row.split_once('\t'));
     let rules = rows.filter(|it| ["first", "second", "hard", "later"].contains(&it.0));
-    rules.map(|it| {
-        it.1.split('\t')
-            .next()
-            .unwrap()
-            .trim_end_matches(['*', '+', '!'])
-    })
+    rules.map(|it| it.1.split('\t').next().unwrap().trim_end_matches(['*', '+', '!']))
 }
 
 /// Known names, other spellings, words of names, and words that nobody knows.
@@ -60,27 +50,16 @@ fn words() -> Vec<String> {
 
 /// Known and other words with dashes between them, of which some have a version.
 fn spelled() -> impl Strategy<Value = String> {
-    let word = (
-        select(words()),
-        prop_oneof![9 => Just(""), 1 => Just("13.2"), 1 => Just("7")],
-    );
+    let word = (select(words()), prop_oneof![9 => Just(""), 1 => Just("13.2"), 1 => Just("7")]);
     let word = word.prop_map(|(word, version)| word + version);
     prop::collection::vec(word, 1..6).prop_map(|it| it.join("-"))
 }
 
 /// Names with an edit, and words with another separator.
 fn edited() -> impl Strategy<Value = String> {
-    let joined = (
-        prop::collection::vec(select(words()), 1..5),
-        select(vec!["/", "_", " ", "-", "."]),
-    );
+    let joined = (prop::collection::vec(select(words()), 1..5), select(vec!["/", "_", " ", "-", "."]));
     let joined = joined.prop_map(|(words, separator)| words.join(separator));
-    let name = (
-        select(names()),
-        any::<prop::sample::Index>(),
-        any::<char>(),
-        0..3,
-    );
+    let name = (select(names()), any::<prop::sample::Index>(), any::<char>(), 0..3);
     let edited = name.prop_map(|(name, index, other, kind)| {
         let mut letters: Vec<char> = name.chars().collect();
         let at = index.index(letters.len() + 1);

@@ -47,10 +47,7 @@ fn names_in_use_lead_to_other_tools() {
     }
     assert!(wrong.is_empty(), "{}", wrong.join("\n"));
     // Of 150 names 145 lead to the right name, or to a reason.
-    assert!(
-        in_use >= 150 && 150 * helped >= 145 * in_use,
-        "{helped} of {in_use}"
-    );
+    assert!(in_use >= 150 && 150 * helped >= 145 * in_use, "{helped} of {in_use}");
 }
 
 /// Tags of wheels, whose version is that of the system or C library, by its name; or why there is none. One is asked for only where a
@@ -140,9 +137,7 @@ fn rustc_targets() -> impl Iterator<Item = &'static str> {
     let rows = include_str!("../names.csv").lines();
     let rows = rows.filter(|it| !it.contains("rustc's name ") && !it.contains("several"));
     // The row that only says how a triple is written comes after that of the same name.
-    let names: BTreeSet<_> = rows
-        .filter_map(|it| it.strip_prefix("rust,")?.split(',').next())
-        .collect();
+    let names: BTreeSet<_> = rows.filter_map(|it| it.strip_prefix("rust,")?.split(',').next()).collect();
     names.into_iter()
 }
 
@@ -213,10 +208,7 @@ fn names_of_releases_mean_what_their_words_say() {
 fn what_is_known_is_no_misspelling() {
     assert!(Evidence::of(&"x".repeat(1000)).is_empty());
     // A misspelling is no name after another one.
-    assert_eq!(
-        Dialect::Debian.suggestion("mmusl-linux-amd64"),
-        Some("musl-linux-amd64")
-    );
+    assert_eq!(Dialect::Debian.suggestion("mmusl-linux-amd64"), Some("musl-linux-amd64"));
     assert_eq!(Dialect::Debian.mistake("mmusl-linux-amd64"), None);
     for (dialect, name) in [
         (Dialect::Zig, "x86-lynx"),
@@ -249,16 +241,11 @@ fn contradicts(truth: &str, triple: &TripleRef<'_>) -> bool {
         other => other.to_string(),
     };
     let level = |it: &TripleRef<'_>| it.arm_version();
-    let of_truth = TripleRef {
-        architecture: machine,
-        ..*triple
-    };
+    let of_truth = TripleRef { architecture: machine, ..*triple };
     let is_machine = family(machine) == family(triple.architecture)
         && machine.endianness().ok() == triple.endianness().ok()
         && of_truth.pointer_width() == triple.pointer_width()
-        && (level(&of_truth).is_none()
-            || level(triple).is_none()
-            || level(&of_truth) == level(triple));
+        && (level(&of_truth).is_none() || level(triple).is_none() || level(&of_truth) == level(triple));
     let has_system = match system {
         "darwin" => triple.operating_system.is_like_darwin(),
         // A version of WASI, or of iOS, may be missing.
@@ -294,12 +281,9 @@ fn fresh_names_get_no_wrong_answer() {
             };
             let tools = meanings(name).filter(|it| is_tool(it.of));
             let tools = tools.filter_map(|it| Some((it.of.to_string(), it.sense.ok()?.triple)));
-            let words = Evidence::of(name)
-                .triple()
-                .map(|it| ("words".to_string(), it));
+            let words = Evidence::of(name).triple().map(|it| ("words".to_string(), it));
             let meant = suggestions(name).filter(|it| it.0.read_loosely(name).is_err());
-            let meant =
-                meant.filter_map(|it| Some((format!("{} {}", it.0, it.1), it.0.read(it.1).ok()?)));
+            let meant = meant.filter_map(|it| Some((format!("{} {}", it.0, it.1), it.0.read(it.1).ok()?)));
             for (of, triple) in tools.chain(words).chain(meant) {
                 answers += 1;
                 let is_several = name.contains("universal") || name.ends_with("_all");
@@ -310,9 +294,5 @@ fn fresh_names_get_no_wrong_answer() {
         }
     }
     assert!(wrong.is_empty(), "{}", wrong.join("\n"));
-    assert!(
-        names.len() >= 300 && answers >= 400,
-        "{} {answers}",
-        names.len()
-    );
+    assert!(names.len() >= 300 && answers >= 400, "{} {answers}", names.len());
 }

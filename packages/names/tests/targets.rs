@@ -13,7 +13,9 @@ fn each_row_is_what_the_library_answers() {
     assert!(include_str!("../targets.csv").lines().eq(&lines), "run tools/write");
     let head: Vec<_> = lines[0].split(',').collect();
     assert!(head.iter().all(|it| schema.contains(&format!("\"{it}\": {{ \"description\""))));
-    let cell = |line: &str, name: &str| line.split(',').nth(head.iter().position(|it| *it == name).unwrap()).unwrap().to_string();
+    let cell = |line: &str, name: &str| {
+        line.split(',').nth(head.iter().position(|it| *it == name).unwrap()).unwrap().to_string()
+    };
     let mut platforms = BTreeMap::new();
     for line in &lines[1..] {
         let triple = TripleRef::from_str(line.split(',').next().unwrap()).unwrap();

@@ -141,9 +141,8 @@ fn words_of_texts_are_given() {
 /// Any string is read, in a time that grows with its length.
 #[test]
 fn all_strings() {
-    let pieces = [
-        "x86_64", "-", "linux", "/", "amd64", ".", " ", ",", "\n", "#", "\"", "{", "$", "=", ":", "é", "\0", "(", "_",
-    ];
+    let pieces =
+        ["x86_64", "-", "linux", "/", "amd64", ".", " ", ",", "\n", "#", "\"", "{", "$", "=", ":", "é", "\0", "(", "_"];
     let mut state = 1_u64;
     for _ in 0..20_000 {
         let mut text = String::new();

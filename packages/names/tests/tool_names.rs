@@ -417,14 +417,9 @@ fn calls_take_either_type_of_triple() {
 #[test]
 fn an_error_shows_printable_ascii() {
     let shows = |shown: String| {
-        assert!(
-            shown.bytes().all(|it| (b' '..=b'~').contains(&it)),
-            "{shown}"
-        );
+        assert!(shown.bytes().all(|it| (b' '..=b'~').contains(&it)), "{shown}");
     };
-    let all = ('\0'..='\u{700}')
-        .chain('\u{1100}'..='\u{1200}')
-        .chain('\u{2000}'..='\u{2100}');
+    let all = ('\0'..='\u{700}').chain('\u{1100}'..='\u{1200}').chain('\u{2000}'..='\u{2100}');
     for c in all.chain(['\u{3164}', '\u{feff}', '\u{e0001}']) {
         shows(visible(c).to_string());
         // Errors take long: of all of ASCII, and of others such as those that turn the direction.

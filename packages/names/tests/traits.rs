@@ -3,8 +3,8 @@ use std::collections::{BTreeSet, HashSet};
 use std::fmt::{self, Debug, Display, Write as _};
 use target_lexicon::{Triple, TripleRef};
 use target_names::{
-    read, vendor_suggestion, visible, CLibrary, ChosenLibc, Dialect, Evidence, FloatAbi, Name, Signedness, Suggest as
-    _, TargetInfo as _, UnknownWord, SHOWN,
+    read, vendor_suggestion, visible, CLibrary, ChosenLibc, Dialect, Evidence, FloatAbi, Name, Signedness,
+    Suggest as _, TargetInfo as _, UnknownWord, SHOWN,
 };
 
 #[test]
@@ -18,17 +18,12 @@ fn names_have_the_width_that_is_asked_for() {
 
 #[test]
 fn a_suggestion_has_the_width_that_is_asked_for() {
-    let suggestion =
-        |text: &'static str| TripleRef::from_str(text).unwrap_err().suggestion().unwrap();
-    let (one, versioned) = (
-        suggestion("x86_64-pc-linxu"),
-        suggestion("arm64-apple-iso17"),
+    let suggestion = |text: &'static str| TripleRef::from_str(text).unwrap_err().suggestion().unwrap();
+    let (one, versioned) = (suggestion("x86_64-pc-linxu"), suggestion("arm64-apple-iso17"));
+    assert_eq!(format!("{one:>7}|{versioned:<7}|{versioned:.3}"), "  linux|ios17  |ios");
+    assert!(
+        versioned == "ios17" && versioned != "ios" && versioned != "ios1" && versioned != "ios171" && one != "linu"
     );
-    assert_eq!(
-        format!("{one:>7}|{versioned:<7}|{versioned:.3}"),
-        "  linux|ios17  |ios"
-    );
-    assert!(versioned == "ios17" && versioned != "ios" && versioned != "ios1" && versioned != "ios171" && one != "linu");
 }
 
 #[test]
@@ -86,7 +81,10 @@ fn what_says_something_else_is_another_one() {
     let triples = ["avr", "arm", "avr-pc", "avr-pc-linux", "avr-pc-linux-musl", "avr-pc-linux-coff"];
     let triples = triples.map(|it| TripleRef::from_str(it).unwrap());
     differ(&triples.map(|it| it.llvm_target()));
-    differ(&["x86_64-pc-linxu", "x86_64-pc-windwos", "arm64-apple-iso1", "arm64-apple-iso2"].map(|it| read(it).unwrap_err().suggestion()));
+    differ(
+        &["x86_64-pc-linxu", "x86_64-pc-windwos", "arm64-apple-iso1", "arm64-apple-iso2"]
+            .map(|it| read(it).unwrap_err().suggestion()),
+    );
 }
 
 /// A writer that has room for so many bytes.
@@ -105,7 +103,8 @@ fn a_writer_that_fails_is_noticed() {
     let custom = TripleRef::from_str("x86_64-linx").unwrap();
     let versioned = TripleRef::from_str("arm64-apple-iso17").unwrap_err();
     let spelled: Vec<_> = target_names::changes("amd64-unknown-freebsd13.2").map(|it| it.names).collect();
-    let mistakes = ["LINUX/AMD64", "linux /a", "linux", "linux-x64", "./linux/amd64", "x/y-z"].map(|it| Dialect::Go.mistake(it));
+    let mistakes =
+        ["LINUX/AMD64", "linux /a", "linux", "linux-x64", "./linux/amd64", "x/y-z"].map(|it| Dialect::Go.mistake(it));
     let words = ["golang", "\u{1b}"].map(|it| it.parse::<Dialect>().unwrap_err());
     let shown: [&dyn Display; 14] = [
         &Dialect::Go,
@@ -181,10 +180,7 @@ fn a_name_is_compared_like_a_string() {
 
 #[test]
 fn a_word_that_is_no_dialect_is_named() {
-    let of = |word: &str| {
-        word.parse::<Dialect>()
-            .map_err(Box::<dyn std::error::Error>::from)
-    };
+    let of = |word: &str| word.parse::<Dialect>().map_err(Box::<dyn std::error::Error>::from);
     assert_eq!(of("docker").unwrap(), Dialect::Oci);
     let error = of("golang").unwrap_err().downcast::<UnknownWord>().unwrap();
     assert_eq!((error.word(), error.suggestion()), ("golang", Some("go")));

@@ -19,10 +19,7 @@ pub(crate) struct Reading<'a> {
 
 impl<'a> Reading<'a> {
     pub(crate) fn start() -> Self {
-        Reading {
-            expected: Some(Field::Architecture),
-            triple: TripleRef::unknown(),
-        }
+        Reading { expected: Some(Field::Architecture), triple: TripleRef::unknown() }
     }
 
     /// Takes a part into the first field that is open and that it parses as. A refusal says only what was expected.

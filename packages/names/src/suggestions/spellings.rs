@@ -68,11 +68,7 @@ impl<'a> Fit<'a> {
         let (mut names, mut next_name, mut version) = (names, None, "");
         match form {
             Form::Whole | Form::HardFloats if part == text => {}
-            Form::Dropped => {
-                version = part
-                    .strip_prefix(text)
-                    .filter(|it| is_dropped_version(it.as_bytes()))?
-            }
+            Form::Dropped => version = part.strip_prefix(text).filter(|it| is_dropped_version(it.as_bytes()))?,
             Form::MacOs => {
                 version = part.strip_prefix(text)?;
                 DeploymentTarget::from_str(version).ok()?;
@@ -80,9 +76,7 @@ impl<'a> Fit<'a> {
             Form::Pair | Form::PairWithin => {
                 let (next, after) = first_part(rest?);
                 let goes_on = || BinaryFormat::from_str(first_part(after?).0).err();
-                if text.split_once('-')? != (part, next)
-                    || form == Form::PairWithin && goes_on().is_none()
-                {
+                if text.split_once('-')? != (part, next) || form == Form::PairWithin && goes_on().is_none() {
                     return None;
                 }
                 let (first, second) = names.split_once('-')?;
@@ -90,23 +84,13 @@ impl<'a> Fit<'a> {
             }
             Form::Whole | Form::HardFloats => return None,
         }
-        Some(Fit {
-            form,
-            names,
-            version,
-            next_name,
-        })
+        Some(Fit { form, names, version, next_name })
     }
 }
 
 /// What the first rule that fits makes of a part with this after its dash. `has_hard_floats` says whether the parts before it state
 /// that floating-point arguments are in floating-point registers. A rule for a part alone never fits a known name.
-pub fn fit<'a>(
-    place: Place,
-    has_hard_floats: bool,
-    part: &'a str,
-    rest: Option<&str>,
-) -> Option<Fit<'a>> {
+pub fn fit<'a>(place: Place, has_hard_floats: bool, part: &'a str, rest: Option<&str>) -> Option<Fit<'a>> {
     let is_here = |of| match of {
         Place::First | Place::Second => of == place,
         Place::AfterFirst => true,

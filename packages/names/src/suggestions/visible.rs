@@ -21,10 +21,7 @@ pub struct Visible<T> {
 /// A value of which each character is escaped that [isn't visible](is_visible).
 #[inline]
 pub fn visible<T: fmt::Display>(value: T) -> Visible<T> {
-    Visible {
-        value,
-        most: usize::MAX,
-    }
+    Visible { value, most: usize::MAX }
 }
 
 impl<T> Visible<T> {
@@ -32,21 +29,14 @@ impl<T> Visible<T> {
     #[must_use]
     #[inline]
     pub fn shortened(self) -> Self {
-        Visible {
-            most: SHOWN,
-            ..self
-        }
+        Visible { most: SHOWN, ..self }
     }
 }
 
 impl<T: fmt::Display> fmt::Display for Visible<T> {
     #[inline]
     fn fmt(&self, f: &mut fmt::Formatter<'_>) -> fmt::Result {
-        let mut shown = Shown {
-            to: f,
-            left: self.most,
-            is_cut: false,
-        };
+        let mut shown = Shown { to: f, left: self.most, is_cut: false };
         match write!(shown, "{}", self.value) {
             Err(_) if shown.is_cut => f.write_str("..."),
             written => written,
