@@ -1,4 +1,5 @@
 """Lets rustc write what it compiles, its MIR, and writes that as Coq, with why it is the source, and its theorems."""
+import contextlib
 import json
 import os
 import re
@@ -18,6 +19,7 @@ TRIED = "1.95"  # the version of rustc whose MIR was read; another one's may hav
 CRATE = ("--crate-name", "target_lexicon", "--edition=2021", "--crate-type=lib")
 FLAGS = ("-Copt-level=0", "-Coverflow-checks=on", "-Ztrim-diagnostic-paths=no")
 FEATURES = "std", "arch_zkasm", "arch_z80"  # of upstream
+UNPROVED = []  # a part of which something isn't proved, as isn't written what it needs
 UPSTREAM = "UpstreamCrate", "UpstreamTriple"  # the proofs about upstream's own crate
 BOTH = "Pairs", "Both"  # and about ours and it; Pairs is written
 # What the build script writes; the functions that answer it aren't proved.
@@ -174,21 +176,45 @@ def upstream(_root, folder, crate, is_compared=False):
         hir = cargo("-Zunpretty=hir-tree")
         cargo("--emit=mir")
         mir_of = "".join(it.read_text(encoding="utf-8") for it in Path(out).rglob("target_lexicon-*.mir"))
-        found = mir.Crate(mir_of, hir, folder.joinpath("Specs.v").read_text(encoding="utf-8"), True)
-    for it, why in all_of(found).items():
-        print(f"theorem: not written: {it}: {why}")
+        with forms():
+            found = mir.Crate(mir_of, hir, folder.joinpath("Specs.v").read_text(encoding="utf-8"), True)
+    unwritten = all_of(found)
+    for why in dict.fromkeys(unwritten.values()):
+        print(f"theorem: not written: {why}: in {', '.join(it for it in unwritten if unwritten[it] == why)}")
     written = sum(it is not None and not title.endswith("_pure") for title, it, _ in found.out)
     print(f"theorem: {written} functions of {crate} are written, as {version()} compiles them")
     folder.joinpath("UpstreamMir.v").write_text(
         "(* Written by checks/theorem from what rustc compiles. *)\nRequire Import Kit Specs Rust.\n\n"
         + "\n".join(code for _, _, code in found.out), encoding="utf-8")
     files = [*UPSTREAM, *BOTH[1:] * is_compared]
-    proofs = "".join(HERE.joinpath(f"upstream/{it}.v").read_text(encoding="utf-8") for it in files)
+    if is_compared and not folder.joinpath("Compiled.vo").exists():
+        raise NoCompiler("nothing is proved of our crate's MIR, so that upstream's isn't compared with it")
+    written = [folder.joinpath(f"{it}.v").read_text(encoding="utf-8") for it in
+               ("UpstreamMir", *["Mir", "Compiled"] * is_compared)]
+    known, gone, proofs = {*re.findall(r"\w+", "".join(written))}, {}, ""
+    for it in files:
+        proofs += (text := without(HERE.joinpath(f"upstream/{it}.v").read_text(encoding="utf-8"), known, gone))
+        folder.joinpath(f"{it}.v").write_text(text, encoding="utf-8")
+    if gone:
+        UNPROVED.append("upstream")
+        print("theorem: not proved, since what it needs isn't written: "
+              f"{', '.join(it for it, kind in gone.items() if kind == 'Theorem')}")
     if is_compared:
-        if not folder.joinpath("Compiled.vo").exists():
-            raise NoCompiler("nothing is proved of our crate's MIR, so that upstream's isn't compared with it")
         pairs(folder, proofs)
     return dict.fromkeys(re.findall(r"^Theorem (\w+)", proofs, re.M))
+
+
+def without(text, known, gone):
+    """A file of proofs without those that need what `gone` has, or a function or a type of MIR that isn't known. Adds
+    these to it."""
+    kept = []
+    for it in re.split(r"^(?=(?:Definition|Fixpoint|Inductive|Lemma|Ltac|Require|Theorem) )", text, flags=re.M):
+        words = re.findall(r"\w+", re.sub(r"\(\*.*?\*\)", "", it, flags=re.S))
+        if any(word in gone or re.match("mir_|Mir[A-Z]", word) and word not in known for word in words):
+            gone[words[1]] = words[0]
+        else:
+            kept.append(it)
+    return "".join(kept)
 
 
 def pairs(folder, proofs):
@@ -215,8 +241,15 @@ def write(root, folder, translated=None):
     """Writes Mir.v, Same_mir.v, Compiled.v and mir.tsv, a list of the functions with their definition, the lemma that
     it is the source's, and the theorems of that. Returns the theorems. The types are those of the translated source,
     which is this one if it isn't said."""
-    try:
+    with forms():
         return written(root, folder, translated or root)
+
+
+@contextlib.contextmanager
+def forms():
+    """A form of rustc's that isn't known is an error; one of another version is why nothing is proved of MIR."""
+    try:
+        yield
     except NoCompiler:
         raise
     except (Untranslated, AttributeError, IndexError, KeyError, TypeError, ValueError) as why:

@@ -602,6 +602,8 @@ class Body:
         outer, self.before, env = self.before, [], dict(env)
         statements, end = self.blocks[b]
         for to, value in statements:
+            if value[0] == "aggregate" and "::" not in value[1] and value[1] != self.type_of(("copy", to)):
+                raise Unknown(f"the operator {value[1]}")  # whose value has no type of the crate
             self.assign(to, self.rvalue(value, env), env)
         mine, joined = self.before, []
         children = [it for it in self.merges if self.parent[it] == b and it not in self.heads]

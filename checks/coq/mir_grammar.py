@@ -167,7 +167,7 @@ def rvalue(text):
         parts = [it.partition(": ") for it in split(text[i + 3:-1])]
         return "aggregate", clean(text[:i]), [operand(of) for _, _, of in parts], [name for name, _, _ in parts]
     at = last_open(text) if text.endswith(")") else len(text)
-    if "::" in text[:at]:  # an operator that isn't listed above is one word
+    if "::" in text[:at] or re.match(r"[A-Z]\w*\(", text):  # one word is a type of the root, or an operator
         return "aggregate", clean(text[:at]), [operand(it) for it in split(text[at + 1:-1])], None
     raise Unknown(f"the expression {text}")
 

@@ -33,7 +33,7 @@ def ordered(parts):
 
 def text(folder, file):
     """The text of a file of Coq, in the folder, where it is put if it isn't written."""
-    found = [it for it in (COQ / of / f"{file}.v" for of in (".", "definitions", "rust", "mir", "upstream")) if it.exists()]
+    found = [it for it in (COQ / of / f"{file}.v" for of in (".", "definitions", "rust", "mir")) if it.exists()]
     if len(found) > (file not in WRITTEN):
         raise Untranslated(f"{found[-1]} is a second {file}.v")
     if found:
