@@ -97,7 +97,12 @@ fn each_in_texts(path: &Path, answers: &mut impl Answers) -> Result<(), Fault> {
         let (kind, path) = (entry.file_type().map_err(fault)?, entry.path());
         let is_source = || !NO_SOURCES.iter().any(|it| entry.file_name() == *it) && !path.join("CACHEDIR.TAG").exists();
         if kind.is_file() || kind.is_dir() && is_source() {
-            each_in_texts(&path, answers)?;
+            match each_in_texts(&path, answers) {
+                Err(Fault::Stream { name, why }) if name == path.display().to_string() => {
+                    answers.skip_unread(Fault::Stream { name, why })?;
+                }
+                ended => ended?,
+            }
         }
     }
     Ok(())
@@ -186,6 +191,9 @@ pub trait Answers {
 
     /// Counts a file that is no text.
     fn skip_binary(&mut self);
+
+    /// Says why a file or a folder in a folder can't be read; the others are.
+    fn skip_unread(&mut self, fault: Fault) -> Result<(), Fault>;
 
     /// The next target may take a while, so what was answered is better written now.
     fn pause(&mut self) -> Result<(), Fault>;

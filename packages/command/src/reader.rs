@@ -6,8 +6,8 @@ use clap::ArgMatches;
 use std::cell::Cell;
 use target_lexicon::{OperatingSystem, Source, Sources, TripleRef, VendorRef};
 use target_names::{
-    is_near_name, is_vendor_of_rustc, meanings, read, vendor_suggestion, ChosenLibc, Dialect, Meaning, NameError,
-    NameOf, TargetInfo, WordIs,
+    is_near_name, is_vendor_of_rustc, meanings, read, vendor_suggestion, ChosenLibc, Dialect, Evidence, Meaning,
+    NameError, NameOf, TargetInfo, WordIs,
 };
 
 /// How targets are given.
@@ -111,6 +111,12 @@ impl Reader {
             return self.meaning(text).map(|(triple, warning)| Meant::Triple(triple, warning));
         };
         let (own, is) = (TripleRef::from_str(text), word.is());
+        // What isn't spelled like a triple, and says all of one, is a name of some tool: vcpkg's `x64-windows-static`.
+        let is_vendor = |it| VendorRef::from_str(it).map_or(false, |it| !it.is_custom());
+        let is_understood = || {
+            let is_unknown = own.is_err() && is == WordIs::Unknown && !text.split('-').any(is_vendor);
+            is_unknown && Evidence::of(text).triple().is_some()
+        };
         let is_known = own.as_ref().map_or(false, |it| !it.vendor.is_custom());
         // GNU takes any vendor.
         let is_of_tool = |it: &Meaning<'_>| match it.of {
@@ -126,7 +132,7 @@ impl Reader {
             (Some(Meaning { of: NameOf::Dialect(_) | NameOf::Spelling, sense: Ok(it) }), _) => {
                 Ok(Meant::Triple(self.completed(it.triple), None))
             }
-            _ if word.is_unclear() && !self.is_strict => {
+            _ if (word.is_unclear() || is_understood()) && !self.is_strict => {
                 self.unclear.set(self.unclear.get() + 1);
                 Ok(Meant::NoTriple(None))
             }

@@ -18,6 +18,8 @@ pub struct Run<'a> {
     helper: Helper,
     outputs: Outputs,
     progress: Progress,
+    /// The status for what can't be read, or 0.
+    unread: i32,
     is_quiet: bool,
     end_of_line: u8,
     keeps_lines: bool,
@@ -57,6 +59,12 @@ impl Answers for Run<'_> {
         self.progress.binary += 1;
     }
 
+    fn skip_unread(&mut self, fault: Fault) -> Result<(), Fault> {
+        self.outputs.flush()?;
+        self.unread = fault.report();
+        Ok(())
+    }
+
     fn pause(&mut self) -> Result<(), Fault> {
         self.outputs.flush()?;
         self.progress.show()
@@ -72,6 +80,7 @@ impl<'a> Run<'a> {
             reader,
             outputs: Outputs::new(arguments),
             progress: Progress::new(),
+            unread: 0,
             is_quiet: arguments.get_flag("quiet"),
             end_of_line: end_of_line(arguments),
             keeps_lines: keeps_lines(arguments),
@@ -137,10 +146,10 @@ impl<'a> Run<'a> {
             return Err(fault);
         }
         let is_refused = self.progress.refused > 0;
-        self.call.end(&mut self.outputs, !is_refused && !self.is_quiet)?;
+        self.call.end(&mut self.outputs, !is_refused && self.unread == 0 && !self.is_quiet)?;
         self.note()?;
         self.summarize(false)?;
-        Ok(i32::from(is_refused))
+        Ok(self.unread.max(i32::from(is_refused)))
     }
 
     /// Says what wasn't understood or read, and whether each answer is the same without the C library that is said.

@@ -151,6 +151,11 @@ An unknown environment after a machine and a system is wrong, and so is what is 
   > platform: [linux/aarch46, macos-14-large, "linux/am6d4"]
   > x86_64-apple-darwin.runner = "qemu"
   > END
+  $ cat > more.yml << 'END'
+  > platform: [macsx_11_0_arm64, x64-windows-static]
+  > arch: amd46
+  > run: aarch64-linu-gnu-gcc i386-win32 projects/linux-atm i?86-linux PowerPC64-linux i686-inux
+  > END
   $ target-lexicon check words.yml | grep -v '^!   '
   ! words.yml:1:28: error: unrecognized environment `gnueabhif`
   ! words.yml:1:60: error: unrecognized environment `foo`
@@ -159,17 +164,26 @@ An unknown environment after a machine and a system is wrong, and so is what is 
   ! words.yml:3:44: error: no tool has the name `linux/am6d4`
   ! note: 1 word that may be a target isn't understood: --strict shows each
   ! 5 of 10 targets refused
+  $ target-lexicon check more.yml | grep -v '^!   '
+  ! more.yml:1:12: error: no tool has the name `macsx_11_0_arm64`
+  ! more.yml:2:7: error: no tool has the name `amd46`
+  ! more.yml:3:14: error: custom vendor `linu`
+  ! more.yml:3:84: error: no tool has the name `i686-inux`
+  ! note: 1 word that may be a target isn't understood: --strict shows each
+  ! 4 of 5 targets refused
 
 Of a folder the files are read, except links and what tools make. A list is what has targets in half of its lines:
 
   $ mkdir -p repository/target; cd repository; touch target/CACHEDIR.TAG; ln -s /dev/zero zero; mkfifo pipe
   $ printf 'x86_64-linux-gnuu\n' | tee target/built > made; printf 'dist\n*.o\nout\n' > .gitignore; echo 0.5.0 > VERSION
-  $ target-lexicon check . | grep error
+  $ mkdir closed; chmod 0 closed
+  $ [ ! -r closed ] || echo '! target-lexicon: ./closed: Permission denied (os error 13)'; target-lexicon check . | grep error
+  ! target-lexicon: ./closed: Permission denied (os error 13)
   ! ./made:1:14: error: unrecognized environment `gnuu`
   $ target-lexicon check zero pipe
   ! target-lexicon: zero: is neither a file nor a folder; `-f` reads its lines
   [3]
-  $ cd ..
+  $ chmod 755 closed; cd ..
 
 `settle` and `matrix` of a text take what `check` takes:
 

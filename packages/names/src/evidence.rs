@@ -22,6 +22,7 @@ use crate::table::WORDS;
 use crate::{Dialect, FloatAbi};
 use core::fmt::{self, Write};
 use core::ops::Range;
+use core::str::FromStr as _;
 use target_lexicon::{
     Architecture, ArmArchitecture, Endianness, Environment, Field, OperatingSystem, PointerWidth, TripleRef, VendorRef,
 };
@@ -658,6 +659,9 @@ pub(crate) fn said(word: &str) -> Option<&'static str> {
     };
     let versioned = || {
         let name = word.trim_end_matches(|it: char| it.is_ascii_digit());
+        if name.len() == word.len() {
+            return None;
+        }
         let said = listed(name).or_else(|| system_named(name))?;
         let first = said.split(' ').next()?;
         let is_system = kind_of(first) == Kind::System;
@@ -679,6 +683,7 @@ pub(crate) fn only_machine(text: &str) -> Option<Architecture> {
 }
 
 fn system_named(word: &str) -> Option<&'static str> {
+    OperatingSystem::from_str(word).ok()?; // which is faster than to look through the names
     let mut names = known_names(Field::OperatingSystem).iter().copied();
     names.find(|it| *it == word)
 }
@@ -686,7 +691,7 @@ fn system_named(word: &str) -> Option<&'static str> {
 /// The known name of the machine that a word names.
 fn machine_named(word: &str) -> Option<&'static str> {
     let mut names = known_names(Field::Architecture).iter().copied();
-    let known = names.find(|it| *it == word);
+    let known = Architecture::from_str(word).ok().and_then(|_| names.find(|it| *it == word));
     known.or_else(|| if word == "arm64" { Some("aarch64") } else { Some(fit_alone(Place::First, word)?.names) })
 }
 

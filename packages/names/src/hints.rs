@@ -385,8 +385,11 @@ impl<'a> Meant<'a> {
                 (_, Said::Unsaid) => evidence.unknown_word().is_none() && !evidence.has_title(),
                 _ => true,
             };
+            if is_known {
+                return None;
+            }
             let mut names = Dialect::ALL.iter().filter_map(|it| hints.name_of(*it));
-            let name = names.find(|name| !word.contains(name)).filter(|_| !is_known)?;
+            let name = names.find(|name| !word.contains(name))?;
             let part = TextPart { text: word, start: 0 };
             Some(Meant { word, part, suggestion: Suggestion::of(name) })
         })

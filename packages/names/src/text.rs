@@ -28,8 +28,8 @@ use target_lexicon::{Architecture, Field, OperatingSystem, TextPart, TripleRef, 
 ///
 /// Of a word that is none of these, a part between slashes is given, or else one between dots, if it is one: that of
 /// `target/wasm32-wasip1/release` or of `[target.wasm32-wasip1]`. A word is a part of a pattern, and isn't given, if
-/// one of `$*%<>{}` is next to a dash of it, or `}` before a digit: `${ARCH}-linux`. So keys, versions and the labels
-/// of runners aren't given. Nor is a name of which no word says a machine or a system, such as `js/wasm`.
+/// one of `$*%<>{}?` is next to a dash of it, or before a digit: `${ARCH}-linux`, `i?86-linux`. So keys, versions and
+/// the labels of runners aren't given. Nor is a name of which no word says a machine or a system, such as `js/wasm`.
 ///
 /// Nothing is allocated, and the time is linear.
 ///
@@ -79,27 +79,60 @@ pub fn words_in(text: &str) -> TargetsIn<'_> {
 /// ```
 #[must_use]
 pub fn is_near_name(word: &str) -> bool {
-    let is_understood = || Evidence::of(word).is_understood();
-    let (word, has_parts) = (word.as_bytes(), |it: &str| it.contains(['-', '/']));
-    let is_near = |name: &str| is_one_edit(word, name.as_bytes()) && name.len() >= SHORTEST_NEAR && has_parts(name);
-    let may_be = SHORTEST_NEAR <= word.len() + 1 && word.iter().any(|it| b"-/".contains(it)) && !word.contains(&b'.');
-    may_be && Dialect::ALL.iter().any(|it| it.rows().iter().any(|row| is_near(row.0))) && !is_understood()
+    let has_length = (SHORTEST_NEAR - 1..=LONGEST_PATH).contains(&word.len());
+    if !has_length || !word.contains(['-', '/', '_']) || word.contains('.') {
+        return false;
+    }
+    let (evidence, room) = (Evidence::of(word), starred(word));
+    let word = if word.contains('_') { room.as_str() } else { word };
+    let has_parts = |it: &str| it.len() >= SHORTEST_NEAR && it.contains(['-', '/', '_']);
+    let is_near = |name: &str| has_parts(name) && is_one_edit(word.as_bytes(), name.as_bytes());
+    // Of a misspelled name a word is still as it was, or the name has digits.
+    let says_nothing = evidence.is_silent() && !word.bytes().any(|it| it.is_ascii_digit());
+    let may_be = !says_nothing && !evidence.is_understood();
+    may_be && Dialect::ALL.iter().any(|it| it.rows().iter().any(|row| is_near(row.0)))
+}
+
+/// A word with a star for each number between lines, as the rows of Python's names have it: `macosx_*_*_arm64`.
+fn starred(word: &str) -> Buffer<LONGEST_PATH> {
+    let (mut room, last) = (Buffer::new(), word.matches('_').count());
+    for (at, part) in word.split('_').enumerate() {
+        let is_number = (1..last).contains(&at) && part.bytes().all(|it| it.is_ascii_digit());
+        let is_written = write!(room, "{}{}", if at == 0 { "" } else { "_" }, if is_number { "*" } else { part });
+        if is_written.is_err() {
+            return Buffer::new();
+        }
+    }
+    room
 }
 
 /// Shorter names have too many words near them.
 const SHORTEST_NEAR: usize = 8;
+
+/// Whether a word without parts that says nothing is likewise near a name of a machine, where both have a digit: `amd46`.
+fn is_near_machine(word: &str) -> bool {
+    let has_digit = |it: &str| it.len() > 3 && it.bytes().any(|it| it.is_ascii_digit());
+    let is_near = |name: &str| has_digit(name) && is_one_edit(word.as_bytes(), name.as_bytes());
+    let mut rows = Dialect::ALL.iter().flat_map(|it| it.rows());
+    has_digit(word) && Evidence::of(word).is_empty() && rows.any(|row| is_near(row.0) && only_machine(row.0).is_some())
+}
 
 fn is_one_edit(word: &[u8], name: &[u8]) -> bool {
     if word.len().abs_diff(name.len()) > 1 {
         return false;
     }
     let start = word.iter().zip(name).take_while(|(one, other)| one == other).count();
-    let (word, name) = (&word[start..], &name[start..]);
+    let is_long = name.iter().filter(|it| !it.is_ascii_alphanumeric()).count() > 1;
+    let (word, (before, name)) = (&word[start..], name.split_at(start));
     let end = word.iter().rev().zip(name.iter().rev()).take_while(|(one, other)| one == other).count();
     let letter = u8::is_ascii_lowercase;
+    // With another letter a short word of two is another word, as in `linux-atm`.
+    let (is_letter, after) = (|it: &&u8| it.is_ascii_alphanumeric(), &name[name.len() - end..]);
+    let count = |of: &mut dyn Iterator<Item = &u8>| of.take_while(is_letter).count();
+    let is_of_long_word = || is_long || count(&mut before.iter().rev()) + count(&mut after.iter()) > 2;
     match (&word[..word.len() - end], &name[..name.len() - end]) {
         ([it], []) | ([], [it]) => letter(it),
-        ([one], [other]) => letter(one) && letter(other),
+        ([one], [other]) => letter(one) && letter(other) && is_of_long_word(),
         ([first, second], [one, other]) => (first, second) == (other, one),
         _ => false,
     }
@@ -223,7 +256,7 @@ impl<'a> TargetsIn<'a> {
             if is_key {
                 self.is_value = KEYS.iter().any(|key| has(word, key)) && !CFG_OPTIONS.contains(&word);
             }
-            let is_rest = word.starts_with(['-', '.', '_']) || before.ends_with('}') && word.starts_with(is_digit);
+            let is_rest = word.starts_with(|it: char| "-._".contains(it) || it.is_ascii_digit());
             let is_end = |it: &str| it.ends_with(PATTERN) && is_rest;
             if is_end(before) || after.starts_with(PATTERN) && word.ends_with(['-', '.', '_']) {
                 continue;
@@ -236,23 +269,26 @@ impl<'a> TargetsIn<'a> {
             let dots = word.split(['/', '.']).skip_while(|it| it.len() == word.len());
             let mut parts = once(word).chain(slashes).chain(dots).map(trimmed);
             if self.is_check {
-                // What is a target says that the rest is something else: `x86_64-apple-darwin.runner`.
-                let is_name = |it: &&str| is_given(it, false) && matches!(what(it), WordIs::Name(_));
-                if let Some(part) = parts.clone().find(is_name) {
-                    return Some((part, false));
+                // What is a target says that the rest is something else: `x86_64-apple-darwin.runner`. A name may be in
+                // that of a program, of which GNU takes any vendor: `aarch64-linux-gnu-gcc`.
+                let is_name = |it: &&str| may_be_given(it, false) && name_of(it).is_some() && is_whole(it);
+                let ends = |it: &'a str| [it.split_once('-').map(|it| it.1), it.rsplit_once('-').map(|it| it.0)];
+                let ends = parts.clone().flat_map(ends).flatten().filter(|it| it.contains('-'));
+                let near = || ends.clone().find(|it| is_near_name(it) && !is_known(it)).map(|it| (it, false));
+                if let Some(name) = parts.clone().find(is_name) {
+                    let misspelled = if is_known(name) { None } else { near() };
+                    return misspelled.or(Some((name, false)));
                 }
-                if let Some(found) = parts.find_map(|it| Some((it, clarity(it, is_value)?))) {
+                let found = parts.find_map(|it| Some((it, clarity(it, is_value)?)));
+                let is_clear = matches!(found, Some((_, false)));
+                if let Some(found) = found.filter(|_| is_clear).or_else(near).or(found) {
                     return Some(found);
                 }
-            } else if let Some(part) = parts.find(|it| is_given(it, is_value)) {
+            } else if let Some(part) = parts.find(|it| given(it, is_value).is_some()) {
                 return Some((part, false));
             }
         }
     }
-}
-
-fn is_digit(it: char) -> bool {
-    it.is_ascii_digit()
 }
 
 fn trimmed(word: &str) -> &str {
@@ -275,7 +311,7 @@ const CFG_OPTIONS: [&str; 8] = [
 ];
 
 /// The signs of patterns and of variables.
-const PATTERN: &[char] = &['$', '*', '%', '<', '>', '{', '}'];
+const PATTERN: &[char] = &['$', '*', '%', '<', '>', '{', '}', '?'];
 
 /// Whether a text has a word in lower or upper case.
 fn has(text: &str, word: &str) -> bool {
@@ -328,36 +364,47 @@ fn is_item(item: &str) -> bool {
     !has_key && (!item.contains(char::is_whitespace) || is_name())
 }
 
-/// Whether a word of running text is given.
-fn is_given(word: &str, is_value: bool) -> bool {
-    let evidence = Evidence::of(word);
-    let has_parts = match word.contains(['-', '/']) {
-        true => only_machine(word).is_none(),
-        false => word.contains('_') && evidence.system() != Said::Unsaid,
-    };
-    if word.len() > LONGEST_PATH || !has_parts && !is_value || evidence.is_empty() {
+/// Whether a word of running text may be given: it says something of a target, and has parts or is a value.
+fn may_be_given(word: &str, is_value: bool) -> bool {
+    let may_have_parts = word.contains(['-', '/', '_']);
+    if word.len() > LONGEST_PATH || !may_have_parts && !is_value {
         return false;
     }
-    match what(word) {
-        WordIs::Name(_) => is_value || has_parts && is_whole(word),
+    let evidence = Evidence::of(word);
+    let has_parts = || match word.contains(['-', '/']) {
+        true => only_machine(word).is_none(),
+        false => may_have_parts && evidence.system() != Said::Unsaid,
+    };
+    !evidence.is_empty() && (is_value || has_parts())
+}
+
+/// Whether a word of running text is given, and as what.
+fn given(word: &str, is_value: bool) -> Option<WordIs<'_>> {
+    let is = may_be_given(word, is_value).then(|| what(word))?;
+    let is_given = match is {
+        WordIs::Name(_) => is_value || is_whole(word),
         WordIs::Misspelled(_) => word.contains(['-', '/']),
         WordIs::Unknown => is_of_unknown_system(word),
-    }
+    };
+    is_given.then_some(is)
 }
 
 /// Whether a word that a check looks at is unclear, if it does.
 fn clarity(word: &str, is_value: bool) -> Option<bool> {
-    let is_triple = |it: Meant<'_>| it.part.text != word;
-    if is_given(word, is_value) {
-        let is_clear = match what(word) {
+    // Prose writes `PowerPC64-linux`, and `i386-win32` is a name to somebody.
+    let is_other = || word.matches('-').count() == 1 && word.bytes().any(|it| it.is_ascii_uppercase());
+    let is_triple = |it: Meant<'_>| it.part.text != word && !is_other() && !Evidence::of(word).is_understood();
+    if let Some(is) = given(word, is_value) {
+        let is_clear = match is {
             WordIs::Name(_) => true,
             WordIs::Misspelled(it) => is_value || is_triple(it) || is_near_name(word),
             WordIs::Unknown => is_value || is_near_name(word),
         };
         return (is_clear || is_value || word.matches('-').count() > 1).then_some(!is_clear);
     }
-    let is_wrong = || is_of_unknown_environment(word, is_value) || is_near_name(word);
-    if word.len() <= LONGEST_PATH && is_wrong() && !matches!(what(word), WordIs::Name(_)) {
+    let is_wrong =
+        || is_of_unknown_environment(word, is_value) || is_near_name(word) || is_value && is_near_machine(word);
+    if word.len() <= LONGEST_PATH && is_wrong() && !is_known(word) {
         return Some(false);
     }
     (is_value && is_unclear(word)).then_some(true)
@@ -372,7 +419,7 @@ fn is_unclear(word: &str) -> bool {
     let evidence = Evidence::of(word);
     let is_runner = RUNNERS.iter().any(|it| word.strip_prefix(it).map_or(false, |it| it.starts_with('-')));
     let is_said = evidence.machine() != Said::Unsaid || word.contains('/') && evidence.system() != Said::Unsaid;
-    is_said && !is_runner && !matches!(what(word), WordIs::Name(_))
+    is_said && !is_runner && name_of(word).is_none()
 }
 
 /// With what labels of GitHub's runners begin.
@@ -391,17 +438,27 @@ pub(crate) fn is_whole(word: &str) -> bool {
     meanings(word).any(is_target)
 }
 
+/// Whose name a word is. A custom vendor that resembles a name is no name, unless a tool has it.
+fn name_of(word: &str) -> Option<NameOf> {
+    let Meaning { of, sense } = meanings(word).next()?;
+    let is_misspelled =
+        |it: Sense<'_>| vendor_suggestion(it.triple).is_some() && Dialect::all_with(word).all(|it| it == Dialect::Gnu);
+    let own = sense.ok().filter(|_| of == NameOf::Triple);
+    (!own.map_or(false, is_misspelled)).then_some(of)
+}
+
+/// Whether a word is a name of a tool, or a triple or spelled like one, without a custom vendor. GNU takes any vendor.
+fn is_known(word: &str) -> bool {
+    let has_known_vendor = |it: Sense<'_>| !it.triple.vendor.is_custom();
+    meanings(word).any(|it| match it.of {
+        NameOf::Dialect(dialect) => dialect != Dialect::Gnu,
+        NameOf::Triple | NameOf::Spelling => it.sense.map_or(false, has_known_vendor),
+    })
+}
+
 fn what(word: &str) -> WordIs<'_> {
-    let first = meanings(word).next();
-    // A custom vendor that resembles a name is no name, unless a tool has it.
-    let is_misspelled = |it: &Meaning<'_>| {
-        let own = it.sense.ok().filter(|_| it.of == NameOf::Triple);
-        own.map_or(false, |it| vendor_suggestion(it.triple).is_some())
-            && Dialect::all_with(word).all(|it| it == Dialect::Gnu)
-    };
-    let name = first.filter(|it| !is_misspelled(it));
     let meant = || Meant::by(word).map_or(WordIs::Unknown, WordIs::Misspelled);
-    name.map_or_else(meant, |it| WordIs::Name(it.of))
+    name_of(word).map_or_else(meant, WordIs::Name)
 }
 
 /// Whether a word begins with a machine and a known vendor, and goes on with no known system.
