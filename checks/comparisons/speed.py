@@ -4,19 +4,25 @@ upstream's crate, and times each call.
 Lines are 20,000 of rustc's targets in turn, or the same with an `x` at the end; upstream's program writes straight into
 its output. The calls are those of speed.rs, with these targets in an order by chance; a refused field is one of theirs
 with an `X` at the end. On x86-64 both are compiled with no branch across 32 bytes: on some processors such a branch
-takes longer, so that equal code differs by half. With `--store` the figures are written into the file;
-then run tools/pictures/speed. The status is 1 if a query takes more instructions than upstream's.
+takes longer. How long equal code takes still differs by where the linker puts it, by half where that is a nanosecond.
+So with `--store` nanoseconds are medians of programs whose functions and tables the linker shuffles, and the figures
+are written into the file; then run tools/pictures/speed. The last line names the calls that take more than 1.05 of
+upstream's time and a tenth of a nanosecond. The status is 1 if a query takes more instructions than upstream's.
 """
+import functools
 import os
 import platform
 import random
 import re
+import shutil
+import statistics
 import subprocess
 
 import built
 from upstream import crates
 
 LINES = 20000
+LAYOUTS = 9
 FIGURES = f"{built.ROOT}/docs/speed.tsv"
 
 
@@ -26,6 +32,7 @@ def add_arguments(parser):
     parser.add_argument("--store", action="store_true")
 
 
+@functools.cache
 def counted(command, path):
     """The instructions and the mispredicted branches of a program, and what it prints."""
     with open(path, "rb") as given:
@@ -38,20 +45,31 @@ def counted(command, path):
 
 
 def of_line(command, path):
-    return [number / LINES for number in counted(command, path)[:2]]
+    return [number / LINES for number in counted(tuple(command), path)[:2]]
 
 
 def of_call(program, who, call, path):
     """The same of a call, without what the program itself takes."""
-    *own, _ = counted([program, who, "none"], path)
-    *numbers, calls = counted([program, who, call], path)
+    *own, _ = counted((program, who, "none"), path)
+    *numbers, calls = counted((program, who, call), path)
     return [(number - other) / int(calls) for number, other in zip(numbers, own)]
 
 
-def times_of_call(program, who, call, path):
-    with open(path, "rb") as given:
-        return subprocess.run([program, "times", who, call], stdin=given, check=True, capture_output=True,
-                              text=True).stdout.split()
+def in_layouts(upstream, folder, flags):
+    """Programs as `speed` is, in each of which the linker puts functions and tables in another order."""
+    for seed in range(1, LAYOUTS + 1):
+        crates.cargo(upstream, "rustc", "--release", "--bin=speed", "--", f"-Clink-arg=-Wl,--shuffle-sections=*={seed}",
+                     flags=flags)
+        yield shutil.copy(crates.program_path("speed"), f"{folder}/speed{seed}")
+
+
+def times_of_call(programs, who, call, path):
+    found = []
+    for program in programs:
+        with open(path, "rb") as given:
+            ran = subprocess.run([program, "times", who, call], stdin=given, check=True, capture_output=True, text=True)
+        found.append([float(it) for it in ran.stdout.split()])
+    return [statistics.median(it) for it in zip(*found)]
 
 
 def main(options, folder):
@@ -67,9 +85,10 @@ def main(options, folder):
     flags = f"-L native={os.path.realpath(built.c_library(folder))}/lib -l static=target_lexicon"
     if platform.machine() == "x86_64":
         flags += " -C llvm-args=--x86-branches-within-32B-boundaries"
+    layouts = list(in_layouts(options.upstream, folder, flags)) if options.store else []
     with_calls, lines_of = crates.rust_program(options.upstream, "speed",
                                                  flags), crates.rust_program(options.upstream, "lines_upstream")
-    status = 0
+    status, dearer = 0, []
     for row in rows:
         part, call = row["part"], row["call"].replace("`", "")
         if options.parts and part not in options.parts:
@@ -87,7 +106,9 @@ def main(options, folder):
             numbers = of_call(with_calls, who, call, f"{folder}/targets")
             theirs = row["upstream"] != "-" and of_call(with_calls, "upstream", call, f"{folder}/targets")
             if theirs:
-                row["ns"], row["upstream_ns"] = times_of_call(with_calls, who, call, f"{folder}/targets")
+                times = times_of_call(layouts or [with_calls], who, call, f"{folder}/targets")
+                row["ns"], row["upstream_ns"] = [f"{it:.1f}" for it in times]
+                dearer += [call] * (times[0] > 1.05 * times[1] + 0.1)
         row[ours] = f"{numbers[0]:.0f}"
         found = {"missed": numbers[1]} | ({"upstream_missed": theirs[1]} if theirs else {})
         row.update({column: f"{number:.1f}" for column, number in found.items() if row[column] != "-"})
@@ -95,6 +116,7 @@ def main(options, folder):
             row["upstream"] = f"{theirs[0]:.0f}"
             status |= part == "query" and round(numbers[0]) > round(theirs[0])
         print(*row.values(), sep="\t", flush=True)
+    print("more than 1.05 of upstream's time:", "; ".join(dearer) or "none")
     if options.store:
         comments = [line for line in crates.read(FIGURES).splitlines() if line.startswith("#")]
         crates.write(FIGURES, "".join(f"{line}\n" for line in [

@@ -25,6 +25,16 @@ fn parsed<T>(lines: &[String], parse: fn(&str) -> Option<T>) -> (Vec<String>, Ve
     (read, refused, triples)
 }
 
+/// Returns the pass of a method of some types that is written `TYPE::METHOD`, with so many items.
+macro_rules! methods {
+    ($what:ident, $count:expr; $($type:ident of $items:expr => $($call:ident)*;)*) => {
+        $($(if $what == concat!(stringify!($type), "::", stringify!($call)) {
+            let items: Vec<$type> = $items.collect();
+            return each(items.iter().cycle().take($count).cloned().collect(), |it: &$type| drop(black_box(it.$call())));
+        })*)*
+    };
+}
+
 macro_rules! calls {
     ($who:ident) => {
         mod $who {
@@ -56,7 +66,50 @@ macro_rules! calls {
                 let (what, end) = what.strip_suffix(", refused").map_or((what, ""), |it| (it, "X"));
                 let shown = |field: fn(&Triple) -> String| triples.iter().map(|it| field(it) + end).collect::<Vec<_>>();
                 let architecture = || shown(|it| it.architecture.to_string());
+                // rustc has no target of the last ones
+                let architectures = || {
+                    let more = ["clever", "clever1.0"].map(|it| it.parse().expect("an architecture"));
+                    triples.iter().map(|it| it.architecture).chain(more)
+                };
+                macro_rules! family {
+                    ($family:ident) => {
+                        architectures().filter_map(|it| match it {
+                            Architecture::$family(it) => Some(it),
+                            _ => None,
+                        })
+                    };
+                }
+                let models = || triples.iter().filter_map(|it| it.data_model().ok());
+                methods! { what, read.len();
+                    Architecture of architectures() => endianness pointer_width is_clever;
+                    ArmArchitecture of family!(Arm) => endianness pointer_width is_thumb into_str;
+                    Aarch64Architecture of family!(Aarch64) => endianness pointer_width is_thumb into_str;
+                    X86_32Architecture of family!(X86_32) => into_str;
+                    Mips32Architecture of family!(Mips32) => into_str;
+                    Mips64Architecture of family!(Mips64) => into_str;
+                    Riscv32Architecture of family!(Riscv32) => into_str;
+                    Riscv64Architecture of family!(Riscv64) => into_str;
+                    CleverArchitecture of family!(Clever) => into_str;
+                    CustomVendor of triples.iter().filter_map(|it| match &it.vendor {
+                        Vendor::Custom(it) => Some(it.clone()),
+                        _ => None,
+                    }) => as_str;
+                    PointerWidth of triples.iter().filter_map(|it| it.pointer_width().ok()) => bits bytes;
+                    CDataModel of models() => pointer_width short_size int_size long_size long_long_size float_size double_size;
+                    Size of models().map(|it| it.long_size()) => bits bytes;
+                }
                 match what {
+                    "Triple::unknown" => each(read, |_| drop(black_box(Triple::unknown()))),
+                    "Triple::host" => each(read, |_| drop(black_box(Triple::host()))),
+                    "ParseError::to_string" => each(
+                        refused.iter().filter_map(|it| it.parse::<Triple>().err()).collect(),
+                        |it| drop(black_box(it.to_string())),
+                    ),
+                    "Architecture::fmt" => each(architectures().collect(), |it| print(it)),
+                    "Vendor::fmt" => each(triples, |it| print(&it.vendor)),
+                    "OperatingSystem::fmt" => each(triples, |it| print(it.operating_system)),
+                    "Environment::fmt" => each(triples, |it| print(it.environment)),
+                    "BinaryFormat::fmt" => each(triples, |it| print(it.binary_format)),
                     "none" => each(read, |_| ()),
                     "parse" if end.is_empty() => each(read, |it| drop(black_box(it.parse::<Triple>()))),
                     "parse" => each(
@@ -206,7 +259,7 @@ fn main() {
     };
     if words[1] == "times" {
         let [its, upstreams] = times([pass(&words[2], &words[3]), pass("upstream", &words[3]), pass("ours", "none")]);
-        println!("{its:.1} {upstreams:.1}");
+        println!("{its:.2} {upstreams:.2}");
     } else {
         let (count, call) = pass(&words[1], &words[2]);
         (0..200).for_each(|_| call());

@@ -40,6 +40,10 @@ def cargo(crate, command, *words, package=SOURCES, flags="", given=None):
 def rust_program(crate, name, flags=""):
     """The path of a program of the package."""
     cargo(crate, "build", "--release", f"--bin={name}", flags=flags)
+    return program_path(name)
+
+
+def program_path(name):
     return f"{os.environ.get('CARGO_TARGET_DIR', f'{SOURCES}/target')}/release/{name}"
 
 

@@ -176,7 +176,6 @@ impl Mips64Architecture {
     }
 }
 impl Riscv32Architecture {
-    #[inline]
     pub(crate) fn from_str(s: &str) -> Result<Self, ()> {
         Ok(match s {
             "riscv32" => Riscv32Architecture::Riscv32,
