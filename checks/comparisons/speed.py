@@ -6,7 +6,7 @@ its output. The calls are those of speed.rs, with these targets in an order by c
 with an `X` at the end. On x86-64 both are compiled with no branch across 32 bytes: on some processors such a branch
 takes longer. How long equal code takes still differs by where the linker puts it, by half where that is a nanosecond.
 So with `--store` nanoseconds are medians of programs whose functions and tables the linker shuffles, and the figures
-are written into the file; then run tools/pictures/speed. The last line names the calls that take more than 1.05 of
+are written into the file; then run tools/pictures/speed. Its last line names the calls that take more than 1.05 of
 upstream's time and a tenth of a nanosecond. The status is 1 if a query takes more instructions than upstream's.
 """
 import functools
@@ -116,8 +116,8 @@ def main(options, folder):
             row["upstream"] = f"{theirs[0]:.0f}"
             status |= part == "query" and round(numbers[0]) > round(theirs[0])
         print(*row.values(), sep="\t", flush=True)
-    print("more than 1.05 of upstream's time:", "; ".join(dearer) or "none")
     if options.store:
+        print("more than 1.05 of upstream's time:", "; ".join(dearer) or "none")
         comments = [line for line in crates.read(FIGURES).splitlines() if line.startswith("#")]
         crates.write(FIGURES, "".join(f"{line}\n" for line in [
             *comments, "\t".join(head), *("\t".join(row.values()) for row in rows)]))
