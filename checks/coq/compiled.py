@@ -30,6 +30,7 @@ ATTRIBUTES = "allow automatically_derived coverage doc forbid inline macro_expor
              "prelude_import repr rustfmt warn".split()
 # Why functions aren't written, or proved to be those of the source: all of some traits, and these.
 UNSAID = ("std::Debug", "std::Hash", "std::Ord", "std::PartialOrd", "std::Clone", "std::Eq", "std::Error")
+COMPARED = ("std::Hash", "std::Ord", "std::PartialOrd")  # of these, with upstream's
 LEFT_OUT = {
     **{f"proved::{it}::host": "the host is that of the build" for it in (
         "triple::Triple", "architecture::Architecture", "vendor::Vendor", "operating_system::OperatingSystem",
@@ -101,12 +102,13 @@ def all_of(crate):
     """Writes all functions. Returns why some aren't written."""
     unwritten = {}
     for it in crate.all():
-        if it.key[0] in UNSAID:
+        if it.key[0] in UNSAID and it.key[0] not in COMPARED:
             continue
         try:
             crate.write(it)
         except Unknown as why:
-            unwritten[path(it)] = str(why)
+            if it.key[0] not in UNSAID:
+                unwritten[path(it)] = str(why)
     return unwritten
 
 

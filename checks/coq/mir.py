@@ -9,6 +9,7 @@ TEXTS = ("str", "std::string::String", "std::vec::Vec<u8>")
 PLAIN = {"bool": "bool", "char": "ℕ", "()": "unit", "std::fmt::Error": "unit", "std::fmt::Formatter": "Formatter",
          "std::cmp::Ordering": "comparison", "std::ops::Range<usize>": "(ℕ × ℕ)", "std::str::Chars": "(list ℕ)",
          "std::str::Split<char>": "(list (list ℕ))", "std::num::ParseIntError": "unit",
+         "H": "Fed", "__H": "Fed",  # a hasher, whatever it makes of what it is fed
          **dict.fromkeys(BITS, "ℕ"), **dict.fromkeys(TEXTS, "(list ℕ)")}
 STD = {"option": [("None", 0), ("Some", 1)], "Result": [("Result__Ok", 1), ("Result__Err", 1)],
        "comparison": [("Eq", 0), ("Gt", 0), ("Lt", 0)]}

@@ -8,7 +8,7 @@ from collections import namedtuple
 
 from mir import BITS, TEXTS, Unknown, arguments, of_call, referred, split, strip
 from mir_grammar import Function, close
-from mir_std import CLOSED, COUNTED, EQUAL, ITERATORS, MAPPED, STD
+from mir_std import CLOSED, COUNTED, EQUAL, FED, ITERATORS, MAPPED, STD
 
 Con = namedtuple("Con", "name args")  # a constructor of values; "tuple", "branching" and a closure aren't Coq's
 Mut = namedtuple("Mut", "cell path")  # a mutable borrow
@@ -412,6 +412,8 @@ class Body:
             return self.own(it, values, types, env)
         if trait in ("std::Fn", "std::FnMut", "std::FnOnce") and owner.startswith("{closure@"):
             return self.own(*self.captures(self.read(values[0], env), values[1], env), [], env)
+        if trait == "std::Hash" and name == "hash" and types[1] in ("&mut H", "&mut __H"):
+            return self.hashed(strip(owner), values, types, env)
         plain = without_generics(path)
         if plain.startswith("std::fmt::") and (it := self.formatted(plain, path, values, env)):
             return it
@@ -489,6 +491,25 @@ class Body:
             self.store(*values[0], f"(snd {name})", env)
             return f"(fst {name})"
 
+    def hashed(self, type, values, types, env):
+        """The crate's hash, or std's: of a number, a string, or an option, which is its discriminant, and the value."""
+        if it := self.crate.find(("std::Hash", type, "hash")):
+            return self.own(it, values, types, env)
+        value, fed = (self.code(self.read(it, env)) for it in values)
+        if type in FED:
+            new = f"(feed by_{type} {value if type == 'str' else f'[{value}]'} {fed})"
+        elif type.startswith("std::option::Option<") and (
+                it := self.crate.find(("std::Hash", strip(arguments(type)[0]), "hash"))):
+            hashed = f"{self.crate.write(it)} fuel it (feed by_isize [1] {fed})"
+            new = self.emit(f"(match {value} with None => Some (feed by_isize [0] {fed}) | Some it => "
+                            f"match {hashed} with Some it => Some (snd it) | None => None end end)")
+        else:
+            raise Unknown(f"the hash of {type}")
+        name = self.new("fed")
+        self.before.append((f"let {name} := {new} in\n", ""))
+        self.store(*values[1], name, env)
+        return "tt"
+
     def captures(self, closure, arguments, env):
         """A closure's function, and the values of its parameters."""
         it = self.crate.closure(closure.name)
@@ -559,6 +580,8 @@ class Body:
         for n, type in self.f.parameters:
             is_mutable = type.startswith("&mut ")
             env[n], env[f"*{n}" if is_mutable else n] = Mut(f"*{n}", ()), f"v{n}"
+        if self.f.result == "()":
+            env[0] = "tt"
         if self.f.captured:
             env[1] = Con("{closure}", [Mut(n, ()) if type.startswith("&mut &mut ") else env[n]
                                        for n, type in self.f.captured])

@@ -49,6 +49,11 @@ STD = {
     "<[u8] as std::ops::Index<std::ops::RangeTo<usize>>>::index": "? between {0} 0 {1}",
     "<[u8] as std::ops::Index<std::ops::RangeFrom<usize>>>::index": "? between {0} {1} (length {0})",
 }
+# Orders of numbers.
+STD |= {f"<{it} as std::cmp::{of}>::{name}": form for it in ("u8", "u16") for of, name, form in (
+    ("Ord", "cmp", "(N.compare {0} {1})"), ("PartialOrd", "partial_cmp", "(Some (N.compare {0} {1}))"))}
+# The types whose hash is one call of a hasher.
+FED = ("u8", "u16", "isize", "str")
 # These have the number of their generic argument, or its greatest value.
 COUNTED = {"std::slice::<impl [u8]>::first_chunk": "(first_chunk {n} {0})",
            "std::slice::<impl [u8]>::last_chunk": "(last_chunk {n} {0})",
