@@ -40,7 +40,7 @@ def read(path):
 
 def table_names():
     """The names of the table, some texts that are none, and the known triples."""
-    table, _, wrong = table_of(read("tools/names/names.tsv"))
+    table, _, _, wrong = table_of(read("tools/names/names.tsv"))
     assert not wrong, wrong
     fields = {field: [row.name for row in table if row.field == field] for field in (*FIELDS, "alias")}
     fields["architecture"] += fields.pop("alias")

@@ -13,7 +13,8 @@ from pathlib import Path
 
 sys.path.insert(0, str(Path(__file__).resolve().parents[1]))
 from reading import (  # noqa: E402
-    CRATES, LIBRARY, ROOT, TOKEN, Definition, Laws, Module, Names, Parser, Untranslated, at, code_types, parts)
+    CRATES, LIBRARY, ROOT, TOKEN, Definition, Laws, Module, Names, Parser, Untranslated, at, code_types, families,
+    parts)
 
 TYPES = {"ℕ": "ℕ", "List": "list", "Option": "option", "Bool": "bool", "Text": "string"}
 CONSTRUCTORS = {"Bool__true": "true", "Bool__false": "false", "Option__Some": "Some", "Option__None": "None"}
@@ -381,8 +382,8 @@ LEFT_OUT = {
 # What other parts need of the definitions.
 NEEDED = [f"lexicon_fields/{it}" for it in (
     "ArchitectureQueries.is_thumb ArchitectureQueries.is_clever OperatingSystem.is_like_darwin Vendor.is_custom PointerWidth.width_bits PointerWidth.width_name "
-    "Endianness.endianness_name Architecture.sub_architecture_of Architecture.as_arm Architecture.as_aarch64 Architecture.as_x86_32 Architecture.as_mips32 "
-    "Architecture.as_mips64 Architecture.as_riscv32 Architecture.as_riscv64 Architecture.as_clever Architecture.as_z80").split()] + [
+    "Endianness.endianness_name Architecture.sub_architecture_of").split()] + [
+    f"lexicon_fields/SubArchitecture.as_{it.lower()}" for it in families()] + [
     f"target_lexicon/{it}" for it in (
         "GreedyReading.reading GreedyReading.finished_sources Explanation.AreSourcesOf Explanation.whole_text_sources Explanation.placed_from Explanation.with_source Refusal.refusal_line "
         "Printing.upstream_string_of DataModel.sizes_of DataModel.size_bits DataModel.model_name CallingConvention.convention_name").split()]

@@ -33,6 +33,12 @@ def at(place):
         raise problem if re.match(r"\S+:\d+: ", str(problem)) else Untranslated(f"{place}: {problem}") from None
 
 
+def families():
+    """The families of architectures, in the table of names."""
+    table = ROOT.joinpath("tools/names/names.tsv").read_text(encoding="utf-8")
+    return re.findall(r"^family\t(\w+)", table, re.M)
+
+
 def relative(file, root):
     return file.relative_to(root) if file.is_relative_to(root) else file
 

@@ -5,7 +5,7 @@ Ghost parts, the calls of laws and the counter of steps are left out."""
 import functools
 import re
 
-from reading import Untranslated
+from reading import Untranslated, families
 from rust import translate
 from rust_grammar import Parser
 from rust_types import Crate
@@ -31,9 +31,7 @@ REPLACED = {
     "row_of": ("∀ n text, are_bytes text = true → {} (9 + n) text = {} text", "exact row_of_by_halves"),
     "OperatingSystem_from_str": ("∀ text, are_bytes text = true → {} text = {} text", "exact OperatingSystem_by_a_row"),
     **{f"{it}_from_str": ("∀ text, are_bytes text = true → {} text = Some ({} text)", f"exact {it}_by_a_row") for it in
-       """Environment BinaryFormat ArmArchitecture Aarch64Architecture X86_32Architecture
-       Mips32Architecture Mips64Architecture Riscv32Architecture Riscv64Architecture CleverArchitecture
-       Z80Architecture""".split()}}
+       ("Environment", "BinaryFormat", *(f"{family}Architecture" for family in families()))}}
 COUNTER = [it.split() for it in (", steps : & mut Steps", ", steps", "steps . tick ( ) ;", ", & mut Steps :: new ( )")]
 
 

@@ -28,7 +28,8 @@ TABLES = ("names.json", "names.csv", "names.schema.json", "targets.csv")
 # licence.
 SOURCES = ("Cargo.toml", "Cargo.lock", *(f"packages/names/{name}" for name in ("Cargo.toml", "src", *TABLES)),
            *(f"packages/{package}/{name}" for package in ("c", "rust") for name in ("Cargo.toml", "build.rs", "src")))
-LISTS = ("packages/c/include", "tools/names/names.tsv", "tools/names/names_table.py", "checks/upstream/known_triples.txt",
+LISTS = ("packages/c/include", *(f"tools/names/{name}" for name in ("names.tsv", "answers.tsv", "names_table.py")),
+         "checks/upstream/known_triples.txt",
          "checks/target_lines.py",
          "checks/gate/failing_allocator.c")
 

@@ -66,7 +66,10 @@ def add_answer(found, line):
 
 def lists(answers):
     statuses = answers["status"]
+    conventions = answers["calling_convention"]
     found = {
+        "the names of CallingConvention": [f'CallingConvention::{it.variant} => "{it.name}",' for it in conventions],
+        "convention_name": [f'convention_name convention.{it.variant} = codes "{it.name}"' for it in conventions],
         "the statuses for C": [f"LEXICON_{it.constant} = {it.number}, /* {it.about} */" for it in statuses],
         "the statuses for the library": [f"pub(crate) const {it.constant}: Status = {it.number};" for it in statuses
                                          if it.number > 6],

@@ -3,11 +3,13 @@ lines, and words in lines."""
 import hashlib
 import re
 from collections import namedtuple
+from pathlib import Path
 
 TYPES = {"vendor": "KnownVendor", "operating_system": "OperatingSystem", "environment": "Environment",
          "binary_format": "BinaryFormat"}
 FIELDS = ("architecture", *TYPES)
 
+TABLE, ANSWERS = (Path(__file__).with_name(it) for it in ("names.tsv", "answers.tsv"))
 # A name has the form of a vendor (`has_vendor_form` in specs/Vendor.antt), so it has no dash (`is_dash_free`).
 NAME = re.compile(r"[a-z][a-z0-9_.]*")
 VARIANT = re.compile(r"[A-Z][A-Za-z0-9_]*")
@@ -22,8 +24,12 @@ UPSTREAM = {"architecture": (107, "a141708f0cf0b4e1"), "vendor": (15, "35e14047b
 
 # The rules of a field, which are what follows from a value alone, each with its answers. The default is the first one.
 # `by_architecture` and `by_environment` say that the value of that field has the answer.
-FORMATS = ("unknown", "coff", "xcoff", "wasm")
-CONVENTIONS = ("SystemV", "WasmBasicCAbi", "WindowsFastcall")
+# ELF is a default, and Mach-O what systems like Darwin imply.
+FORMATS = tuple(it for it in re.findall(r"^binary_format\t\w+\t(\S+)", TABLE.read_text(encoding="utf-8"), re.M)
+                if it not in ("elf", "macho"))
+# Only systems like Darwin have Apple's convention.
+CONVENTIONS = tuple(it for it in re.findall(r"^calling_convention\t(\w+)", ANSWERS.read_text(encoding="utf-8"), re.M)
+                    if it != "AppleAarch64")
 RULES = {
     "architecture": {
         "order": ("little", "big", "none"), "width": ("64", "32", "16", "none"), "format": ("elf", *FORMATS),
@@ -43,6 +49,8 @@ RULES = {
 Value = namedtuple("Value", "field variant name number family about rules")
 Variant = namedtuple("Variant", "variant name holds about")
 Type = namedtuple("Type", "name word variants plain held")
+# A family of architectures, as the variant of `Architecture` and as a word, and what one of its members is.
+Family = namedtuple("Family", "variant word about")
 # A special string, with the values of its first three fields.
 Special = namedtuple("Special", "text architecture vendor operating_system")
 
@@ -73,18 +81,34 @@ def read_lines(name, text, wrong, read):
 
 
 def table_of(text):
-    """The values of the table, those of a field in the order of upstream's declarations, its special strings, and what
-    is wrong in it."""
-    values, specials, wrong = [], [], []
+    """The values of the table, those of a field in the order of upstream's declarations, its special strings, its
+    families of architectures, and what is wrong in it."""
+    values, specials, families, wrong = [], [], [], []
 
     def read(line):
         if line.startswith("special\t"):
             specials.append(special_of(values, specials, line))
+        elif line.startswith("family\t"):
+            families.append(family_of(families, line))
         elif not line.startswith("#"):
-            add_value(values, line)
+            add_value(values, families, line)
     read_lines("names.tsv", text, wrong, read)
     wrong = wrong or [f"names.tsv: {it}" for it in number_faults(values)]
-    return values, specials, wrong
+    wrong = wrong or [f"names.tsv: the family `{it.variant}` has no architecture" for it in families
+                      if it.variant not in {of.family for of in values}]
+    return values, specials, families, wrong
+
+
+def family_of(earlier, line):
+    """The family of a line."""
+    _, variant, word, _, _, about = columns(line, ["family", "a variant", "the same in lower case", "nothing",
+                                                   "nothing", "what one of its architectures is"])
+    if not VARIANT.fullmatch(variant) or word != variant.lower() or not re.fullmatch(r"An? .*\.", about):
+        raise Mistake(f"`{variant}` is no variant, `{word}` isn't it in lower case, or what an architecture of it is "
+                      "doesn't begin with `A` and end with a dot")
+    if variant in [it.variant for it in earlier]:
+        raise Mistake(f"the family `{variant}` is there twice")
+    return Family(variant, word, about)
 
 
 def special_of(values, earlier, line):
@@ -124,8 +148,8 @@ def special_faults(row, values):
         yield f"parses by its parts too, with the custom vendor `{second}`", "round_is_normal_step"
 
 
-def add_value(earlier, line):
-    """Adds the value of a line to the earlier ones."""
+def add_value(earlier, families, line):
+    """Adds the value of a line to the earlier ones. Its family is one of those."""
     cells = columns(line, ["a field", "a variant", "a name", "a number", "a family", "what it is", "rules"], 4)
     value = Value(*cells, *[""] * (7 - len(cells)))
     value = value._replace(rules=rules_of(value))
@@ -140,9 +164,9 @@ def add_value(earlier, line):
     if not VARIANT.fullmatch(value.variant):
         raise Mistake(
             f"`{value.variant}` is no variant: it begins with a capital letter, and has letters, digits and `_`")
-    if value.family and not (is_architecture and VARIANT.fullmatch(value.family)
+    if value.family and not (is_architecture and value.family in [it.variant for it in families]
                              or (value.field, value.family) == ("operating_system", "Darwin")):
-        raise Mistake(f"`{value.family}` is no family of the field")
+        raise Mistake(f"`{value.family}` is no family of the field: one of architectures has an earlier line `family`")
     if value.name in [it.name for it in earlier if it.field in names]:
         raise Mistake(f"the name `{value.name}` is there twice")
     if is_there != (value.field == "alias"):
@@ -181,15 +205,16 @@ def number_faults(values):
 class Table:
     """The values by field, in the order of their numbers, and by Rust type, in that of their declarations."""
 
-    def __init__(self, values, specials):
-        self.values, self.specials = values, specials
+    def __init__(self, values, specials, families):
+        self.values, self.specials, self.families = values, specials, families
         declared = {field: [it for it in values if it.field == field] for field in (*FIELDS, "alias")}
         self.field = {field: sorted(of, key=lambda it: int(it.number or 0)) for field, of in declared.items()}
         self.types = {}
         self.add("Architecture", "architecture", architectures(declared["architecture"]))
-        for family in dict.fromkeys(it.family for it in declared["architecture"] if it.family):
-            members = [it for it in declared["architecture"] if it.family == family]
-            self.add(f"{family}Architecture", family.lower(), variants_of(members))
+        self.members = {family: [it for it in declared["architecture"] if it.family == family.variant]
+                        for family in families}
+        for family, members in self.members.items():
+            self.add(f"{family.variant}Architecture", family.word, variants_of(members))
         for field, name in TYPES.items():
             self.add(name, "known_vendor" if field == "vendor" else field, variants_of(declared[field]))
         self.add("Vendor", "vendor", variants_of(declared["vendor"]))

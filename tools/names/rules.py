@@ -109,6 +109,7 @@ class Code:
 
     def __init__(self, table, text):
         self.field, self.text = table.field, text
+        self.darwin = [Pattern(f"OperatingSystem::{it.variant}(_)") for it in self.field["operating_system"] if it.family]
         self.plain = [it for it in table.field["architecture"] if it.family not in WITH_QUERIES]
 
     def machines(self, rule, answer, values=None):
@@ -159,14 +160,14 @@ def architecture_widths(of):
 
 
 def system_formats(of):
-    darwin = [Pattern(f"OperatingSystem::{it.variant}(_)") for it in of.field["operating_system"] if it.family]
-    by_environment = of.formats(of.environments, 16, ["xcoff", "wasm", "macho", "coff", "elf"])
-    by_machine = of.formats(of.machines, 16, ["xcoff", "wasm", "macho", "coff", "unknown"])
+    formats = [it.name for it in of.field["binary_format"]]
+    by_environment = of.formats(of.environments, 16, [it for it in reversed(formats) if it != "unknown"])
+    by_machine = of.formats(of.machines, 16, [it for it in reversed(formats) if it != "elf"])
     return [
         *arm(of.systems("format", "by_environment"),
              block("match self.environment {", *by_environment, "_ => BinaryFormat::Unknown,")),
-        *of.formats(of.systems, 12, ["xcoff"]), *arm(darwin, "BinaryFormat::Macho"),
-        *of.formats(of.systems, 12, ["unknown", "coff", "macho", "wasm"]),
+        *of.formats(of.systems, 12, ["xcoff"]), *arm(of.darwin, "BinaryFormat::Macho"),
+        *of.formats(of.systems, 12, [it for it in formats if it not in ("elf", "xcoff")]),
         *arm(of.systems("format", "by_architecture"),
              block("match self.architecture {", *by_machine, "_ => BinaryFormat::Elf,")),
         *of.formats(of.systems, 12, ["elf"])]
@@ -174,7 +175,9 @@ def system_formats(of):
 
 def system_conventions(of):
     by_machine = block("match self.architecture {", *of.conventions(of.machines, 16), "_ => Err(()),")
-    return [*of.conventions(of.systems, 12), *arm(of.systems("convention", "by_architecture"), by_machine),
+    on_darwin = block("match self.architecture {", "Architecture::Aarch64(_) => Ok(CallingConvention::AppleAarch64),",
+                      "_ => Ok(CallingConvention::SystemV),")
+    return [*arm(of.darwin, on_darwin), *of.conventions(of.systems, 12), *arm(of.systems("convention", "by_architecture"), by_machine),
             *arm(of.systems("convention", "none"), "Err(())")]
 
 
@@ -219,7 +222,7 @@ class Definitions:
     def __init__(self, table, text):
         self.field, self.text = table.field, text
         self.formats = {it.name: f"binary_format.{it.variant}" for it in reversed(table.field["binary_format"])}
-        self.conventions = {it: f"Some {it}" for it in CONVENTIONS}
+        self.conventions = {it: f"Some convention.{it}" for it in CONVENTIONS}
 
     def patterns(self, field, rule, answer, without=()):
         def names(it):

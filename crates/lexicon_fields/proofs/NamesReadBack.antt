@@ -6,15 +6,7 @@ use Rattle.lexicon_fields.specs.Environment.{environment_name, environment_value
 use Rattle.lexicon_fields.specs.BinaryFormat.{binary_format_name, binary_format_values, binary_format_of}
 use Rattle.lexicon_fields.proofs.{LookUpLemmas.value_named-passes, LookUpLemmas.of_kind-read_back, RowTexts.is_row_text, RowTexts.row_text-dash_free}
 use Rattle.lexicon_fields.specs.declared.architecture.Architecture.TheVariants as architecture
-use Rattle.lexicon_fields.specs.declared.architecture.arm.ArmArchitecture.TheVariants as arm
-use Rattle.lexicon_fields.specs.declared.architecture.aarch64.Aarch64Architecture.TheVariants as aarch64
-use Rattle.lexicon_fields.specs.declared.architecture.x86_32.X86_32Architecture.TheVariants as x86_32
-use Rattle.lexicon_fields.specs.declared.architecture.mips.Mips32Architecture.TheVariants as mips32
-use Rattle.lexicon_fields.specs.declared.architecture.mips.Mips64Architecture.TheVariants as mips64
-use Rattle.lexicon_fields.specs.declared.architecture.riscv.Riscv32Architecture.TheVariants as riscv32
-use Rattle.lexicon_fields.specs.declared.architecture.riscv.Riscv64Architecture.TheVariants as riscv64
-use Rattle.lexicon_fields.specs.declared.architecture.clever.CleverArchitecture.TheVariants as clever
-use Rattle.lexicon_fields.specs.declared.architecture.z80.Z80Architecture.TheVariants as z80
+use Rattle.lexicon_fields.specs.SubArchitecture as spec
 use Rattle.lexicon_fields.specs.declared.environment.Environment.TheVariants as environment
 use Rattle.lexicon_fields.specs.declared.binary_format.BinaryFormat.TheVariants as binary_format
 
@@ -43,15 +35,17 @@ binary_format_of-row text v found = value_named-passes is_row_text (named_values
 
 pub architecture_of-name : (a : Architecture) → architecture_of (architecture_name a) ≡ Some a
 unfolding architecture_of
-architecture_of-name (architecture.Arm arm.Arm) = refl
-architecture_of-name (architecture.Aarch64 aarch64.Aarch64) = refl
-architecture_of-name (architecture.X86_32 x86_32.I386) = refl
-architecture_of-name (architecture.Mips32 mips32.Mips) = refl
-architecture_of-name (architecture.Mips64 mips64.Mips64) = refl
-architecture_of-name (architecture.Riscv32 riscv32.Riscv32) = refl
-architecture_of-name (architecture.Riscv64 riscv64.Riscv64) = refl
-architecture_of-name (architecture.Clever clever.Clever) = refl
-architecture_of-name (architecture.Z80 z80.Z80) = refl
+-- written by tools/names/write: each family reads back
+architecture_of-name (architecture.Arm spec.arm.Arm) = refl
+architecture_of-name (architecture.Aarch64 spec.aarch64.Aarch64) = refl
+architecture_of-name (architecture.X86_32 spec.x86_32.I386) = refl
+architecture_of-name (architecture.Mips32 spec.mips32.Mips) = refl
+architecture_of-name (architecture.Mips64 spec.mips64.Mips64) = refl
+architecture_of-name (architecture.Riscv32 spec.riscv32.Riscv32) = refl
+architecture_of-name (architecture.Riscv64 spec.riscv64.Riscv64) = refl
+architecture_of-name (architecture.Clever spec.clever.Clever) = refl
+architecture_of-name (architecture.Z80 spec.z80.Z80) = refl
+-- end of what is written
 architecture_of-name _ = refl
 
 pub architecture_of-row : (text : List ℕ) (a : Architecture) → architecture_of text ≡ Some a → is_row_text text ≡ true

@@ -46,6 +46,7 @@ version_suffix-parses (Some v) range = some_version (version_name v) v (version_
 
 pub operating_system_of-name : (s : OperatingSystem) → HasVersionInRange s → operating_system_of (operating_system_name s) ≡ Some s
 unfolding operating_system_of fixed_operating_system_of
+-- written by tools/names/write: each versioned system reads back
 operating_system_of-name (operating_system.Darwin version) range = rw (version_suffix-parses version range) refl
 operating_system_of-name (operating_system.IOS version) range = rw (version_suffix-parses version range) refl
 operating_system_of-name (operating_system.MacOSX version) range = rw (version_suffix-parses version range) refl
@@ -53,4 +54,5 @@ operating_system_of-name (operating_system.TvOS version) range = rw (version_suf
 operating_system_of-name (operating_system.VisionOS version) range = rw (version_suffix-parses version range) refl
 operating_system_of-name (operating_system.WatchOS version) range = rw (version_suffix-parses version range) refl
 operating_system_of-name (operating_system.XROS version) range = rw (version_suffix-parses version range) refl
+-- end of what is written
 operating_system_of-name _ range = refl

@@ -12,8 +12,8 @@ use Rattle.lexicon_fields.specs.declared.pointer_width.PointerWidth.TheVariants.
 use Rattle.lexicon_fields.specs.declared.architecture.Architecture.TheVariants as architecture
 use Rattle.lexicon_fields.specs.declared.architecture.arm.ArmArchitecture.TheVariants as arm
 use Rattle.lexicon_fields.specs.declared.architecture.aarch64.Aarch64Architecture.TheVariants as aarch64
-use Rattle.lexicon_fields.specs.declared.architecture.mips.Mips32Architecture.TheVariants as mips32
-use Rattle.lexicon_fields.specs.declared.architecture.mips.Mips64Architecture.TheVariants as mips64
+use Rattle.lexicon_fields.specs.declared.architecture.families.Mips32Architecture.TheVariants as mips32
+use Rattle.lexicon_fields.specs.declared.architecture.families.Mips64Architecture.TheVariants as mips64
 
 -- whether an Arm architecture is Thumb, which its name shows
 abbrev pub is_thumb : ArmArchitecture → Bool

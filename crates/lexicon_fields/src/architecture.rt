@@ -8,11 +8,7 @@ ghost use Rattle.lexicon_fields.specs.ArchitectureQueries as queries;
 
 mod aarch64; // In Rust: #[inline].
 mod arm; // In Rust: #[inline].
-mod clever; // In Rust: #[inline].
-mod mips; // In Rust: #[inline].
-mod riscv; // In Rust: #[inline].
-mod x86_32; // In Rust: #[inline].
-mod z80; // In Rust: #[inline].
+mod families; // In Rust: #[inline].
 
 use crate::endianness::Endianness;
 use crate::pointer_width::PointerWidth;
@@ -20,14 +16,15 @@ use crate::steps::Steps;
 use crate::table::fixed_row;
 pub use aarch64::Aarch64Architecture;
 pub use arm::ArmArchitecture;
-pub use clever::CleverArchitecture;
-pub use mips::{Mips32Architecture, Mips64Architecture};
-pub use riscv::{Riscv32Architecture, Riscv64Architecture};
+// written by tools/names/write: the types of families without queries
+pub use families::{
+    CleverArchitecture, Mips32Architecture, Mips64Architecture, Riscv32Architecture,
+    Riscv64Architecture, X86_32Architecture, Z80Architecture,
+};
+// end of what is written
 use std::borrow::CowStr;
 use std::fmt;
 use std::str::FromStr;
-pub use x86_32::X86_32Architecture;
-pub use z80::Z80Architecture;
 
 /// An architecture, with its sub-architecture if it has one.
 ///

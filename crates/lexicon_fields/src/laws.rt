@@ -8,11 +8,8 @@ ghost use Rattle.lexicon_fields.specs.Laws.{HashInjectiveOn, HashInjective, Copi
 ghost use Rattle.lexicon_fields.specs.Laws.{HasVersionInRange, NamesReadBackOn, NamesReadBack, TextsAreNames};
 ghost use Rattle.lexicon_fields.specs.Laws.{NamesGrowAtMost, NamesAreShort, max_name_length, ComparesByValue};
 ghost use Rattle.lexicon_fields.specs.Laws.{version_cmp};
-ghost use Rattle.lexicon_fields.specs.SubArchitecture.{arm_name, aarch64_name, x86_32_name, mips32_name, mips64_name};
-ghost use Rattle.lexicon_fields.specs.SubArchitecture.{riscv32_name, riscv64_name, clever_name, z80_name};
-ghost use Rattle.lexicon_fields.specs.Architecture.{architecture_name, architecture_of, sub_architecture_of, as_arm};
-ghost use Rattle.lexicon_fields.specs.Architecture.{as_aarch64, as_x86_32, as_mips32, as_mips64, as_riscv32};
-ghost use Rattle.lexicon_fields.specs.Architecture.{as_riscv64, as_clever, as_z80};
+ghost use Rattle.lexicon_fields.specs.SubArchitecture as spec;
+ghost use Rattle.lexicon_fields.specs.Architecture.{architecture_name, architecture_of, sub_architecture_of};
 ghost use Rattle.lexicon_fields.specs.Environment.{environment_name, environment_of};
 ghost use Rattle.lexicon_fields.specs.OperatingSystem.{operating_system_name, operating_system_of};
 ghost use Rattle.lexicon_fields.specs.BinaryFormat.{binary_format_name, binary_format_of};
@@ -24,11 +21,14 @@ ghost use Rattle.lexicon_fields.specs.Vendor.{is_plain};
 ghost use Rattle.lexicon_fields.specs.declared.vendor_ref.VendorRef.{VendorRef};
 ghost use Rattle.lexicon_fields.specs.VendorRef.{ref_value};
 
+use crate::architecture::Architecture;
+// written by tools/names/write: the types of families in laws
 use crate::architecture::{
-    Aarch64Architecture, Architecture, ArmArchitecture, CleverArchitecture, Mips32Architecture,
+    Aarch64Architecture, ArmArchitecture, CleverArchitecture, Mips32Architecture,
     Mips64Architecture, Riscv32Architecture, Riscv64Architecture, X86_32Architecture,
     Z80Architecture,
 };
+// end of what is written
 use crate::binary_format::BinaryFormat;
 use crate::deployment_target::DeploymentTarget;
 use crate::endianness::Endianness;
@@ -46,15 +46,17 @@ use std::hash::Hash;
 /// vendors this holds for plain ones.
 pub fn names_read_back()
     ensures architecture { NamesReadBack architecture_name architecture_of }
-    ensures arm { NamesReadBack arm_name (sub_architecture_of as_arm) }
-    ensures aarch64 { NamesReadBack aarch64_name (sub_architecture_of as_aarch64) }
-    ensures x86_32 { NamesReadBack x86_32_name (sub_architecture_of as_x86_32) }
-    ensures mips32 { NamesReadBack mips32_name (sub_architecture_of as_mips32) }
-    ensures mips64 { NamesReadBack mips64_name (sub_architecture_of as_mips64) }
-    ensures riscv32 { NamesReadBack riscv32_name (sub_architecture_of as_riscv32) }
-    ensures riscv64 { NamesReadBack riscv64_name (sub_architecture_of as_riscv64) }
-    ensures clever { NamesReadBack clever_name (sub_architecture_of as_clever) }
-    ensures z80 { NamesReadBack z80_name (sub_architecture_of as_z80) }
+    // written by tools/names/write: families that read back
+    ensures arm { NamesReadBack spec.arm_name (sub_architecture_of spec.as_arm) }
+    ensures aarch64 { NamesReadBack spec.aarch64_name (sub_architecture_of spec.as_aarch64) }
+    ensures x86_32 { NamesReadBack spec.x86_32_name (sub_architecture_of spec.as_x86_32) }
+    ensures mips32 { NamesReadBack spec.mips32_name (sub_architecture_of spec.as_mips32) }
+    ensures mips64 { NamesReadBack spec.mips64_name (sub_architecture_of spec.as_mips64) }
+    ensures riscv32 { NamesReadBack spec.riscv32_name (sub_architecture_of spec.as_riscv32) }
+    ensures riscv64 { NamesReadBack spec.riscv64_name (sub_architecture_of spec.as_riscv64) }
+    ensures clever { NamesReadBack spec.clever_name (sub_architecture_of spec.as_clever) }
+    ensures z80 { NamesReadBack spec.z80_name (sub_architecture_of spec.as_z80) }
+    // end of what is written
     ensures operating_system { NamesReadBackOn HasVersionInRange operating_system_name
         operating_system_of }
     ensures environment { NamesReadBack environment_name environment_of }
@@ -145,6 +147,7 @@ pub fn rows_are_sorted_and_complete()
 /// Values of each other type are equal if and only if their variants and fields are, the strings of rows by bytes.
 pub fn values_are_equal_by_variant_and_fields()
     ensures architecture { ComparesByValue ⟦<Architecture as PartialEq>⟧.eq }
+    // written by tools/names/write: families that compare by value
     ensures arm { ComparesByValue ⟦<ArmArchitecture as PartialEq>⟧.eq }
     ensures aarch64 { ComparesByValue ⟦<Aarch64Architecture as PartialEq>⟧.eq }
     ensures x86_32 { ComparesByValue ⟦<X86_32Architecture as PartialEq>⟧.eq }
@@ -154,6 +157,7 @@ pub fn values_are_equal_by_variant_and_fields()
     ensures riscv64 { ComparesByValue ⟦<Riscv64Architecture as PartialEq>⟧.eq }
     ensures clever { ComparesByValue ⟦<CleverArchitecture as PartialEq>⟧.eq }
     ensures z80 { ComparesByValue ⟦<Z80Architecture as PartialEq>⟧.eq }
+    // end of what is written
     ensures version { ComparesByValue ⟦<DeploymentTarget as PartialEq>⟧.eq }
     ensures operating_system { ComparesByValue ⟦<OperatingSystem as PartialEq>⟧.eq }
     ensures environment { ComparesByValue ⟦<Environment as PartialEq>⟧.eq }
@@ -178,6 +182,7 @@ pub fn custom_vendors_hash_by_text()
 /// distinguished from what the value feeds. For systems with a version this holds if the version is in range.
 pub fn values_hash_by_variant_and_fields()
     ensures architecture { HashInjective ⟦<Architecture as Hash>⟧.hash_input }
+    // written by tools/names/write: families that hash by value
     ensures arm { HashInjective ⟦<ArmArchitecture as Hash>⟧.hash_input }
     ensures aarch64 { HashInjective ⟦<Aarch64Architecture as Hash>⟧.hash_input }
     ensures x86_32 { HashInjective ⟦<X86_32Architecture as Hash>⟧.hash_input }
@@ -187,6 +192,7 @@ pub fn values_hash_by_variant_and_fields()
     ensures riscv64 { HashInjective ⟦<Riscv64Architecture as Hash>⟧.hash_input }
     ensures clever { HashInjective ⟦<CleverArchitecture as Hash>⟧.hash_input }
     ensures z80 { HashInjective ⟦<Z80Architecture as Hash>⟧.hash_input }
+    // end of what is written
     ensures vendor { HashInjectiveOn (λ (v : Vendor). Unit {0}) vendor_value
         ⟦<Vendor as Hash>⟧.hash_input }
     ensures version { HashInjectiveOn IsVersionInRange (λ v. v)
@@ -204,6 +210,7 @@ pub fn values_hash_by_variant_and_fields()
 pub fn copies_of_fields_equal_their_sources()
     ensures architecture { CopiesEqualTheirSources ⟦<Architecture as Clone>⟧.is_clone
         ⟦<Architecture as Clone>⟧.is_infallible }
+    // written by tools/names/write: families whose copies equal their sources
     ensures arm { CopiesEqualTheirSources ⟦<ArmArchitecture as Clone>⟧.is_clone
         ⟦<ArmArchitecture as Clone>⟧.is_infallible }
     ensures aarch64 { CopiesEqualTheirSources ⟦<Aarch64Architecture as Clone>⟧.is_clone
@@ -222,6 +229,7 @@ pub fn copies_of_fields_equal_their_sources()
         ⟦<CleverArchitecture as Clone>⟧.is_infallible }
     ensures z80 { CopiesEqualTheirSources ⟦<Z80Architecture as Clone>⟧.is_clone
         ⟦<Z80Architecture as Clone>⟧.is_infallible }
+    // end of what is written
     ensures version { CopiesEqualTheirSources ⟦<DeploymentTarget as Clone>⟧.is_clone
         ⟦<DeploymentTarget as Clone>⟧.is_infallible }
     ensures operating_system { CopiesEqualTheirSources ⟦<OperatingSystem as Clone>⟧.is_clone

@@ -27,11 +27,14 @@ mod table;
 mod vendor;
 mod vendor_ref;
 
+pub use architecture::Architecture;
+// written by tools/names/write: the types of families
 pub use architecture::{
-    Aarch64Architecture, Architecture, ArmArchitecture, CleverArchitecture, Mips32Architecture,
+    Aarch64Architecture, ArmArchitecture, CleverArchitecture, Mips32Architecture,
     Mips64Architecture, Riscv32Architecture, Riscv64Architecture, X86_32Architecture,
     Z80Architecture,
 };
+// end of what is written
 pub use binary_format::BinaryFormat;
 pub use decimal::{MAX_DECIMAL_LENGTH, decimal_text};
 pub use deployment_target::{DeploymentTarget, MAX_VERSION_LENGTH, version_text};

@@ -7,11 +7,14 @@ ghost use Rattle.lexicon_fields.specs.FixedRow.{IsRowOf};
 ghost use Rattle.lexicon_fields.specs.Private as private;
 ghost use Rattle.lexicon_fields.specs.Search.{search_steps};
 
+use crate::architecture::Architecture;
+// written by tools/names/write: the types of families in the table
 use crate::architecture::{
-    Aarch64Architecture, Architecture, ArmArchitecture, CleverArchitecture, Mips32Architecture,
+    Aarch64Architecture, ArmArchitecture, CleverArchitecture, Mips32Architecture,
     Mips64Architecture, Riscv32Architecture, Riscv64Architecture, X86_32Architecture,
     Z80Architecture,
 };
+// end of what is written
 use crate::binary_format::BinaryFormat;
 use crate::environment::Environment;
 use crate::known_vendor::KnownVendor;

@@ -13,7 +13,7 @@ use Rattle.target_lexicon.specs.Printing.{architecture_implies_format, environme
 use Rattle.target_lexicon.specs.{Field.Field, Field.field_number, Field.parses_as, GreedyReading.field_for, GreedyReading.open_fields}
 use Rattle.target_lexicon.specs.Parsing.{ArePartsOf, HoldsParts, IsLeastPlacement, IsValueOf, PartsParseAs, expected_after, part_at}
 use Rattle.target_lexicon.proofs.GreedyPlacement.{cases_Option, fields_from, first-least, greedy-finds, greedy-least, least-unique, left_from, open-follows}
-use Rattle.lexicon_fields.specs.{declared.architecture.clever.CleverArchitecture.CleverArchitecture, Architecture.architecture_name, Architecture.architecture_of, Architecture.architecture_texts, Laws.TextsAreNames, Laws.NamesGrowAtMost, Laws.NamesAreShort, Laws.max_name_length, Vendor.vendor_name, Vendor.known_vendor_name, Vendor.vendor_of}
+use Rattle.lexicon_fields.specs.{declared.architecture.families.CleverArchitecture.CleverArchitecture, Architecture.architecture_name, Architecture.architecture_of, Architecture.architecture_texts, Laws.TextsAreNames, Laws.NamesGrowAtMost, Laws.NamesAreShort, Laws.max_name_length, Vendor.vendor_name, Vendor.known_vendor_name, Vendor.vendor_of}
 use Rattle.lexicon_fields.specs.declared.known_vendor.KnownVendor.TheVariants.{Unknown, Espressif}
 use Rattle.lexicon_fields.specs.{OperatingSystem.operating_system_name, OperatingSystem.operating_system_of, Environment.environment_name, Environment.environment_of, ArchitectureQueries.is_clever}
 use Rattle.lexicon_fields.specs.BinaryFormat.{binary_format_name, binary_format_of}

@@ -5,7 +5,7 @@ use Rattle.target_lexicon.specs.{Field.parses_as, ImpliedFormat.default_binary_f
 use Rattle.target_lexicon.specs.NormalStep.{normal_step, elf_if_unknown}
 use Rattle.target_lexicon.specs.Printing.{shows_vendor, omits_unknown_vendor, shows_operating_system, shows_environment, shows_binary_format, shows_unknowns, shown_names, cons_if}
 use Rattle.target_lexicon.specs.GreedyReading.{reading_from, reading_of_parts, with_value}
-use Rattle.lexicon_fields.specs.{ArchitectureQueries.is_clever, declared.architecture.clever.CleverArchitecture.CleverArchitecture, Architecture.architecture_name, Laws.HasVersionInRange, Vendor.vendor_name, Vendor.vendor_of, Vendor.is_plain, OperatingSystem.operating_system_name, Environment.environment_name, BinaryFormat.binary_format_name}
+use Rattle.lexicon_fields.specs.{ArchitectureQueries.is_clever, declared.architecture.families.CleverArchitecture.CleverArchitecture, Architecture.architecture_name, Laws.HasVersionInRange, Vendor.vendor_name, Vendor.vendor_of, Vendor.is_plain, OperatingSystem.operating_system_name, Environment.environment_name, BinaryFormat.binary_format_name}
 use Rattle.lexicon_fields.specs.declared.known_vendor.KnownVendor.TheVariants.{Unknown}
 use Rattle.std.proofs.{lemmas.Bool.and_parts, lemmas.Bool.or_parts, lemmas.Bool.not-false, lemmas.Bool.not-true, Math.Bool.and-false, lemmas.Bool.false≢true, lemmas.Bool.true≢false}
 use Rattle.target_lexicon.proofs.PrintingLemmas.{printed_names}
@@ -22,12 +22,14 @@ abbrev known_format : BinaryFormat → Bool
 known_format f = not (is_same_format f binary_format.Unknown)
 
 pub is_same_format-is : (f g : BinaryFormat) → is_same_format f g ≡ true → f ≡ g
+-- written by tools/names/write: each format is itself
 is_same_format-is binary_format.Unknown binary_format.Unknown h = refl
 is_same_format-is binary_format.Elf binary_format.Elf h = refl
 is_same_format-is binary_format.Coff binary_format.Coff h = refl
 is_same_format-is binary_format.Macho binary_format.Macho h = refl
 is_same_format-is binary_format.Wasm binary_format.Wasm h = refl
 is_same_format-is binary_format.Xcoff binary_format.Xcoff h = refl
+-- end of what is written
 is_same_format-is _ _ h = absurd (false≢true h)
 
 shown_by : (same too : Bool) (f g : BinaryFormat) → (same ≡ true → f ≡ g) → cond (not same || too) f g ≡ f

@@ -1,31 +1,25 @@
 -- The words for byte order, pointer width, calling convention and data model are short.
 use Rattle.std.proofs.Common.{ℕ, ◌≤◌, length, lit≤}
 use Rattle.lexicon_fields.specs.{declared.endianness.Endianness.Endianness, declared.pointer_width.PointerWidth.PointerWidth}
-use Rattle.lexicon_fields.specs.declared.endianness.Endianness.TheVariants.{Little, Big}
-use Rattle.lexicon_fields.specs.declared.pointer_width.PointerWidth.TheVariants.{U16, U32, U64}
+use Rattle.lexicon_fields.specs.declared.endianness.Endianness.TheVariants.{Little}
+use Rattle.lexicon_fields.specs.declared.pointer_width.PointerWidth.TheVariants.{U16}
 use Rattle.target_lexicon.specs.{CallingConvention.convention_name, DataModel.model_name, declared.calling_convention.CallingConvention.CallingConvention, declared.data_model.CDataModel.CDataModel}
-use Rattle.target_lexicon.specs.declared.calling_convention.CallingConvention.TheVariants.{SystemV, WasmBasicCAbi, WindowsFastcall, AppleAarch64}
-use Rattle.target_lexicon.specs.declared.data_model.CDataModel.TheVariants.{LP32, ILP32, LLP64, LP64, ILP64}
+use Rattle.target_lexicon.specs.declared.calling_convention.CallingConvention.TheVariants.{SystemV}
+use Rattle.target_lexicon.specs.declared.data_model.CDataModel.TheVariants.{LP32}
 use Rattle.target_lexicon.specs.Queries.{endianness_name, width_name}
 
 pub short-endianness : (e : Endianness) → length (endianness_name e) ≤ 6
 short-endianness Little = lit≤ tt
-short-endianness Big = lit≤ tt
+short-endianness _ = lit≤ tt
 
 pub short-width : (w : PointerWidth) → length (width_name w) ≤ 2
 short-width U16 = lit≤ tt
-short-width U32 = lit≤ tt
-short-width U64 = lit≤ tt
+short-width _ = lit≤ tt
 
 pub short-convention : (c : CallingConvention) → length (convention_name c) ≤ 15
 short-convention SystemV = lit≤ tt
-short-convention WasmBasicCAbi = lit≤ tt
-short-convention WindowsFastcall = lit≤ tt
-short-convention AppleAarch64 = lit≤ tt
+short-convention _ = lit≤ tt
 
 pub short-model : (m : CDataModel) → length (model_name m) ≤ 5
 short-model LP32 = lit≤ tt
-short-model ILP32 = lit≤ tt
-short-model LLP64 = lit≤ tt
-short-model LP64 = lit≤ tt
-short-model ILP64 = lit≤ tt
+short-model _ = lit≤ tt

@@ -4,9 +4,7 @@ use Rattle.std.specs.Prelude.{Bool, true, false, Option, Some, None, if◌then�
 use Rattle.target_lexicon.specs.{Values.Architecture, Values.OperatingSystem, Values.Environment, Values.Values}
 use Rattle.target_lexicon.specs.{declared.calling_convention.CallingConvention.CallingConvention}
 use Rattle.target_lexicon.specs.declared.data_model.CDataModel.{CDataModel}
-use Rattle.target_lexicon.specs.declared.calling_convention.CallingConvention.TheVariants.{SystemV, WasmBasicCAbi}
-use Rattle.target_lexicon.specs.declared.calling_convention.CallingConvention.TheVariants.{WindowsFastcall}
-use Rattle.target_lexicon.specs.declared.calling_convention.CallingConvention.TheVariants.{AppleAarch64}
+use Rattle.target_lexicon.specs.declared.calling_convention.CallingConvention.TheVariants as convention
 use Rattle.target_lexicon.specs.declared.data_model.CDataModel.TheVariants.{ILP32, LLP64, LP64}
 use Rattle.lexicon_fields.specs.{declared.endianness.Endianness.Endianness}
 use Rattle.lexicon_fields.specs.{declared.pointer_width.PointerWidth.PointerWidth}
@@ -28,35 +26,35 @@ is_ilp32 _ = false
 
 -- systems like Darwin have a convention of their own on 64-bit Arm
 abbrev pub darwin_convention : Architecture → Option CallingConvention
-darwin_convention (architecture.Aarch64 _) = Some AppleAarch64
-darwin_convention _ = Some SystemV
+darwin_convention (architecture.Aarch64 _) = Some convention.AppleAarch64
+darwin_convention _ = Some convention.SystemV
 
 -- systems that run WebAssembly have a convention only on its 32-bit architecture
 abbrev pub wasm_convention : Architecture → Option CallingConvention
 -- written by tools/names/write: wasm_convention
-wasm_convention architecture.Wasm32 = Some WasmBasicCAbi
+wasm_convention architecture.Wasm32 = Some convention.WasmBasicCAbi
 -- end of what is written
 wasm_convention _ = None
 
 -- the convention on a system that isn't like Darwin
 abbrev pub other_convention : Architecture → OperatingSystem → Option CallingConvention
 -- written by tools/names/write: other_convention
-other_convention a operating_system.Aix = Some SystemV
-other_convention a operating_system.Bitrig = Some SystemV
-other_convention a operating_system.Cloudabi = Some SystemV
-other_convention a operating_system.Dragonfly = Some SystemV
-other_convention a operating_system.Freebsd = Some SystemV
-other_convention a operating_system.Fuchsia = Some SystemV
-other_convention a operating_system.Haiku = Some SystemV
-other_convention a operating_system.Hermit = Some SystemV
-other_convention a operating_system.Hurd = Some SystemV
-other_convention a operating_system.L4re = Some SystemV
-other_convention a operating_system.Linux = Some SystemV
-other_convention a operating_system.Netbsd = Some SystemV
-other_convention a operating_system.Openbsd = Some SystemV
-other_convention a operating_system.Redox = Some SystemV
-other_convention a operating_system.Solaris = Some SystemV
-other_convention a operating_system.Windows = Some WindowsFastcall
+other_convention a operating_system.Aix = Some convention.SystemV
+other_convention a operating_system.Bitrig = Some convention.SystemV
+other_convention a operating_system.Cloudabi = Some convention.SystemV
+other_convention a operating_system.Dragonfly = Some convention.SystemV
+other_convention a operating_system.Freebsd = Some convention.SystemV
+other_convention a operating_system.Fuchsia = Some convention.SystemV
+other_convention a operating_system.Haiku = Some convention.SystemV
+other_convention a operating_system.Hermit = Some convention.SystemV
+other_convention a operating_system.Hurd = Some convention.SystemV
+other_convention a operating_system.L4re = Some convention.SystemV
+other_convention a operating_system.Linux = Some convention.SystemV
+other_convention a operating_system.Netbsd = Some convention.SystemV
+other_convention a operating_system.Openbsd = Some convention.SystemV
+other_convention a operating_system.Redox = Some convention.SystemV
+other_convention a operating_system.Solaris = Some convention.SystemV
+other_convention a operating_system.Windows = Some convention.WindowsFastcall
 other_convention a operating_system.Nebulet = wasm_convention a
 other_convention a operating_system.Emscripten = wasm_convention a
 other_convention a operating_system.Wasi = wasm_convention a
@@ -70,13 +68,13 @@ convention_on a s = if is_like_darwin s then darwin_convention a else other_conv
 
 -- the model of 64-bit pointers by the calling convention
 abbrev pub convention_model_64 : Option CallingConvention → Option CDataModel
-convention_model_64 (Some SystemV) = Some LP64
-convention_model_64 (Some AppleAarch64) = Some LP64
+convention_model_64 (Some convention.SystemV) = Some LP64
+convention_model_64 (Some convention.AppleAarch64) = Some LP64
 convention_model_64 _ = None
 
 -- the model of 32-bit pointers by the calling convention
 abbrev pub convention_model_32 : Option CallingConvention → Option CDataModel
-convention_model_32 (Some SystemV) = Some ILP32
+convention_model_32 (Some convention.SystemV) = Some ILP32
 convention_model_32 _ = None
 
 -- the systems whose 64-bit machines have the model `LLP64`, and those whose 32-bit machines have `ILP32`, whatever the

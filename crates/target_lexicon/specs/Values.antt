@@ -7,15 +7,17 @@ pub use Rattle.lexicon_fields.specs.{declared.environment.Environment.Environmen
 pub use Rattle.lexicon_fields.specs.{declared.binary_format.BinaryFormat.BinaryFormat}
 pub use Rattle.lexicon_fields.specs.Vendor.{VendorValue, Known, Custom, is_plain}
 pub use Rattle.lexicon_fields.specs.declared.architecture.Architecture.TheVariants as architecture
-pub use Rattle.lexicon_fields.specs.declared.architecture.aarch64.Aarch64Architecture.TheVariants as aarch64
+-- written by tools/names/write: families of triples
 pub use Rattle.lexicon_fields.specs.declared.architecture.arm.ArmArchitecture.TheVariants as arm
-pub use Rattle.lexicon_fields.specs.declared.architecture.clever.CleverArchitecture.TheVariants as clever
-pub use Rattle.lexicon_fields.specs.declared.architecture.mips.Mips32Architecture.TheVariants as mips32
-pub use Rattle.lexicon_fields.specs.declared.architecture.mips.Mips64Architecture.TheVariants as mips64
-pub use Rattle.lexicon_fields.specs.declared.architecture.riscv.Riscv32Architecture.TheVariants as riscv32
-pub use Rattle.lexicon_fields.specs.declared.architecture.riscv.Riscv64Architecture.TheVariants as riscv64
-pub use Rattle.lexicon_fields.specs.declared.architecture.x86_32.X86_32Architecture.TheVariants as x86_32
-pub use Rattle.lexicon_fields.specs.declared.architecture.z80.Z80Architecture.TheVariants as z80
+pub use Rattle.lexicon_fields.specs.declared.architecture.aarch64.Aarch64Architecture.TheVariants as aarch64
+pub use Rattle.lexicon_fields.specs.declared.architecture.families.X86_32Architecture.TheVariants as x86_32
+pub use Rattle.lexicon_fields.specs.declared.architecture.families.Mips32Architecture.TheVariants as mips32
+pub use Rattle.lexicon_fields.specs.declared.architecture.families.Mips64Architecture.TheVariants as mips64
+pub use Rattle.lexicon_fields.specs.declared.architecture.families.Riscv32Architecture.TheVariants as riscv32
+pub use Rattle.lexicon_fields.specs.declared.architecture.families.Riscv64Architecture.TheVariants as riscv64
+pub use Rattle.lexicon_fields.specs.declared.architecture.families.CleverArchitecture.TheVariants as clever
+pub use Rattle.lexicon_fields.specs.declared.architecture.families.Z80Architecture.TheVariants as z80
+-- end of what is written
 pub use Rattle.lexicon_fields.specs.declared.operating_system.OperatingSystem.TheVariants as operating_system
 pub use Rattle.lexicon_fields.specs.declared.environment.Environment.TheVariants as environment
 pub use Rattle.lexicon_fields.specs.declared.binary_format.BinaryFormat.TheVariants as binary_format
@@ -69,10 +71,12 @@ is_clever_without_system _ _ = false
 
 -- whether two formats are the same
 abbrev pub is_same_format : BinaryFormat → BinaryFormat → Bool
+-- written by tools/names/write: is_same_format
 is_same_format binary_format.Unknown binary_format.Unknown = true
 is_same_format binary_format.Elf binary_format.Elf = true
 is_same_format binary_format.Coff binary_format.Coff = true
 is_same_format binary_format.Macho binary_format.Macho = true
 is_same_format binary_format.Wasm binary_format.Wasm = true
 is_same_format binary_format.Xcoff binary_format.Xcoff = true
+-- end of what is written
 is_same_format _ _ = false

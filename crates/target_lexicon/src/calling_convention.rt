@@ -36,10 +36,12 @@ impl CallingConvention {
         ensures { result.now ≡ convention_name self }
     {
         match self {
+            // written by tools/names/write: the names of CallingConvention
             CallingConvention::SystemV => "SystemV",
             CallingConvention::WasmBasicCAbi => "WasmBasicCAbi",
             CallingConvention::WindowsFastcall => "WindowsFastcall",
             CallingConvention::AppleAarch64 => "AppleAarch64",
+            // end of what is written
         }
     }
 }

@@ -45,13 +45,18 @@ pub use exception::RoundTripException;
 pub use explanation::{Explanation, Source, Sources, TextPart};
 pub use json::{list_from_json, list_to_json};
 pub use json_error::JsonError;
+// written by tools/names/write: the types of families of triples
 pub use lexicon_fields::{
-    Aarch64Architecture, Architecture, ArmArchitecture, BinaryFormat, CleverArchitecture,
-    CustomVendor, DeploymentTarget, Endianness, Environment, Field, FixedRow, KnownVendor,
-    MAX_DECIMAL_LENGTH, MAX_VERSION_LENGTH, Mips32Architecture, Mips64Architecture,
-    OperatingSystem, PointerWidth, ROW_COUNT, Riscv32Architecture, Riscv64Architecture, Steps,
-    Vendor, VendorError, VendorRef, X86_32Architecture, Z80Architecture, decimal_text, fixed_row,
-    row_order, version_text,
+    Aarch64Architecture, ArmArchitecture, CleverArchitecture, Mips32Architecture,
+    Mips64Architecture, Riscv32Architecture, Riscv64Architecture, X86_32Architecture,
+    Z80Architecture,
+};
+// end of what is written
+pub use lexicon_fields::{
+    Architecture, BinaryFormat, CustomVendor, DeploymentTarget, Endianness, Environment, Field,
+    FixedRow, KnownVendor, MAX_DECIMAL_LENGTH, MAX_VERSION_LENGTH, OperatingSystem, PointerWidth,
+    ROW_COUNT, Steps, Vendor, VendorError, VendorRef, decimal_text, fixed_row, row_order,
+    version_text,
 };
 pub use list_error::ListError;
 pub use parse::explain;

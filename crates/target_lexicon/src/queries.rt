@@ -58,6 +58,7 @@ impl TripleRef<'_> {
         ensures { MatchesLookup (spec.calling_convention (values_of_ref self.now)) result }
     {
         match self.operating_system {
+            // written by tools/names/write: the conventions of systems
             OperatingSystem::Darwin(_)
             | OperatingSystem::IOS(_)
             | OperatingSystem::MacOSX(_)
@@ -68,7 +69,6 @@ impl TripleRef<'_> {
                 Architecture::Aarch64(_) => Ok(CallingConvention::AppleAarch64),
                 _ => Ok(CallingConvention::SystemV),
             },
-            // written by tools/names/write: the conventions of systems
             OperatingSystem::Aix
             | OperatingSystem::Bitrig
             | OperatingSystem::Cloudabi

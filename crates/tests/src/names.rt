@@ -10,11 +10,14 @@ use std::cmp::Ordering;
 use std::fmt::{Debug, Display};
 use std::process::Abort;
 use std::str::FromStr;
+// written by tools/names/write: the types of families in tests
 use target_lexicon::{
-    Aarch64Architecture, Architecture, ArmArchitecture, BinaryFormat, CleverArchitecture,
-    Environment, Mips32Architecture, Mips64Architecture, OperatingSystem, Riscv32Architecture,
-    Riscv64Architecture, X86_32Architecture, Z80Architecture,
+    Aarch64Architecture, ArmArchitecture, CleverArchitecture, Mips32Architecture,
+    Mips64Architecture, Riscv32Architecture, Riscv64Architecture, X86_32Architecture,
+    Z80Architecture,
 };
+// end of what is written
+use target_lexicon::{Architecture, BinaryFormat, Environment, OperatingSystem};
 
 /// Each row is a name and its value, as `{:?}` shows it. A name parses if and only if its value begins with that of the
 /// family, and then it is what the value prints.
@@ -40,15 +43,17 @@ fn check_names<T: Debug + Display + Drop + FromStr<Err = ()>>(
 #[test]
 fn each_value_has_its_name(rt: HostRuntime) {
     check_names::<Architecture>(&rt, ARCHITECTURES, "");
+    // written by tools/names/write: the tests of families
     check_names::<ArmArchitecture>(&rt, ARCHITECTURES, "Arm(");
     check_names::<Aarch64Architecture>(&rt, ARCHITECTURES, "Aarch64(");
-    check_names::<CleverArchitecture>(&rt, ARCHITECTURES, "Clever(");
     check_names::<X86_32Architecture>(&rt, ARCHITECTURES, "X86_32(");
     check_names::<Mips32Architecture>(&rt, ARCHITECTURES, "Mips32(");
     check_names::<Mips64Architecture>(&rt, ARCHITECTURES, "Mips64(");
     check_names::<Riscv32Architecture>(&rt, ARCHITECTURES, "Riscv32(");
     check_names::<Riscv64Architecture>(&rt, ARCHITECTURES, "Riscv64(");
+    check_names::<CleverArchitecture>(&rt, ARCHITECTURES, "Clever(");
     check_names::<Z80Architecture>(&rt, ARCHITECTURES, "Z80(");
+    // end of what is written
     check_names::<OperatingSystem>(&rt, OPERATING_SYSTEMS, "");
     check_names::<OperatingSystem>(&rt, DARWIN_SYSTEMS, "");
     check_names::<Environment>(&rt, ENVIRONMENTS, "");

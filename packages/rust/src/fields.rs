@@ -1,11 +1,14 @@
 //! `from_str` of some types, which crates/lexicon_fields documents. A system is found by its row; of the types with few
 //! names a comparison with each takes less time than a hash and a table.
 use crate::proved::table::Meaning;
+// written by tools/names/write: the types of families with few names
 use crate::proved::{
-    Aarch64Architecture, ArmArchitecture, BinaryFormat, CleverArchitecture, Environment,
-    Mips32Architecture, Mips64Architecture, OperatingSystem, Riscv32Architecture,
-    Riscv64Architecture, X86_32Architecture, Z80Architecture,
+    Aarch64Architecture, ArmArchitecture, CleverArchitecture, Mips32Architecture,
+    Mips64Architecture, Riscv32Architecture, Riscv64Architecture, X86_32Architecture,
+    Z80Architecture,
 };
+// end of what is written
+use crate::proved::{BinaryFormat, Environment, OperatingSystem};
 use crate::search::row_of;
 
 impl OperatingSystem {

@@ -97,13 +97,18 @@ pub use host::HOST;
 pub use parse_error::ParseError;
 #[cfg(feature = "alloc")]
 pub use parse_triple_error::ParseTripleError;
+// written by tools/names/write: the types of families in Rust
 pub use proved::{
-    default_binary_format, Aarch64Architecture, Architecture, ArmArchitecture, BinaryFormat,
-    CDataModel, CallingConvention, CleverArchitecture, CustomVendor, DefaultToHost,
-    DefaultToUnknown, DeploymentTarget, Endianness, Environment, Explanation, Field, KnownVendor,
-    Mips32Architecture, Mips64Architecture, OperatingSystem, PointerWidth, Refusal,
-    Riscv32Architecture, Riscv64Architecture, RoundTripException, Size, Source, Sources, TextPart,
-    Triple, TripleRef, Vendor, VendorRef, X86_32Architecture, Z80Architecture,
+    Aarch64Architecture, ArmArchitecture, CleverArchitecture, Mips32Architecture,
+    Mips64Architecture, Riscv32Architecture, Riscv64Architecture, X86_32Architecture,
+    Z80Architecture,
+};
+// end of what is written
+pub use proved::{
+    default_binary_format, Architecture, BinaryFormat, CDataModel, CallingConvention, CustomVendor,
+    DefaultToHost, DefaultToUnknown, DeploymentTarget, Endianness, Environment, Explanation, Field,
+    KnownVendor, OperatingSystem, PointerWidth, Refusal, RoundTripException, Size, Source, Sources,
+    TextPart, Triple, TripleRef, Vendor, VendorRef,
 };
 pub use queries::NoAnswer;
 pub use upstream::Upstream;

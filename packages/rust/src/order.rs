@@ -1,12 +1,17 @@
 //! Orders. Fields are in the order of their names, and triples in that of their fields, the first one first. So a list of
 //! triples is in the order of what a reader sees, except that a version is a number: `ios9` comes before `ios17`. Only
 //! equal values have the same place: a custom vendor comes after the known one of its name.
+// written by tools/names/write: the types of families with an order
 use crate::{
-    Aarch64Architecture, Architecture, ArmArchitecture, BinaryFormat, CDataModel,
-    CallingConvention, CleverArchitecture, CustomVendor, Endianness, Environment, Field,
-    KnownVendor, Mips32Architecture, Mips64Architecture, OperatingSystem, PointerWidth,
-    Riscv32Architecture, Riscv64Architecture, RoundTripException, Size, Triple, TripleRef, Vendor,
-    VendorRef, X86_32Architecture, Z80Architecture,
+    Aarch64Architecture, ArmArchitecture, CleverArchitecture, Mips32Architecture,
+    Mips64Architecture, Riscv32Architecture, Riscv64Architecture, X86_32Architecture,
+    Z80Architecture,
+};
+// end of what is written
+use crate::{
+    Architecture, BinaryFormat, CDataModel, CallingConvention, CustomVendor, Endianness,
+    Environment, Field, KnownVendor, OperatingSystem, PointerWidth, RoundTripException, Size,
+    Triple, TripleRef, Vendor, VendorRef,
 };
 use core::cmp::Ordering;
 
@@ -45,6 +50,7 @@ order! {
     Size, it => it.bits();
     Field, it => *it as u8;
     RoundTripException, it => *it as u8;
+    // written by tools/names/write: the orders of families
     Aarch64Architecture, it => it.name();
     ArmArchitecture, it => it.name();
     CleverArchitecture, it => it.name();
@@ -54,6 +60,7 @@ order! {
     Riscv64Architecture, it => it.name();
     X86_32Architecture, it => it.name();
     Z80Architecture, it => it.name();
+    // end of what is written
     Endianness, it => it.name();
     CallingConvention, it => it.name();
     CDataModel, it => it.name();

@@ -2,8 +2,8 @@
 ghost use Rattle.std.specs.Prelude.{◌≡◌, false, Some};
 ghost use Rattle.std.specs.Cow.{cow_str_bytes, IsBorrowedStr};
 ghost use Rattle.lexicon_fields.specs.Names.{MatchesLookup};
-ghost use Rattle.lexicon_fields.specs.Architecture.{as_aarch64, sub_architecture_of};
-ghost use Rattle.lexicon_fields.specs.SubArchitecture.{aarch64_name};
+ghost use Rattle.lexicon_fields.specs.Architecture.{sub_architecture_of};
+ghost use Rattle.lexicon_fields.specs.SubArchitecture.{aarch64_name, as_aarch64};
 ghost use Rattle.lexicon_fields.specs.ArchitectureQueries.{aarch64_endianness};
 
 use crate::architecture::Architecture;

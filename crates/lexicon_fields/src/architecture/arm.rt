@@ -2,8 +2,8 @@
 ghost use Rattle.std.specs.Prelude.{◌≡◌, Some};
 ghost use Rattle.std.specs.Cow.{cow_str_bytes, IsBorrowedStr};
 ghost use Rattle.lexicon_fields.specs.Names.{MatchesLookup};
-ghost use Rattle.lexicon_fields.specs.Architecture.{as_arm, sub_architecture_of};
-ghost use Rattle.lexicon_fields.specs.SubArchitecture.{arm_name};
+ghost use Rattle.lexicon_fields.specs.Architecture.{sub_architecture_of};
+ghost use Rattle.lexicon_fields.specs.SubArchitecture.{arm_name, as_arm};
 ghost use Rattle.lexicon_fields.specs.ArchitectureQueries as queries;
 
 use crate::architecture::Architecture;

@@ -4,11 +4,7 @@
 
 mod aarch64;
 mod arm;
-mod clever;
-mod mips;
-mod riscv;
-mod x86_32;
-mod z80;
+mod families;
 
 use crate::proved::endianness::Endianness;
 use crate::proved::pointer_width::PointerWidth;
@@ -17,13 +13,12 @@ pub use aarch64::Aarch64Architecture;
 #[cfg(feature = "alloc")]
 use alloc::borrow::Cow;
 pub use arm::ArmArchitecture;
-pub use clever::CleverArchitecture;
 use core::fmt;
 use core::str::FromStr;
-pub use mips::{Mips32Architecture, Mips64Architecture};
-pub use riscv::{Riscv32Architecture, Riscv64Architecture};
-pub use x86_32::X86_32Architecture;
-pub use z80::Z80Architecture;
+pub use families::{
+    CleverArchitecture, Mips32Architecture, Mips64Architecture, Riscv32Architecture,
+    Riscv64Architecture, X86_32Architecture, Z80Architecture,
+};
 
 /// An architecture, with its sub-architecture if it has one.
 ///

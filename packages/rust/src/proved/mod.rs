@@ -29,8 +29,9 @@ pub(crate) mod triple_ref;
 pub(crate) mod vendor;
 pub(crate) mod vendor_ref;
 
+pub use architecture::Architecture;
 pub use architecture::{
-    Aarch64Architecture, Architecture, ArmArchitecture, CleverArchitecture, Mips32Architecture,
+    Aarch64Architecture, ArmArchitecture, CleverArchitecture, Mips32Architecture,
     Mips64Architecture, Riscv32Architecture, Riscv64Architecture, X86_32Architecture,
     Z80Architecture,
 };

@@ -1,8 +1,9 @@
 // @generated: erased from crates/lexicon_fields/src/table.rt by tools/erase. Don't edit it here.
 //! The table of the fixed names, and of the alias `arm64`. A function is inlined if it returns a wide value.
 
+use crate::proved::architecture::Architecture;
 use crate::proved::architecture::{
-    Aarch64Architecture, Architecture, ArmArchitecture, CleverArchitecture, Mips32Architecture,
+    Aarch64Architecture, ArmArchitecture, CleverArchitecture, Mips32Architecture,
     Mips64Architecture, Riscv32Architecture, Riscv64Architecture, X86_32Architecture,
     Z80Architecture,
 };

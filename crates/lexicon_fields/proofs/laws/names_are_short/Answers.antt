@@ -8,15 +8,7 @@ use Rattle.lexicon_fields.specs.{Laws.IsVersionInRange, Laws.HasVersionInRange, 
 use Rattle.lexicon_fields.specs.{Architecture.architecture_name, Environment.environment_name, BinaryFormat.binary_format_name, OperatingSystem.operating_system_name, Vendor.known_vendor_name}
 use Rattle.lexicon_fields.proofs.ParsedSystems.{version-short}
 use Rattle.lexicon_fields.specs.declared.architecture.Architecture.TheVariants as architecture
-use Rattle.lexicon_fields.specs.declared.architecture.arm.ArmArchitecture.TheVariants as arm
-use Rattle.lexicon_fields.specs.declared.architecture.aarch64.Aarch64Architecture.TheVariants as aarch64
-use Rattle.lexicon_fields.specs.declared.architecture.x86_32.X86_32Architecture.TheVariants as x86_32
-use Rattle.lexicon_fields.specs.declared.architecture.mips.Mips32Architecture.TheVariants as mips32
-use Rattle.lexicon_fields.specs.declared.architecture.mips.Mips64Architecture.TheVariants as mips64
-use Rattle.lexicon_fields.specs.declared.architecture.riscv.Riscv32Architecture.TheVariants as riscv32
-use Rattle.lexicon_fields.specs.declared.architecture.riscv.Riscv64Architecture.TheVariants as riscv64
-use Rattle.lexicon_fields.specs.declared.architecture.clever.CleverArchitecture.TheVariants as clever
-use Rattle.lexicon_fields.specs.declared.architecture.z80.Z80Architecture.TheVariants as z80
+use Rattle.lexicon_fields.specs.SubArchitecture as spec
 use Rattle.lexicon_fields.specs.declared.known_vendor.KnownVendor.TheVariants as known_vendor
 use Rattle.lexicon_fields.specs.declared.environment.Environment.TheVariants as environment
 use Rattle.lexicon_fields.specs.declared.binary_format.BinaryFormat.TheVariants as binary_format
@@ -26,15 +18,17 @@ use Rattle.lexicon_fields.proofs.laws.names_are_short.Goals as goal
 -- the tests, which compute for each value
 
 architecture-is_short : (a : Architecture) → nat_le (length (architecture_name a)) max_name_length ≡ true
-architecture-is_short (architecture.Arm arm.Arm) = refl
-architecture-is_short (architecture.Aarch64 aarch64.Aarch64) = refl
-architecture-is_short (architecture.X86_32 x86_32.I386) = refl
-architecture-is_short (architecture.Mips32 mips32.Mips) = refl
-architecture-is_short (architecture.Mips64 mips64.Mips64) = refl
-architecture-is_short (architecture.Riscv32 riscv32.Riscv32) = refl
-architecture-is_short (architecture.Riscv64 riscv64.Riscv64) = refl
-architecture-is_short (architecture.Clever clever.Clever) = refl
-architecture-is_short (architecture.Z80 z80.Z80) = refl
+-- written by tools/names/write: each family is short
+architecture-is_short (architecture.Arm spec.arm.Arm) = refl
+architecture-is_short (architecture.Aarch64 spec.aarch64.Aarch64) = refl
+architecture-is_short (architecture.X86_32 spec.x86_32.I386) = refl
+architecture-is_short (architecture.Mips32 spec.mips32.Mips) = refl
+architecture-is_short (architecture.Mips64 spec.mips64.Mips64) = refl
+architecture-is_short (architecture.Riscv32 spec.riscv32.Riscv32) = refl
+architecture-is_short (architecture.Riscv64 spec.riscv64.Riscv64) = refl
+architecture-is_short (architecture.Clever spec.clever.Clever) = refl
+architecture-is_short (architecture.Z80 spec.z80.Z80) = refl
+-- end of what is written
 architecture-is_short _ = refl
 
 environment-is_short : (e : Environment) → nat_le (length (environment_name e)) max_name_length ≡ true
@@ -67,6 +61,7 @@ with_version prefix None short range = omega (arith, length-append prefix [], le
 with_version prefix (Some v) short range = omega (arith, length-append prefix (version_name v), leb-true _ _ short, version-short v range)
 
 system-is_short : (s : OperatingSystem) → HasVersionInRange s → length (operating_system_name s) ≤ max_name_length
+-- written by tools/names/write: each versioned system is short
 system-is_short (operating_system.Darwin version) range = with_version (codes "darwin") version refl range
 system-is_short (operating_system.IOS version) range = with_version (codes "ios") version refl range
 system-is_short (operating_system.MacOSX version) range = with_version (codes "macosx") version refl range
@@ -74,6 +69,7 @@ system-is_short (operating_system.TvOS version) range = with_version (codes "tvo
 system-is_short (operating_system.VisionOS version) range = with_version (codes "visionos") version refl range
 system-is_short (operating_system.WatchOS version) range = with_version (codes "watchos") version refl range
 system-is_short (operating_system.XROS version) range = with_version (codes "xros") version refl range
+-- end of what is written
 system-is_short _ range = leb-true _ _ refl
 
 pub returns-clause-operating_system : goal.returns-clause-operating_system

@@ -4,15 +4,7 @@ use Rattle.std.proofs.{lemmas.Bool.Decides.Decides-like, lemmas.Bool.Decides.Dec
 use Rattle.lexicon_fields.proofs.EqualByValue.{bare-Decides, bare_field-Decides, enum-Decides, one_field-Decides, option_eq-Decides, version-Decides}
 use Rattle.lexicon_fields.specs.contracts.architecture.Architecture as architecture
 use Rattle.lexicon_fields.specs.contracts.operating_system.OperatingSystem as operating_system
-use Rattle.lexicon_fields.specs.contracts.architecture.arm.ArmArchitecture as arm
-use Rattle.lexicon_fields.specs.contracts.architecture.aarch64.Aarch64Architecture as aarch64
-use Rattle.lexicon_fields.specs.contracts.architecture.x86_32.X86_32Architecture as x86_32
-use Rattle.lexicon_fields.specs.contracts.architecture.mips.Mips32Architecture as mips32
-use Rattle.lexicon_fields.specs.contracts.architecture.mips.Mips64Architecture as mips64
-use Rattle.lexicon_fields.specs.contracts.architecture.riscv.Riscv32Architecture as riscv32
-use Rattle.lexicon_fields.specs.contracts.architecture.riscv.Riscv64Architecture as riscv64
-use Rattle.lexicon_fields.specs.contracts.architecture.clever.CleverArchitecture as clever
-use Rattle.lexicon_fields.specs.contracts.architecture.z80.Z80Architecture as z80
+use Rattle.lexicon_fields.specs.contracts.architecture as contracts
 use Rattle.lexicon_fields.specs.contracts.known_vendor.KnownVendor as known_vendor
 use Rattle.lexicon_fields.specs.contracts.environment.Environment as environment
 use Rattle.lexicon_fields.specs.contracts.binary_format.BinaryFormat as binary_format
@@ -22,43 +14,48 @@ pub returns-clause-architecture : goal.returns-clause-architecture
 returns-clause-architecture c =
     enum-Decides architecture.enum _ refl (search (
       rules,
-      bare_field-Decides arm.the_type tt,
-      bare_field-Decides aarch64.the_type tt,
-      bare_field-Decides x86_32.the_type tt,
-      bare_field-Decides mips32.the_type tt,
-      bare_field-Decides mips64.the_type tt,
-      bare_field-Decides riscv32.the_type tt,
-      bare_field-Decides riscv64.the_type tt,
-      bare_field-Decides clever.the_type tt,
-      bare_field-Decides z80.the_type tt,
+      -- written by tools/names/write: equality of each family
+      bare_field-Decides contracts.arm.ArmArchitecture.the_type tt,
+      bare_field-Decides contracts.aarch64.Aarch64Architecture.the_type tt,
+      bare_field-Decides contracts.families.X86_32Architecture.the_type tt,
+      bare_field-Decides contracts.families.Mips32Architecture.the_type tt,
+      bare_field-Decides contracts.families.Mips64Architecture.the_type tt,
+      bare_field-Decides contracts.families.Riscv32Architecture.the_type tt,
+      bare_field-Decides contracts.families.Riscv64Architecture.the_type tt,
+      bare_field-Decides contracts.families.CleverArchitecture.the_type tt,
+      bare_field-Decides contracts.families.Z80Architecture.the_type tt,
+      -- end of what is written
     ))
 
+-- written by tools/names/write: answers about the equality of families
 pub returns-clause-arm : goal.returns-clause-arm
-returns-clause-arm c = bare-Decides arm.the_type tt
+returns-clause-arm c = bare-Decides contracts.arm.ArmArchitecture.the_type tt
 
 pub returns-clause-aarch64 : goal.returns-clause-aarch64
-returns-clause-aarch64 c = bare-Decides aarch64.the_type tt
+returns-clause-aarch64 c = bare-Decides contracts.aarch64.Aarch64Architecture.the_type tt
 
 pub returns-clause-x86_32 : goal.returns-clause-x86_32
-returns-clause-x86_32 c = bare-Decides x86_32.the_type tt
+returns-clause-x86_32 c = bare-Decides contracts.families.X86_32Architecture.the_type tt
 
 pub returns-clause-mips32 : goal.returns-clause-mips32
-returns-clause-mips32 c = bare-Decides mips32.the_type tt
+returns-clause-mips32 c = bare-Decides contracts.families.Mips32Architecture.the_type tt
 
 pub returns-clause-mips64 : goal.returns-clause-mips64
-returns-clause-mips64 c = bare-Decides mips64.the_type tt
+returns-clause-mips64 c = bare-Decides contracts.families.Mips64Architecture.the_type tt
 
 pub returns-clause-riscv32 : goal.returns-clause-riscv32
-returns-clause-riscv32 c = bare-Decides riscv32.the_type tt
+returns-clause-riscv32 c = bare-Decides contracts.families.Riscv32Architecture.the_type tt
 
 pub returns-clause-riscv64 : goal.returns-clause-riscv64
-returns-clause-riscv64 c = bare-Decides riscv64.the_type tt
+returns-clause-riscv64 c = bare-Decides contracts.families.Riscv64Architecture.the_type tt
 
 pub returns-clause-clever : goal.returns-clause-clever
-returns-clause-clever c = bare-Decides clever.the_type tt
+returns-clause-clever c = bare-Decides contracts.families.CleverArchitecture.the_type tt
 
 pub returns-clause-z80 : goal.returns-clause-z80
-returns-clause-z80 c = bare-Decides z80.the_type tt
+returns-clause-z80 c = bare-Decides contracts.families.Z80Architecture.the_type tt
+
+-- end of what is written
 
 pub returns-clause-operating_system : goal.returns-clause-operating_system
 returns-clause-operating_system c =

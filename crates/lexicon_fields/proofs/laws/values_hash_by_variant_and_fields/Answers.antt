@@ -1,9 +1,9 @@
 -- A value feeds a hasher its variant and then its fields, and these bytes determine both, whatever follows them.
 use Rattle.std.proofs.Common.{◌≡◌, ◌++◌, ◌∙◌, Option, Some, None, IfSome, length, arith, refl, sym, ap}
 use Rattle.std.specs.Hash.{HashWrites, le_bytes, option, usize, str}
-use Rattle.lexicon_fields.specs.declared.architecture.Architecture.TheVariants.{Arm, Aarch64, X86_32, Mips32, Mips64, Riscv32, Riscv64, Clever, Z80}
+use Rattle.lexicon_fields.specs.declared.architecture.Architecture.TheVariants as variants
 use Rattle.lexicon_fields.specs.{declared.deployment_target.DeploymentTarget.DeploymentTarget, declared.vendor.CustomVendor.CustomVendor, declared.vendor.Vendor.Vendor, Laws.HashInjectiveOn, Laws.IsVersionInRange, Vendor.VendorValue, Vendor.Known, Vendor.Custom, Vendor.known_vendors, Vendor.custom_string, Vendor.vendor_value}
-use Rattle.lexicon_fields.specs.declared.operating_system.OperatingSystem.TheVariants.{Darwin, IOS, MacOSX, TvOS, VisionOS, WatchOS, XROS}
+use Rattle.lexicon_fields.specs.declared.operating_system.OperatingSystem.TheVariants as systems
 use Rattle.lexicon_fields.proofs.HashInputs.{Distinguishes, writes_after_first, first_write, first_byte, same_u16, hash_injective_on, bare_hash_injective, enum_hash_injective, variants_distinguish, one_field}
 use denote.Enum.Declared.{tag_of}
 use Rattle.lexicon_fields.specs.declared.vendor.Vendor.TheVariants as vendors
@@ -11,15 +11,7 @@ use Rattle.lexicon_fields.specs.contracts.vendor.VendorHash.TheImpl as vendor_ha
 use Rattle.lexicon_fields.specs.contracts.operating_system.OperatingSystemHash.TheImpl as operating_system_hash
 use Rattle.lexicon_fields.specs.contracts.deployment_target.DeploymentTargetHash.TheImpl as version_hash
 use Rattle.lexicon_fields.specs.contracts.architecture.Architecture as architecture
-use Rattle.lexicon_fields.specs.contracts.architecture.arm.ArmArchitecture as arm
-use Rattle.lexicon_fields.specs.contracts.architecture.aarch64.Aarch64Architecture as aarch64
-use Rattle.lexicon_fields.specs.contracts.architecture.x86_32.X86_32Architecture as x86_32
-use Rattle.lexicon_fields.specs.contracts.architecture.mips.Mips32Architecture as mips32
-use Rattle.lexicon_fields.specs.contracts.architecture.mips.Mips64Architecture as mips64
-use Rattle.lexicon_fields.specs.contracts.architecture.riscv.Riscv32Architecture as riscv32
-use Rattle.lexicon_fields.specs.contracts.architecture.riscv.Riscv64Architecture as riscv64
-use Rattle.lexicon_fields.specs.contracts.architecture.clever.CleverArchitecture as clever
-use Rattle.lexicon_fields.specs.contracts.architecture.z80.Z80Architecture as z80
+use Rattle.lexicon_fields.specs.contracts.architecture as contracts
 use Rattle.lexicon_fields.specs.contracts.environment.Environment as environment
 use Rattle.lexicon_fields.specs.contracts.binary_format.BinaryFormat as binary_format
 use Rattle.lexicon_fields.specs.contracts.endianness.Endianness as endianness
@@ -29,32 +21,35 @@ use Rattle.lexicon_fields.specs.contracts.operating_system.OperatingSystem as op
 use Rattle.lexicon_fields.specs.contracts.vendor.Vendor as vendor
 use Rattle.lexicon_fields.proofs.laws.values_hash_by_variant_and_fields.Goals as goal
 
+-- written by tools/names/write: answers about the hashes of families
 pub returns-clause-arm : goal.returns-clause-arm
-returns-clause-arm c = bare_hash_injective arm.enum tt (omega arith)
+returns-clause-arm c = bare_hash_injective contracts.arm.ArmArchitecture.enum tt (omega arith)
 
 pub returns-clause-aarch64 : goal.returns-clause-aarch64
-returns-clause-aarch64 c = bare_hash_injective aarch64.enum tt (omega arith)
+returns-clause-aarch64 c = bare_hash_injective contracts.aarch64.Aarch64Architecture.enum tt (omega arith)
 
 pub returns-clause-x86_32 : goal.returns-clause-x86_32
-returns-clause-x86_32 c = bare_hash_injective x86_32.enum tt (omega arith)
+returns-clause-x86_32 c = bare_hash_injective contracts.families.X86_32Architecture.enum tt (omega arith)
 
 pub returns-clause-mips32 : goal.returns-clause-mips32
-returns-clause-mips32 c = bare_hash_injective mips32.enum tt (omega arith)
+returns-clause-mips32 c = bare_hash_injective contracts.families.Mips32Architecture.enum tt (omega arith)
 
 pub returns-clause-mips64 : goal.returns-clause-mips64
-returns-clause-mips64 c = bare_hash_injective mips64.enum tt (omega arith)
+returns-clause-mips64 c = bare_hash_injective contracts.families.Mips64Architecture.enum tt (omega arith)
 
 pub returns-clause-riscv32 : goal.returns-clause-riscv32
-returns-clause-riscv32 c = bare_hash_injective riscv32.enum tt (omega arith)
+returns-clause-riscv32 c = bare_hash_injective contracts.families.Riscv32Architecture.enum tt (omega arith)
 
 pub returns-clause-riscv64 : goal.returns-clause-riscv64
-returns-clause-riscv64 c = bare_hash_injective riscv64.enum tt (omega arith)
+returns-clause-riscv64 c = bare_hash_injective contracts.families.Riscv64Architecture.enum tt (omega arith)
 
 pub returns-clause-clever : goal.returns-clause-clever
-returns-clause-clever c = bare_hash_injective clever.enum tt (omega arith)
+returns-clause-clever c = bare_hash_injective contracts.families.CleverArchitecture.enum tt (omega arith)
 
 pub returns-clause-z80 : goal.returns-clause-z80
-returns-clause-z80 c = bare_hash_injective z80.enum tt (omega arith)
+returns-clause-z80 c = bare_hash_injective contracts.families.Z80Architecture.enum tt (omega arith)
+
+-- end of what is written
 
 pub returns-clause-environment : goal.returns-clause-environment
 returns-clause-environment c = bare_hash_injective environment.enum tt (omega arith)
@@ -92,27 +87,31 @@ system_version-hash = hash_injective_on system_version-distinguishes (λ x y. ap
 pub returns-clause-architecture : goal.returns-clause-architecture
 returns-clause-architecture c =
     enum_hash_injective architecture.enum _ (omega arith) (λ x. refl) (assumption (
-      one_field Arm (returns-clause-arm c),
-      one_field Aarch64 (returns-clause-aarch64 c),
-      one_field X86_32 (returns-clause-x86_32 c),
-      one_field Mips32 (returns-clause-mips32 c),
-      one_field Mips64 (returns-clause-mips64 c),
-      one_field Riscv32 (returns-clause-riscv32 c),
-      one_field Riscv64 (returns-clause-riscv64 c),
-      one_field Clever (returns-clause-clever c),
-      one_field Z80 (returns-clause-z80 c),
+      -- written by tools/names/write: hashes of each family
+      one_field variants.Arm (returns-clause-arm c),
+      one_field variants.Aarch64 (returns-clause-aarch64 c),
+      one_field variants.X86_32 (returns-clause-x86_32 c),
+      one_field variants.Mips32 (returns-clause-mips32 c),
+      one_field variants.Mips64 (returns-clause-mips64 c),
+      one_field variants.Riscv32 (returns-clause-riscv32 c),
+      one_field variants.Riscv64 (returns-clause-riscv64 c),
+      one_field variants.Clever (returns-clause-clever c),
+      one_field variants.Z80 (returns-clause-z80 c),
+      -- end of what is written
     ))
 
 pub returns-clause-operating_system : goal.returns-clause-operating_system
 returns-clause-operating_system c =
     hash_injective_on (variants_distinguish operating_system.enum operating_system_hash.ghosts.hash_input (omega arith) (λ x. refl) _ _ (assumption (
-      one_field Darwin system_version-hash,
-      one_field IOS system_version-hash,
-      one_field MacOSX system_version-hash,
-      one_field TvOS system_version-hash,
-      one_field VisionOS system_version-hash,
-      one_field WatchOS system_version-hash,
-      one_field XROS system_version-hash,
+      -- written by tools/names/write: hashes of each versioned system
+      one_field systems.Darwin system_version-hash,
+      one_field systems.IOS system_version-hash,
+      one_field systems.MacOSX system_version-hash,
+      one_field systems.TvOS system_version-hash,
+      one_field systems.VisionOS system_version-hash,
+      one_field systems.WatchOS system_version-hash,
+      one_field systems.XROS system_version-hash,
+      -- end of what is written
     ))) (λ x y. ap operating_system_hash.ghosts.hash_input)
 
 custom_vendor-hash : HashInjectiveOn (λ (x : CustomVendor). Unit {0}) custom_string (λ x. str (custom_string x))
