@@ -98,7 +98,7 @@ pub struct Evidence<'a> {
     width: Said<PointerWidth>,
     /// The byte order that a misspelled machine's word ends with, such as `powerpcel`.
     order: Said<Endianness>,
-    floats: Said<FloatAbi>,
+    pub(crate) floats: Said<FloatAbi>,
     /// A known vendor that isn't the usual one of many systems.
     vendor: Said<&'static str>,
     system: Said<&'static str>,
@@ -106,7 +106,7 @@ pub struct Evidence<'a> {
     /// What else an environment says, such as `android`, `sim` or `n64`.
     form: Said<&'static str>,
     /// The first word that isn't understood, after the first that says a machine or a system.
-    unknown: Option<(usize, usize)>,
+    pub(crate) unknown: Option<&'a str>,
     /// Before that, a word isn't understood, as in the name of a program.
     has_title: bool,
 }
@@ -131,9 +131,9 @@ impl<'a> Evidence<'a> {
                         words = after;
                         (Some(said), next)
                     }
-                    None => (word.said(text), word.clone()),
+                    None => (said_in(text, &word), word.clone()),
                 },
-                None => (word.said(text), word.clone()),
+                None => (said_in(text, &word), word.clone()),
             };
             before = evidence.take(word.start..last.end, said, before);
         }
@@ -143,11 +143,11 @@ impl<'a> Evidence<'a> {
     /// Takes a word, which says this or isn't known, after one that says a machine or a system, or another one.
     fn take(&mut self, word: Range<usize>, said: Option<&'static str>, before: Option<Kind>) -> Option<Kind> {
         let has_begun = self.has_begun();
-        let text = &self.text[word.clone()];
+        let text: &'a str = &self.text[word.clone()];
         let is_number = text.bytes().all(|it| it.is_ascii_digit());
         let joint = self.text[..word.start].bytes().next_back();
         if let (Some(Kind::Machine | Kind::System), true, "32" | "64") = (before, is_number, text) {
-            self.say(text_of_width(text));
+            self.width.add(if text == "32" { PointerWidth::U32 } else { PointerWidth::U64 });
             return None;
         }
         // The ABI of x86-64 has levels such as `x86-64-v3`.
@@ -170,7 +170,7 @@ impl<'a> Evidence<'a> {
             let is_level = before == Some(Kind::Machine) && joint == Some(b'/') && text.starts_with('v');
             let is_version = is_version(text) && !is_part && !is_level;
             if has_begun && !is_version && self.unknown.is_none() {
-                self.unknown = Some((word.start, word.end));
+                self.unknown = Some(text);
             }
             self.order = order_of(text).map_or(self.order, Said::One);
             self.has_title |= !has_begun && !is_version;
@@ -201,7 +201,8 @@ impl<'a> Evidence<'a> {
         let is_here = |level: &str| {
             let after = rest.strip_prefix(level).unwrap_or("0");
             let goes_on = after.strip_prefix('.').unwrap_or(after);
-            !after.starts_with(is_letter_or_digit) && !goes_on.starts_with(|it: char| it.is_ascii_digit())
+            !after.starts_with(|it: char| it.is_ascii_alphanumeric())
+                && !goes_on.starts_with(|it: char| it.is_ascii_digit())
         };
         let platform = match self.machine {
             Said::One(Architecture::X86_64) => "linux/amd64/",
@@ -297,41 +298,10 @@ impl<'a> Evidence<'a> {
         }
     }
 
-    /// How many bits a pointer has, if a word says it that isn't the machine's own.
-    #[must_use]
-    pub fn pointer_width(&self) -> Said<PointerWidth> {
-        self.width
-    }
-
-    /// The level of the machine that no triple states, such as `v3` of x86-64.
-    #[must_use]
-    pub fn level(&self) -> Said<&'static str> {
-        self.level
-    }
-
-    /// How floating-point arguments are passed.
-    #[must_use]
-    pub fn float_abi(&self) -> Said<FloatAbi> {
-        self.floats
-    }
-
     /// The system, by its known name, or `other`, which no triple has.
     #[must_use]
     pub fn system(&self) -> Said<&'static str> {
         self.system
-    }
-
-    /// The C library: `gnu`, `musl`, `uclibc`, `msvc`, `gnullvm`, `newlib`, or `other`, which no triple states.
-    #[must_use]
-    pub fn c_library(&self) -> Said<&'static str> {
-        self.library
-    }
-
-    /// The first word that isn't understood, after the first that says a machine or a system, and where it is.
-    #[must_use]
-    pub fn unknown_word(&self) -> Option<(&'a str, Range<usize>)> {
-        let (start, end) = self.unknown?;
-        Some((&self.text[start..end], start..end))
     }
 
     /// Whether the words name this, of a tool whose `arm` has 32 bits.
@@ -573,8 +543,8 @@ impl fmt::Display for Evidence<'_> {
                 Said::Contradicted => say(&"several C libraries or ABIs")?,
             }
         }
-        match self.unknown_word() {
-            Some((word, _)) => write!(f, "; here nobody knows `{}`", visible(word).shortened()),
+        match self.unknown {
+            Some(word) => write!(f, "; here nobody knows `{}`", visible(word).shortened()),
             None => Ok(()),
         }
     }
@@ -623,7 +593,7 @@ impl Iterator for Words<'_> {
         let is_after_sign = start == 0 || !is_letter(start - 1);
         // A longer word isn't known.
         let whole = (start..=start + LONGEST).find(|at| !is_letter(*at));
-        let is_known = |end: &usize| is_after_sign && (start..*end).said(self.text).is_some();
+        let is_known = |end: &usize| is_after_sign && said_in(self.text, &(start..*end)).is_some();
         let is_capital = |at: usize| bytes.get(at).map_or(false, u8::is_ascii_uppercase);
         let is_small = |at: usize| bytes.get(at).map_or(false, u8::is_ascii_lowercase);
         let begins = |at: usize| is_capital(at) && (!is_capital(at - 1) || is_small(at + 1));
@@ -634,18 +604,12 @@ impl Iterator for Words<'_> {
     }
 }
 
-trait InText {
-    fn said(&self, text: &str) -> Option<&'static str>;
-}
-
-impl InText for Word {
-    /// What the word says.
-    fn said(&self, text: &str) -> Option<&'static str> {
-        let mut lower = Buffer::<LONGEST>::new();
-        lower.write_str(text.get(self.clone())?).ok()?;
-        lower.make_lowercase();
-        said(lower.as_str())
-    }
+/// What a word of a text says.
+fn said_in(text: &str, word: &Word) -> Option<&'static str> {
+    let mut lower = Buffer::<LONGEST>::new();
+    lower.write_str(text.get(word.clone())?).ok()?;
+    lower.make_lowercase();
+    said(lower.as_str())
 }
 
 /// The most bytes of a word that is understood.
@@ -722,10 +686,6 @@ pub(crate) fn order_of(word: &str) -> Option<Endianness> {
     little.or_else(|| of(["eb", "be"]).map(|_| Endianness::Big))
 }
 
-fn is_letter_or_digit(it: char) -> bool {
-    it.is_ascii_alphanumeric()
-}
-
 fn is_number(word: &str) -> bool {
     word.bytes().all(|it| it.is_ascii_digit())
 }
@@ -734,12 +694,4 @@ fn is_number(word: &str) -> bool {
 fn is_version(word: &str) -> bool {
     let digits = word.strip_prefix(['v', 'r', 'V']).unwrap_or(word);
     !digits.is_empty() && is_number(digits)
-}
-
-fn text_of_width(text: &str) -> &'static str {
-    if text == "32" {
-        "32"
-    } else {
-        "64"
-    }
 }

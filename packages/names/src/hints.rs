@@ -6,7 +6,8 @@ use crate::buffer::Buffer;
 use crate::dialect::Row;
 use crate::evidence::only_machine;
 use crate::suggestions::{
-    edits_between, machine_of, meant, vendor_suggestion, visible, Machine, Suggest as _, Suggestion,
+    edits_between, fit_alone, machine_of, meant, vendor_suggestion, visible, Form, Machine, Place, Suggest as _,
+    Suggestion,
 };
 use crate::table::SYSTEMS;
 use crate::text::is_whole;
@@ -322,26 +323,9 @@ fn said_of_machine(row: &Row) -> Option<(Machine, Option<PointerWidth>, Option<F
 
 /// Whether a string has digits after `gnu` that may be those of an ABI: `gnu.32` may be `gnux32`. A version of glibc is such as `.2.17`.
 fn has_number_of_abi(name: &str) -> bool {
-    let mut versioned = changes(name).filter(|it| it.dropped_version().is_some());
+    let has_version = |part| fit_alone(Place::AfterFirst, part).map_or(false, |it| it.form == Form::Dropped);
+    let mut versioned = changes(name).filter(|it| has_version(it.part.text));
     versioned.any(|it| it.part.text.starts_with("gnu") && !it.part.text.contains(".2."))
-}
-
-/// The name that each dialect suggests for an unknown one, as [`Dialect::suggestion`] does, in the order of [`Dialect::ALL`]. Asking for the
-/// first is cheaper than asking each dialect, since what the words of the name say is found out once. Nothing is allocated.
-///
-/// # Examples
-///
-/// ```
-/// use target_names::{suggestions, Dialect};
-///
-/// assert_eq!(suggestions("linux/amd46").next(), Some((Dialect::Go, "linux/amd64")));
-/// assert_eq!(suggestions("foo").next(), None);
-/// ```
-#[inline]
-pub fn suggestions(name: &str) -> impl Iterator<Item = (Dialect, &'static str)> + '_ {
-    let hints = Hints::of(name);
-    let all = Dialect::ALL.iter().copied();
-    all.filter_map(move |it| Some((it, hints.as_ref()?.name_of(it)?)))
 }
 
 /// A name that was perhaps meant. `Display` writes it whole.
@@ -382,7 +366,7 @@ impl<'a> Meant<'a> {
             let evidence = &hints.evidence;
             let is_known = match (evidence.machine(), evidence.system()) {
                 (Said::Unsaid, _) => false,
-                (_, Said::Unsaid) => evidence.unknown_word().is_none() && !evidence.has_title(),
+                (_, Said::Unsaid) => evidence.unknown.is_none() && !evidence.has_title(),
                 _ => true,
             };
             if is_known {

@@ -82,7 +82,7 @@ mod versions;
 pub use dialect::{NameError, Sense};
 pub use driver::{TypeLayout, TypeSizes};
 pub use evidence::{Evidence, Said};
-pub use hints::{suggestions, Meant, Mistake};
+pub use hints::{Meant, Mistake};
 pub use llvm_target::LlvmTarget;
 pub use meanings::{meanings, readers, Meaning, NameOf};
 pub use multiarch::MultiarchTuple;

@@ -138,7 +138,7 @@ impl Dialect {
             _ => machine,
         };
         // The `armhf` of container images is Armv7, and that of others isn't. No machine has a longer name than a path.
-        if machine.len() > LONGEST_PATH || Evidence::of(machine).float_abi() != Said::Unsaid {
+        if machine.len() > LONGEST_PATH || Evidence::of(machine).floats != Said::Unsaid {
             return None;
         }
         let version = machine.strip_prefix("armv").map(|it| it.strip_suffix('l').unwrap_or(it));

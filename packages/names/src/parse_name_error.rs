@@ -26,12 +26,6 @@ pub struct UnknownWord {
 }
 
 impl UnknownWord {
-    #[inline]
-    fn new(word: &str, is_dialect: bool) -> Self {
-        let word = word.into();
-        UnknownWord { word, is_dialect }
-    }
-
     /// The word.
     #[must_use]
     #[inline]
@@ -40,16 +34,7 @@ impl UnknownWord {
     }
 
     /// The dialect that was perhaps meant: one that the word begins with, or else one in other letters or with two of its letters
-    /// swapped.
-    ///
-    /// # Examples
-    ///
-    /// ```
-    /// use target_names::Dialect;
-    ///
-    /// let meant = |word: &str| word.parse::<Dialect>().unwrap_err().suggestion();
-    /// assert_eq!(["rustc", "Debian", "dotent", "x"].map(meant), [Some("rust"), Some("debian"), Some("dotnet"), None]);
-    /// ```
+    /// swapped: `rust` by `rustc`, `dotnet` by `dotent`.
     #[must_use]
     #[inline]
     pub fn suggestion(&self) -> Option<&'static str> {
@@ -92,9 +77,8 @@ impl FromStr for Dialect {
     #[inline]
     fn from_str(word: &str) -> Result<Self, UnknownWord> {
         let names = Dialect::ALL.iter().map(|it| (it.name(), *it));
-        let mut found = names.chain(OTHER_NAMES).filter(|it| it.0 == word);
-        let found = found.next().map(|it| it.1);
-        found.ok_or_else(|| UnknownWord::new(word, true))
+        let found = names.chain(OTHER_NAMES).find(|it| it.0 == word);
+        found.map(|it| it.1).ok_or_else(|| UnknownWord { word: word.into(), is_dialect: true })
     }
 }
 
@@ -106,7 +90,6 @@ impl FromStr for ChosenLibc {
     fn from_str(word: &str) -> Result<Self, UnknownWord> {
         use ChosenLibc::*;
         let mut all = [Glibc, Musl, Msvc, Mingw, Gnullvm].into_iter();
-        let found = all.find(|it| it.name() == word);
-        found.ok_or_else(|| UnknownWord::new(word, false))
+        all.find(|it| it.name() == word).ok_or_else(|| UnknownWord { word: word.into(), is_dialect: false })
     }
 }

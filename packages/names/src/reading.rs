@@ -1,6 +1,6 @@
 //! Reading a string that is spelled like a triple, and what is changed in it.
 use crate::spelled::{SpelledParts, Spelling};
-use crate::suggestions::{first_part, fit_alone, Place, Reading};
+use crate::suggestions::{first_part, Reading};
 use crate::FloatAbi;
 use target_lexicon::{Named, Refusal, TextPart, TripleRef};
 
@@ -73,29 +73,6 @@ pub struct Change<'a> {
     pub part: TextPart<'a>,
     /// The names that are read instead.
     pub names: Spelling<'a>,
-}
-
-impl<'a> Change<'a> {
-    /// The version that the part loses, as it is in the string: `13.2` of `freebsd13.2`. A triple can't state versions of
-    /// systems other than Apple's, nor those of C libraries and of compilers.
-    ///
-    /// # Examples
-    ///
-    /// ```
-    /// use target_names::changes;
-    ///
-    /// let change = changes("aarch64-none-linux-android21").last().unwrap();
-    /// let version = change.dropped_version().unwrap();
-    /// assert_eq!((version.text, version.range()), ("21", 26..28));
-    /// assert_eq!(changes("x86_64-w64-mingw32").last().unwrap().dropped_version(), None);
-    /// ```
-    #[must_use]
-    #[inline]
-    pub fn dropped_version(&self) -> Option<TextPart<'a>> {
-        let text = fit_alone(Place::AfterFirst, self.part.text)?.dropped_version()?;
-        let start = self.part.range().end.saturating_sub(text.len());
-        Some(TextPart { text, start })
-    }
 }
 
 /// The changes of a string, from its start to its end. [`changes`] returns them.

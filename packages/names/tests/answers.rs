@@ -4,8 +4,8 @@
 use std::collections::BTreeMap;
 use target_lexicon::{Architecture, Environment, Field, OperatingSystem, Refusal, TripleRef, VendorRef};
 use target_names::{
-    changes, known_names, meanings, read, suggestions, targets_in, vendor_suggestion, Change, Dialect, Evidence,
-    Meaning, Suggest as _, TargetInfo, TypeLayout, VersionOf, Versions, Word, WordIs,
+    changes, known_names, meanings, read, targets_in, vendor_suggestion, Change, Dialect, Evidence, Meaning,
+    Suggest as _, TargetInfo, TypeLayout, VersionOf, Versions, Word, WordIs,
 };
 
 /// Vendors that say something of a target: some of rustc's, and those that are systems.
@@ -122,7 +122,7 @@ fn of_text(number: usize, text: &str) -> [(&'static str, String); 11] {
     let to = all().nth(number / 2 % 15).unwrap();
     let library = "none glibc musl msvc mingw gnullvm".split(' ').nth(number / 2 % 6).and_then(|it| it.parse().ok());
     let found = read(text);
-    let change = |it: Change| format!("{:?}{}{:?}", it.part.range(), it.names, it.dropped_version().map(|it| it.text));
+    let change = |it: Change| format!("{:?}{}", it.part.range(), it.names);
     let of_refusal = |why: Refusal| format!("{why}{:?}{}", why.range(), shown(why.suggestion_in(text)));
     let of_dialect =
         |it: &Dialect| it.read_loosely(text).map_or_else(|why| why.to_string(), |it| it.triple.to_string());
@@ -152,7 +152,7 @@ fn of_text(number: usize, text: &str) -> [(&'static str, String); 11] {
         ("vendor_suggestion", sum(TripleRef::from_str(text).ok().map(|it| shown(vendor_suggestion(it))))),
         ("evidence", sum(Some(format!("{}{}", Evidence::of(text), shown(Evidence::of(text).triple()))))),
         ("meanings", sum(joined(meanings(text).map(meaning)))),
-        ("suggestions", sum(joined(suggestions(text).map(|it| format!("{}{}", it.0, it.1))))),
+        ("suggestions", sum(joined(all().filter_map(|it| Some(format!("{it}{}", it.suggestion(text)?)))))),
         ("read_loosely", sum(joined(Dialect::ALL.iter().map(of_dialect)))),
         ("mistakes", sum(refused)),
         ("write", sum(written.ok())),

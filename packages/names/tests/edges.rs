@@ -1,9 +1,9 @@
 //! What calls answer at the edges of what they take.
 use std::fmt::{self, Display, Write};
-use target_lexicon::{Field, PointerWidth, TripleRef};
+use target_lexicon::{Field, TripleRef};
 use target_names::{
-    changes, meanings, read, suggestions, targets_in, vendor_suggestion, visible, ChosenLibc, Dialect, Evidence,
-    FloatAbi, Meaning, Mistake, NameError, NameOf, Said, Suggest as _, TargetInfo, VersionOf, Versions, WordIs, SHOWN,
+    changes, meanings, read, targets_in, vendor_suggestion, visible, ChosenLibc, Dialect, Evidence, Meaning, Mistake,
+    NameError, NameOf, Suggest as _, TargetInfo, VersionOf, Versions, WordIs, SHOWN,
 };
 
 /// A writer with room for so many bytes.
@@ -33,7 +33,7 @@ fn what_is_displayed_fails_as_its_writer_does() {
         fails(&triple(text).llvm_target());
     }
     let unknown = "debian linux/arm64,gnu bpfel-linux-gnu,go Linux/AMD64,gnu nios2-linux-gnu,uname Linux,\
-                   oci linux/amd46,debian all";
+                   oci linux/amd46,debian all,go linux /a,go ./linux/amd64,go linux-x64,go \u{1b}";
     for (dialect, name) in unknown.split(',').map(|it| it.split_once(' ').unwrap()) {
         let dialect: Dialect = dialect.parse().unwrap();
         dialect.mistake(name).iter().for_each(|it| fails(it));
@@ -47,6 +47,8 @@ fn what_is_displayed_fails_as_its_writer_does() {
     changes("x86_64-nuttx").for_each(|it| fails(&it.names));
     fails(&TripleRef::from_str("arm64-apple-iso17").unwrap_err().suggestion().unwrap());
     fails(&triple("i686-unknown-linux-gnu").multiarch_tuple().unwrap());
+    fails(&Dialect::Gnu.translate("foo", None, Dialect::Go).unwrap_err());
+    fails(&Dialect::Oci.translate("linux/386", None, Dialect::Debian).unwrap_err());
     fails(&visible("\u{202e}ab"));
     match targets_in("aarch64-apple-darwn").next().unwrap().is() {
         WordIs::Misspelled(meant) => fails(&meant),
@@ -196,17 +198,6 @@ fn words_may_be_of_triples() {
         let (text, of) = row.split_once(' ').unwrap();
         assert_eq!(Evidence::of(text).allows(&triple(of)).to_string(), expected, "{row}");
     }
-}
-
-#[test]
-fn evidence_is_asked_for_each_property() {
-    let evidence = Evidence::of("armhf-linux-uclibc-32bit-foo");
-    assert_eq!(evidence.pointer_width(), Said::One(PointerWidth::U32));
-    assert_eq!(evidence.float_abi(), Said::One(FloatAbi::Hard));
-    assert_eq!(evidence.c_library(), Said::One("uclibc"));
-    assert_eq!(evidence.system(), Said::One("linux"));
-    assert_eq!(evidence.machine().one().map(|it| it.to_string()), Some("arm".into()));
-    assert_eq!(evidence.unknown_word(), Some(("foo", 25..28)));
 }
 
 /// A name of GNU, and after `=` its triple, or why it has none.
@@ -590,7 +581,8 @@ fn hints_keep_the_machine() {
             let edited = [Some(after[1..].to_string()), Some(after[..1].to_string() + after), swapped];
             for edited in edited.into_iter().flatten().map(|it| before.to_string() + &it) {
                 let is_right = |it: &(Dialect, &str)| own.contains(&machine(&it.0.read(it.1).unwrap().to_string()));
-                let wrong = suggestions(&edited).find(|it| !is_right(it));
+                let mut hints = Dialect::ALL.iter().filter_map(|it| Some((*it, it.suggestion(&edited)?)));
+                let wrong = hints.find(|it| !is_right(it));
                 assert!(wrong.is_none() || machines.contains_key(&*edited), "{name}: {edited}: {wrong:?}");
                 count += 1;
             }

@@ -111,10 +111,6 @@ proptest! {
     fn changed_and_refused_parts_are_in_the_string(text in any_text()) {
         for change in changes(&text) {
             prop_assert_eq!(&text[change.part.range()], change.part.text);
-            if let Some(version) = change.dropped_version() {
-                prop_assert_eq!(&text[version.range()], version.text);
-                prop_assert!(change.part.text.ends_with(version.text));
-            }
         }
         if let Err(refusal) = read(&text) {
             prop_assert_eq!(&text[refusal.range()], refusal.part.text);

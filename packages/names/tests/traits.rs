@@ -1,10 +1,10 @@
 //! The traits of names, dialects and errors.
 use std::collections::{BTreeSet, HashSet};
-use std::fmt::{self, Debug, Display, Write as _};
+use std::fmt::{Debug, Display};
 use target_lexicon::{Triple, TripleRef};
 use target_names::{
-    read, vendor_suggestion, visible, CLibrary, ChosenLibc, Dialect, Evidence, FloatAbi, Name, Signedness,
-    Suggest as _, TargetInfo as _, UnknownWord, SHOWN,
+    read, CLibrary, ChosenLibc, Dialect, Evidence, FloatAbi, Name, Signedness, Suggest as _, TargetInfo as _,
+    UnknownWord,
 };
 
 #[test]
@@ -87,69 +87,6 @@ fn what_says_something_else_is_another_one() {
     );
 }
 
-/// A writer that has room for so many bytes.
-struct Room(usize);
-
-impl fmt::Write for Room {
-    fn write_str(&mut self, text: &str) -> fmt::Result {
-        self.0 = self.0.checked_sub(text.len()).ok_or(fmt::Error)?;
-        Ok(())
-    }
-}
-
-#[test]
-fn a_writer_that_fails_is_noticed() {
-    let triple = TripleRef::from_str("x86_64-unknown-linux-gnu").unwrap();
-    let custom = TripleRef::from_str("x86_64-linx").unwrap();
-    let versioned = TripleRef::from_str("arm64-apple-iso17").unwrap_err();
-    let spelled: Vec<_> = target_names::changes("amd64-unknown-freebsd13.2").map(|it| it.names).collect();
-    let mistakes =
-        ["LINUX/AMD64", "linux /a", "linux", "linux-x64", "./linux/amd64", "x/y-z"].map(|it| Dialect::Go.mistake(it));
-    let words = ["golang", "\u{1b}"].map(|it| it.parse::<Dialect>().unwrap_err());
-    let shown: [&dyn Display; 14] = [
-        &Dialect::Go,
-        &Dialect::Go.write(triple).unwrap(),
-        &triple.llvm_target(),
-        &triple.rustc_cfg(),
-        &triple.multiarch_tuple().unwrap(),
-        &Evidence::of("linux-x64"),
-        &vendor_suggestion(custom).unwrap(),
-        &versioned.suggestion().unwrap(),
-        &visible("a\u{1b}"),
-        &visible("a\u{1b}").shortened(),
-        &Dialect::Go.write_with(custom, None).map_or_else(|it| it.to_string(), |it| it.to_string()),
-        &Dialect::Gnu.translate("foo", None, Dialect::Go).unwrap_err(),
-        &Dialect::Oci.translate("linux/386", None, Dialect::Debian).unwrap_err(),
-        &"foo".parse::<ChosenLibc>().unwrap_err(),
-    ];
-    let others = mistakes.iter().flatten().map(|it| it as &dyn Display).chain(spelled.iter().map(|it| it as _));
-    let others = others.chain(words.iter().map(|it| it as _));
-    for it in shown.into_iter().chain(others) {
-        let text = it.to_string();
-        for size in 0..=text.len() {
-            assert_eq!(write!(Room(size), "{it}").is_ok(), size == text.len(), "{text}: {size}");
-        }
-    }
-}
-
-#[test]
-fn what_is_shortened_has_its_length() {
-    for (length, is_whole) in [(SHOWN - 1, true), (SHOWN, true), (SHOWN + 1, false), (9 * SHOWN, false)] {
-        let text = "a".repeat(length);
-        let expected = if is_whole { text.clone() } else { format!("{}...", "a".repeat(SHOWN)) };
-        assert_eq!(visible(&text).shortened().to_string(), expected);
-    }
-}
-
-#[test]
-fn a_name_of_256_bytes_has_a_suggestion_and_no_longer_one() {
-    for (length, meant) in [(255, Some("linux/amd64")), (256, Some("linux/amd64")), (257, None)] {
-        let path = format!("{}/linux/amd64", "q".repeat(length - "/linux/amd64".len()));
-        assert_eq!((path.len(), Dialect::Go.suggestion(&path)), (length, meant));
-        assert_eq!(target_names::suggestions(&path).find(|it| it.0 == Dialect::Go).map(|it| it.1), meant);
-    }
-}
-
 #[test]
 fn each_refusal_and_error_has_the_suggestion() {
     let text = "armv7-unknown-linux-gnueabihff";
@@ -184,6 +121,8 @@ fn a_word_that_is_no_dialect_is_named() {
     assert_eq!(of("docker").unwrap(), Dialect::Oci);
     let error = of("golang").unwrap_err().downcast::<UnknownWord>().unwrap();
     assert_eq!((error.word(), error.suggestion()), ("golang", Some("go")));
+    let meant = |word: &str| word.parse::<Dialect>().unwrap_err().suggestion();
+    assert_eq!(["rustc", "Debian", "dotent", "x"].map(meant), [Some("rust"), Some("debian"), Some("dotnet"), None]);
     assert!([" go", "go ", "Go", ""].into_iter().all(|it| of(it).is_err()));
     let none = of("\u{202e}x").unwrap_err().to_string();
     assert!(none.starts_with("Unknown dialect: \\u{202e}x; it is one of debian go oci "));

@@ -57,12 +57,6 @@ impl<'a> Fit<'a> {
         }
     }
 
-    /// The version that is dropped.
-    #[inline]
-    pub fn dropped_version(&self) -> Option<&'a str> {
-        (self.form == Form::Dropped).then_some(self.version)
-    }
-
     /// What this rule makes of a part with this after its dash, if it fits.
     fn of(&(_, text, form, names): &Rule, part: &'a str, rest: Option<&str>) -> Option<Fit<'a>> {
         let (mut names, mut next_name, mut version) = (names, None, "");

@@ -33,19 +33,6 @@ pub trait Suggest<'a>: Copy {
 
     /// The name that was perhaps meant. A `ParseTripleError` has the whole string, so it may be an environment of the string's
     /// architecture too. For the others [`suggestion_in`](Suggest::suggestion_in) suggests it.
-    ///
-    /// # Examples
-    ///
-    /// ```
-    /// use target_lexicon::TripleRef;
-    /// use target_names::Suggest;
-    ///
-    /// let refusal = TripleRef::from_str("x86_64-pc-linxu").unwrap_err();
-    /// assert_eq!(refusal.suggestion().unwrap(), "linux");
-    ///
-    /// let refusal = TripleRef::from_str("aarch64-apple-macos14").unwrap_err();
-    /// assert_eq!(refusal.suggestion().unwrap(), "macosx14");
-    /// ```
     #[must_use]
     #[inline]
     fn suggestion(self) -> Option<Suggestion<'a>> {
