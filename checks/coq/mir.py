@@ -80,7 +80,7 @@ class Types:
 
     def ranges(self):
         """What Rust's types say of the numbers in each record: Coq's have no greatest number."""
-        for title in {title for title, _ in self.numbers}:
+        for title in sorted({title for title, _ in self.numbers}):
             below = [f"{field} it < 2 ^ {BITS[of]}" for (it, field), of in sorted(self.numbers.items()) if it == title]
             yield f"Definition mir_range_{title} (it : {title}) : Prop := {' ∧ '.join(below)}.\n"
 
