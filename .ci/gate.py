@@ -264,6 +264,7 @@ def main():
             return
         if PROOFS[1] not in [command for command, _ in passed] and "cargo" not in WITHOUT:
             shutil.copy(f"{TOP}/{COMMANDS}/lines", f"{BUILT}/bin/triples")
+            ENVIRONMENT["WITHOUT"] += " rt"  # it lacks modes of the proved one
             left_out.append(
                 "all proofs; the pages were tried with the Rust crate's program instead of the proved `triples`")
         for program in glob.glob(f"{TOP}/crates/triples/out/triples") + glob.glob(
