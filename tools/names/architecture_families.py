@@ -177,7 +177,7 @@ def definitions(table):
         lines += ["", f"-- the name of {it.about[0].lower()}{it.about[1:].split(',')[0].rstrip('.')}",
                   f"abbrev pub {it.word}_name : {it.variant}Architecture → List ℕ",
                   *(f'{it.word}_name {it.word}.{of.variant} = codes "{of.name}"' for of in members), "",
-                  "-- an architecture as one of these",
+                  "-- the sub-architecture of an architecture, if it is of this family",
                   f"abbrev pub as_{it.word} : Architecture → Option {it.variant}Architecture",
                   f"as_{it.word} (architecture.{it.variant} sub) = Some sub", f"as_{it.word} _ = None"]
     return "\n".join([*lines, ""])

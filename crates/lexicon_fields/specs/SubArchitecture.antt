@@ -67,7 +67,7 @@ arm_name arm.Thumbv7neon = codes "thumbv7neon"
 arm_name arm.Thumbv8mBase = codes "thumbv8m.base"
 arm_name arm.Thumbv8mMain = codes "thumbv8m.main"
 
--- an architecture as one of these
+-- the sub-architecture of an architecture, if it is of this family
 abbrev pub as_arm : Architecture → Option ArmArchitecture
 as_arm (architecture.Arm sub) = Some sub
 as_arm _ = None
@@ -77,7 +77,7 @@ abbrev pub aarch64_name : Aarch64Architecture → List ℕ
 aarch64_name aarch64.Aarch64 = codes "aarch64"
 aarch64_name aarch64.Aarch64be = codes "aarch64_be"
 
--- an architecture as one of these
+-- the sub-architecture of an architecture, if it is of this family
 abbrev pub as_aarch64 : Architecture → Option Aarch64Architecture
 as_aarch64 (architecture.Aarch64 sub) = Some sub
 as_aarch64 _ = None
@@ -88,7 +88,7 @@ x86_32_name x86_32.I386 = codes "i386"
 x86_32_name x86_32.I586 = codes "i586"
 x86_32_name x86_32.I686 = codes "i686"
 
--- an architecture as one of these
+-- the sub-architecture of an architecture, if it is of this family
 abbrev pub as_x86_32 : Architecture → Option X86_32Architecture
 as_x86_32 (architecture.X86_32 sub) = Some sub
 as_x86_32 _ = None
@@ -100,7 +100,7 @@ mips32_name mips32.Mipsel = codes "mipsel"
 mips32_name mips32.Mipsisa32r6 = codes "mipsisa32r6"
 mips32_name mips32.Mipsisa32r6el = codes "mipsisa32r6el"
 
--- an architecture as one of these
+-- the sub-architecture of an architecture, if it is of this family
 abbrev pub as_mips32 : Architecture → Option Mips32Architecture
 as_mips32 (architecture.Mips32 sub) = Some sub
 as_mips32 _ = None
@@ -112,7 +112,7 @@ mips64_name mips64.Mips64el = codes "mips64el"
 mips64_name mips64.Mipsisa64r6 = codes "mipsisa64r6"
 mips64_name mips64.Mipsisa64r6el = codes "mipsisa64r6el"
 
--- an architecture as one of these
+-- the sub-architecture of an architecture, if it is of this family
 abbrev pub as_mips64 : Architecture → Option Mips64Architecture
 as_mips64 (architecture.Mips64 sub) = Some sub
 as_mips64 _ = None
@@ -128,7 +128,7 @@ riscv32_name riscv32.Riscv32imac = codes "riscv32imac"
 riscv32_name riscv32.Riscv32imafc = codes "riscv32imafc"
 riscv32_name riscv32.Riscv32imc = codes "riscv32imc"
 
--- an architecture as one of these
+-- the sub-architecture of an architecture, if it is of this family
 abbrev pub as_riscv32 : Architecture → Option Riscv32Architecture
 as_riscv32 (architecture.Riscv32 sub) = Some sub
 as_riscv32 _ = None
@@ -140,7 +140,7 @@ riscv64_name riscv64.Riscv64gc = codes "riscv64gc"
 riscv64_name riscv64.Riscv64imac = codes "riscv64imac"
 riscv64_name riscv64.Riscv64a23 = codes "riscv64a23"
 
--- an architecture as one of these
+-- the sub-architecture of an architecture, if it is of this family
 abbrev pub as_riscv64 : Architecture → Option Riscv64Architecture
 as_riscv64 (architecture.Riscv64 sub) = Some sub
 as_riscv64 _ = None
@@ -150,7 +150,7 @@ abbrev pub clever_name : CleverArchitecture → List ℕ
 clever_name clever.Clever = codes "clever"
 clever_name clever.Clever1_0 = codes "clever1.0"
 
--- an architecture as one of these
+-- the sub-architecture of an architecture, if it is of this family
 abbrev pub as_clever : Architecture → Option CleverArchitecture
 as_clever (architecture.Clever sub) = Some sub
 as_clever _ = None
@@ -168,7 +168,7 @@ z80_name z80.Rabbit3000A = codes "rabbit3000a"
 z80_name z80.Tlcs90 = codes "tlcs90"
 z80_name z80.R800 = codes "r800"
 
--- an architecture as one of these
+-- the sub-architecture of an architecture, if it is of this family
 abbrev pub as_z80 : Architecture → Option Z80Architecture
 as_z80 (architecture.Z80 sub) = Some sub
 as_z80 _ = None
