@@ -263,8 +263,7 @@ def main():
         if not in_turn(FIRST) or not all([*pool.map(in_turn, [[PROOFS], *WITHOUT_PROOF])]):
             return
         if PROOFS[1] not in [command for command, _ in passed] and "cargo" not in WITHOUT:
-            shutil.copy(f"{TOP}/{COMMANDS}/lines", f"{BUILT}/bin/triples")
-            ENVIRONMENT["WITHOUT"] += " rt"  # it lacks modes of the proved one
+            ENVIRONMENT["WITHOUT"] += " rt"  # as checks/built.py says
             left_out.append(
                 "all proofs; the pages were tried with the Rust crate's program instead of the proved `triples`")
         for program in glob.glob(f"{TOP}/crates/triples/out/triples") + glob.glob(

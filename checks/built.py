@@ -62,7 +62,8 @@ def program_there(name):
 
 
 def program(check, name, status=1, words=()):
-    """The path of a program: of a proved crate, if there is one of its name, otherwise of packages/command.
+    """The path of a program: of a proved crate, if there is one of its name, otherwise of packages/command. Without rt
+    it is the Rust crate's, which lacks modes of the proved one.
 
     `rt run`, which decides whether it must be built, runs it with these words.
     """
@@ -70,5 +71,7 @@ def program(check, name, status=1, words=()):
         return f"{BUILT}/bin/{name}"
     if not os.path.isdir(f"{ROOT}/crates/{name}"):
         return cargo_program(check, name, status)
+    if "rt" in WITHOUT:
+        return cargo_program(check, "lines", status)
     made(check, ["rt", "run", "--", *words], f"{ROOT}/crates/{name}", status)
     return f"{ROOT}/crates/{name}/out/{name}"

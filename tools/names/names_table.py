@@ -124,8 +124,7 @@ def special_of(values, earlier, line):
     if not SPECIAL.fullmatch(text):
         raise Mistake(f"the string `{text}` isn't made of names and dashes")
     for fault, law in special_faults(row, values):
-        raise Mistake(f"the string `{text}` {fault}, and the law `{law}` has no case for it: see \"A special string\" "
-                      "in CONTRIBUTING.md")
+        raise Mistake(f"the string `{text}` {fault}, and the law `{law}` has no case for it: it needs a new one")
     if text in [it.text for it in earlier] or row[1:] in [it[1:] for it in earlier]:
         raise Mistake(f"the string `{text}`, or its triple, is there twice")
     return row

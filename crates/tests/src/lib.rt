@@ -1,5 +1,6 @@
 //! Tests of the public calls of the libraries: what they print, that a failed write is reported, and that they return
 //! with ample memory. They are a crate of their own, so that the libraries aren't proved a second time for them.
+//! Lists are written by hand, so that a wrong table is seen, except those of `known_triples` and `all_names`.
 #![tactic(auto)]
 
 #[cfg(test)]
