@@ -1,13 +1,11 @@
 -- `==` is true exactly for the same values.
-use Rattle.std.proofs.Common.{rules, ◌≡◌, ◌∙◌, Bool, true, false, ◌&&◌, List, [], ◌∷◌, Option, Some, None, inl, inr, refl, sym, ap}
-use Rattle.std.specs.{Prelude.Decides, Cmp.Derive.of_values, Option.option_eq}
-use Rattle.std.proofs.{lemmas.Bool.false≢true, lemmas.Bool.and_parts, lemmas.Bool.Decides.Decides-like}
-use Rattle.lexicon_fields.specs.declared.deployment_target.DeploymentTarget.{DeploymentTarget}
-use denote.Struct.Field.{Field}
-use denote.Struct.Values.{Values}
-use denote.Enum.Declared.{Record, Declared, Choice}
-use denote.Enum.Compared.{Each, by}
-use denote.Enum.Bare.{Bare, sameb, same_true, true_same}
+use Rattle.lexicon_fields.proofs.Common.{◌&&◌, ◌∙◌, ◌∷◌, ◌≡◌, Bool, List, None, Option, Some, [], ap, false, inl, inr}
+use Rattle.lexicon_fields.proofs.Common.{refl, rules, sym, true, and_parts, false≢true, Decides, Record}
+use Rattle.lexicon_fields.proofs.Common.{DeploymentTarget}
+use Rattle.std.specs.{Cmp.Derive.of_values, Option.option_eq}
+use Rattle.std.proofs.lemmas.Bool.Decides.{Decides-like}
+use denote.{Struct.Field.Field, Struct.Values.Values, Enum.Declared.Declared, Enum.Declared.Choice, Enum.Compared.Each}
+use denote.{Enum.Compared.by, Enum.Bare.Bare, Enum.Bare.sameb, Enum.Bare.same_true, Enum.Bare.true_same}
 use Rattle.lexicon_fields.specs.contracts.deployment_target.DeploymentTargetPartialEq.TheImpl as version
 
 -- variants without fields are equal by their indices
@@ -18,7 +16,8 @@ bare-Decides D bare a b = (λ same. same_true D bare a b same, λ same. true_sam
 pub option_eq-Decides : {V : Type 0} (eq : V → V → Bool) → ((a b : V) → Decides (eq a b) (a ≡ b))
     → (a b : Option V) → Decides (option_eq eq a b) (a ≡ b)
 option_eq-Decides eq decides None None = (λ _. refl, λ _. refl)
-option_eq-Decides eq decides (Some a) (Some b) = Decides-like (eq a b) (λ same. ap Some same) (λ same. let inner : a ≡ b = cc in inner) (decides a b)
+option_eq-Decides eq decides (Some a) (Some b) =
+    Decides-like (eq a b) (λ same. ap Some same) (λ same. let inner : a ≡ b = cc in inner) (decides a b)
 option_eq-Decides eq decides _ _ = (λ same. absurd cc, λ same. absurd cc)
 
 -- versions are equal by their numbers
@@ -37,24 +36,31 @@ are_bare_equal [] each = true
 are_bare_equal ([] ∷ Fss) each = each.0 tt tt && are_bare_equal Fss each.1
 are_bare_equal ((F ∷ Fs) ∷ Fss) each = are_bare_equal Fss each.1
 
-pub one_field-Decides : {V : Type 0} (eq : V → V → Bool) → ((a b : V) → Decides (eq a b) (a ≡ b)) → (x y : V × Unit {0}) → Decides (eq x.0 y.0) (x ≡ y)
-one_field-Decides {V} eq decides x y = Decides-like _ (λ same. ap (λ (v : V). (v, tt)) same) (λ same. ap (λ fields. fields.0) same) (decides x.0 y.0)
+pub one_field-Decides : {V : Type 0} (eq : V → V → Bool) → ((a b : V) → Decides (eq a b) (a ≡ b)) → (x y : V × Unit {0})
+    → Decides (eq x.0 y.0) (x ≡ y)
+one_field-Decides {V} eq decides x y =
+    Decides-like _ (λ same. ap (λ (v : V). (v, tt)) same) (λ same. ap (λ fields. fields.0) same) (decides x.0 y.0)
 
 pub bare_field-Decides : (D : Declared) → Bare D.parts → (x y : D.D × Unit {0}) → Decides (sameb D x.0 y.0) (x ≡ y)
 bare_field-Decides D bare = one_field-Decides _ (bare-Decides D bare)
 
-choices-Decide : (Fss : List (List Field)) (each : Each Bool Fss) → are_bare_equal Fss each ≡ true → EachDecides Fss each
+choices-Decide : (Fss : List (List Field)) (each : Each Bool Fss) → are_bare_equal Fss each ≡ true
+    → EachDecides Fss each
     → (c d : Choice Fss) → Decides (by false false Fss each c d) (c ≡ d)
 choices-Decide [] each bare decide c d = absurd c
 choices-Decide ([] ∷ Fss) each bare decide (inl x) (inl y) = (λ _. refl, λ _. (and_parts _ _ bare).0)
-choices-Decide ((F ∷ Fs) ∷ Fss) each bare decide (inl x) (inl y) = Decides-like _ (λ same. ap inl same) (λ same. let fields : x ≡ y = cc in fields) (decide.0 x y)
+choices-Decide ((F ∷ Fs) ∷ Fss) each bare decide (inl x) (inl y) =
+    Decides-like _ (λ same. ap inl same) (λ same. let fields : x ≡ y = cc in fields) (decide.0 x y)
 choices-Decide ([] ∷ Fss) each bare decide (inr x) (inr y) =
-    Decides-like _ (λ same. ap inr same) (λ same. let choices : x ≡ y = cc in choices) (choices-Decide Fss each.1 (and_parts _ _ bare).1 decide x y)
+    Decides-like _ (λ same. ap inr same) (λ same. let choices : x ≡ y = cc in choices)
+    (choices-Decide Fss each.1 (and_parts _ _ bare).1 decide x y)
 choices-Decide ((F ∷ Fs) ∷ Fss) each bare decide (inr x) (inr y) =
-    Decides-like _ (λ same. ap inr same) (λ same. let choices : x ≡ y = cc in choices) (choices-Decide Fss each.1 bare decide.1 x y)
+    Decides-like _ (λ same. ap inr same) (λ same. let choices : x ≡ y = cc in choices)
+    (choices-Decide Fss each.1 bare decide.1 x y)
 choices-Decide (Fs ∷ Fss) each bare decide _ _ = (λ same. absurd (false≢true same), λ same. absurd cc)
 
-pub enum-Decides : (N : Record) (each : Each Bool N.parts) → are_bare_equal N.parts each ≡ true → EachDecides N.parts each
+pub enum-Decides : (N : Record) (each : Each Bool N.parts) → are_bare_equal N.parts each ≡ true
+    → EachDecides N.parts each
     → (x y : N.D) → Decides (of_values N false false each x y) (x ≡ y)
 enum-Decides N each bare decide x y =
     Decides-like _ (λ same. sym (N.eta x) ∙ ap N.make same ∙ N.eta y) (λ same. ap N.as_values same)

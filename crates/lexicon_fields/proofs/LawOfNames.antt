@@ -1,10 +1,14 @@
 -- The law of names for the five fields of a triple, which proofs of the crates above cite.
-use Rattle.std.proofs.Common.{◌≡◌, true}
-use Rattle.lexicon_fields.specs.{Architecture.architecture_name, Architecture.architecture_of, BinaryFormat.binary_format_name, BinaryFormat.binary_format_of, Environment.environment_name, Environment.environment_of}
-use Rattle.lexicon_fields.specs.{OperatingSystem.operating_system_name, OperatingSystem.operating_system_of, Vendor.is_plain, Vendor.vendor_name, Vendor.vendor_of, Laws.HasVersionInRange, Laws.NamesReadBack, Laws.NamesReadBackOn}
-use Rattle.lexicon_fields.proofs.NamesReadBack.{each-read_back, architecture_of-name, architecture_of-row, environment_of-name, environment_of-row, binary_format_of-name, binary_format_of-row}
-use Rattle.lexicon_fields.proofs.{LookUpLemmas.of_kind-read_back, OperatingSystemsReadBack.operating_system_of-name, ParsedSystems.operating_system-read}
-use Rattle.lexicon_fields.proofs.VendorsReadBack.{vendor_of-name, vendor_of-dash_free}
+use Rattle.lexicon_fields.proofs.Common.{◌≡◌, true, architecture_name, architecture_of, binary_format_name}
+use Rattle.lexicon_fields.proofs.Common.{binary_format_of, environment_name, environment_of, HasVersionInRange}
+use Rattle.lexicon_fields.proofs.Common.{operating_system_name, operating_system_of, is_plain, vendor_name, vendor_of}
+use Rattle.lexicon_fields.specs.Laws.{NamesReadBack, NamesReadBackOn}
+use Rattle.lexicon_fields.proofs.NamesReadBack.{each-read_back, architecture_of-name, architecture_of-row}
+use Rattle.lexicon_fields.proofs.NamesReadBack.{environment_of-name, environment_of-row, binary_format_of-name}
+use Rattle.lexicon_fields.proofs.NamesReadBack.{binary_format_of-row}
+use Rattle.lexicon_fields.proofs.{LookUpLemmas.of_kind-read_back, OperatingSystemsReadBack.operating_system_of-name}
+use Rattle.lexicon_fields.proofs.{ParsedSystems.operating_system-read, VendorsReadBack.vendor_of-name}
+use Rattle.lexicon_fields.proofs.{VendorsReadBack.vendor_of-dash_free}
 
 pub record NamesAreRead : Type 0 where
   pub architecture : NamesReadBack architecture_name architecture_of
@@ -17,7 +21,8 @@ pub names_are_read : NamesAreRead
 names_are_read = record {
   architecture = each-read_back _ _ architecture_of-name architecture_of-row;
   vendor = of_kind-read_back _ _ _ vendor_of-name vendor_of-dash_free;
-  operating_system = of_kind-read_back _ _ _ operating_system_of-name (λ text s is. (operating_system-read text s is).0);
+  operating_system =
+      of_kind-read_back _ _ _ operating_system_of-name (λ text s is. (operating_system-read text s is).0);
   environment = each-read_back _ _ environment_of-name environment_of-row;
   binary_format = each-read_back _ _ binary_format_of-name binary_format_of-row;
 }

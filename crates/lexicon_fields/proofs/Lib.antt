@@ -8,7 +8,9 @@
 -- VersionsReadBack, OperatingSystemsReadBack (systems with a version), VendorsReadBack; ParsedSystems (what is known of
 -- a parsed system).
 -- Equality and hashing: Variants (two values of one variant), EqualByValue (`==` is true exactly for the same values),
--- HashInputs (different values feed a hasher differently). Buffers: Puts (strings put one after the other).
+-- HashInputs (different values feed a hasher differently). Buffers: Puts (strings put one after the other). Common
+-- passes on the names that most of them import.
+pub mod Common
 pub mod EqualByValue
 pub mod HashInputs
 pub mod PrefixKeyLemmas

@@ -1,17 +1,19 @@
 -- What a look-up says about the string, and how to show that names parse back.
-use Rattle.std.proofs.Common.{◌≡◌, ℕ, List, [], ◌∷◌, Bool, true, false, Option, Some, None, IfSome, is_none, option_map, option_and_then, refl, ap, sym, cond, not, nat_eq, All}
-use Rattle.std.specs.{Option.option_or, Str.bytes_eq, List.list_all}
-use Rattle.std.proofs.{lemmas.Bool.and_parts, lemmas.Bool.ne_eqb, lemmas.List.Folds.list_any_none, lemmas.List.Sums.AllPass-from_list_all}
-use Rattle.std.proofs.lemmas.Slice.Eq.{bytes_eq-Decides}
-use Rattle.lexicon_fields.specs.Names.{dash}
-use Rattle.lexicon_fields.specs.{Names.Pair, Names.value_named, Names.named_values, Names.is_dash_free, Laws.NamesReadBackOn}
+use Rattle.lexicon_fields.proofs.Common.{◌∷◌, ◌≡◌, All, Bool, IfSome, List, None, Option, Some, [], ap, cond, false}
+use Rattle.lexicon_fields.proofs.Common.{is_none, nat_eq, not, option_and_then, option_map, refl, sym, true, ℕ}
+use Rattle.lexicon_fields.proofs.Common.{and_parts, bytes_eq-Decides, list_all, option_or, bytes_eq, Pair, dash}
+use Rattle.lexicon_fields.proofs.Common.{is_dash_free, named_values}
+use Rattle.std.proofs.{lemmas.Bool.ne_eqb, lemmas.List.Folds.list_any_none, lemmas.List.Sums.AllPass-from_list_all}
+use Rattle.lexicon_fields.specs.{Names.value_named, Laws.NamesReadBackOn}
 
 -- a test that every pair passes holds for each string and the value that it parses as
-pub value_named-all : {V : Type 0} (test : Pair V → Bool) (pairs : List (Pair V)) (text : List ℕ) (v : V) → list_all test pairs ≡ true → value_named pairs text ≡ Some v → test (text, v) ≡ true
+pub value_named-all : {V : Type 0} (test : Pair V → Bool) (pairs : List (Pair V)) (text : List ℕ) (v : V)
+    → list_all test pairs ≡ true → value_named pairs text ≡ Some v → test (text, v) ≡ true
 value_named-all test [] text v all found = cc
 value_named-all {V} test (pair ∷ pairs) text v all found =
     let parts = and_parts (test pair) (list_all test pairs) all in
-    let P : Bool → Type 0 = λ b. bytes_eq text pair.0 ≡ b → cond b (Some pair.1) (value_named pairs text) ≡ Some v → test (text, v) ≡ true in
+    let P : Bool → Type 0 = λ b. bytes_eq text pair.0 ≡ b → cond b (Some pair.1) (value_named pairs text) ≡ Some v
+    → test (text, v) ≡ true in
     (elim (bytes_eq text pair.0) as P [
       | true ↦ λ same is.
           (let the_text : text ≡ pair.0 = (bytes_eq-Decides text pair.0).0 same in
@@ -21,31 +23,38 @@ value_named-all {V} test (pair ∷ pairs) text v all found =
     ]) refl found
 
 -- a string in a table passes each test that all strings of the table pass
-pub value_named-passes : {V : Type 0} (test : List ℕ → Bool) (pairs : List (Pair V)) (text : List ℕ) (v : V) → list_all (λ pair. test pair.0) pairs ≡ true → value_named pairs text ≡ Some v → test text ≡ true
+pub value_named-passes : {V : Type 0} (test : List ℕ → Bool) (pairs : List (Pair V)) (text : List ℕ) (v : V)
+    → list_all (λ pair. test pair.0) pairs ≡ true → value_named pairs text ≡ Some v → test text ≡ true
 value_named-passes test pairs text v all found = value_named-all (λ pair. test pair.0) pairs text v all found
 
 -- a string in a table of names is the name of the value that it parses as
 pub value_named-named_values : {V : Type 0} (name : V → List ℕ) (values : List V) (text : List ℕ) (v : V)
-    → list_all (λ pair. bytes_eq pair.0 (name pair.1)) (named_values name values) ≡ true → value_named (named_values name values) text ≡ Some v → name v ≡ text
+    → list_all (λ pair. bytes_eq pair.0 (name pair.1)) (named_values name values) ≡ true
+    → value_named (named_values name values) text ≡ Some v → name v ≡ text
 value_named-named_values name values text v all found =
-    sym ((bytes_eq-Decides text (name v)).0 (value_named-all (λ pair. bytes_eq pair.0 (name pair.1)) (named_values name values) text v all found))
+    sym ((bytes_eq-Decides text (name v)).0
+    (value_named-all (λ pair. bytes_eq pair.0 (name pair.1)) (named_values name values) text v all found))
 
 -- a property of every parsed value carries over: from a part to the whole, to the next step, and to the first of two
 -- parsers that succeeds
 
-pub holds-if_read : {V : Type 0} (P : V → Type 0) (reading : Option V) → ((v : V) → reading ≡ Some v → P v) → IfSome reading P
+pub holds-if_read : {V : Type 0} (P : V → Type 0) (reading : Option V) → ((v : V) → reading ≡ Some v → P v)
+    → IfSome reading P
 holds-if_read P (Some v) holds = holds v refl
 holds-if_read P None holds = tt
 
-pub option_map-holds : {V U : Type 0} (P : V → Type 0) (Q : U → Type 0) (whole : V → U) (part : Option V) → IfSome part P → ((v : V) → P v → Q (whole v)) → IfSome (option_map whole part) Q
+pub option_map-holds : {V U : Type 0} (P : V → Type 0) (Q : U → Type 0) (whole : V → U) (part : Option V)
+    → IfSome part P → ((v : V) → P v → Q (whole v)) → IfSome (option_map whole part) Q
 option_map-holds P Q whole (Some v) of_part of_whole = of_whole v of_part
 option_map-holds P Q whole None of_part of_whole = tt
 
-pub option_and_then-holds : {V U : Type 0} (P : V → Type 0) (Q : U → Type 0) (next : V → Option U) (first : Option V) → IfSome first P → ((v : V) → P v → IfSome (next v) Q) → IfSome (option_and_then next first) Q
+pub option_and_then-holds : {V U : Type 0} (P : V → Type 0) (Q : U → Type 0) (next : V → Option U) (first : Option V)
+    → IfSome first P → ((v : V) → P v → IfSome (next v) Q) → IfSome (option_and_then next first) Q
 option_and_then-holds P Q next (Some v) of_first of_next = of_next v of_first
 option_and_then-holds P Q next None of_first of_next = tt
 
-pub option_or-holds : {V : Type 0} (P : V → Type 0) (first next : Option V) → IfSome first P → IfSome next P → IfSome (option_or first next) P
+pub option_or-holds : {V : Type 0} (P : V → Type 0) (first next : Option V) → IfSome first P → IfSome next P
+    → IfSome (option_or first next) P
 option_or-holds P (Some _) next of_first of_next = of_first
 option_or-holds P None next of_first of_next = of_next
 
@@ -62,15 +71,19 @@ none_is (Some v) none = absurd cc
 pub test_apart : (test : ℕ → Bool) (c x : ℕ) → test x ≡ false → test c ≡ true → nat_eq c x ≡ false
 test_apart test c x other passes = ne_eqb c x (λ same. let bad = rw same at passes in cc)
 
-pub all_apart : (test : ℕ → Bool) (x : ℕ) → test x ≡ false → (text : List ℕ) → list_all test text ≡ true → All (λ c. nat_eq c x ≡ false) text
-all_apart test x other text all = λ k d within. test_apart test _ x other (AllPass-from_list_all test text all k d within)
+pub all_apart : (test : ℕ → Bool) (x : ℕ) → test x ≡ false → (text : List ℕ) → list_all test text ≡ true
+    → All (λ c. nat_eq c x ≡ false) text
+all_apart test x other text all =
+    λ k d within. test_apart test _ x other (AllPass-from_list_all test text all k d within)
 
-pub all-dash_free : (test : ℕ → Bool) → test dash ≡ false → (text : List ℕ) → list_all test text ≡ true → is_dash_free text ≡ true
+pub all-dash_free : (test : ℕ → Bool) → test dash ≡ false → (text : List ℕ) → list_all test text ≡ true
+    → is_dash_free text ≡ true
 all-dash_free test other text all = ap not (list_any_none _ text (all_apart test dash other text all))
 
 -- names that parse back have no dash if no string that parses has one
 pub of_kind-read_back : {V : Type 0} (IsOfKind : V → Type 0) (name : V → List ℕ) (find : List ℕ → Option V)
-    → ((v : V) → IsOfKind v → find (name v) ≡ Some v) → ((text : List ℕ) (v : V) → find text ≡ Some v → is_dash_free text ≡ true)
+    → ((v : V) → IsOfKind v → find (name v) ≡ Some v)
+    → ((text : List ℕ) (v : V) → find text ≡ Some v → is_dash_free text ≡ true)
     → NamesReadBackOn IsOfKind name find
 of_kind-read_back IsOfKind name find reads free = record {
   reads_back = reads;

@@ -1,54 +1,66 @@
 -- Strings that parse as a system: they have no dash, the system's version is in range, and its name is at most 4 bytes
 -- longer.
-use Rattle.std.proofs.Common.{◌≡◌, ◌∙◌, ℕ, ◌+◌, ◌^◌, ◌<◌, ◌≤◌, List, [], ◌∷◌, ◌++◌, length, take, drop, Bool, true, false, cond, nat_eq, nat_le, ◌&&◌, Option, Some, None, IfSome, is_none, option_and_then, refl, sym, ap, subst, arith}
-use Rattle.std.specs.{Char.is_ascii_digit, List.list_all, List.join_with_byte, List.starts_with, Fmt.decimal}
-use Rattle.std.specs.Str.Parse.{digits_value, without_leading_plus}
-use Rattle.std.proofs.lemmas.Bool.{and_parts, eqb-true, ltb-true, leb-true, not-true}
-use Rattle.std.proofs.{lemmas.Fmt.length-decimal-le, lemmas.List.length-append, lemmas.List.length-drop, lemmas.List.take-append-drop}
-use Rattle.std.proofs.{lemmas.List.Folds.list_any-append, lemmas.List.Splits.join_with_byte-slice_split}
-use Rattle.std.proofs.{lemmas.Option.MatchOption-at_some, lemmas.Option.cond_some, lemmas.Option.same_Some, lemmas.Slice.Eq.bytes_eq-Decides}
-use Rattle.std.proofs.lemmas.Str.Parse.{digits_value_short}
-use Rattle.lexicon_fields.specs.Names.{dash}
-use Rattle.lexicon_fields.specs.Version.{dot}
-use Rattle.lexicon_fields.specs.{declared.deployment_target.DeploymentTarget.DeploymentTarget, declared.operating_system.OperatingSystem.OperatingSystem, Names.Pair, Names.named_values, Names.is_dash_free}
-use Rattle.lexicon_fields.specs.Version.{piece_number_within, version_of_numbers, version_of_pieces, version_of, version_name, pieces_of}
-use Rattle.lexicon_fields.specs.OperatingSystem.{operating_system_name, fixed_operating_systems, fixed_operating_system_of, operating_system_of, darwin_prefixes, darwin_like_system, text_after_prefix, system_with_version, optional_version_of, system_version, version_suffix}
-use Rattle.lexicon_fields.specs.Laws.{IsVersionInRange, HasVersionInRange}
-use Rattle.lexicon_fields.proofs.LookUpLemmas.{value_named-all, holds-if_read, option_map-holds, option_and_then-holds, option_or-holds, all-dash_free}
+use Rattle.lexicon_fields.proofs.Common
+use Common.{◌&&◌, ◌++◌, ◌+◌, ◌<◌, ◌^◌, ◌∙◌, ◌∷◌, ◌≡◌, ◌≤◌, Bool, IfSome, List, None, Option, Some, [], ap, arith, cond}
+use Common.{drop, false, is_none, length, nat_eq, nat_le, option_and_then, refl, subst, sym, take, true, ℕ, and_parts}
+use Common.{leb-true, ltb-true, length-append, MatchOption-at_some, cond_some, bytes_eq-Decides, decimal, list_all}
+use Common.{HasVersionInRange, IsVersionInRange, Pair, dash, is_dash_free, named_values, darwin_like_system}
+use Common.{darwin_prefixes, fixed_operating_system_of, operating_system_name, operating_system_of, optional_version_of}
+use Common.{version_suffix, dot, version_name, version_of, DeploymentTarget, OperatingSystem}
+use Rattle.std.specs.{Char.is_ascii_digit, List.join_with_byte, List.starts_with, Str.Parse.digits_value}
+use Rattle.std.specs.{Str.Parse.without_leading_plus}
+use Rattle.std.proofs.{lemmas.Bool.eqb-true, lemmas.Bool.not-true, lemmas.Fmt.length-decimal-le}
+use Rattle.std.proofs.{lemmas.List.length-drop, lemmas.List.take-append-drop, lemmas.List.Folds.list_any-append}
+use Rattle.std.proofs.{lemmas.List.Splits.join_with_byte-slice_split, lemmas.Option.same_Some}
+use Rattle.std.proofs.{lemmas.Str.Parse.digits_value_short}
+use Rattle.lexicon_fields.specs.Version.{piece_number_within, version_of_numbers, version_of_pieces, pieces_of}
+use Rattle.lexicon_fields.specs.OperatingSystem.{fixed_operating_systems, text_after_prefix, system_with_version}
+use Rattle.lexicon_fields.specs.OperatingSystem.{system_version}
+use Rattle.lexicon_fields.proofs.LookUpLemmas.{value_named-all, holds-if_read, option_map-holds, option_and_then-holds}
+use Rattle.lexicon_fields.proofs.LookUpLemmas.{option_or-holds, all-dash_free}
 use Rattle.lexicon_fields.proofs.VersionsReadBack.{digits_model}
 
 is_dash_free-append : (s t : List ℕ) → is_dash_free s ≡ true → is_dash_free t ≡ true → is_dash_free (s ++ t) ≡ true
 is_dash_free-append s t first second = rw (list_any-append (λ b. nat_eq b dash) s t, not-true _ first) second
 
 -- digits, with or without a leading plus
-digits_after_plus : (plus : Bool) (c : ℕ) (cs : List ℕ) → nat_eq c 43 ≡ plus → list_all is_ascii_digit (drop (cond plus 1 0) (c ∷ cs)) ≡ true → is_dash_free (c ∷ cs) ≡ true
+digits_after_plus : (plus : Bool) (c : ℕ) (cs : List ℕ) → nat_eq c 43 ≡ plus
+    → list_all is_ascii_digit (drop (cond plus 1 0) (c ∷ cs)) ≡ true → is_dash_free (c ∷ cs) ≡ true
 digits_after_plus true c cs is digits = rw (eqb-true c 43 is) (all-dash_free is_ascii_digit refl cs digits)
 digits_after_plus false c cs is digits = all-dash_free is_ascii_digit refl (c ∷ cs) digits
 
-signed_digits-dash_free : (piece : List ℕ) → list_all is_ascii_digit (without_leading_plus piece) ≡ true → is_dash_free piece ≡ true
+signed_digits-dash_free : (piece : List ℕ) → list_all is_ascii_digit (without_leading_plus piece) ≡ true
+    → is_dash_free piece ≡ true
 signed_digits-dash_free [] digits = refl
 signed_digits-dash_free (c ∷ cs) digits = digits_after_plus (nat_eq c 43) c cs refl digits
 
 -- a piece that gives a number: the number is within the limit and has at most as many digits as the piece
-piece-read : (limit : ℕ) (piece : List ℕ) (n : ℕ) → limit ≤ 65535 → piece_number_within limit piece ≡ Some n → (is_dash_free piece ≡ true) × (n ≤ limit) × (length (decimal n) ≤ length piece)
+piece-read : (limit : ℕ) (piece : List ℕ) (n : ℕ) → limit ≤ 65535 → piece_number_within limit piece ≡ Some n
+    → (is_dash_free piece ≡ true) × (n ≤ limit) × (length (decimal n) ≤ length piece)
 piece-read limit piece n small is =
     let ds = without_leading_plus piece in
     let found = cond_some _ (digits_value 10 ds) n is in
     let parts = and_parts _ (nat_le (digits_value 10 ds) limit) found.0 in
     let digits = and_parts _ (list_all is_ascii_digit ds) parts.0 in
     let within : n ≤ limit = subst (λ m. m ≤ limit) found.1 (leb-true _ limit parts.1) in
-    let short : n < 10 ^ length ds = subst (λ m. m < 10 ^ length ds) found.1 (digits_value_short digits_model ds (length ds) digits.1 (omega arith)) in
-    let fewer : length (decimal n) ≤ length ds = length-decimal-le (length ds) n (ltb-true 0 _ digits.0) short (omega arith) in
+    let short : n < 10 ^ length ds =
+    subst (λ m. m < 10 ^ length ds) found.1
+    (digits_value_short digits_model ds (length ds) digits.1 (omega arith)) in
+    let fewer : length (decimal n) ≤ length ds =
+    length-decimal-le (length ds) n (ltb-true 0 _ digits.0) short (omega arith) in
     (signed_digits-dash_free piece digits.1, within, omega (arith, fewer, length-drop {A = ℕ}))
 
 -- the numbers of a version are those of its pieces
-numbers-read : (major minor patch : Option ℕ) (v : DeploymentTarget) → version_of_numbers major minor patch ≡ Some v → (major ≡ Some v.major) × (minor ≡ Some v.minor) × (patch ≡ Some v.patch)
+numbers-read : (major minor patch : Option ℕ) (v : DeploymentTarget) → version_of_numbers major minor patch ≡ Some v
+    → (major ≡ Some v.major) × (minor ≡ Some v.minor) × (patch ≡ Some v.patch)
 numbers-read (Some major) (Some minor) (Some patch) v is =
-    let same = same_Some _ v is in (ap (λ x. Some x.major) same, ap (λ x. Some x.minor) same, ap (λ x. Some x.patch) same)
+    let same = same_Some _ v is in
+    (ap (λ x. Some x.major) same, ap (λ x. Some x.minor) same, ap (λ x. Some x.patch) same)
 numbers-read _ _ _ v is = absurd cc
 
 missing-read : (n : ℕ) → Some 0 ≡ Some n → (n ≤ 255) × (length (decimal n) ≤ 1)
-missing-read n is = let same : 0 ≡ n = cc in (omega arith, length-decimal-le 1 n (omega arith) (omega arith) (omega arith))
+missing-read n is = let same : 0 ≡ n = cc in
+    (omega arith, length-decimal-le 1 n (omega arith) (omega arith) (omega arith))
 
 version-in_range : (v : DeploymentTarget) → v.major ≤ 65535 → v.minor ≤ 255 → v.patch ≤ 255 → IsVersionInRange v
 version-in_range v major minor patch = (omega arith, omega arith, omega arith)
@@ -56,7 +68,8 @@ version-in_range v major minor patch = (omega arith, omega arith, omega arith)
 abbrev IsVersionRead : List ℕ → DeploymentTarget → Type 0
 IsVersionRead text v = (is_dash_free text ≡ true) × IsVersionInRange v × (length (version_name v) ≤ length text + 4)
 
-pub length-version : (v : DeploymentTarget) → length (version_name v) ≡ length (decimal v.major) + length (decimal v.minor) + length (decimal v.patch) + 2
+pub length-version : (v : DeploymentTarget)
+    → length (version_name v) ≡ length (decimal v.major) + length (decimal v.minor) + length (decimal v.patch) + 2
 length-version v = simp length-append (omega arith)
 
 pub version-short : (v : DeploymentTarget) → IsVersionInRange v → length (version_name v) ≤ 13
@@ -69,7 +82,8 @@ version-short v (major, minor, patch) =
       length-decimal-le 3 v.patch (omega arith) (omega (arith, patch)) (omega (arith, patch)),
     )
 
-pieces-read : (pieces : List (List ℕ)) (v : DeploymentTarget) → version_of_pieces pieces ≡ Some v → IsVersionRead (join_with_byte dot pieces) v
+pieces-read : (pieces : List (List ℕ)) (v : DeploymentTarget) → version_of_pieces pieces ≡ Some v
+    → IsVersionRead (join_with_byte dot pieces) v
 pieces-read [] v is = absurd cc
 pieces-read (major ∷ []) v is =
     let found = numbers-read (piece_number_within 65535 major) (Some 0) (Some 0) v is in
@@ -81,25 +95,41 @@ pieces-read (major ∷ minor ∷ []) v is =
     let found = numbers-read (piece_number_within 65535 major) (piece_number_within 255 minor) (Some 0) v is in
     let first = piece-read 65535 major v.major (omega arith) found.0 in
     let second = piece-read 255 minor v.minor (omega arith) found.1 in
-    let third = missing-read v.patch found.2 in
-    (is_dash_free-append major (dot ∷ minor) first.0 second.0, version-in_range v first.1 second.1 third.0, omega (arith, length-version v, length-append major (dot ∷ minor)))
+    let third = missing-read v.patch found.2 in (
+      is_dash_free-append major (dot ∷ minor) first.0 second.0,
+      version-in_range v first.1 second.1 third.0,
+      omega (arith, length-version v, length-append major (dot ∷ minor)),
+    )
 pieces-read (major ∷ minor ∷ patch ∷ []) v is =
-    let found = numbers-read (piece_number_within 65535 major) (piece_number_within 255 minor) (piece_number_within 255 patch) v is in
+    let found =
+    numbers-read (piece_number_within 65535 major) (piece_number_within 255 minor)
+    (piece_number_within 255 patch) v is in
     let first = piece-read 65535 major v.major (omega arith) found.0 in
     let second = piece-read 255 minor v.minor (omega arith) found.1 in
     let third = piece-read 255 patch v.patch (omega arith) found.2 in (
-      is_dash_free-append major (dot ∷ (minor ++ (dot ∷ patch))) first.0 (is_dash_free-append minor (dot ∷ patch) second.0 third.0),
+      is_dash_free-append major (dot ∷ (minor ++ (dot ∷ patch))) first.0
+          (is_dash_free-append minor (dot ∷ patch) second.0 third.0),
       version-in_range v first.1 second.1 third.1,
-      omega (arith, length-version v, length-append major (dot ∷ (minor ++ (dot ∷ patch))), length-append minor (dot ∷ patch)),
+      omega (
+        arith,
+        length-version v,
+        length-append major (dot ∷ (minor ++ (dot ∷ patch))),
+        length-append minor (dot ∷ patch),
+      ),
     )
 pieces-read (major ∷ minor ∷ patch ∷ more ∷ pieces) v is = absurd cc
 
 version-read : (text : List ℕ) → IfSome (version_of text) (IsVersionRead text)
 unfolding version_of
-version-read text = holds-if_read _ (version_of text) (λ v is. subst (λ (t : List ℕ). IsVersionRead t v) (join_with_byte-slice_split dot text) (pieces-read (pieces_of text) v is))
+version-read text =
+    holds-if_read _ (version_of text)
+    (λ v is. subst (λ (t : List ℕ). IsVersionRead t v) (join_with_byte-slice_split dot text)
+    (pieces-read (pieces_of text) v is))
 
 -- the string after a prefix
-suffix-read : (text : List ℕ) → IfSome (optional_version_of text) (λ version. (is_dash_free text ≡ true) × IfSome version IsVersionInRange × (length (version_suffix version) ≤ length text + 4))
+suffix-read : (text : List ℕ)
+    → IfSome (optional_version_of text) (λ version. (is_dash_free text ≡ true) × IfSome version IsVersionInRange
+    × (length (version_suffix version) ≤ length text + 4))
 suffix-read [] = (refl, tt, omega arith)
 suffix-read (c ∷ cs) = option_map-holds _ _ Some (version_of (c ∷ cs)) (version-read (c ∷ cs)) (λ v read. read)
 
@@ -107,33 +137,51 @@ suffix-read (c ∷ cs) = option_map-holds _ _ Some (version_of (c ∷ cs)) (vers
 text_after_prefix-read : (prefix text : List ℕ) → IfSome (text_after_prefix prefix text) (λ rest. text ≡ prefix ++ rest)
 text_after_prefix-read prefix text = holds-if_read _ (text_after_prefix prefix text) (λ rest is.
     let begins = cond_some (starts_with nat_eq text prefix) (drop (length prefix) text) rest is in
-    let prefix_key : prefix ≡ take (length prefix) text = (bytes_eq-Decides prefix (take (length prefix) text)).0 begins.0 in
-    sym (take-append-drop (length prefix) text) ∙ ap (λ xs. xs ++ drop (length prefix) text) (sym prefix_key) ∙ ap (λ xs. prefix ++ xs) begins.1)
+    let prefix_key : prefix ≡ take (length prefix) text =
+    (bytes_eq-Decides prefix (take (length prefix) text)).0 begins.0 in
+    sym (take-append-drop (length prefix) text) ∙ ap (λ xs. xs ++ drop (length prefix) text) (sym prefix_key)
+    ∙ ap (λ xs. prefix ++ xs) begins.1)
 
 abbrev IsSystemRead : List ℕ → OperatingSystem → Type 0
-IsSystemRead text s = (is_dash_free text ≡ true) × HasVersionInRange s × (length (operating_system_name s) ≤ length text + 4)
+IsSystemRead text s =
+    (is_dash_free text ≡ true) × HasVersionInRange s × (length (operating_system_name s) ≤ length text + 4)
 
 -- a prefix has no dash; its systems have the version after it, and their names are the prefix and the version
 abbrev IsPrefix : Pair (Option DeploymentTarget → OperatingSystem) → Type 0
 IsPrefix row =
     (is_dash_free row.0 ≡ true)
-    × ((version : Option DeploymentTarget) → (system_version (row.1 version) ≡ version) × (operating_system_name (row.1 version) ≡ row.0 ++ version_suffix version))
+    × ((version : Option DeploymentTarget)
+    → (system_version (row.1 version) ≡ version)
+    × (operating_system_name (row.1 version) ≡ row.0 ++ version_suffix version))
 
-prefixed-read : (row : Pair (Option DeploymentTarget → OperatingSystem)) (text : List ℕ) → IsPrefix row → IfSome (option_and_then (system_with_version row.1) (text_after_prefix row.0 text)) (IsSystemRead text)
-prefixed-read row text is = option_and_then-holds _ _ (system_with_version row.1) (text_after_prefix row.0 text) (text_after_prefix-read row.0 text) (λ rest whole.
+prefixed-read : (row : Pair (Option DeploymentTarget → OperatingSystem)) (text : List ℕ) → IsPrefix row
+    → IfSome (option_and_then (system_with_version row.1) (text_after_prefix row.0 text)) (IsSystemRead text)
+prefixed-read row text is =
+    option_and_then-holds _ _ (system_with_version row.1) (text_after_prefix row.0 text)
+    (text_after_prefix-read row.0 text) (λ rest whole.
     option_map-holds _ _ row.1 (optional_version_of rest) (suffix-read rest) (λ version read. (
       subst (λ (t : List ℕ). is_dash_free t ≡ true) (sym whole) (is_dash_free-append row.0 rest is.0 read.0),
       subst (λ (o : Option DeploymentTarget). IfSome o IsVersionInRange) (sym (is.1 version).0) read.1,
-      omega (arith, ap length (is.1 version).1, ap length whole, length-append row.0 rest, length-append row.0 (version_suffix version), read.2),
+      omega (
+        arith,
+        ap length (is.1 version).1,
+        ap length whole,
+        length-append row.0 rest,
+        length-append row.0 (version_suffix version),
+        read.2,
+      ),
     )))
 
 abbrev ArePrefixes : List (Pair (Option DeploymentTarget → OperatingSystem)) → Type 0
 ArePrefixes [] = Unit {0}
 ArePrefixes (row ∷ rows) = IsPrefix row × ArePrefixes rows
 
-darwin_like_system-read : (rows : List (Pair (Option DeploymentTarget → OperatingSystem))) (text : List ℕ) → ArePrefixes rows → IfSome (darwin_like_system rows text) (IsSystemRead text)
+darwin_like_system-read : (rows : List (Pair (Option DeploymentTarget → OperatingSystem))) (text : List ℕ)
+    → ArePrefixes rows → IfSome (darwin_like_system rows text) (IsSystemRead text)
 darwin_like_system-read [] text are = tt
-darwin_like_system-read (row ∷ rows) text are = option_or-holds _ _ (darwin_like_system rows text) (prefixed-read row text are.0) (darwin_like_system-read rows text are.1)
+darwin_like_system-read (row ∷ rows) text are =
+    option_or-holds _ _ (darwin_like_system rows text) (prefixed-read row text are.0)
+    (darwin_like_system-read rows text are.1)
 
 no_version-in_range : (version : Option DeploymentTarget) → is_none version ≡ true → IfSome version IsVersionInRange
 no_version-in_range None none = tt
@@ -143,19 +191,37 @@ no_version-in_range (Some v) none = absurd cc
 fixed-read : (text : List ℕ) → IfSome (fixed_operating_system_of text) (IsSystemRead text)
 unfolding fixed_operating_system_of
 fixed-read text = holds-if_read _ (fixed_operating_system_of text) (λ s is.
-    let test = value_named-all (λ pair. is_dash_free pair.0 && is_none (system_version pair.1) && nat_le (length (operating_system_name pair.1)) (length pair.0)) (named_values operating_system_name fixed_operating_systems) text s refl is in
+    let test =
+    value_named-all (λ pair. is_dash_free pair.0 && is_none (system_version pair.1)
+    && nat_le (length (operating_system_name pair.1)) (length pair.0))
+    (named_values operating_system_name fixed_operating_systems) text s refl is in
     let parts = and_parts _ (nat_le (length (operating_system_name s)) (length text)) test in
     let prefix_key = and_parts (is_dash_free text) (is_none (system_version s)) parts.0 in
     (prefix_key.0, no_version-in_range (system_version s) prefix_key.1, omega (arith, leb-true _ _ parts.1)))
 
-pub operating_system-read : (text : List ℕ) (s : OperatingSystem) → operating_system_of text ≡ Some s → IsSystemRead text s
+pub operating_system-read : (text : List ℕ) (s : OperatingSystem) → operating_system_of text ≡ Some s
+    → IsSystemRead text s
 unfolding operating_system_of
 operating_system-read text s is =
-    MatchOption-at_some _ (IsSystemRead text) s is (option_or-holds _ (fixed_operating_system_of text) (darwin_like_system darwin_prefixes text) (fixed-read text)
-    (darwin_like_system-read darwin_prefixes text ((refl, λ _. (refl, refl)), ((refl, λ _. (refl, refl)), ((refl, λ _. (refl, refl)), ((refl, λ _. (refl, refl)), ((refl, λ _. (refl, refl)), ((refl, λ _. (refl, refl)), ((refl, λ _. (refl, refl)), tt)))))))))
+    MatchOption-at_some _ (IsSystemRead text) s is
+    (option_or-holds _ (fixed_operating_system_of text) (darwin_like_system darwin_prefixes text) (fixed-read text)
+    (darwin_like_system-read darwin_prefixes text (
+      (refl, λ _. (refl, refl)),
+      (
+        (refl, λ _. (refl, refl)),
+        (
+          (refl, λ _. (refl, refl)),
+          (
+            (refl, λ _. (refl, refl)),
+            ((refl, λ _. (refl, refl)), ((refl, λ _. (refl, refl)), ((refl, λ _. (refl, refl)), tt))),
+          ),
+        ),
+      ),
+    )))
 
 pub version_in_range : (text : List ℕ) (s : OperatingSystem) → operating_system_of text ≡ Some s → HasVersionInRange s
 version_in_range text s is = (operating_system-read text s is).1
 
-pub operating_system-max_growth : (text : List ℕ) (s : OperatingSystem) → operating_system_of text ≡ Some s → length (operating_system_name s) ≤ length text + 4
+pub operating_system-max_growth : (text : List ℕ) (s : OperatingSystem) → operating_system_of text ≡ Some s
+    → length (operating_system_name s) ≤ length text + 4
 operating_system-max_growth text s is = (operating_system-read text s is).2

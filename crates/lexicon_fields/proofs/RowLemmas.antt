@@ -1,26 +1,36 @@
 -- The rows are exactly those of the strings that are a fixed name of some field.
-use Rattle.std.proofs.Common.{◌≡◌, ◌≢◌, ◌↔◌, ◌∙◌, ℕ, ◌+◌, ◌<◌, ◌≤◌, List, [], true, false, Option, Some, None, is_some, refl, ap, sym, arith, Ordering, Less, Greater, nat_cmp, inl, inr, Contains}
-use Rattle.std.specs.{Cmp.Lexicographic.slice_cmp, Cmp.Lexicographic.nat_list_eq_equiv, Str.bytes_eq, Option.option_or, Prelude.is_none, Ordering.is_eq}
-use Rattle.std.proofs.{lemmas.Bool.or_parts, lemmas.Bool.cases_lt, lemmas.Bool.cases_Bool, lemmas.Bool.false_from_ne_true, lemmas.List.Folds.list_any_at}
-use Rattle.std.proofs.{lemmas.Map.Text.is_eq-slice_cmp, lemmas.Map.Views.Contains-from_any, lemmas.Map.Views.list_any-from_Contains}
-use Rattle.std.proofs.lemmas.Slice.Eq.{bytes_eq-Decides}
-use Rattle.lexicon_fields.specs.{Names.named_values, Architecture.architecture_of, declared.known_vendor.KnownVendor.KnownVendor, Vendor.known_vendor_name, Vendor.known_vendors, Vendor.known_vendor_of, declared.operating_system.OperatingSystem.OperatingSystem, Environment.environment_of, BinaryFormat.binary_format_of}
-use Rattle.lexicon_fields.specs.OperatingSystem.{operating_system_name, operating_system_of, darwin_prefixes, darwin_like_system, fixed_operating_systems, fixed_operating_system_of}
-use Rattle.lexicon_fields.specs.FixedRow.{has_row, row_count, row_texts, row_text}
-use Rattle.lexicon_fields.specs.Private.{first_system}
-use Rattle.lexicon_fields.proofs.{LookUpLemmas.value_named-passes, LookUpLemmas.option_or-none, LookUpLemmas.none_is, RowTexts.is_row_text, RowTexts.rows_below, RowTexts.rows_above, RowTexts.row_text-passes, RowTexts.length-row_texts, RowTexts.row_text-default}
-use Rattle.lexicon_fields.proofs.{NamesReadBack.architecture_of-row, NamesReadBack.environment_of-row, NamesReadBack.binary_format_of-row, OperatingSystemsReadBack.first_system-is}
+use Rattle.lexicon_fields.proofs.Common
+use Common.{◌+◌, ◌<◌, ◌↔◌, ◌∙◌, ◌≡◌, ◌≢◌, ◌≤◌, Contains, Greater, Less, List, None, Option, Ordering, Some, [], ap}
+use Common.{arith, false, inl, inr, is_none, is_some, nat_cmp, refl, sym, true, ℕ, bytes_eq-Decides, slice_cmp}
+use Common.{option_or, bytes_eq, architecture_of, binary_format_of, environment_of, has_row, row_count, row_text}
+use Common.{row_texts, named_values, darwin_like_system, darwin_prefixes, fixed_operating_system_of}
+use Common.{operating_system_name, operating_system_of, known_vendor_name, known_vendor_of, known_vendors, KnownVendor}
+use Common.{OperatingSystem}
+use Rattle.std.specs.{Cmp.Lexicographic.nat_list_eq_equiv, Ordering.is_eq}
+use Rattle.std.proofs.lemmas.Bool.{or_parts, cases_lt, cases_Bool, false_from_ne_true}
+use Rattle.std.proofs.{lemmas.List.Folds.list_any_at, lemmas.Map.Text.is_eq-slice_cmp}
+use Rattle.std.proofs.{lemmas.Map.Views.Contains-from_any, lemmas.Map.Views.list_any-from_Contains}
+use Rattle.lexicon_fields.specs.{OperatingSystem.fixed_operating_systems, Private.first_system}
+use Rattle.lexicon_fields.proofs.LookUpLemmas.{value_named-passes, option_or-none, none_is}
+use Rattle.lexicon_fields.proofs.RowTexts.{is_row_text, rows_below, rows_above, row_text-passes, length-row_texts}
+use Rattle.lexicon_fields.proofs.RowTexts.{row_text-default}
+use Rattle.lexicon_fields.proofs.NamesReadBack.{architecture_of-row, environment_of-row, binary_format_of-row}
+use Rattle.lexicon_fields.proofs.OperatingSystemsReadBack.{first_system-is}
 
 pub known_vendor_of-row : (text : List ℕ) (v : KnownVendor) → known_vendor_of text ≡ Some v → is_row_text text ≡ true
 unfolding known_vendor_of is_row_text row_texts
-known_vendor_of-row text v found = value_named-passes is_row_text (named_values known_vendor_name known_vendors) text v refl found
+known_vendor_of-row text v found =
+    value_named-passes is_row_text (named_values known_vendor_name known_vendors) text v refl found
 
-pub fixed_operating_system_of-row : (text : List ℕ) (v : OperatingSystem) → fixed_operating_system_of text ≡ Some v → is_row_text text ≡ true
+pub fixed_operating_system_of-row : (text : List ℕ) (v : OperatingSystem) → fixed_operating_system_of text ≡ Some v
+    → is_row_text text ≡ true
 unfolding fixed_operating_system_of is_row_text row_texts
-fixed_operating_system_of-row text v found = value_named-passes is_row_text (named_values operating_system_name fixed_operating_systems) text v refl found
+fixed_operating_system_of-row text v found =
+    value_named-passes is_row_text (named_values operating_system_name fixed_operating_systems) text v refl found
 
 -- a string that is in no row parses as no fixed name
-none_without_row : {V : Type 0} (find : List ℕ → Option V) → ((text : List ℕ) (v : V) → find text ≡ Some v → is_row_text text ≡ true)
+none_without_row : {V : Type 0} (find : List ℕ → Option V)
+    → ((text : List ℕ) (v : V) → find text ≡ Some v → is_row_text text ≡ true)
     → (s : List ℕ) → is_row_text s ≡ false → find s ≡ None
 none_without_row {V} find row s none = by_reading (find s) refl
   where
@@ -45,7 +55,9 @@ row_text-exists s found = row_text-passes has_row s refl found
 
 row_text-found : (i : ℕ) → i < row_count → is_row_text (row_text i) ≡ true
 unfolding is_row_text
-row_text-found i below = list_any_at (bytes_eq (row_text i)) row_texts i [] (omega (arith, length-row_texts)) ((bytes_eq-Decides (row_text i) (row_text i)).1 refl)
+row_text-found i below =
+    list_any_at (bytes_eq (row_text i)) row_texts i [] (omega (arith, length-row_texts))
+    ((bytes_eq-Decides (row_text i) (row_text i)).1 refl)
 
 pub row-exists : (i : ℕ) → i < row_count → has_row (row_text i) ≡ true
 row-exists i below = row_text-exists (row_text i) (row_text-found i below)
@@ -59,14 +71,17 @@ row_text-at s found =
     (at.0, below, sym (row_text-default at.0 s below) ∙ at.2)
 
 slice_cmp-differ : (x y : List ℕ) (o : Ordering) → is_eq o ≡ false → slice_cmp nat_cmp x y ≡ o → x ≢ y
-slice_cmp-differ x y o other is same = let bad : true ≡ false = sym (is_eq-slice_cmp x y ∙ (bytes_eq-Decides x y).1 same) ∙ ap is_eq is ∙ other in cc
+slice_cmp-differ x y o other is same = let bad : true ≡ false =
+    sym (is_eq-slice_cmp x y ∙ (bytes_eq-Decides x y).1 same) ∙ ap is_eq is ∙ other in cc
 
 -- a row that precedes a string is not the string's, nor is any earlier row
-pub no_row-below : (middle : ℕ) (s : List ℕ) → middle < row_count → slice_cmp nat_cmp (row_text middle) s ≡ Less → (k : ℕ) → k < middle + 1 → row_text k ≢ s
+pub no_row-below : (middle : ℕ) (s : List ℕ) → middle < row_count → slice_cmp nat_cmp (row_text middle) s ≡ Less
+    → (k : ℕ) → k < middle + 1 → row_text k ≢ s
 no_row-below middle s below is k lt = slice_cmp-differ (row_text k) s Less refl (rows_below middle s below is k lt)
 
 -- a row that follows a string is not the string's, nor is any later row
-pub no_row-above : (middle : ℕ) (s : List ℕ) → slice_cmp nat_cmp (row_text middle) s ≡ Greater → (k : ℕ) → middle ≤ k → k < row_count → row_text k ≢ s
+pub no_row-above : (middle : ℕ) (s : List ℕ) → slice_cmp nat_cmp (row_text middle) s ≡ Greater → (k : ℕ) → middle ≤ k
+    → k < row_count → row_text k ≢ s
 no_row-above middle s is k ge below = slice_cmp-differ (row_text k) s Greater refl (rows_above middle s is k ge below)
 
 -- a string that is in no row before an index, nor from it on, has no row
@@ -95,29 +110,38 @@ is_some-none None h = refl
 is_some-none (Some v) h = cc
 
 -- a string that has no row is a name of no field
-pub no_name_without_row : (s : List ℕ) → has_row s ≡ false → (architecture_of s ≡ None) × (known_vendor_of s ≡ None) × (fixed_operating_system_of s ≡ None) × (environment_of s ≡ None) × (binary_format_of s ≡ None)
+pub no_name_without_row : (s : List ℕ) → has_row s ≡ false → (architecture_of s ≡ None) × (known_vendor_of s ≡ None)
+    × (fixed_operating_system_of s ≡ None) × (environment_of s ≡ None) × (binary_format_of s ≡ None)
 no_name_without_row s none =
     let format = or_parts _ (is_some (binary_format_of s)) none in
     let environment = or_parts _ (is_some (environment_of s)) format.0 in
     let system = or_parts _ (is_some (fixed_operating_system_of s)) environment.0 in
-    let vendor = or_parts (is_some (architecture_of s)) (is_some (known_vendor_of s)) system.0 in
-    (is_some-none _ vendor.0, is_some-none _ vendor.1, is_some-none _ system.1, is_some-none _ environment.1, is_some-none _ format.1)
+    let vendor = or_parts (is_some (architecture_of s)) (is_some (known_vendor_of s)) system.0 in (
+      is_some-none _ vendor.0,
+      is_some-none _ vendor.1,
+      is_some-none _ system.1,
+      is_some-none _ environment.1,
+      is_some-none _ format.1,
+    )
 
 -- no string of a row parses as a system like Darwin
 row_text-unlike_darwin : (s : List ℕ) → is_row_text s ≡ true → is_none (darwin_like_system darwin_prefixes s) ≡ true
 unfolding row_texts
-row_text-unlike_darwin s found = row_text-passes (λ text. is_none (darwin_like_system darwin_prefixes text)) s refl found
+row_text-unlike_darwin s found =
+    row_text-passes (λ text. is_none (darwin_like_system darwin_prefixes text)) s refl found
 
 -- so a string with a row parses as a system only by its fixed name
 pub row-parses_by_name : (s : List ℕ) → has_row s ≡ true → operating_system_of s ≡ fixed_operating_system_of s
 unfolding operating_system_of
 row-parses_by_name s exists = elim (cases_Bool (is_row_text s)) [
-  | inl found ↦ ap (option_or (fixed_operating_system_of s)) (none_is _ (row_text-unlike_darwin s found)) ∙ option_or-none _
+  | inl found ↦ ap (option_or (fixed_operating_system_of s)) (none_is _ (row_text-unlike_darwin s found))
+      ∙ option_or-none _
   | inr none ↦ absurd (let bad : true ≡ false = sym exists ∙ no_row s none in cc)
 ]
 
 -- and a string without a row only as a system like Darwin
-pub without_row_is_darwin_like : (s : List ℕ) → has_row s ≡ false → darwin_like_system darwin_prefixes s ≡ operating_system_of s
+pub without_row_is_darwin_like : (s : List ℕ) → has_row s ≡ false
+    → darwin_like_system darwin_prefixes s ≡ operating_system_of s
 unfolding operating_system_of
 without_row_is_darwin_like s none = rw (no_name_without_row s none).2 refl
 

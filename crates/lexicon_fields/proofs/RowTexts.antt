@@ -1,12 +1,14 @@
 -- The strings of the rows: they are in strictly increasing order, and which strings are among them.
-use Rattle.std.proofs.Common.{◌≡◌, ◌∙◌, ℕ, ◌+◌, ◌-◌, ◌<◌, ◌≤◌, List, [], ◌∷◌, Bool, true, refl, ap, sym, subst, length, get_or, arith, Ordering, Less, Equal, Greater, inl, inr, nat_cmp}
-use Rattle.std.specs.{Cmp.Lexicographic.slice_cmp, Str.bytes_eq, List.list_all, List.list_any, List.Sorted.IsStrictlySortedBy}
-use Rattle.std.specs.Ordering.{is_lt, is_eq, ordering_reverse}
-use Rattle.std.proofs.lemmas.Bool.{agree_below, agree_below_at, and_parts, cases_order, cases_lt, cases_Bool}
-use Rattle.std.proofs.{lemmas.Cmp.nat_list_cmp_total, lemmas.Map.Keys.sorted_from_all_adjacent, lemmas.Map.Keys.Less-from_sorted}
-use Rattle.std.proofs.{lemmas.Map.Text.is_eq-slice_cmp, lemmas.Slice.Eq.bytes_eq-Decides}
-use Rattle.std.proofs.lemmas.Option.{get_or_from_slice_get, slice_get-get_or}
-use Rattle.lexicon_fields.specs.{Names.is_dash_free, FixedRow.row_count, FixedRow.row_texts, FixedRow.row_text}
+use Rattle.lexicon_fields.proofs.Common.{◌+◌, ◌-◌, ◌<◌, ◌∙◌, ◌∷◌, ◌≡◌, ◌≤◌, Bool, Equal, Greater, Less, List, Ordering}
+use Rattle.lexicon_fields.proofs.Common.{[], ap, arith, get_or, inl, inr, length, nat_cmp, refl, subst, sym, true, ℕ}
+use Rattle.lexicon_fields.proofs.Common.{and_parts, bytes_eq-Decides, slice_cmp, list_all, bytes_eq, row_count}
+use Rattle.lexicon_fields.proofs.Common.{row_text, row_texts, is_dash_free}
+use Rattle.std.specs.{List.list_any, List.Sorted.IsStrictlySortedBy, Ordering.is_lt, Ordering.is_eq}
+use Rattle.std.specs.{Ordering.ordering_reverse}
+use Rattle.std.proofs.lemmas.Bool.{agree_below, agree_below_at, cases_order, cases_lt, cases_Bool}
+use Rattle.std.proofs.{lemmas.Cmp.nat_list_cmp_total, lemmas.Map.Keys.sorted_from_all_adjacent}
+use Rattle.std.proofs.{lemmas.Map.Keys.Less-from_sorted, lemmas.Map.Text.is_eq-slice_cmp}
+use Rattle.std.proofs.{lemmas.Option.get_or_from_slice_get, lemmas.Option.slice_get-get_or}
 
 pub length-row_texts : length row_texts ≡ row_count
 unfolding row_texts
@@ -14,17 +16,20 @@ length-row_texts = refl
 
 -- row i is the same whatever is read past the end
 pub row_text-default : (i : ℕ) (d : List ℕ) → i < row_count → get_or row_texts i d ≡ row_text i
-row_text-default i d below = get_or_from_slice_get row_texts i (row_text i) d (slice_get-get_or row_texts i [] (omega (arith, length-row_texts)))
+row_text-default i d below =
+    get_or_from_slice_get row_texts i (row_text i) d (slice_get-get_or row_texts i [] (omega (arith, length-row_texts)))
 
 -- each string precedes the next one, shown for 48 rows at a time
 
 abbrev rises_at : ℕ → Bool
 rises_at k = is_lt (slice_cmp nat_cmp (row_text k) (row_text (k + 1)))
 
-rises_within : (low n : ℕ) → agree_below (λ j. rises_at (low + j)) (λ _. true) n ≡ true → (k : ℕ) → low ≤ k → k < low + n → rises_at k ≡ true
+rises_within : (low n : ℕ) → agree_below (λ j. rises_at (low + j)) (λ _. true) n ≡ true → (k : ℕ) → low ≤ k
+    → k < low + n → rises_at k ≡ true
 rises_within low n agree k from to =
     let whole : low + (k - low) ≡ k = omega arith in
-    subst (λ (j : ℕ). rises_at j ≡ true) whole (agree_below_at (λ j. rises_at (low + j)) (λ _. true) n (k - low) agree (omega arith))
+    subst (λ (j : ℕ). rises_at j ≡ true) whole
+    (agree_below_at (λ j. rises_at (low + j)) (λ _. true) n (k - low) agree (omega arith))
 
 rises_from_0 : (k : ℕ) → 0 ≤ k → k < 48 → rises_at k ≡ true
 unfolding row_texts
@@ -45,8 +50,16 @@ rises_from_144 k from to = rises_within 144 (row_count - 145) refl k from (omega
 
 rises : (k : ℕ) → k + 1 < row_count → rises_at k ≡ true
 rises k below = elim (cases_lt k 96) [
-  | inl prefix_key ↦ elim (cases_lt k 48) [ inl lt ↦ rises_from_0 k (omega arith) lt | inr ge ↦ rises_from_48 k (omega arith) prefix_key ]
-  | inr back ↦ elim (cases_lt k 144) [ inl lt ↦ rises_from_96 k (omega arith) lt | inr ge ↦ rises_from_144 k (omega arith) below ]
+  | inl prefix_key ↦ elim (cases_lt k 48) [
+    | inl lt ↦ rises_from_0 k (omega arith) lt
+    | inr ge ↦
+        rises_from_48 k (omega arith) prefix_key
+  ]
+  | inr back ↦ elim (cases_lt k 144) [
+    | inl lt ↦ rises_from_96 k (omega arith) lt
+    | inr ge ↦
+        rises_from_144 k (omega arith) below
+  ]
 ]
 
 less_from_is_lt : (o : Ordering) → is_lt o ≡ true → o ≡ Less
@@ -55,13 +68,17 @@ less_from_is_lt Equal h = cc
 less_from_is_lt Greater h = cc
 
 pub row_texts_sorted : IsStrictlySortedBy (slice_cmp nat_cmp) row_texts
-row_texts_sorted = sorted_from_all_adjacent nat_list_cmp_total row_texts [] (λ k h. less_from_is_lt _ (rises k (omega (arith, h, length-row_texts))))
+row_texts_sorted =
+    sorted_from_all_adjacent nat_list_cmp_total row_texts []
+    (λ k h. less_from_is_lt _ (rises k (omega (arith, h, length-row_texts))))
 
 row_less : (i j : ℕ) → i < j → j < row_count → slice_cmp nat_cmp (row_text i) (row_text j) ≡ Less
-row_less i j lt below = Less-from_sorted (slice_cmp nat_cmp) row_texts i j [] row_texts_sorted lt (omega (arith, length-row_texts))
+row_less i j lt below =
+    Less-from_sorted (slice_cmp nat_cmp) row_texts i j [] row_texts_sorted lt (omega (arith, length-row_texts))
 
 -- if a row precedes a string, so do all earlier rows
-pub rows_below : (middle : ℕ) (s : List ℕ) → middle < row_count → slice_cmp nat_cmp (row_text middle) s ≡ Less → (k : ℕ) → k < middle + 1 → slice_cmp nat_cmp (row_text k) s ≡ Less
+pub rows_below : (middle : ℕ) (s : List ℕ) → middle < row_count → slice_cmp nat_cmp (row_text middle) s ≡ Less → (k : ℕ)
+    → k < middle + 1 → slice_cmp nat_cmp (row_text k) s ≡ Less
 rows_below middle s below is k lt = elim (cases_order k middle) [
   | inl same ↦ rw same is
   | inr other ↦ elim other [
@@ -70,16 +87,21 @@ rows_below middle s below is k lt = elim (cases_order k middle) [
   ]
 ]
 
-slice_cmp-reverse : (x y : List ℕ) (o : Ordering) → slice_cmp nat_cmp x y ≡ o → slice_cmp nat_cmp y x ≡ ordering_reverse o
+slice_cmp-reverse : (x y : List ℕ) (o : Ordering) → slice_cmp nat_cmp x y ≡ o
+    → slice_cmp nat_cmp y x ≡ ordering_reverse o
 slice_cmp-reverse x y o h = nat_list_cmp_total.antisymm y x ∙ ap ordering_reverse h
 
 -- if a row follows a string, so do all later rows
-pub rows_above : (middle : ℕ) (s : List ℕ) → slice_cmp nat_cmp (row_text middle) s ≡ Greater → (k : ℕ) → middle ≤ k → k < row_count → slice_cmp nat_cmp (row_text k) s ≡ Greater
+pub rows_above : (middle : ℕ) (s : List ℕ) → slice_cmp nat_cmp (row_text middle) s ≡ Greater → (k : ℕ) → middle ≤ k
+    → k < row_count → slice_cmp nat_cmp (row_text k) s ≡ Greater
 rows_above middle s is k le below = elim (cases_order k middle) [
   | inl same ↦ rw same is
   | inr other ↦ elim other [
     | inl less ↦ absurd (omega arith)
-    | inr more ↦ slice_cmp-reverse s (row_text k) Less (nat_list_cmp_total.trans s (row_text middle) (row_text k) (slice_cmp-reverse (row_text middle) s Greater is) (row_less middle k more below))
+    | inr more ↦
+        slice_cmp-reverse s (row_text k) Less
+        (nat_list_cmp_total.trans s (row_text middle) (row_text k) (slice_cmp-reverse (row_text middle) s Greater is)
+        (row_less middle k more below))
   ]
 ]
 
@@ -88,7 +110,8 @@ unfoldable pub is_row_text : List ℕ → Bool
 is_row_text s = list_any (bytes_eq s) row_texts
 
 -- a test that all strings of rows pass holds for each string that is one of them
-pub row_text-passes : (test : List ℕ → Bool) (s : List ℕ) → list_all test row_texts ≡ true → is_row_text s ≡ true → test s ≡ true
+pub row_text-passes : (test : List ℕ → Bool) (s : List ℕ) → list_all test row_texts ≡ true → is_row_text s ≡ true
+    → test s ≡ true
 unfolding is_row_text
 row_text-passes test s all found = passes row_texts all found
   where

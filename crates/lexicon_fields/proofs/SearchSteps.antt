@@ -1,15 +1,13 @@
 -- The rows that a binary search compares, step by step.
-use Rattle.std.proofs.Common.{◌≡◌, ◌∙◌, ℕ, zero, suc, ◌+◌, ◌-◌, ◌/◌, ◌^◌, ◌<◌, ◌≤◌, ◌==◌, Bool, true, false, if◌then◌else◌, List, refl, ap, arith, nat_cmp}
-use Rattle.std.proofs.Math.Nat.{pow-suc}
-use Rattle.std.proofs.lemmas.Bool.{ne_eqb}
-use Rattle.std.specs.Cmp.Lexicographic.{slice_cmp}
-use Rattle.std.specs.declared.cmp.Ordering.{Ordering}
-use Rattle.std.specs.declared.cmp.Ordering.TheVariants.{Less, Equal, Greater}
-use Rattle.lexicon_fields.specs.FixedRow.{row_count, row_text}
+use Rattle.lexicon_fields.proofs.Common.{◌+◌, ◌-◌, ◌/◌, ◌<◌, ◌==◌, ◌^◌, ◌∙◌, ◌≡◌, ◌≤◌, Bool, Equal, Greater, Less, List}
+use Rattle.lexicon_fields.proofs.Common.{Ordering, ap, arith, false, if◌then◌else◌, nat_cmp, refl, suc, true, zero, ℕ}
+use Rattle.lexicon_fields.proofs.Common.{slice_cmp, row_count, row_text}
+use Rattle.std.proofs.{Math.Nat.pow-suc, lemmas.Bool.ne_eqb}
 use Rattle.lexicon_fields.specs.Search.{steps_after, steps_among, search_steps}
 
 -- at most one more than either half
-one_more : (none : Bool) (order : Ordering) (upper lower most : ℕ) → upper ≤ most → lower ≤ most → (if none then 0 else suc (steps_after order upper lower)) ≤ suc most
+one_more : (none : Bool) (order : Ordering) (upper lower most : ℕ) → upper ≤ most → lower ≤ most
+    → (if none then 0 else suc (steps_after order upper lower)) ≤ suc most
 one_more true order upper lower most u l = omega arith
 one_more false Less upper lower most u l = omega (arith, u)
 one_more false Equal upper lower most u l = omega arith
@@ -19,7 +17,8 @@ among-few : (most low size : ℕ) (text : List ℕ) → steps_among most low siz
 unfolding steps_among
 among-few zero low size text = omega arith
 among-few (suc most) low size text =
-    one_more (size == 0) _ _ _ most (among-few most (low + (size - size / 2)) (size / 2) text) (among-few most low (size / 2) text)
+    one_more (size == 0) _ _ _ most (among-few most (low + (size - size / 2)) (size / 2) text)
+    (among-few most low (size / 2) text)
 
 -- a search takes at most eight steps
 pub search-few : (text : List ℕ) → search_steps text ≤ 8
@@ -47,24 +46,39 @@ among-none zero low text = refl
 among-none (suc most) low text = refl
 
 -- the steps among some rows, by the order of the one in the middle
-among-some : (most low size : ℕ) (text : List ℕ) (order : Ordering) → 0 < size → slice_cmp nat_cmp (row_text (low + size / 2)) text ≡ order
-    → steps_among (suc most) low size text ≡ suc (steps_after order (steps_among most (low + (size - size / 2)) (size / 2) text) (steps_among most low (size / 2) text))
+among-some : (most low size : ℕ) (text : List ℕ) (order : Ordering) → 0 < size
+    → slice_cmp nat_cmp (row_text (low + size / 2)) text ≡ order
+    → steps_among (suc most) low size text
+    ≡ suc (steps_after order (steps_among most (low + (size - size / 2)) (size / 2) text)
+    (steps_among most low (size / 2) text))
 unfolding steps_among
-among-some most low size text order some is = let not_none : (size == 0) ≡ false = ne_eqb size 0 (λ none. omega (arith, some, none)) in rw (not_none, is) refl
+among-some most low size text order some is = let not_none : (size == 0) ≡ false =
+    ne_eqb size 0 (λ none. omega (arith, some, none)) in rw (not_none, is) refl
 
 module _ (old new low size : ℕ) (text : List ℕ) where
   half : (most : ℕ) → size < 2 ^ (suc most) → size / 2 < 2 ^ most
   half most enough = omega (arith, enough, pow-suc 2 most)
 
   less : (most : ℕ) → 0 < size → size < 2 ^ most → new + steps_among most low size text ≡ old + search_steps text
-      → slice_cmp nat_cmp (row_text (low + size / 2)) text ≡ Less → IsOnTheWay old (new + 1) (low + (size - size / 2)) (size / 2) text
+      → slice_cmp nat_cmp (row_text (low + size / 2)) text ≡ Less
+      → IsOnTheWay old (new + 1) (low + (size - size / 2)) (size / 2) text
   less zero some enough left is = absurd (omega (arith, some, enough))
-  less (suc most) some enough left is = record { most = most; enough = half most enough; left = omega (arith, left, among-some most low size text Less some is) }
+  less (suc most) some enough left is =
+      record {
+        most = most;
+        enough = half most enough;
+        left = omega (arith, left, among-some most low size text Less some is);
+      }
 
   greater : (most : ℕ) → 0 < size → size < 2 ^ most → new + steps_among most low size text ≡ old + search_steps text
       → slice_cmp nat_cmp (row_text (low + size / 2)) text ≡ Greater → IsOnTheWay old (new + 1) low (size / 2) text
   greater zero some enough left is = absurd (omega (arith, some, enough))
-  greater (suc most) some enough left is = record { most = most; enough = half most enough; left = omega (arith, left, among-some most low size text Greater some is) }
+  greater (suc most) some enough left is =
+      record {
+        most = most;
+        enough = half most enough;
+        left = omega (arith, left, among-some most low size text Greater some is);
+      }
 
   equal : (most : ℕ) → 0 < size → size < 2 ^ most → new + steps_among most low size text ≡ old + search_steps text
       → slice_cmp nat_cmp (row_text (low + size / 2)) text ≡ Equal → new + 1 ≡ old + search_steps text
@@ -72,14 +86,18 @@ module _ (old new low size : ℕ) (text : List ℕ) where
   equal (suc most) some enough left is = omega (arith, left, among-some most low size text Equal some is)
 
 module _ (old new later low size : ℕ) (text : List ℕ) (way : IsOnTheWay old new low size text) where
-  pub on-the-way-less : 0 < size → later ≡ new + 1 → slice_cmp nat_cmp (row_text (low + size / 2)) text ≡ Less → IsOnTheWay old later (low + (size - size / 2)) (size / 2) text
+  pub on-the-way-less : 0 < size → later ≡ new + 1 → slice_cmp nat_cmp (row_text (low + size / 2)) text ≡ Less
+      → IsOnTheWay old later (low + (size - size / 2)) (size / 2) text
   on-the-way-less some one is = rw one (less old new low size text way.most some way.enough way.left is)
 
-  pub on-the-way-greater : 0 < size → later ≡ new + 1 → slice_cmp nat_cmp (row_text (low + size / 2)) text ≡ Greater → IsOnTheWay old later low (size / 2) text
+  pub on-the-way-greater : 0 < size → later ≡ new + 1 → slice_cmp nat_cmp (row_text (low + size / 2)) text ≡ Greater
+      → IsOnTheWay old later low (size / 2) text
   on-the-way-greater some one is = rw one (greater old new low size text way.most some way.enough way.left is)
 
-  pub found-there : 0 < size → later ≡ new + 1 → slice_cmp nat_cmp (row_text (low + size / 2)) text ≡ Equal → later ≡ old + search_steps text
+  pub found-there : 0 < size → later ≡ new + 1 → slice_cmp nat_cmp (row_text (low + size / 2)) text ≡ Equal
+      → later ≡ old + search_steps text
   found-there some one is = one ∙ equal old new low size text way.most some way.enough way.left is
 
   pub none-left : size ≡ 0 → new ≡ old + search_steps text
-  none-left none = omega (arith, way.left, ap (λ (n : ℕ). steps_among way.most low n text) none ∙ among-none way.most low text)
+  none-left none =
+      omega (arith, way.left, ap (λ (n : ℕ). steps_among way.most low n text) none ∙ among-none way.most low text)

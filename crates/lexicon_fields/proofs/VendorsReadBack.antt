@@ -1,28 +1,39 @@
 -- How vendors are parsed: every plain one parses back from its name, and no string that parses as one has a dash.
-use Rattle.std.proofs.Common.{arith, Bool, if◌then◌else◌, [], ◌∷◌, not, ◌&&◌, ◌||◌, ap, ◌≡◌, ◌∙◌, ℕ, List, true, false, Option, Some, None, is_some, is_none, option_map, refl, sym}
-use Rattle.std.specs.{Char.is_ascii_lowercase, List.list_all, Option.option_or}
-use Rattle.std.proofs.{Math.Bool.and-false, lemmas.Bool.and_parts, lemmas.Option.MatchOption-at_some, lemmas.Option.cond_some}
-use Rattle.lexicon_fields.specs.Names.{dash}
-use Rattle.lexicon_fields.specs.{declared.vendor.Vendor.Vendor, declared.known_vendor.KnownVendor.KnownVendor, declared.known_vendor.KnownVendor.TheVariants.Unknown, Names.named_values, Names.is_dash_free}
-use Rattle.lexicon_fields.specs.Vendor.{VendorValue, Known, Custom, known_vendor_name, known_vendors, custom_vendor_of, vendor_name, is_plain, is_free, is_vendor_character, has_vendor_form, vendor_of, vendor_value, owns_string, known_vendor_of, is_admitted, IsCustom, OwnsCustomString}
-use Rattle.lexicon_fields.specs.{Architecture.architecture_of, Environment.environment_of, BinaryFormat.binary_format_of, FixedRow.has_row}
-use Rattle.lexicon_fields.specs.OperatingSystem.{darwin_prefixes, darwin_like_system, fixed_operating_system_of, operating_system_of}
-use Rattle.lexicon_fields.proofs.LookUpLemmas.{value_named-passes, holds-if_read, option_map-holds, option_or-holds, option_or-none, none_is, test_apart, all-dash_free}
-use Rattle.lexicon_fields.proofs.{RowTexts.row_text-dash_free, RowLemmas.known_vendor_of-row, RowLemmas.no_name_without_row, RowLemmas.without_row_is_darwin_like}
+use Rattle.lexicon_fields.proofs.Common.{◌&&◌, ◌||◌, ◌∙◌, ◌∷◌, ◌≡◌, Bool, List, None, Option, Some, [], ap, arith}
+use Rattle.lexicon_fields.proofs.Common.{false, if◌then◌else◌, is_none, is_some, not, option_map, refl, sym, true, ℕ}
+use Rattle.lexicon_fields.proofs.Common.{and_parts, MatchOption-at_some, cond_some, list_all, option_or}
+use Rattle.lexicon_fields.proofs.Common.{architecture_of, binary_format_of, environment_of, has_row, dash, is_dash_free}
+use Rattle.lexicon_fields.proofs.Common.{named_values, darwin_like_system, darwin_prefixes, fixed_operating_system_of}
+use Rattle.lexicon_fields.proofs.Common.{operating_system_of, Custom, Known, VendorValue, is_plain, known_vendor_name}
+use Rattle.lexicon_fields.proofs.Common.{known_vendor_of, known_vendors, vendor_name, vendor_of, KnownVendor}
+use Rattle.std.specs.Char.{is_ascii_lowercase}
+use Rattle.std.proofs.Math.Bool.{and-false}
+use Rattle.lexicon_fields.specs.Vendor.{custom_vendor_of, is_free, is_vendor_character, has_vendor_form, vendor_value}
+use Rattle.lexicon_fields.specs.Vendor.{owns_string, is_admitted, IsCustom, OwnsCustomString}
+use Rattle.lexicon_fields.specs.{declared.vendor.Vendor.Vendor, declared.known_vendor.KnownVendor.TheVariants.Unknown}
+use Rattle.lexicon_fields.proofs.LookUpLemmas.{value_named-passes, holds-if_read, option_map-holds, option_or-holds}
+use Rattle.lexicon_fields.proofs.LookUpLemmas.{option_or-none, none_is, test_apart, all-dash_free}
+use Rattle.lexicon_fields.proofs.RowTexts.{row_text-dash_free}
+use Rattle.lexicon_fields.proofs.RowLemmas.{known_vendor_of-row, no_name_without_row, without_row_is_darwin_like}
 use Rattle.lexicon_fields.specs.declared.vendor.Vendor.TheVariants as vendor
 
 -- a string is admitted if it has no row, is no system like Darwin, and has the form of a vendor
 
-free_is : {K A O E B : Type 0} (known : Option K) (architecture : Option A) (fixed like : Option O) (environment : Option E) (format : Option B)
+free_is : {K A O E B : Type 0} (known : Option K) (architecture : Option A) (fixed like : Option O)
+    (environment : Option E) (format : Option B)
     → (is_none known && is_none architecture && is_none (option_or fixed like) && is_none environment && is_none format)
-    ≡ (not (is_some architecture || is_some known || is_some fixed || is_some environment || is_some format) && is_none like)
+    ≡ (not (is_some architecture || is_some known || is_some fixed || is_some environment || is_some format)
+    && is_none like)
 free_is known architecture fixed like environment format = grind (arith)
 
-admitted_is : (text : List ℕ) → is_admitted text ≡ (not (has_row text) && is_none (darwin_like_system darwin_prefixes text) && has_vendor_form text)
+admitted_is : (text : List ℕ)
+    → is_admitted text ≡ (not (has_row text) && is_none (darwin_like_system darwin_prefixes text)
+    && has_vendor_form text)
 unfolding is_admitted operating_system_of
 admitted_is text =
     ap (λ free. free && has_vendor_form text)
-    (free_is (known_vendor_of text) (architecture_of text) (fixed_operating_system_of text) (darwin_like_system darwin_prefixes text) (environment_of text) (binary_format_of text))
+    (free_is (known_vendor_of text) (architecture_of text) (fixed_operating_system_of text)
+    (darwin_like_system darwin_prefixes text) (environment_of text) (binary_format_of text))
 
 row_not_admitted : (text : List ℕ) → has_row text ≡ true → is_admitted text ≡ false
 row_not_admitted text exists = rw (admitted_is text, exists) refl
@@ -43,24 +54,32 @@ unfolding is_admitted
 formless_not_admitted text formless = rw formless (and-false (is_free text))
 
 -- the name of a known vendor has the form of a vendor
-known_form : (text : List ℕ) (known : Option KnownVendor) → known_vendor_of text ≡ known → has_vendor_form text ≡ false → known_vendor_of text ≡ None
+known_form : (text : List ℕ) (known : Option KnownVendor) → known_vendor_of text ≡ known → has_vendor_form text ≡ false
+    → known_vendor_of text ≡ None
 unfolding known_vendor_of
 known_form text None is formless = is
-known_form text (Some v) is formless = absurd (let bad : true ≡ false = sym (value_named-passes has_vendor_form (named_values known_vendor_name known_vendors) text v refl is) ∙ formless in cc)
+known_form text (Some v) is formless =
+    absurd (let bad : true ≡ false =
+    sym (value_named-passes has_vendor_form (named_values known_vendor_name known_vendors) text v refl is)
+    ∙ formless in cc)
 
 pub formless_read : (text : List ℕ) → has_vendor_form text ≡ false → vendor_of text ≡ None
-formless_read text formless = unknown_text-refused text (known_form text (known_vendor_of text) refl formless) (formless_not_admitted text formless)
+formless_read text formless =
+    unknown_text-refused text (known_form text (known_vendor_of text) refl formless)
+    (formless_not_admitted text formless)
 
 -- a string without a row: as a custom vendor, if it parses as no system and has the form of a vendor
 pub without_row_read : (text : List ℕ) → has_row text ≡ false
     → vendor_of text ≡ (if is_none (operating_system_of text) && has_vendor_form text then Some (Custom text) else None)
 unfolding vendor_of
-without_row_read text none = rw ((no_name_without_row text none).1, admitted_is text, none, without_row_is_darwin_like text none) refl
+without_row_read text none =
+    rw ((no_name_without_row text none).1, admitted_is text, none, without_row_is_darwin_like text none) refl
 
 -- every plain vendor parses back from its name
 
 -- an admitted string is not the name of a known vendor, and has the form of a vendor
-admitted_parts : (text : List ℕ) → is_admitted text ≡ true → (is_none (known_vendor_of text) ≡ true) × (has_vendor_form text ≡ true)
+admitted_parts : (text : List ℕ) → is_admitted text ≡ true
+    → (is_none (known_vendor_of text) ≡ true) × (has_vendor_form text ≡ true)
 unfolding is_admitted
 admitted_parts text admitted =
     let whole = and_parts (is_free text) (has_vendor_form text) admitted in
@@ -79,16 +98,20 @@ custom_by_kind text None false none = refl
 custom_by_kind text (Some known) false none = refl
 custom_by_kind text (Some known) true none = absurd (let bad = none refl in cc)
 
-pub admitted_as_custom : (text : List ℕ) (reading : Option VendorValue) → vendor_of text ≡ reading → is_admitted text ≡ is_read_custom reading
+pub admitted_as_custom : (text : List ℕ) (reading : Option VendorValue) → vendor_of text ≡ reading
+    → is_admitted text ≡ is_read_custom reading
 unfolding vendor_of
 admitted_as_custom text reading is =
-    custom_by_kind text (known_vendor_of text) (is_admitted text) (λ admitted. none_is (known_vendor_of text) (admitted_parts text admitted).0) ∙ ap is_read_custom is
+    custom_by_kind text (known_vendor_of text) (is_admitted text)
+    (λ admitted. none_is (known_vendor_of text) (admitted_parts text admitted).0) ∙ ap is_read_custom is
 
-pub custom_is_admitted : (text : List ℕ) (v : VendorValue) → vendor_of text ≡ Some v → IsCustom v → is_admitted text ≡ true
+pub custom_is_admitted : (text : List ℕ) (v : VendorValue) → vendor_of text ≡ Some v → IsCustom v
+    → is_admitted text ≡ true
 custom_is_admitted text (Custom custom) is _ = admitted_as_custom text _ is
 custom_is_admitted text (Known known) is bad = absurd cc
 
-pub owner_is_admitted : (text : List ℕ) (v : Vendor) → vendor_of text ≡ Some (vendor_value v) → OwnsCustomString v → owns_string v ≡ is_admitted text
+pub owner_is_admitted : (text : List ℕ) (v : Vendor) → vendor_of text ≡ Some (vendor_value v) → OwnsCustomString v
+    → owns_string v ≡ is_admitted text
 owner_is_admitted text (vendor.Custom custom) is owns = owns refl ∙ sym (admitted_as_custom text _ is)
 owner_is_admitted text _ is owns = sym (admitted_as_custom text _ is)
 
@@ -110,5 +133,8 @@ pub vendor_of-dash_free : (text : List ℕ) (v : VendorValue) → vendor_of text
 unfolding vendor_of
 vendor_of-dash_free text v is =
     MatchOption-at_some _ (λ _. is_dash_free text ≡ true) v is (option_or-holds _ _ (custom_vendor_of text)
-    (option_map-holds _ _ Known (known_vendor_of text) (holds-if_read _ _ (λ known found. row_text-dash_free text (known_vendor_of-row text known found))) (λ _ free. free))
-    (holds-if_read _ _ (λ custom found. form-dash_free text (admitted_parts text (cond_some (is_admitted text) (Custom text) custom found).0).1)))
+    (option_map-holds _ _ Known (known_vendor_of text)
+    (holds-if_read _ _ (λ known found. row_text-dash_free text (known_vendor_of-row text known found)))
+    (λ _ free. free))
+    (holds-if_read _ _ (λ custom found.
+    form-dash_free text (admitted_parts text (cond_some (is_admitted text) (Custom text) custom found).0).1)))

@@ -1,14 +1,17 @@
 -- How version strings are parsed, piece by piece.
-use Rattle.std.proofs.Common.{◌≡◌, ◌≢◌, ◌∙◌, ℕ, ◌+◌, ◌^◌, ◌<◌, ◌≤◌, nat_eq, nat_lt, nat_le, List, [], ◌∷◌, ◌++◌, length, Bool, true, false, ◌&&◌, cond, Option, Some, None, Result, Ok, Err, Bor, refl, sym, ap, rules, arith}
-use Rattle.std.specs.{Char.is_ascii_digit, List.list_all, List.before_first, List.after_first, List.position_or_len, Result.OkIff, Result.result_ok}
-use Rattle.std.specs.{Fmt.decimal, Str.Parse.IsNumeral, Str.Parse.ParsesUnsigned, Str.Parse.digits_value, Str.Parse.without_leading_plus}
-use Rattle.std.proofs.lemmas.Bool.{and_parts, and_from, ltb-true, lt-ltb, leb-true, le-leb}
-use Rattle.std.proofs.lemmas.Fmt.{decimal_is_IsNumeral}
+use Rattle.lexicon_fields.proofs.Common.{◌&&◌, ◌++◌, ◌+◌, ◌<◌, ◌^◌, ◌∙◌, ◌∷◌, ◌≡◌, ◌≢◌, ◌≤◌, Bool, Err, List, None, Ok}
+use Rattle.lexicon_fields.proofs.Common.{Option, Result, Some, [], ap, arith, cond, false, length, nat_eq, nat_le}
+use Rattle.lexicon_fields.proofs.Common.{nat_lt, refl, rules, sym, true, ℕ, and_parts, leb-true, ltb-true, Bor, decimal}
+use Rattle.lexicon_fields.proofs.Common.{list_all, dot, version_name, version_of, DeploymentTarget}
+use Rattle.std.specs.Str.Parse.{IsNumeral, ParsesUnsigned, digits_value, without_leading_plus}
+use Rattle.std.specs.{Char.is_ascii_digit, List.before_first, List.after_first, List.position_or_len, Result.OkIff}
+use Rattle.std.specs.{Result.result_ok}
 use Rattle.std.proofs.lemmas.List.Splits.{slice_split_first, slice_split_none, length-slice_split}
-use Rattle.std.proofs.{lemmas.List.Sums.fails_before_first, lemmas.Str.Parse.IsNumeralModel, lemmas.Str.Parse.numerals_by_value}
-use Rattle.lexicon_fields.specs.Version.{dot}
-use Rattle.lexicon_fields.specs.{declared.deployment_target.DeploymentTarget.DeploymentTarget, Private.remaining_pieces}
-use Rattle.lexicon_fields.specs.Version.{number_within, piece_number_within, version_of_numbers, version_of_pieces, version_of, version_name, pieces_of}
+use Rattle.std.proofs.{lemmas.Bool.and_from, lemmas.Bool.lt-ltb, lemmas.Bool.le-leb, lemmas.Fmt.decimal_is_IsNumeral}
+use Rattle.std.proofs.{lemmas.List.Sums.fails_before_first, lemmas.Str.Parse.IsNumeralModel}
+use Rattle.std.proofs.{lemmas.Str.Parse.numerals_by_value}
+use Rattle.lexicon_fields.specs.{Private.remaining_pieces, Version.number_within, Version.piece_number_within}
+use Rattle.lexicon_fields.specs.{Version.version_of_numbers, Version.version_of_pieces, Version.pieces_of}
 use Rattle.lexicon_fields.proofs.LookUpLemmas.{test_apart, all_apart}
 
 -- the test for digits is that of `parse`
@@ -16,39 +19,55 @@ pub digits_model : IsNumeralModel (λ ds. list_all is_ascii_digit ds ≡ true) (
 digits_model = numerals_by_value _ (search rules)
 
 -- a result that is `Ok v` if and only if a test passes
-ok_by_test : {E : Type 0} (r : Result ℕ E) (b : Bool) (P : Type 0) (v : ℕ) → (P → b ≡ true) → (b ≡ true → P) → OkIff r P v → result_ok r ≡ cond b (Some v) None
+ok_by_test : {E : Type 0} (r : Result ℕ E) (b : Bool) (P : Type 0) (v : ℕ) → (P → b ≡ true) → (b ≡ true → P)
+    → OkIff r P v → result_ok r ≡ cond b (Some v) None
 ok_by_test (Ok x) true P v to from is = ap Some is.1
 ok_by_test (Ok x) false P v to from is = absurd (let bad = to is.0 in cc)
 ok_by_test (Err e) true P v to from is = absurd (is (from refl))
 ok_by_test (Err e) false P v to from is = refl
 
 -- `parse` at an unsigned type parses a piece within the limit of that type
-parse_piece : {E : Type 0} (k limit : ℕ) (piece : List ℕ) (r : Result ℕ E) → limit + 1 ≡ 2 ^ k → ParsesUnsigned k 10 piece r → result_ok r ≡ piece_number_within limit piece
+parse_piece : {E : Type 0} (k limit : ℕ) (piece : List ℕ) (r : Result ℕ E) → limit + 1 ≡ 2 ^ k
+    → ParsesUnsigned k 10 piece r → result_ok r ≡ piece_number_within limit piece
 parse_piece k limit piece r fits parses =
     let ds = without_leading_plus piece in
-    ok_by_test r (nat_lt 0 (length ds) && list_all is_ascii_digit ds && nat_le (digits_value 10 ds) limit) (IsNumeral 10 ds × (digits_value 10 ds < 2 ^ k)) (digits_value 10 ds)
-    (λ p. and_from _ _ (and_from _ _ (lt-ltb 0 (length ds) p.0.0) (digits_model.from ds p.0.1)) (le-leb (digits_value 10 ds) limit (omega (arith, p.1))))
-    (λ e. let outer = and_parts (nat_lt 0 (length ds) && list_all is_ascii_digit ds) (nat_le (digits_value 10 ds) limit) e in
-    let inner = and_parts (nat_lt 0 (length ds)) (list_all is_ascii_digit ds) outer.0 in
-    ((ltb-true 0 (length ds) inner.0, digits_model.to ds inner.1), omega (arith, leb-true (digits_value 10 ds) limit outer.1)))
+    ok_by_test r (nat_lt 0 (length ds) && list_all is_ascii_digit ds && nat_le (digits_value 10 ds) limit)
+    (IsNumeral 10 ds × (digits_value 10 ds < 2 ^ k)) (digits_value 10 ds)
+    (λ p. and_from _ _ (and_from _ _ (lt-ltb 0 (length ds) p.0.0) (digits_model.from ds p.0.1))
+    (le-leb (digits_value 10 ds) limit (omega (arith, p.1))))
+    (λ e. let outer = and_parts (nat_lt 0 (length ds) && list_all is_ascii_digit ds)
+    (nat_le (digits_value 10 ds) limit) e in
+    let inner = and_parts (nat_lt 0 (length ds)) (list_all is_ascii_digit ds) outer.0 in (
+      (ltb-true 0 (length ds) inner.0, digits_model.to ds inner.1),
+      omega (arith, leb-true (digits_value 10 ds) limit outer.1),
+    ))
     parses
 
 -- what `parse` gives for a piece
-pub number_read : {E : Type 0} (k limit : ℕ) (piece : List ℕ) (r is : Result ℕ E) → limit + 1 ≡ 2 ^ k → ParsesUnsigned k 10 piece r → r ≡ is → piece_number_within limit piece ≡ result_ok is
+pub number_read : {E : Type 0} (k limit : ℕ) (piece : List ℕ) (r is : Result ℕ E) → limit + 1 ≡ 2 ^ k
+    → ParsesUnsigned k 10 piece r → r ≡ is → piece_number_within limit piece ≡ result_ok is
 number_read k limit piece r is fits parses same = sym (parse_piece k limit piece r fits parses) ∙ ap result_ok same
 
 -- the pieces of a string after its first dot, and those of a string without a dot
-pub pieces_of-first : (text piece rest : List ℕ) → piece ≡ before_first (λ c. nat_eq c dot) text → rest ≡ after_first (λ c. nat_eq c dot) text → position_or_len (λ c. nat_eq c dot) text < length text → pieces_of text ≡ piece ∷ pieces_of rest
+pub pieces_of-first : (text piece rest : List ℕ) → piece ≡ before_first (λ c. nat_eq c dot) text
+    → rest ≡ after_first (λ c. nat_eq c dot) text → position_or_len (λ c. nat_eq c dot) text < length text
+    → pieces_of text ≡ piece ∷ pieces_of rest
 pieces_of-first text piece rest prefix_key back found = slice_split_first (λ c. nat_eq c dot) text 0 found ∙ cc
 
-pub pieces_of-whole : (text : List ℕ) → position_or_len (λ c. nat_eq c dot) text ≡ length text → pieces_of text ≡ text ∷ []
-pieces_of-whole text none = slice_split_none (λ c. nat_eq c dot) text (λ k d h. fails_before_first (λ c. nat_eq c dot) text k d (omega (arith, none, h)))
+pub pieces_of-whole : (text : List ℕ) → position_or_len (λ c. nat_eq c dot) text ≡ length text
+    → pieces_of text ≡ text ∷ []
+pieces_of-whole text none =
+    slice_split_none (λ c. nat_eq c dot) text
+    (λ k d h. fails_before_first (λ c. nat_eq c dot) text k d (omega (arith, none, h)))
 
 -- a last piece, and a piece that others follow
-pub pieces-last : (pieces : List (List ℕ)) (p : List ℕ) (rest : Option (Bor (List ℕ))) → pieces ≡ p ∷ remaining_pieces rest → rest ≡ None → pieces ≡ p ∷ []
+pub pieces-last : (pieces : List (List ℕ)) (p : List ℕ) (rest : Option (Bor (List ℕ)))
+    → pieces ≡ p ∷ remaining_pieces rest → rest ≡ None → pieces ≡ p ∷ []
 pieces-last pieces p rest is none = is ∙ ap (λ x. p ∷ remaining_pieces x) none
 
-pub pieces-more : (pieces : List (List ℕ)) (p : List ℕ) (rest : Option (Bor (List ℕ))) (others : Bor (List ℕ)) (ps : List (List ℕ)) → pieces ≡ p ∷ remaining_pieces rest → rest ≡ Some others → pieces_of others.now ≡ ps → pieces ≡ p ∷ ps
+pub pieces-more : (pieces : List (List ℕ)) (p : List ℕ) (rest : Option (Bor (List ℕ))) (others : Bor (List ℕ))
+    (ps : List (List ℕ)) → pieces ≡ p ∷ remaining_pieces rest → rest ≡ Some others → pieces_of others.now ≡ ps
+    → pieces ≡ p ∷ ps
 pieces-more pieces p rest others ps is some more = is ∙ ap (λ x. p ∷ remaining_pieces x) some ∙ ap (λ x. p ∷ x) more
 
 -- a string has a piece
@@ -67,37 +86,50 @@ no_third (Some major) (Some minor) = refl
 
 -- the version of a string by its pieces
 
-pub no_major : (text p : List ℕ) (ps : List (List ℕ)) → pieces_of text ≡ p ∷ ps → piece_number_within 65535 p ≡ None → version_of text ≡ None
+pub no_major : (text p : List ℕ) (ps : List (List ℕ)) → pieces_of text ≡ p ∷ ps → piece_number_within 65535 p ≡ None
+    → version_of text ≡ None
 unfolding version_of
 no_major text p (_ ∷ _ ∷ _ ∷ _) pieces missing = ap version_of_pieces pieces
 no_major text p _ pieces missing = ap version_of_pieces pieces ∙ rw missing refl
 
-pub no_minor : (text p q : List ℕ) (ps : List (List ℕ)) → pieces_of text ≡ p ∷ q ∷ ps → piece_number_within 255 q ≡ None → version_of text ≡ None
+pub no_minor : (text p q : List ℕ) (ps : List (List ℕ)) → pieces_of text ≡ p ∷ q ∷ ps → piece_number_within 255 q ≡ None
+    → version_of text ≡ None
 unfolding version_of
 no_minor text p q (_ ∷ _ ∷ _) pieces missing = ap version_of_pieces pieces
-no_minor text p q _ pieces missing = ap version_of_pieces pieces ∙ rw missing (no_second (piece_number_within 65535 p) _)
+no_minor text p q _ pieces missing =
+    ap version_of_pieces pieces ∙ rw missing (no_second (piece_number_within 65535 p) _)
 
-pub no_patch : (text p q r : List ℕ) (ps : List (List ℕ)) → pieces_of text ≡ p ∷ q ∷ r ∷ ps → piece_number_within 255 r ≡ None → version_of text ≡ None
+pub no_patch : (text p q r : List ℕ) (ps : List (List ℕ)) → pieces_of text ≡ p ∷ q ∷ r ∷ ps
+    → piece_number_within 255 r ≡ None → version_of text ≡ None
 unfolding version_of
 no_patch text p q r (_ ∷ _) pieces missing = ap version_of_pieces pieces
-no_patch text p q r [] pieces missing = ap version_of_pieces pieces ∙ rw missing (no_third (piece_number_within 65535 p) (piece_number_within 255 q))
+no_patch text p q r [] pieces missing =
+    ap version_of_pieces pieces ∙ rw missing (no_third (piece_number_within 65535 p) (piece_number_within 255 q))
 
-pub too_many_pieces : (text p q r : List ℕ) (ps : List (List ℕ)) → pieces_of text ≡ p ∷ q ∷ r ∷ ps → ps ≢ [] → version_of text ≡ None
+pub too_many_pieces : (text p q r : List ℕ) (ps : List (List ℕ)) → pieces_of text ≡ p ∷ q ∷ r ∷ ps → ps ≢ []
+    → version_of text ≡ None
 unfolding version_of
 too_many_pieces text p q r [] pieces more = absurd (more refl)
 too_many_pieces text p q r (s ∷ ps) pieces more = ap version_of_pieces pieces
 
-pub one_piece : (text p : List ℕ) (major : ℕ) → pieces_of text ≡ p ∷ [] → piece_number_within 65535 p ≡ Some major → version_of text ≡ Some (record { major = major; minor = 0; patch = 0 })
+pub one_piece : (text p : List ℕ) (major : ℕ) → pieces_of text ≡ p ∷ [] → piece_number_within 65535 p ≡ Some major
+    → version_of text ≡ Some (record { major = major; minor = 0; patch = 0 })
 unfolding version_of
 one_piece text p major pieces first = ap version_of_pieces pieces ∙ rw first refl
 
-pub two_pieces : (text p q : List ℕ) (major minor : ℕ) → pieces_of text ≡ p ∷ q ∷ [] → piece_number_within 65535 p ≡ Some major → piece_number_within 255 q ≡ Some minor → version_of text ≡ Some (record { major = major; minor = minor; patch = 0 })
+pub two_pieces : (text p q : List ℕ) (major minor : ℕ) → pieces_of text ≡ p ∷ q ∷ []
+    → piece_number_within 65535 p ≡ Some major → piece_number_within 255 q ≡ Some minor
+    → version_of text ≡ Some (record { major = major; minor = minor; patch = 0 })
 unfolding version_of
 two_pieces text p q major minor pieces first second = ap version_of_pieces pieces ∙ rw (first, second) refl
 
-pub three_pieces : (text p q r : List ℕ) (major minor patch : ℕ) → pieces_of text ≡ p ∷ q ∷ r ∷ [] → piece_number_within 65535 p ≡ Some major → piece_number_within 255 q ≡ Some minor → piece_number_within 255 r ≡ Some patch → version_of text ≡ Some (record { major = major; minor = minor; patch = patch })
+pub three_pieces : (text p q r : List ℕ) (major minor patch : ℕ) → pieces_of text ≡ p ∷ q ∷ r ∷ []
+    → piece_number_within 65535 p ≡ Some major → piece_number_within 255 q ≡ Some minor
+    → piece_number_within 255 r ≡ Some patch
+    → version_of text ≡ Some (record { major = major; minor = minor; patch = patch })
 unfolding version_of
-three_pieces text p q r major minor patch pieces first second third = ap version_of_pieces pieces ∙ rw (first, second, third) refl
+three_pieces text p q r major minor patch pieces first second third =
+    ap version_of_pieces pieces ∙ rw (first, second, third) refl
 
 -- the name of a version parses as that version
 
@@ -107,7 +139,8 @@ decimal_digits n small = digits_model.from (decimal n) (decimal_is_IsNumeral n s
 -- digits have no leading plus
 without_plus : (ds : List ℕ) → list_all is_ascii_digit ds ≡ true → without_leading_plus ds ≡ ds
 without_plus [] digits = refl
-without_plus (c ∷ cs) digits = rw (test_apart is_ascii_digit c 43 refl (and_parts _ (list_all is_ascii_digit cs) digits).0) refl
+without_plus (c ∷ cs) digits =
+    rw (test_apart is_ascii_digit c 43 refl (and_parts _ (list_all is_ascii_digit cs) digits).0) refl
 
 piece_number_within-decimal : (limit n : ℕ) → n ≤ limit → n < 2 ^ 64 → piece_number_within limit (decimal n) ≡ Some n
 piece_number_within-decimal limit n within small =
@@ -120,18 +153,24 @@ piece_number_within-decimal limit n within small =
 pieces_of-digits : (ds : List ℕ) → list_all is_ascii_digit ds ≡ true → pieces_of ds ≡ ds ∷ []
 pieces_of-digits ds digits = slice_split_none _ ds (all_apart is_ascii_digit dot refl ds digits)
 
-pieces_of-dot : (ds rest : List ℕ) → list_all is_ascii_digit ds ≡ true → pieces_of (ds ++ (dot ∷ rest)) ≡ ds ∷ pieces_of rest
+pieces_of-dot : (ds rest : List ℕ) → list_all is_ascii_digit ds ≡ true
+    → pieces_of (ds ++ (dot ∷ rest)) ≡ ds ∷ pieces_of rest
 pieces_of-dot [] rest digits = refl
 pieces_of-dot (c ∷ cs) rest digits =
     let parts = and_parts (is_ascii_digit c) (list_all is_ascii_digit cs) digits in
     rw (test_apart is_ascii_digit c dot refl parts.0, pieces_of-dot cs rest parts.1) refl
 
-pub version_of-name : (v : DeploymentTarget) → v.major < 2 ^ 16 → v.minor < 2 ^ 8 → v.patch < 2 ^ 8 → version_of (version_name v) ≡ Some v
+pub version_of-name : (v : DeploymentTarget) → v.major < 2 ^ 16 → v.minor < 2 ^ 8 → v.patch < 2 ^ 8
+    → version_of (version_name v) ≡ Some v
 version_of-name v major minor patch =
     let a = decimal_digits v.major (omega arith) in
     let b = decimal_digits v.minor (omega arith) in
     let c = decimal_digits v.patch (omega arith) in
-    let others = pieces_of-dot (decimal v.minor) (decimal v.patch) b ∙ ap (λ ps. decimal v.minor ∷ ps) (pieces_of-digits (decimal v.patch) c) in
-    let pieces = pieces_of-dot (decimal v.major) (decimal v.minor ++ (dot ∷ decimal v.patch)) a ∙ ap (λ ps. decimal v.major ∷ ps) others in
+    let others = pieces_of-dot (decimal v.minor) (decimal v.patch) b
+    ∙ ap (λ ps. decimal v.minor ∷ ps) (pieces_of-digits (decimal v.patch) c) in
+    let pieces = pieces_of-dot (decimal v.major) (decimal v.minor ++ (dot ∷ decimal v.patch)) a
+    ∙ ap (λ ps. decimal v.major ∷ ps) others in
     three_pieces (version_name v) (decimal v.major) (decimal v.minor) (decimal v.patch) v.major v.minor v.patch pieces
-    (piece_number_within-decimal 65535 v.major (omega arith) (omega arith)) (piece_number_within-decimal 255 v.minor (omega arith) (omega arith)) (piece_number_within-decimal 255 v.patch (omega arith) (omega arith))
+    (piece_number_within-decimal 65535 v.major (omega arith) (omega arith))
+    (piece_number_within-decimal 255 v.minor (omega arith) (omega arith))
+    (piece_number_within-decimal 255 v.patch (omega arith) (omega arith))

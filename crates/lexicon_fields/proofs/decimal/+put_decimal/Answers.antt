@@ -1,9 +1,7 @@
 -- The digits of a number are those of its tenth and one more.
-use Rattle.std.proofs.Common.{arith, ◌≡◌, ◌+◌, ◌/◌, ◌≤◌, ◌<◌, ◌^◌, List, ℕ, length, sym, subst, ap, ◌∙◌}
-use Rattle.std.specs.Fmt.{decimal}
+use Rattle.lexicon_fields.proofs.Common.{◌+◌, ◌/◌, ◌<◌, ◌^◌, ◌∙◌, ◌≡◌, ◌≤◌, List, ap, arith, length, subst, sym, ℕ}
+use Rattle.lexicon_fields.proofs.Common.{length-append, decimal, Puts}
 use Rattle.std.proofs.lemmas.Fmt.{decimal_step, decimal_digit}
-use Rattle.std.proofs.lemmas.List.{length-append}
-use Rattle.lexicon_fields.specs.Put.{Puts}
 use Rattle.lexicon_fields.proofs.Puts.{puts_then}
 use Rattle.lexicon_fields.proofs.decimal.+put_decimal.Goals as goal
 
@@ -18,13 +16,21 @@ put_decimal-at-requires t c = omega (arith, c.requires, one_more c.args.n c.if-n
 
 pub put_byte-requires-2 : goal.put_byte-requires-2
 put_byte-requires-2 t c =
-    omega (arith, c.requires, one_more c.args.n c.if-n-lt10.false (omega arith), c.put_decimal-at.ensures.end_is, c.put_decimal-at.ensures.same_length)
+    omega (
+      arith,
+      c.requires,
+      one_more c.args.n c.if-n-lt10.false (omega arith),
+      c.put_decimal-at.ensures.end_is,
+      c.put_decimal-at.ensures.same_length,
+    )
 
 pub returns-then-n-lt10 : goal.returns-then-n-lt10
 returns-then-n-lt10 t c =
-    subst (λ (text : List ℕ). Puts text c.args.out.now c.args.at c.put_byte.new.out c.put_byte.result) (sym (decimal_digit c.args.n c.if-n-lt10.true)) c.put_byte.ensures
+    subst (λ (text : List ℕ). Puts text c.args.out.now c.args.at c.put_byte.new.out c.put_byte.result)
+    (sym (decimal_digit c.args.n c.if-n-lt10.true)) c.put_byte.ensures
 
 pub returns : goal.returns
 returns t c =
     subst (λ (text : List ℕ). Puts text c.args.out.now c.args.at c.put_byte-2.new.out c.put_byte-2.result)
-    (sym (decimal_step c.args.n c.if-n-lt10.false (omega arith))) (puts_then c.put_decimal-at.ensures c.put_byte-2.ensures)
+    (sym (decimal_step c.args.n c.if-n-lt10.false (omega arith)))
+    (puts_then c.put_decimal-at.ensures c.put_byte-2.ensures)

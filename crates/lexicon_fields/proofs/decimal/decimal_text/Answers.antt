@@ -1,6 +1,6 @@
-use Rattle.std.proofs.Common.{ℕ, ◌<◌, ◌≤◌, ◌^◌, ◌∙◌, length, arith}
-use Rattle.std.specs.{Fmt.decimal, Str.IsUtf8}
-use Rattle.std.proofs.lemmas.{Fmt.IsAscii-decimal, Fmt.length-decimal-le, Str.IsUtf8-from_ascii}
+use Rattle.lexicon_fields.proofs.Common.{◌<◌, ◌^◌, ◌∙◌, ◌≤◌, arith, length, ℕ, decimal}
+use Rattle.std.specs.Str.{IsUtf8}
+use Rattle.std.proofs.{lemmas.Fmt.IsAscii-decimal, lemmas.Fmt.length-decimal-le, lemmas.Str.IsUtf8-from_ascii}
 use Rattle.lexicon_fields.proofs.Puts.{put_taken}
 use Rattle.lexicon_fields.proofs.decimal.decimal_text.Goals as goal
 
@@ -18,7 +18,8 @@ pub shared_ref_as_front-text : goal.shared_ref_as_front-text
 shared_ref_as_front-text c = omega (arith, c.put_decimal-end.ensures.end_is, decimal-short c.args.n (omega arith))
 
 pub unreachable-requires : goal.unreachable-requires
-unreachable-requires c = c.in-Err.ensures.cases.0 (rw (put_taken c.put_decimal-end.ensures) (decimal-utf8 c.args.n (omega arith)))
+unreachable-requires c =
+    c.in-Err.ensures.cases.0 (rw (put_taken c.put_decimal-end.ensures) (decimal-utf8 c.args.n (omega arith)))
 
 pub returns : goal.returns
 returns c = c.in-Ok.ensures.cases.0 ∙ put_taken c.put_decimal-end.ensures

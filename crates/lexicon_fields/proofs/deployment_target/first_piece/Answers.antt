@@ -1,4 +1,4 @@
-use Rattle.std.proofs.Common.{arith}
+use Rattle.lexicon_fields.proofs.Common.{arith}
 use Rattle.lexicon_fields.proofs.VersionsReadBack.{pieces_of-first, pieces_of-whole}
 use Rattle.lexicon_fields.proofs.deployment_target.first_piece.Goals as goal
 

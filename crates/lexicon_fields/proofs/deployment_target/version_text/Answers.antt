@@ -1,10 +1,11 @@
 -- Three numbers with dots between are put one after the other: what is put is the name of the version, fits, and is
 -- ASCII.
-use Rattle.std.proofs.Common.{◌≡◌, ℕ, ◌<◌, ◌^◌, ◌∙◌, List, [], ◌∷◌, length, ap, arith, rules}
-use Rattle.std.specs.{Fmt.decimal, Str.IsAscii, Str.IsUtf8}
-use Rattle.std.proofs.lemmas.{Fmt.IsAscii-decimal, Str.IsAscii-append, Str.IsUtf8-from_ascii}
-use Rattle.lexicon_fields.specs.{declared.deployment_target.DeploymentTarget.DeploymentTarget, Laws.IsVersionInRange, Put.Puts, Version.dot, Version.version_name}
-use Rattle.lexicon_fields.proofs.{ParsedSystems.length-version, ParsedSystems.version-short, Puts.puts_then, Puts.put_taken}
+use Rattle.lexicon_fields.proofs.Common.{◌<◌, ◌^◌, ◌∙◌, ◌∷◌, ◌≡◌, List, [], ap, arith, length, rules, ℕ, decimal}
+use Rattle.lexicon_fields.proofs.Common.{IsVersionInRange, Puts, dot, version_name, DeploymentTarget}
+use Rattle.std.specs.Str.{IsAscii, IsUtf8}
+use Rattle.std.proofs.{lemmas.Fmt.IsAscii-decimal, lemmas.Str.IsAscii-append, lemmas.Str.IsUtf8-from_ascii}
+use Rattle.lexicon_fields.proofs.ParsedSystems.{length-version, version-short}
+use Rattle.lexicon_fields.proofs.Puts.{puts_then, put_taken}
 use Rattle.lexicon_fields.proofs.deployment_target.version_text.Goals as goal
 
 -- digits and dots are UTF-8
@@ -13,43 +14,68 @@ version-utf8 v (major, minor, patch) =
     let point : IsAscii (dot ∷ []) = search rules in
     let small = λ (n : ℕ) (fits : n < 2 ^ 64). IsAscii-append (dot ∷ []) (decimal n) point (IsAscii-decimal n fits) in
     IsUtf8-from_ascii (version_name v)
-    (IsAscii-append (decimal v.major) _ (IsAscii-decimal v.major (omega arith)) (IsAscii-append (dot ∷ decimal v.minor) _ (small v.minor (omega arith)) (small v.patch (omega arith))))
+    (IsAscii-append (decimal v.major) _ (IsAscii-decimal v.major (omega arith))
+    (IsAscii-append (dot ∷ decimal v.minor) _ (small v.minor (omega arith)) (small v.patch (omega arith))))
 
 -- the three numbers put one after the other are the version
-version-put : (v : DeploymentTarget) (major : ℕ) {old first second now : List ℕ} {i j k : ℕ} → major ≡ v.major → Puts (decimal major) old 0 first i
-    → Puts (dot ∷ decimal v.minor) first i second j → Puts (dot ∷ decimal v.patch) second j now k → Puts (version_name v) old 0 now k
+version-put : (v : DeploymentTarget) (major : ℕ) {old first second now : List ℕ} {i j k : ℕ} → major ≡ v.major
+    → Puts (decimal major) old 0 first i
+    → Puts (dot ∷ decimal v.minor) first i second j → Puts (dot ∷ decimal v.patch) second j now k
+    → Puts (version_name v) old 0 now k
 version-put v major is p q r = puts_then (rw is at p) (puts_then q r)
 
 pub put_decimal-major_end-requires : goal.put_decimal-major_end-requires
 put_decimal-major_end-requires c =
     let range : IsVersionInRange c.args.version = search rules in
-    omega (arith, ap (λ n. length (decimal n)) c.from.ensures, length-version c.args.version, version-short c.args.version range)
+    omega (
+      arith,
+      ap (λ n. length (decimal n)) c.from.ensures,
+      length-version c.args.version,
+      version-short c.args.version range,
+    )
 
 pub put_dotted-minor_end-requires : goal.put_dotted-minor_end-requires
 put_dotted-minor_end-requires c =
     let range : IsVersionInRange c.args.version = search rules in
     let put = c.put_decimal-major_end.ensures in
-    omega (arith, ap (λ n. length (decimal n)) c.from.ensures, put.end_is, put.same_length, length-version c.args.version, version-short c.args.version range)
+    omega (
+      arith,
+      ap (λ n. length (decimal n)) c.from.ensures,
+      put.end_is,
+      put.same_length,
+      length-version c.args.version,
+      version-short c.args.version range,
+    )
 
 pub put_dotted-patch_end-requires : goal.put_dotted-patch_end-requires
 put_dotted-patch_end-requires c =
     let range : IsVersionInRange c.args.version = search rules in
     let put = puts_then c.put_decimal-major_end.ensures c.put_dotted-minor_end.ensures in
-    omega (arith, ap (λ n. length (decimal n)) c.from.ensures, put.end_is, put.same_length, length-version c.args.version, version-short c.args.version range)
+    omega (
+      arith,
+      ap (λ n. length (decimal n)) c.from.ensures,
+      put.end_is,
+      put.same_length,
+      length-version c.args.version,
+      version-short c.args.version range,
+    )
 
 pub shared_ref_as_front-text : goal.shared_ref_as_front-text
 shared_ref_as_front-text c =
     let range : IsVersionInRange c.args.version = search rules in
-    let put = version-put c.args.version _ c.from.ensures c.put_decimal-major_end.ensures c.put_dotted-minor_end.ensures c.put_dotted-patch_end.ensures in
+    let put = version-put c.args.version _ c.from.ensures c.put_decimal-major_end.ensures c.put_dotted-minor_end.ensures
+    c.put_dotted-patch_end.ensures in
     omega (arith, put.end_is, version-short c.args.version range)
 
 pub unreachable-requires : goal.unreachable-requires
 unreachable-requires c =
     let range : IsVersionInRange c.args.version = search rules in
-    let put = version-put c.args.version _ c.from.ensures c.put_decimal-major_end.ensures c.put_dotted-minor_end.ensures c.put_dotted-patch_end.ensures in
+    let put = version-put c.args.version _ c.from.ensures c.put_decimal-major_end.ensures c.put_dotted-minor_end.ensures
+    c.put_dotted-patch_end.ensures in
     c.in-Err.ensures.cases.0 (rw (put_taken put) (version-utf8 c.args.version range))
 
 pub returns-clause-text : goal.returns-clause-text
 returns-clause-text c =
-    let put = version-put c.args.version _ c.from.ensures c.put_decimal-major_end.ensures c.put_dotted-minor_end.ensures c.put_dotted-patch_end.ensures in
+    let put = version-put c.args.version _ c.from.ensures c.put_decimal-major_end.ensures c.put_dotted-minor_end.ensures
+    c.put_dotted-patch_end.ensures in
     c.in-Ok.ensures.cases.0 ∙ put_taken put

@@ -1,11 +1,12 @@
 -- The length of each name is computed and compared with the limit; that of a version has a bound of its own.
-use Rattle.std.proofs.Common.{◌≡◌, ◌≤◌, ◌++◌, ℕ, List, [], codes, length, nat_le, true, Option, Some, None, IfSome, refl, arith}
-use Rattle.std.proofs.{lemmas.Bool.leb-true, lemmas.List.length-append}
-use Rattle.lexicon_fields.specs.{declared.architecture.Architecture.Architecture, declared.environment.Environment.Environment, declared.binary_format.BinaryFormat.BinaryFormat}
-use Rattle.lexicon_fields.specs.{declared.operating_system.OperatingSystem.OperatingSystem, declared.known_vendor.KnownVendor.KnownVendor}
-use Rattle.lexicon_fields.specs.{declared.deployment_target.DeploymentTarget.DeploymentTarget, Version.version_name, OperatingSystem.version_suffix}
-use Rattle.lexicon_fields.specs.{Laws.IsVersionInRange, Laws.HasVersionInRange, Laws.max_name_length}
-use Rattle.lexicon_fields.specs.{Architecture.architecture_name, Environment.environment_name, BinaryFormat.binary_format_name, OperatingSystem.operating_system_name, Vendor.known_vendor_name}
+use Rattle.lexicon_fields.proofs.Common.{◌++◌, ◌≡◌, ◌≤◌, IfSome, List, None, Option, Some, [], arith, codes, length}
+use Rattle.lexicon_fields.proofs.Common.{nat_le, refl, true, ℕ, leb-true, length-append, architecture_name}
+use Rattle.lexicon_fields.proofs.Common.{binary_format_name, environment_name, HasVersionInRange, IsVersionInRange}
+use Rattle.lexicon_fields.proofs.Common.{operating_system_name, version_suffix, known_vendor_name, version_name}
+use Rattle.lexicon_fields.proofs.Common.{DeploymentTarget, KnownVendor, OperatingSystem}
+use Rattle.lexicon_fields.specs.{declared.architecture.Architecture.Architecture}
+use Rattle.lexicon_fields.specs.{declared.environment.Environment.Environment}
+use Rattle.lexicon_fields.specs.{declared.binary_format.BinaryFormat.BinaryFormat, Laws.max_name_length}
 use Rattle.lexicon_fields.proofs.ParsedSystems.{version-short}
 use Rattle.lexicon_fields.specs.declared.architecture.Architecture.TheVariants as architecture
 use Rattle.lexicon_fields.specs.SubArchitecture as spec
@@ -56,9 +57,11 @@ pub returns-clause-vendor : goal.returns-clause-vendor
 returns-clause-vendor c = λ k. leb-true _ _ (known_vendor-is_short k)
 
 -- the longest prefix of a system like Darwin has eight bytes
-with_version : (prefix : List ℕ) (version : Option DeploymentTarget) → nat_le (length prefix) 8 ≡ true → IfSome version IsVersionInRange → length (prefix ++ version_suffix version) ≤ max_name_length
+with_version : (prefix : List ℕ) (version : Option DeploymentTarget) → nat_le (length prefix) 8 ≡ true
+    → IfSome version IsVersionInRange → length (prefix ++ version_suffix version) ≤ max_name_length
 with_version prefix None short range = omega (arith, length-append prefix [], leb-true _ _ short)
-with_version prefix (Some v) short range = omega (arith, length-append prefix (version_name v), leb-true _ _ short, version-short v range)
+with_version prefix (Some v) short range =
+    omega (arith, length-append prefix (version_name v), leb-true _ _ short, version-short v range)
 
 system-is_short : (s : OperatingSystem) → HasVersionInRange s → length (operating_system_name s) ≤ max_name_length
 -- written by tools/names/write: each versioned system is short

@@ -1,32 +1,40 @@
 -- A parsed value prints the string itself, except for aliases and versions, whose growth has a bound.
-use Rattle.std.proofs.Common.{◌≡◌, length, nat_le, ◌+◌, refl, sym, ap}
-use Rattle.std.proofs.{lemmas.Bool.leb-true, lemmas.Option.MatchOption-at_some, lemmas.Option.cond_some}
-use Rattle.lexicon_fields.specs.{Architecture.architecture_name, Architecture.architecture_texts, Architecture.architecture_of}
-use Rattle.lexicon_fields.specs.BinaryFormat.{binary_format_name, binary_format_values, binary_format_of}
-use Rattle.lexicon_fields.specs.Environment.{environment_name, environment_values, environment_of}
-use Rattle.lexicon_fields.specs.Vendor.{Known, Custom, known_vendor_name, known_vendors, known_vendor_of, custom_vendor_of, is_admitted, vendor_name, vendor_of}
-use Rattle.lexicon_fields.proofs.{LookUpLemmas.value_named-all, LookUpLemmas.value_named-named_values, LookUpLemmas.holds-if_read, LookUpLemmas.option_map-holds, LookUpLemmas.option_or-holds, ParsedSystems.operating_system-max_growth}
+use Rattle.lexicon_fields.proofs.Common.{◌+◌, ◌≡◌, ap, length, nat_le, refl, sym, leb-true, MatchOption-at_some}
+use Rattle.lexicon_fields.proofs.Common.{cond_some, architecture_name, architecture_of, binary_format_name}
+use Rattle.lexicon_fields.proofs.Common.{binary_format_of, environment_name, environment_of, Custom, Known}
+use Rattle.lexicon_fields.proofs.Common.{known_vendor_name, known_vendor_of, known_vendors, vendor_name, vendor_of}
+use Rattle.lexicon_fields.specs.{Architecture.architecture_texts, BinaryFormat.binary_format_values}
+use Rattle.lexicon_fields.specs.{Environment.environment_values, Vendor.custom_vendor_of, Vendor.is_admitted}
+use Rattle.lexicon_fields.proofs.LookUpLemmas.{value_named-all, value_named-named_values, holds-if_read}
+use Rattle.lexicon_fields.proofs.LookUpLemmas.{option_map-holds, option_or-holds}
+use Rattle.lexicon_fields.proofs.ParsedSystems.{operating_system-max_growth}
 use Rattle.lexicon_fields.proofs.laws.names_grow_at_most.Goals as goal
 
 pub returns-clause-vendor : goal.returns-clause-vendor
 unfolding vendor_of known_vendor_of
 returns-clause-vendor c = λ text v is.
     MatchOption-at_some _ (λ v. vendor_name v ≡ text) v is (option_or-holds _ _ (custom_vendor_of text)
-    (option_map-holds _ _ Known (known_vendor_of text) (holds-if_read _ _ (λ known found. value_named-named_values known_vendor_name known_vendors text known refl found)) (λ _ same. same))
-    (holds-if_read _ _ (λ custom found. ap vendor_name (sym (cond_some (is_admitted text) (Custom text) custom found).1))))
+    (option_map-holds _ _ Known (known_vendor_of text)
+    (holds-if_read _ _ (λ known found. value_named-named_values known_vendor_name known_vendors text known refl found))
+    (λ _ same. same))
+    (holds-if_read _ _ (λ custom found.
+    ap vendor_name (sym (cond_some (is_admitted text) (Custom text) custom found).1))))
 
 pub returns-clause-environment : goal.returns-clause-environment
 unfolding environment_of
-returns-clause-environment c = λ text v found. value_named-named_values environment_name environment_values text v refl found
+returns-clause-environment c =
+    λ text v found. value_named-named_values environment_name environment_values text v refl found
 
 pub returns-clause-binary_format : goal.returns-clause-binary_format
 unfolding binary_format_of
-returns-clause-binary_format c = λ text v found. value_named-named_values binary_format_name binary_format_values text v refl found
+returns-clause-binary_format c =
+    λ text v found. value_named-named_values binary_format_name binary_format_values text v refl found
 
 pub returns-clause-architecture : goal.returns-clause-architecture
 unfolding architecture_of
 returns-clause-architecture c = λ text a found.
-    leb-true _ _ (value_named-all (λ pair. nat_le (length (architecture_name pair.1)) (length pair.0 + 2)) architecture_texts text a refl found)
+    leb-true _ _ (value_named-all (λ pair. nat_le (length (architecture_name pair.1)) (length pair.0 + 2))
+    architecture_texts text a refl found)
 
 pub returns-clause-operating_system : goal.returns-clause-operating_system
 returns-clause-operating_system c = operating_system-max_growth

@@ -1,7 +1,8 @@
 -- Derived equality compares the variants and then the fields, and each of these comparisons decides equality.
-use Rattle.std.proofs.Common.{rules, refl}
-use Rattle.std.proofs.{lemmas.Bool.Decides.Decides-like, lemmas.Bool.Decides.Decides-and, lemmas.Slice.Eq.bytes_eq-Decides}
-use Rattle.lexicon_fields.proofs.EqualByValue.{bare-Decides, bare_field-Decides, enum-Decides, one_field-Decides, option_eq-Decides, version-Decides}
+use Rattle.lexicon_fields.proofs.Common.{refl, rules, bytes_eq-Decides}
+use Rattle.std.proofs.lemmas.Bool.Decides.{Decides-like, Decides-and}
+use Rattle.lexicon_fields.proofs.EqualByValue.{bare-Decides, bare_field-Decides, enum-Decides, one_field-Decides}
+use Rattle.lexicon_fields.proofs.EqualByValue.{option_eq-Decides, version-Decides}
 use Rattle.lexicon_fields.specs.contracts.architecture.Architecture as architecture
 use Rattle.lexicon_fields.specs.contracts.operating_system.OperatingSystem as operating_system
 use Rattle.lexicon_fields.specs.contracts.architecture as contracts
@@ -73,8 +74,16 @@ returns-clause-known_vendor c = bare-Decides known_vendor.the_type tt
 pub returns-clause-fixed_row : goal.returns-clause-fixed_row
 returns-clause-fixed_row c x y =
     Decides-like _
-    (λ same. record { text = same.0; architecture = same.1.0; vendor = same.1.1.0; operating_system = same.1.1.1.0; environment = same.1.1.1.1.0; binary_format = same.1.1.1.1.1 })
-    (λ same. (same.text, (same.architecture, (same.vendor, (same.operating_system, (same.environment, same.binary_format))))))
+    (λ same. record {
+      text = same.0;
+      architecture = same.1.0;
+      vendor = same.1.1.0;
+      operating_system = same.1.1.1.0;
+      environment = same.1.1.1.1.0;
+      binary_format = same.1.1.1.1.1;
+    })
+    (λ same.
+    (same.text, (same.architecture, (same.vendor, (same.operating_system, (same.environment, same.binary_format))))))
     (Decides-and _ _ (bytes_eq-Decides x.text.now y.text.now)
     (Decides-and _ _ (option_eq-Decides _ (returns-clause-architecture c) x.architecture y.architecture)
     (Decides-and _ _ (option_eq-Decides _ (returns-clause-known_vendor c) x.vendor y.vendor)

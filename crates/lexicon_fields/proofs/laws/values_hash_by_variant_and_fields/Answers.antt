@@ -1,11 +1,15 @@
 -- A value feeds a hasher its variant and then its fields, and these bytes determine both, whatever follows them.
-use Rattle.std.proofs.Common.{◌≡◌, ◌++◌, ◌∙◌, Option, Some, None, IfSome, length, arith, refl, sym, ap}
-use Rattle.std.specs.Hash.{HashWrites, le_bytes, option, usize, str}
+use Rattle.lexicon_fields.proofs.Common.{◌++◌, ◌∙◌, ◌≡◌, IfSome, None, Option, Some, ap, arith, length, refl, sym}
+use Rattle.lexicon_fields.proofs.Common.{HashWrites, usize, tag_of, HashInjectiveOn, IsVersionInRange, Custom, Known}
+use Rattle.lexicon_fields.proofs.Common.{VendorValue, known_vendors, DeploymentTarget}
+use Rattle.std.specs.Hash.{le_bytes, option, str}
+use Rattle.lexicon_fields.specs.{declared.vendor.CustomVendor.CustomVendor, declared.vendor.Vendor.Vendor}
+use Rattle.lexicon_fields.specs.{Vendor.custom_string, Vendor.vendor_value}
+use Rattle.lexicon_fields.proofs.HashInputs.{Distinguishes, writes_after_first, first_write, first_byte, same_u16}
+use Rattle.lexicon_fields.proofs.HashInputs.{hash_injective_on, bare_hash_injective, enum_hash_injective}
+use Rattle.lexicon_fields.proofs.HashInputs.{variants_distinguish, one_field}
 use Rattle.lexicon_fields.specs.declared.architecture.Architecture.TheVariants as variants
-use Rattle.lexicon_fields.specs.{declared.deployment_target.DeploymentTarget.DeploymentTarget, declared.vendor.CustomVendor.CustomVendor, declared.vendor.Vendor.Vendor, Laws.HashInjectiveOn, Laws.IsVersionInRange, Vendor.VendorValue, Vendor.Known, Vendor.Custom, Vendor.known_vendors, Vendor.custom_string, Vendor.vendor_value}
 use Rattle.lexicon_fields.specs.declared.operating_system.OperatingSystem.TheVariants as systems
-use Rattle.lexicon_fields.proofs.HashInputs.{Distinguishes, writes_after_first, first_write, first_byte, same_u16, hash_injective_on, bare_hash_injective, enum_hash_injective, variants_distinguish, one_field}
-use denote.Enum.Declared.{tag_of}
 use Rattle.lexicon_fields.specs.declared.vendor.Vendor.TheVariants as vendors
 use Rattle.lexicon_fields.specs.contracts.vendor.VendorHash.TheImpl as vendor_hash
 use Rattle.lexicon_fields.specs.contracts.operating_system.OperatingSystemHash.TheImpl as operating_system_hash
@@ -63,18 +67,22 @@ returns-clause-endianness c = bare_hash_injective endianness.enum tt (omega arit
 pub returns-clause-pointer_width : goal.returns-clause-pointer_width
 returns-clause-pointer_width c = bare_hash_injective pointer_width.enum tt (omega arith)
 
-version_distinguishes : (x y : DeploymentTarget) → Distinguishes IsVersionInRange (λ v. v) version_hash.ghosts.hash_input x y
+version_distinguishes : (x y : DeploymentTarget)
+    → Distinguishes IsVersionInRange (λ v. v) version_hash.ghosts.hash_input x y
 version_distinguishes x y a b hx hy same =
     let major : x.major ≡ y.major = same_u16 x.major y.major hx.0 hy.0 (ap first_write same) in
     let minor : x.minor ≡ y.minor = ap first_byte (ap writes_after_first same) in
-    let patch : x.patch ≡ y.patch = ap first_byte (ap writes_after_first (ap writes_after_first same)) in
-    ((λ i. record { major = major i; minor = minor i; patch = patch i }), ap writes_after_first (ap writes_after_first (ap writes_after_first same)))
+    let patch : x.patch ≡ y.patch = ap first_byte (ap writes_after_first (ap writes_after_first same)) in (
+      (λ i. record { major = major i; minor = minor i; patch = patch i }),
+      ap writes_after_first (ap writes_after_first (ap writes_after_first same)),
+    )
 
 pub returns-clause-version : goal.returns-clause-version
 returns-clause-version c = hash_injective_on version_distinguishes (λ x y. ap version_hash.ghosts.hash_input)
 
 -- an optional version
-system_version-distinguishes : (x y : Option DeploymentTarget) → Distinguishes (λ v. IfSome v IsVersionInRange) (λ v. v) (option version_hash.ghosts.hash_input) x y
+system_version-distinguishes : (x y : Option DeploymentTarget)
+    → Distinguishes (λ v. IfSome v IsVersionInRange) (λ v. v) (option version_hash.ghosts.hash_input) x y
 unfolding le_bytes
 system_version-distinguishes None None a b hx hy same = (refl, ap writes_after_first same)
 system_version-distinguishes (Some x) (Some y) a b hx hy same =
@@ -102,7 +110,8 @@ returns-clause-architecture c =
 
 pub returns-clause-operating_system : goal.returns-clause-operating_system
 returns-clause-operating_system c =
-    hash_injective_on (variants_distinguish operating_system.enum operating_system_hash.ghosts.hash_input (omega arith) (λ x. refl) _ _ (assumption (
+    hash_injective_on (variants_distinguish operating_system.enum operating_system_hash.ghosts.hash_input (omega arith)
+    (λ x. refl) _ _ (assumption (
       -- written by tools/names/write: hashes of each versioned system
       one_field systems.Darwin system_version-hash,
       one_field systems.IOS system_version-hash,
@@ -115,7 +124,9 @@ returns-clause-operating_system c =
     ))) (λ x y. ap operating_system_hash.ghosts.hash_input)
 
 custom_vendor-hash : HashInjectiveOn (λ (x : CustomVendor). Unit {0}) custom_string (λ x. str (custom_string x))
-custom_vendor-hash = hash_injective_on (λ x y a b _ _ same. (ap first_write same, ap writes_after_first (ap writes_after_first same))) (λ x y. ap str)
+custom_vendor-hash =
+    hash_injective_on (λ x y a b _ _ same. (ap first_write same, ap writes_after_first (ap writes_after_first same)))
+    (λ x y. ap str)
 
 -- what a vendor value feeds
 abbrev value_hash : VendorValue → HashWrites
@@ -128,7 +139,8 @@ hash_by_value _ = refl
 
 pub returns-clause-vendor : goal.returns-clause-vendor
 returns-clause-vendor c =
-    hash_injective_on (variants_distinguish vendor.enum vendor_hash.ghosts.hash_input (omega arith) (λ x. refl) _ _ (one_field Custom custom_vendor-hash, tt))
+    hash_injective_on (variants_distinguish vendor.enum vendor_hash.ghosts.hash_input (omega arith) (λ x. refl)
+    _ _ (one_field Custom custom_vendor-hash, tt))
     (λ x y same. hash_by_value x ∙ ap value_hash same ∙ sym (hash_by_value y))
 
 pub returns-clause-known_vendor : goal.returns-clause-known_vendor

@@ -1,11 +1,10 @@
 -- A borrowed vendor feeds a hasher whether it is custom, and then its variant or its text, which determine its value.
-use Rattle.std.proofs.Common.{◌≡◌, [], ◌++◌, ◌∙◌, arith, refl, sym, ap}
-use Rattle.std.specs.Hash.{HashWrites, usize, str}
-use Rattle.std.specs.Borrow.{Bor}
-use Rattle.std.proofs.Common.{ℕ, List}
-use Rattle.lexicon_fields.specs.{Laws.HashInjectiveOn, Vendor.VendorValue, Vendor.Known, Vendor.Custom, declared.vendor_ref.VendorRef.VendorRef, VendorRef.ref_value}
-use Rattle.lexicon_fields.proofs.HashInputs.{writes_after_first, first_write, hash_injective_on, bare_hash_injective, variants_distinguish, one_field}
-use denote.Enum.Declared.{Record, tag_of}
+use Rattle.lexicon_fields.proofs.Common.{◌++◌, ◌∙◌, ◌≡◌, List, [], ap, arith, refl, sym, ℕ, Bor, HashWrites, usize}
+use Rattle.lexicon_fields.proofs.Common.{Record, tag_of, HashInjectiveOn, Custom, Known, VendorValue}
+use Rattle.std.specs.Hash.{str}
+use Rattle.lexicon_fields.specs.{declared.vendor_ref.VendorRef.VendorRef, VendorRef.ref_value}
+use Rattle.lexicon_fields.proofs.HashInputs.{writes_after_first, first_write, hash_injective_on, bare_hash_injective}
+use Rattle.lexicon_fields.proofs.HashInputs.{variants_distinguish, one_field}
 use mir.Syntax.{named}
 use Rattle.lexicon_fields.specs.declared.vendor_ref.VendorRef.TheVariants as vendor_refs
 use Rattle.lexicon_fields.specs.contracts.vendor_ref.VendorRefHash.TheImpl as vendor_ref_hash
@@ -14,7 +13,9 @@ use Rattle.lexicon_fields.specs.contracts.vendor_ref.VendorRef as vendor_ref
 use Rattle.lexicon_fields.proofs.laws.vendor_refs_hash_by_value.Goals as goal
 
 text_hash : HashInjectiveOn (λ (x : Bor (List ℕ)). Unit {0}) (λ x. x.now) (λ x. str x.now)
-text_hash = hash_injective_on (λ x y a b _ _ same. (ap first_write same, ap writes_after_first (ap writes_after_first same))) (λ x y. ap str)
+text_hash =
+    hash_injective_on (λ x y a b _ _ same. (ap first_write same, ap writes_after_first (ap writes_after_first same)))
+    (λ x y. ap str)
 
 -- what a vendor value feeds
 abbrev value_hash : VendorValue → HashWrites

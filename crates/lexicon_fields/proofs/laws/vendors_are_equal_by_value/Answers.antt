@@ -1,14 +1,15 @@
 -- Custom vendors are equal if their texts are, and a known vendor equals only itself.
-use Rattle.std.proofs.Common.{◌≡◌, refl, ap}
-use Rattle.std.proofs.{lemmas.Bool.false≢true, lemmas.Slice.Eq.bytes_eq-Decides}
-use Rattle.lexicon_fields.specs.Vendor.{Custom, custom_string}
+use Rattle.lexicon_fields.proofs.Common.{◌≡◌, ap, refl, false≢true, bytes_eq-Decides, Custom}
+use Rattle.lexicon_fields.specs.Vendor.{custom_string}
 use Rattle.lexicon_fields.specs.declared.vendor.Vendor.TheVariants as vendor
 use Rattle.lexicon_fields.proofs.laws.vendors_are_equal_by_value.Goals as goal
 
 pub returns : goal.returns
 returns c (vendor.Custom a) (vendor.Custom b) =
-    let decides = bytes_eq-Decides (custom_string a) (custom_string b) in
-    (λ same. ap Custom (decides.0 same), λ same. decides.1 (let texts : custom_string a ≡ custom_string b = cc in texts))
+    let decides = bytes_eq-Decides (custom_string a) (custom_string b) in (
+      λ same. ap Custom (decides.0 same),
+      λ same. decides.1 (let texts : custom_string a ≡ custom_string b = cc in texts),
+    )
 -- written by tools/names/write: equal vendors
 returns c vendor.Unknown vendor.Unknown = (λ _. refl, λ _. refl)
 returns c vendor.Amd vendor.Amd = (λ _. refl, λ _. refl)

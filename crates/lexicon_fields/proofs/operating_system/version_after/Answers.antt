@@ -1,19 +1,25 @@
 -- What follows the prefix is empty, a version, or refused, as `version_after` says of a string with the prefix.
-use Rattle.std.proofs.Common.{◌≡◌, ◌≢◌, ◌∙◌, ℕ, List, [], ◌∷◌, ◌++◌, Some, None, option_map, length, refl, sym, ap, arith, rules}
-use Rattle.std.specs.Option.{option_and_then}
-use Rattle.lexicon_fields.specs.{OperatingSystem.optional_version_of, Private.version_after, Version.version_of}
+use Rattle.lexicon_fields.proofs.Common.{◌++◌, ◌∙◌, ◌∷◌, ◌≡◌, ◌≢◌, List, None, Some, [], ap, arith, length}
+use Rattle.lexicon_fields.proofs.Common.{option_and_then, option_map, refl, rules, sym, ℕ, optional_version_of}
+use Rattle.lexicon_fields.proofs.Common.{version_of}
+use Rattle.lexicon_fields.specs.Private.{version_after}
 use Rattle.lexicon_fields.proofs.OperatingSystemsReadBack.{has_prefix, has_no_prefix}
 use Rattle.lexicon_fields.proofs.operating_system.version_after.Goals as goal
 
 pub returns-in_err-rest : goal.returns-in_err-rest
 unfolding version_after
 returns-in_err-rest c =
-    c.from_residual.ensures ∙ sym (ap (option_and_then optional_version_of) (has_no_prefix c.args.prefix.now c.args.text.now c.in_err-rest.ensures.cases))
+    c.from_residual.ensures ∙ sym
+    (ap (option_and_then optional_version_of)
+    (has_no_prefix c.args.prefix.now c.args.text.now c.in_err-rest.ensures.cases))
 
 -- after the prefix, the version is that of the rest
-after_prefix : (prefix text rest cut : List ℕ) → text ≡ prefix ++ cut → rest ≡ cut → optional_version_of rest ≡ version_after prefix text
+after_prefix : (prefix text rest cut : List ℕ) → text ≡ prefix ++ cut → rest ≡ cut
+    → optional_version_of rest ≡ version_after prefix text
 unfolding version_after
-after_prefix prefix text rest cut whole is = sym (ap (option_and_then optional_version_of) (has_prefix prefix text rest (whole ∙ ap (λ r. prefix ++ r) (sym is))))
+after_prefix prefix text rest cut whole is =
+    sym (ap (option_and_then optional_version_of)
+    (has_prefix prefix text rest (whole ∙ ap (λ r. prefix ++ r) (sym is))))
 
 of_none : (rest : List ℕ) → length rest ≡ 0 → Some None ≡ optional_version_of rest
 of_none [] none = refl
@@ -37,4 +43,5 @@ returns-in_err-from_text c =
 pub returns : goal.returns
 returns c =
     let rest = c.in_ok-rest.ensures.cases in
-    ap (option_map Some) c.in_ok-from_text.ensures ∙ of_some c.in_ok-rest.rest.now (search rules) ∙ after_prefix c.args.prefix.now c.args.text.now _ _ rest.1.1 rest.2
+    ap (option_map Some) c.in_ok-from_text.ensures ∙ of_some c.in_ok-rest.rest.now (search rules)
+    ∙ after_prefix c.args.prefix.now c.args.text.now _ _ rest.1.1 rest.2

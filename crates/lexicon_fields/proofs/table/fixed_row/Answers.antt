@@ -1,12 +1,17 @@
 -- The row that is found has the string, what each field reads it as, and the ticks of the search.
-use Rattle.std.proofs.Common.{arith, sym, ap, List, ℕ, ◌≡◌, ◌∙◌, true, option_map}
-use Rattle.lexicon_fields.proofs.{RowLemmas.row-parses_by_name, VendorsReadBack.row_read, SearchSteps.search-few, SearchSteps.search-some}
-use Rattle.lexicon_fields.specs.{declared.table.FixedRow.FixedRow, FixedRow.IsRowOf, FixedRow.has_row, Private.FieldValues, Private.name_values, Private.row_values, Private.values_meant, Vendor.Known, Vendor.known_vendor_of, OperatingSystem.fixed_operating_system_of}
-use Rattle.lexicon_fields.proofs.table.fixed_row.Goals.{in-Architecture, in-Vendor, in-OperatingSystem, in-Environment, in-BinaryFormat, in-None, in-Unknown}
+use Rattle.lexicon_fields.proofs.Common.{◌∙◌, ◌≡◌, List, ap, arith, option_map, sym, true, ℕ, has_row}
+use Rattle.lexicon_fields.proofs.Common.{fixed_operating_system_of, name_values, Known, known_vendor_of}
+use Rattle.lexicon_fields.proofs.table.fixed_row.Goals.{in-Architecture, in-Vendor, in-OperatingSystem, in-Environment}
+use Rattle.lexicon_fields.proofs.table.fixed_row.Goals.{in-BinaryFormat, in-None, in-Unknown}
+use Rattle.lexicon_fields.proofs.{RowLemmas.row-parses_by_name, VendorsReadBack.row_read, SearchSteps.search-few}
+use Rattle.lexicon_fields.proofs.{SearchSteps.search-some}
+use Rattle.lexicon_fields.specs.{declared.table.FixedRow.FixedRow, FixedRow.IsRowOf, Private.FieldValues}
+use Rattle.lexicon_fields.specs.{Private.row_values, Private.values_meant}
 use Rattle.lexicon_fields.proofs.table.fixed_row.Goals as goal
 
 -- a row with this string and the values of the string
-is_row : (text : List ℕ) (row : FixedRow) → has_row text ≡ true → row.text.now ≡ text → row_values row ≡ name_values text → IsRowOf text row
+is_row : (text : List ℕ) (row : FixedRow) → has_row text ≡ true → row.text.now ≡ text
+    → row_values row ≡ name_values text → IsRowOf text row
 is_row text row exists text_is is =
     let vendor : row.vendor ≡ known_vendor_of text = ap (λ (v : FieldValues). v.1) is in
     let operating_system : row.operating_system ≡ fixed_operating_system_of text = ap (λ (v : FieldValues). v.2) is in

@@ -1,9 +1,12 @@
 -- A binary search: no row before `low` or after the `size` rows from there has the string, and the ticks so far are
 -- those of the way to them.
-use Rattle.std.proofs.Common.{arith, sym, ap, refl, subst, ◌≡◌, ◌<◌, ◌+◌, ◌/◌, ℕ, List, true}
-use Rattle.lexicon_fields.proofs.{RowReads.text-is, RowReads.values-are, RowLemmas.row-exists, RowLemmas.no_row-outside, RowLemmas.no_row-below, RowLemmas.no_row-above, RowTexts.row_text-is, SearchSteps.on-the-way-first, SearchSteps.on-the-way-less, SearchSteps.on-the-way-greater, SearchSteps.found-there, SearchSteps.none-left}
-use Rattle.lexicon_fields.specs.{FixedRow.has_row, FixedRow.row_count, FixedRow.row_texts, Private.name_values, Vendor.known_vendor_of, OperatingSystem.fixed_operating_system_of}
-use Rattle.lexicon_fields.specs.{Architecture.architecture_of, Environment.environment_of, BinaryFormat.binary_format_of}
+use Rattle.lexicon_fields.proofs.Common.{◌+◌, ◌/◌, ◌<◌, ◌≡◌, List, ap, arith, refl, subst, sym, true, ℕ}
+use Rattle.lexicon_fields.proofs.Common.{architecture_of, binary_format_of, environment_of, has_row, row_count}
+use Rattle.lexicon_fields.proofs.Common.{row_texts, fixed_operating_system_of, name_values, known_vendor_of}
+use Rattle.lexicon_fields.proofs.RowLemmas.{row-exists, no_row-outside, no_row-below, no_row-above}
+use Rattle.lexicon_fields.proofs.SearchSteps.{on-the-way-first, on-the-way-less, on-the-way-greater, found-there}
+use Rattle.lexicon_fields.proofs.SearchSteps.{none-left}
+use Rattle.lexicon_fields.proofs.{RowReads.text-is, RowReads.values-are, RowTexts.row_text-is}
 use Rattle.lexicon_fields.proofs.table.row_of.Goals as goal
 
 pub loop-size-init : goal.loop-size-init
@@ -18,12 +21,15 @@ pub loop-size-preserved-in-Less : goal.loop-size-preserved-in-Less
 loop-size-preserved-in-Less c =
     let loop = c.loop-size in
     let middle = loop.low + loop.size / 2 in
-    let earlier = no_row-below middle c.args.text.now (omega (arith, loop.invariant.within, c.loop-size-test.true)) (sym c.in-Less.ensures.order) in
+    let earlier = no_row-below middle c.args.text.now (omega (arith, loop.invariant.within, c.loop-size-test.true))
+    (sym c.in-Less.ensures.order) in
     record {
       within = omega (arith, loop.invariant.within);
       below = λ k lt. earlier k (omega (arith, lt));
       above = λ k ge. loop.invariant.above k (omega (arith, ge));
-      way = on-the-way-less _ _ _ loop.low loop.size c.args.text.now loop.invariant.way (omega (arith, c.loop-size-test.true)) c.row_order.ensures.count (sym c.in-Less.ensures.order);
+      way =
+          on-the-way-less _ _ _ loop.low loop.size c.args.text.now loop.invariant.way
+          (omega (arith, c.loop-size-test.true)) c.row_order.ensures.count (sym c.in-Less.ensures.order);
     }
 
 pub loop-size-preserved : goal.loop-size-preserved
@@ -33,7 +39,9 @@ loop-size-preserved c =
       within = omega (arith, loop.invariant.within);
       below = loop.invariant.below;
       above = no_row-above (loop.low + loop.size / 2) c.args.text.now (sym c.in-Greater.ensures.order);
-      way = on-the-way-greater _ _ _ loop.low loop.size c.args.text.now loop.invariant.way (omega (arith, c.loop-size-test.true)) c.row_order.ensures.count (sym c.in-Greater.ensures.order);
+      way =
+          on-the-way-greater _ _ _ loop.low loop.size c.args.text.now loop.invariant.way
+          (omega (arith, c.loop-size-test.true)) c.row_order.ensures.count (sym c.in-Greater.ensures.order);
     }
 
 pub returns-in-Equal-clause-row : goal.returns-in-Equal-clause-row
@@ -50,12 +58,15 @@ returns-in-Equal-clause-row c =
 
 pub returns-in-Equal-clause-exact : goal.returns-in-Equal-clause-exact
 returns-in-Equal-clause-exact c =
-    found-there _ _ _ c.loop-size.low c.loop-size.size c.args.text.now c.loop-size.invariant.way (omega (arith, c.loop-size-test.true)) c.row_order.ensures.count (sym c.in-Equal.ensures.order)
+    found-there _ _ _ c.loop-size.low c.loop-size.size c.args.text.now c.loop-size.invariant.way
+    (omega (arith, c.loop-size-test.true)) c.row_order.ensures.count (sym c.in-Equal.ensures.order)
 
 pub returns-clause-row : goal.returns-clause-row
 returns-clause-row c =
-    no_row-outside c.args.text.now c.loop-size.low c.loop-size.invariant.below (λ k ge lt. c.loop-size.invariant.above k (omega (arith, ge, c.loop-size-test.false)) lt)
+    no_row-outside c.args.text.now c.loop-size.low c.loop-size.invariant.below
+    (λ k ge lt. c.loop-size.invariant.above k (omega (arith, ge, c.loop-size-test.false)) lt)
 
 pub returns-clause-exact : goal.returns-clause-exact
 returns-clause-exact c =
-    none-left _ _ 0 c.loop-size.low c.loop-size.size c.args.text.now c.loop-size.invariant.way (omega (arith, c.loop-size-test.false))
+    none-left _ _ 0 c.loop-size.low c.loop-size.size c.args.text.now c.loop-size.invariant.way
+    (omega (arith, c.loop-size-test.false))

@@ -1,5 +1,4 @@
-use Rattle.std.proofs.Common.{◌≢◌, ◌+◌, ◌<◌, ◌≤◌, ℕ}
-use Rattle.lexicon_fields.specs.FixedRow.{row_count, row_text}
+use Rattle.lexicon_fields.proofs.Common.{◌+◌, ◌<◌, ◌≢◌, ◌≤◌, ℕ, row_count, row_text}
 use Rattle.lexicon_fields.proofs.SearchSteps.{IsOnTheWay}
 use Rattle.lexicon_fields.proofs.table.row_of.Given as goal
 

@@ -1,4 +1,4 @@
-use Rattle.std.proofs.Common.{rules}
+use Rattle.lexicon_fields.proofs.Common.{rules}
 use Rattle.lexicon_fields.proofs.architecture.Architecture.endianness.Goals as goal
 
 pub returns-in-Unknown-clause-answer : goal.returns-in-Unknown-clause-answer

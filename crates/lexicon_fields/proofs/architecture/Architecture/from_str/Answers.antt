@@ -1,4 +1,4 @@
-use Rattle.std.proofs.Common.{arith}
+use Rattle.lexicon_fields.proofs.Common.{arith}
 use Rattle.lexicon_fields.proofs.RowLemmas.{no_name_without_row}
 use Rattle.lexicon_fields.proofs.architecture.Architecture.from_str.Goals as goal
 

@@ -1,12 +1,15 @@
 -- Each way out of the code is one case of `version_of`: how many pieces there are, and whether each is a number in
 -- range.
-use Rattle.std.proofs.Common.{refl, sym}
-use Rattle.lexicon_fields.proofs.VersionsReadBack.{number_read, pieces-last, pieces-more, pieces_of-some, no_major, no_minor, no_patch, one_piece, two_pieces, three_pieces, too_many_pieces}
+use Rattle.lexicon_fields.proofs.Common.{refl, sym}
+use Rattle.lexicon_fields.proofs.VersionsReadBack.{number_read, pieces-last, pieces-more, pieces_of-some, no_major}
+use Rattle.lexicon_fields.proofs.VersionsReadBack.{no_minor, no_patch, one_piece, two_pieces, three_pieces}
+use Rattle.lexicon_fields.proofs.VersionsReadBack.{too_many_pieces}
 use Rattle.lexicon_fields.proofs.deployment_target.DeploymentTarget.from_text.Goals as goal
 
 pub returns-in_default : goal.returns-in_default
 returns-in_default c =
-    let missing = number_read 16 65535 c.first_piece.result.0.now _ _ refl c.parse-major.ensures.value.0 c.in_default.is in
+    let missing =
+    number_read 16 65535 c.first_piece.result.0.now _ _ refl c.parse-major.ensures.value.0 c.in_default.is in
     sym (no_major _ _ _ c.first_piece.ensures missing)
 
 pub returns-in_default-after_major : goal.returns-in_default-after_major
@@ -16,34 +19,47 @@ returns-in_default-after_major c =
 
 pub returns-in_default-minor : goal.returns-in_default-minor
 returns-in_default-minor c =
-    let missing = number_read 8 255 c.first_piece-2.result.0.now _ _ refl c.parse-minor.ensures.value.0 c.in_default-minor.is in
+    let missing =
+    number_read 8 255 c.first_piece-2.result.0.now _ _ refl c.parse-minor.ensures.value.0 c.in_default-minor.is in
     let pieces = pieces-more _ _ _ _ _ c.first_piece.ensures c.in-Some.is c.first_piece-2.ensures in
     sym (no_minor _ _ _ _ pieces missing)
 
 pub returns-in_default-after_minor : goal.returns-in_default-after_minor
 returns-in_default-after_minor c =
     let major = number_read 16 65535 c.first_piece.result.0.now _ _ refl c.parse-major.ensures.value.0 c.in-Ok.is in
-    let minor = number_read 8 255 c.first_piece-2.result.0.now _ _ refl c.parse-minor.ensures.value.0 c.in-Ok-minor.is in
-    let pieces = pieces-more _ _ _ _ _ c.first_piece.ensures c.in-Some.is (pieces-last _ _ _ c.first_piece-2.ensures c.in_default-after_minor.is) in
+    let minor =
+    number_read 8 255 c.first_piece-2.result.0.now _ _ refl c.parse-minor.ensures.value.0 c.in-Ok-minor.is in
+    let pieces =
+    pieces-more _ _ _ _ _ c.first_piece.ensures c.in-Some.is
+    (pieces-last _ _ _ c.first_piece-2.ensures c.in_default-after_minor.is) in
     sym (two_pieces _ _ _ _ _ pieces major minor)
 
 pub returns-in_default-patch : goal.returns-in_default-patch
 returns-in_default-patch c =
-    let missing = number_read 8 255 c.first_piece-3.result.0.now _ _ refl c.parse-patch.ensures.value.0 c.in_default-patch.is in
-    let pieces = pieces-more _ _ _ _ _ c.first_piece.ensures c.in-Some.is (pieces-more _ _ _ _ _ c.first_piece-2.ensures c.in-Some-after_minor.is c.first_piece-3.ensures) in
+    let missing =
+    number_read 8 255 c.first_piece-3.result.0.now _ _ refl c.parse-patch.ensures.value.0 c.in_default-patch.is in
+    let pieces =
+    pieces-more _ _ _ _ _ c.first_piece.ensures c.in-Some.is
+    (pieces-more _ _ _ _ _ c.first_piece-2.ensures c.in-Some-after_minor.is c.first_piece-3.ensures) in
     sym (no_patch _ _ _ _ _ pieces missing)
 
 pub returns-in-Some-after_patch : goal.returns-in-Some-after_patch
 returns-in-Some-after_patch c =
     let third = pieces-more _ _ _ _ _ c.first_piece-3.ensures c.in-Some-after_patch.is refl in
-    let pieces = pieces-more _ _ _ _ _ c.first_piece.ensures c.in-Some.is (pieces-more _ _ _ _ _ c.first_piece-2.ensures c.in-Some-after_minor.is third) in
+    let pieces =
+    pieces-more _ _ _ _ _ c.first_piece.ensures c.in-Some.is
+    (pieces-more _ _ _ _ _ c.first_piece-2.ensures c.in-Some-after_minor.is third) in
     sym (too_many_pieces _ _ _ _ _ pieces (pieces_of-some c.in-Some-after_patch.field-0.now))
 
 pub returns-in-None : goal.returns-in-None
 returns-in-None c =
     let major = number_read 16 65535 c.first_piece.result.0.now _ _ refl c.parse-major.ensures.value.0 c.in-Ok.is in
-    let minor = number_read 8 255 c.first_piece-2.result.0.now _ _ refl c.parse-minor.ensures.value.0 c.in-Ok-minor.is in
-    let patch = number_read 8 255 c.first_piece-3.result.0.now _ _ refl c.parse-patch.ensures.value.0 c.in-Ok-patch.is in
+    let minor =
+    number_read 8 255 c.first_piece-2.result.0.now _ _ refl c.parse-minor.ensures.value.0 c.in-Ok-minor.is in
+    let patch =
+    number_read 8 255 c.first_piece-3.result.0.now _ _ refl c.parse-patch.ensures.value.0 c.in-Ok-patch.is in
     let third = pieces-last _ _ _ c.first_piece-3.ensures c.in-None.is in
-    let pieces = pieces-more _ _ _ _ _ c.first_piece.ensures c.in-Some.is (pieces-more _ _ _ _ _ c.first_piece-2.ensures c.in-Some-after_minor.is third) in
+    let pieces =
+    pieces-more _ _ _ _ _ c.first_piece.ensures c.in-Some.is
+    (pieces-more _ _ _ _ _ c.first_piece-2.ensures c.in-Some-after_minor.is third) in
     sym (three_pieces _ _ _ _ _ _ _ pieces major minor patch)

@@ -1,4 +1,4 @@
-use Rattle.std.proofs.Common.{rules}
+use Rattle.lexicon_fields.proofs.Common.{rules}
 use Rattle.lexicon_fields.proofs.RowLemmas.{system_without_row}
 use Rattle.lexicon_fields.proofs.operating_system.OperatingSystem.from_str.Goals as goal
 

@@ -1,21 +1,16 @@
 -- `tick` adds one to the count, which has no bytes.
-use mathlib.Core.Path.{refl}
-use mathlib.Core.List.{[], ◌∷◌}
-use Rattle.std.proofs.Common.{◌+◌}
+use Rattle.lexicon_fields.proofs.Common.{◌+◌, ◌∷◌, [], refl}
 use Rattle.std.proofs.raw_atomic.Walks.{proved}
-use mir.Syntax.{named}
-use mir.Val.{vunit}
+use mir.{Syntax.named, Val.vunit}
 use base.Fml.{ftrue, flft}
 use types.Kit.{‵, ◌⊛◌, ◌$◌, ◌∵◌, !, qed, done, move, keep, split, join, fsplit3, feq_i, suffices, frame, group}
 use types.Run.{enter, of_opd, unit_lit, returns}
 use types.ByLocal.{alloc_all, pass_all, free_all, look_at, sets}
-use denote.Ref.{MutRef, mut_vals, mut_Tells}
-use denote.Signature.{plain}
-use denote.Steps.{nothing, opens, closes}
 use denote.Triple.Walked.{Stays, walk_of, says, stay_ref, Goes-ref, ends_at}
+use denote.{Ref.MutRef, Ref.mut_vals, Ref.mut_Tells, Signature.plain, Steps.nothing, Steps.opens, Steps.closes}
 use Rattle.lexicon_fields.proofs.steps.Steps.tick.Statement.{statement}
-use Rattle.lexicon_fields.specs.contracts.steps.Steps.tick as f
 use Rattle.lexicon_fields.specs.contracts.steps.Steps.{the_row as R}
+use Rattle.lexicon_fields.specs.contracts.steps.Steps.tick as f
 use Rattle.lexicon_fields.proofs.steps.Steps.tick.Code as code
 
 abbrev stayed : Stays f.ended.signature.params f.ended.kept
@@ -32,8 +27,11 @@ tick_spec 𝓤 𝓛 𝓜 𝓡 wired =
     qed 𝓛 (((‵ (flft κs.0 qs.0) ⊛ ‵ ftrue) ⊛ ‵ ((MutRef (named 0) κs.0 R).own_val a.0 vs) ⊛ ‵ ftrue) ∷ ‵ ftrue ∷ []) ∵
     split ! $ split ! $ move ! (2 ∷ []) $ split ! $ keep ! (0 ∷ 2 ∷ []) $
     enter ! _ _ _ _ _ $ alloc_all ! (λ l. pass_all ! refl ((tt, tt), tt) $
-    fsplit3 ! $ move ! (1 ∷ 2 ∷ 3 ∷ []) $ opens ! tt R b o (λ us. closes ! tt R (record { count = a.0.now.count + 1 }) us b o $
+    fsplit3 ! $ move ! (1 ∷ 2 ∷ 3 ∷ []) $ opens ! tt R b o
+    (λ us. closes ! tt R (record { count = a.0.now.count + 1 }) us b o $
     sets ! (of_opd ! (unit_lit !)) refl (tt, tt) $ returns ! (look_at ! 0 refl) $ free_all ! refl $ move ! (3 ∷ []) $
-    suffices ! _ (ends_at 𝓛 f.ended stayed c y vunit tt (record { count = a.0.now.count + 1 }, tt) (tt, tt)) $ says ! refl $
-    group ! 3 $ nothing ! $ move ! (1 ∷ 0 ∷ []) $ join ! $ nothing ! $ move ! (2 ∷ 0 ∷ []) $ join ! $ frame ! $ frame ! $
+    suffices ! _ (ends_at 𝓛 f.ended stayed c y vunit tt (record { count = a.0.now.count + 1 }, tt) (tt, tt)) $
+    says ! refl $
+    group ! 3 $ nothing ! $ move ! (1 ∷ 0 ∷ []) $ join ! $ nothing ! $ move ! (2 ∷ 0 ∷ []) $ join ! $ frame !
+    $ frame ! $
     feq_i ! _ (vunit ∷ []) _ refl $ done !)))

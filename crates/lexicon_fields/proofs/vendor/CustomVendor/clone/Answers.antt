@@ -1,4 +1,4 @@
-use Rattle.std.proofs.Common.{rules}
+use Rattle.lexicon_fields.proofs.Common.{rules}
 use Rattle.lexicon_fields.proofs.vendor.CustomVendor.clone.Goals as goal
 
 pub returns-in-Static-clause-variant : goal.returns-in-Static-clause-variant

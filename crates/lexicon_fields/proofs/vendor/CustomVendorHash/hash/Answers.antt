@@ -1,4 +1,4 @@
-use Rattle.std.proofs.Common.{rules}
+use Rattle.lexicon_fields.proofs.Common.{rules}
 use Rattle.lexicon_fields.proofs.vendor.CustomVendorHash.hash.Goals as goal
 
 pub returns : goal.returns
