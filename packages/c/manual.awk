@@ -1,6 +1,6 @@
-# Writes the manual page of the library from target_lexicon.h: the comment at its start, its structs and calls with their comments,
-# and the statuses.
-# usage: awk -f manual.awk target_lexicon.h
+# Writes the manual page of the library from target_lexicon.h with the header that it includes: the comment at its
+# start, its structs and calls with their comments, and the statuses.
+# usage: awk -f manual.awk HEADER
 
 function escaped(line) {
     gsub(/\\/, "\\\\e", line)
@@ -32,7 +32,7 @@ function list(name) { names = names (names == "" ? "" : ",\n") name }
 /^#define LEXICON_VERSION "/ { version = $3; gsub(/"/, "", version) }
 /^enum lexicon_status \{/ { in_statuses = 1; next }
 /^struct lexicon_[a-z_]* \{/ { in_struct = 1 }
-in_struct && !/ written by tools| end of what is written/ { code($0) }
+in_struct { code($0) }
 /^};/ { in_statuses = in_struct = 0 }
 in_struct { next }
 in_statuses {
@@ -62,7 +62,8 @@ in_comment {
     code("const char *" $0 "(uint32_t number);")
     next
 }
-/^#define LEXICON_MAX_GROWTH/ || /^(static inline )?(enum lexicon_[a-z]*|const char \*|bool) ?lexicon_[a-z0-9_]*\(/ || in_call {
+/^#define LEXICON_MAX_GROWTH/ || in_call ||
+/^(static inline )?(enum lexicon_[a-z]*|const char \*|bool) ?lexicon_[a-z0-9_]*\(/ {
     if (match($0, /lexicon_[a-z0-9_]*\(/) && !in_call) list(substr($0, RSTART, RLENGTH - 1))
     sub(/^static inline /, "")
     in_call = /[^;{]$/ && !/^#/
@@ -75,10 +76,13 @@ END {
     finish()
     printf ".TH LEXICON 3 \"\" \"target\\-lexicon %s\" \"Library functions\"\n", version
     printf ".ad l\n.SH NAME\n%s\n\\- target triples: parsing, printing, queries, and the names of other tools\n", names
-    print ".SH SYNOPSIS\n.B #include <target_lexicon.h>\n.PP\nLink with \\fB\\-ltarget_lexicon\\fR; the flags are those of"
+    print ".SH SYNOPSIS\n.B #include <target_lexicon.h>"
+    print ".PP\nLink with \\fB\\-ltarget_lexicon\\fR; the flags are those of"
     print "\\fBpkg\\-config \\-\\-cflags \\-\\-libs target\\-lexicon\\fR."
     printf ".SH DESCRIPTION\n%s.SH CALLS\n%s", introduction, body
     printf ".SH RETURN VALUE\n%s", statuses
-    print ".SH ATTRIBUTES\nThe calls are thread\\-safe and async\\-signal\\-safe. They allocate nothing and keep nothing."
-    print ".SH SEE ALSO\n.BR target\\-lexicon (1),\nand in \\fBtarget_lexicon.h\\fR the structs and the names of numbers"
+    print ".SH ATTRIBUTES\nThe calls are thread\\-safe and async\\-signal\\-safe."
+    print "They allocate nothing and keep nothing."
+    print ".SH SEE ALSO\n.BR target\\-lexicon (1),\nand in \\fBtarget_lexicon.h\\fR the structs"
+    print "and in \\fBtarget_lexicon_values.h\\fR the names of numbers"
 }

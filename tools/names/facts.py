@@ -2,7 +2,7 @@
 import re
 from dataclasses import dataclass
 
-from names_table import Mistake, columns, filled
+from names_table import COLUMNS, Mistake, columns, filled
 
 GROUPS = {"queries": "queries()", "formats": "formats()", "driver": "facts()"}
 # The variables of which an answer may be a member: their types in the library for C.
@@ -80,8 +80,11 @@ class Fact:
         facts = f"{GROUPS[self.group]}.{self.name}"
         if not self.is_optional and self.words:
             return f"{self.words} {self.name}() const {{ return static_cast<{self.words}>({facts}); }}"
+        if self.type == "bool":
+            return f"bool {self.name}() const {{ return {facts}; }}"
         of = self.words or "unsigned"
-        return f"bool {self.name}() const {{ return {facts}; }}" if self.type == "bool" else f"std::optional<{of}> {self.name}() const {{ return detail::answer<{of}>({facts}); }}"
+        begin, answer = f"std::optional<{of}> {self.name}() const {{", f"return detail::answer<{of}>({facts});"
+        return f"{begin} {answer} }}" if len(begin + answer) < COLUMNS - 4 else f"{begin}\n  {answer}\n}}"
 
     def javascript(self, number):
         """The answer from a number of C: the name from a list, whether it is true, or none where it is 0."""

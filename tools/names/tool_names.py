@@ -334,11 +334,9 @@ def lists(tables):
         "the dialects for C": [
         f"LEXICON_DIALECT_{it.constant} = {number}, /* {it.about.rstrip('.').replace('`', '')} */"
         for number, it in enumerate(dialects, 1)],
-        "the last dialect": [f"enum {{ LAST_DIALECT = {len(dialects)} }};"],
         "the dialects for C++": filled([f"{it.variant} = {number}," for number, it in enumerate(dialects, 1)], " "),
-        "the dialects' names for C": [f"{names},"],
-        "the other names of dialects for C": [f'if (strcmp(name, "{name}") == 0) return LEXICON_DIALECT_{it.constant};'
-                                              for name, it in others],
+        "the dialects' names for C": filled([f'"{it}",' for it in words], " ", "  "),
+        "the other names of dialects for C": [f'  {{"{name}", LEXICON_DIALECT_{it.constant}}},' for name, it in others],
         "the dialects that are only read": ["fn is_only_read(dialect: Dialect) -> bool {",
                                             f"    matches!(dialect, {' | '.join(f'Dialect::{it.variant}' for it in dialects if not it.is_written)})", "}"],
         "the other names of dialects for the command": [f"const OTHER_NAMES: [(&str, Dialect); {len(others)}] = "

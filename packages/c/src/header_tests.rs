@@ -1,9 +1,10 @@
-//! The numbers and names of target_lexicon.h and target_lexicon.hpp are the library's.
+//! The numbers and names of the headers are the library's.
 use crate::numbers::{architecture_at, family_number};
 use crate::values::{c_library_at, dialect_at, field_at, name_at};
 
 const HEADER: &str = include_str!("../include/target_lexicon.h");
-const CPP_HEADER: &str = include_str!("../include/target_lexicon.hpp");
+const VALUES: &str = include_str!("../include/target_lexicon_values.h");
+const CPP_VALUES: &str = include_str!("../include/target_lexicon_values.hpp");
 
 /// What is between two texts.
 fn between(text: &'static str, start: &str, end: &str) -> &'static str {
@@ -31,24 +32,29 @@ fn letters(name: &str) -> String {
 /// The names of an enum of C, without the prefix that all have.
 fn of_c(name: &str) -> Vec<String> {
     let prefix = letters(&format!("lexicon_{name}"));
-    let found = enumerators(between(HEADER, &format!("enum lexicon_{name} {{"), "};"));
+    let header = if name == "field" { HEADER } else { VALUES };
+    let found = enumerators(between(header, &format!("enum lexicon_{name} {{"), "};"));
     found.iter().map(|it| it.strip_prefix(&prefix).expect(&prefix).to_string()).collect()
 }
 
 #[test]
 fn the_enumerators_are_the_values() {
     let fields = ["architecture", "vendor", "operating_system", "environment", "binary_format"];
-    for (number, (c, cpp)) in (0..).zip(fields.iter().zip(["Architecture", "Vendor", "OperatingSystem", "Environment", "BinaryFormat"])) {
+    let types = ["Architecture", "Vendor", "OperatingSystem", "Environment", "BinaryFormat"];
+    for (number, (c, cpp)) in (0..).zip(fields.iter().zip(types)) {
         let names: Vec<_> = (0..).map_while(|it| name_at(field_at(number)?, it)).map(letters).collect();
         assert_eq!(of_c(c), names);
-        assert_eq!(enumerators(between(CPP_HEADER, &format!("enum class {cpp} : "), "};")), names);
+        assert_eq!(enumerators(between(CPP_VALUES, &format!("enum class {cpp} : "), "};")), names);
     }
     assert_eq!(of_c("field"), fields.map(letters));
 }
 /// The names by number that the header's call of an enum's names has. That of 0 is `none` where it is no answer.
 fn names(of: &str) -> Vec<String> {
-    let listed = between(HEADER, &format!("LEXICON_NAMES(lexicon_{of}_name,"), ")\n");
-    listed.split(',').filter_map(|it| it.split('"').nth(1).or(it.contains("NULL").then_some("none"))).map(letters).collect()
+    let given = between(HEADER, &format!("LEXICON_NAMES(lexicon_{of}_name,"), ")\n");
+    let written = VALUES.split_once(&format!("#define LEXICON_{}_NAMES ", of.to_uppercase()));
+    let written = written.map_or("", |(_, after)| after.split("\n\n").next().unwrap_or(""));
+    let listed = given.split(',').chain(written.split(','));
+    listed.filter_map(|it| it.split('"').nth(1).or(it.contains("NULL").then_some("none"))).map(letters).collect()
 }
 
 #[test]
@@ -65,7 +71,7 @@ fn the_names_are_those_of_the_enumerators() {
         ("arm_profile", "ArmProfile"),
         ("signedness", "Signedness"),
     ] {
-        let (found, of_cpp) = (of_c(c), enumerators(between(CPP_HEADER, &format!("enum class {cpp} : "), "};")));
+        let (found, of_cpp) = (of_c(c), enumerators(between(CPP_VALUES, &format!("enum class {cpp} : "), "};")));
         assert!(found.ends_with(&of_cpp) && found.len() == of_cpp.len() + usize::from(c != "family"), "{c}");
         assert!(c == "arm_profile" || names(c) == found, "{c}");
     }
@@ -80,8 +86,9 @@ fn the_names_are_those_of_the_enumerators() {
     assert_eq!(of_c("chosen_libc"), c_libraries.collect::<Vec<_>>());
 }
 
-/// A call may be given null for a text, a buffer, an array of `parts`, `length`, `error`, `reason` and `note`, and for
-/// no other pointer.
+/// A call may be given null for these pointers, and for no other one.
+const MAY_BE_NULL: [&str; 9] = ["text", "name", "out", "parts", "length", "error", "reason", "note", "versions"];
+
 #[test]
 fn the_pointers_that_may_not_be_null_are_marked() {
     let (_, prototypes) = HEADER.split_once("#define LEXICON_MAX_GROWTH").expect("the calls");
@@ -90,10 +97,12 @@ fn the_pointers_that_may_not_be_null_are_marked() {
     let declared = prototypes.split(';').filter_map(|it| it.trim().strip_suffix(')')?.rsplit_once('('));
     let mut count = 0;
     for (before, given) in declared.filter(|(before, _)| before.contains("lexicon_")) {
-        let marked = before.split_once("LEXICON_NONNULL(").map_or("", |(_, after)| after.split_once(')').expect("an end").0);
+        let marked = before.split_once("LEXICON_NONNULL(");
+        let marked = marked.map_or("", |(_, after)| after.split_once(')').expect("an end").0);
         let pointers = (1..).zip(given.split(',')).filter_map(|(number, it)| Some((number, it.rsplit_once('*')?.1)));
-        let needed = pointers.filter(|(_, name)| !["text", "name", "out", "parts", "length", "error", "reason", "note", "versions"].contains(name));
-        assert_eq!(marked, needed.map(|(number, _)| i32::to_string(&number)).collect::<Vec<_>>().join(", "), "{before}");
+        let needed = pointers.filter(|(_, name)| !MAY_BE_NULL.contains(name));
+        let needed: Vec<_> = needed.map(|(number, _)| i32::to_string(&number)).collect();
+        assert_eq!(marked, needed.join(", "), "{before}");
         count += 1;
     }
     assert_eq!(count, include_str!("lib.rs").matches("extern \"C\" fn lexicon_").count());

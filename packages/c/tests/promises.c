@@ -91,9 +91,8 @@ static bool has_zeros(const struct lexicon_triple *it) {
   return (it->vendor == LEXICON_VENDOR_CUSTOM || no_vendor) && (it->has_version || no_version);
 }
 
-/* written by tools/names/write: the last dialect */
-enum { LAST_DIALECT = 15 };
-/* end of what is written */
+static const char *const dialects[] = {LEXICON_DIALECT_NAMES};
+enum { LAST_DIALECT = sizeof dialects / sizeof *dialects };
 
 /* Whether a name says a level of the machine, which its triple can't state. */
 static bool says_level(uint32_t dialect, const char *name, size_t length) {

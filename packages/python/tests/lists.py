@@ -36,10 +36,9 @@ def names():
 
 
 def header_numbers(prefix):
-    """The enumerators of the header that begin so: for each the number."""
-    return {name: int(number)
-            for name, number in re.findall(rf"LEXICON_{prefix}_(\w+) = (\d+)",
-                                           read("packages/c/include/target_lexicon.h"))}
+    """The enumerators of the headers that begin so: for each the number."""
+    headers = "".join(read(f"packages/c/include/target_lexicon{it}.h") for it in ("", "_values"))
+    return {name: int(number) for name, number in re.findall(rf"LEXICON_{prefix}_(\w+) = (\d+)", headers)}
 
 
 def generated_lines(count):
