@@ -1,29 +1,30 @@
 #!/usr/bin/env python3
 """The gate: its steps, of which the first that fails ends the run.
 
-usage: .ci/run [--without NAME].. [--since COMMIT]
-NAME is a tool or Debian's package of it, as PACKAGES has them, or `kit`, `browser`, `wasm32`. After COMMIT, for which
-the gate passed, only the steps that read what has changed since are run.
+usage: .ci/run [--half HALF] [--without NAME].. [--since COMMIT]
+HALF is `proved`, the crates, the Rust crate and Coq, or `around`, what is built and tested around these; otherwise both
+halves run. NAME is a tool or Debian's package of it, as PACKAGES has them, or `kit`, `browser`, `wasm32`. After COMMIT,
+for which the gate passed, only the steps that read what has changed since are run.
 
 .ci/isolated starts this in a copy of the tree, and as root installs Debian's packages of missing tools. If one is still
-missing, or too old, that no --without names, no step runs, and the gate fails. While `rt ci` proves, what needs no
-proof is built with cargo and tested, in two rows of steps; what all these built is tested after them, each step at the
-same time as the others. Each step runs by itself too, as it is printed, with WORK as any folder, and BUILT as
-WORK/built. A step that needs a named tool isn't run; a step without a part that needs one fails, unless that is named
-in WITHOUT, where the steps get all names. With UPSTREAM, upstream's crate in a folder that all may read and that isn't
-temporary, upstream's tests, public surface and dependents are tried too. The last lines say how long each step took,
-what was left out, and which step failed.
+missing, or too old, that no --without names, no step runs, and the gate fails. Each half has rows of steps, which run
+at the same time; what all these built is tested after them, each step at the same time as the others. Each step runs by
+itself too, as it is printed, with WORK as any folder, and BUILT as WORK/built. A step that needs a named tool isn't
+run; a step without a part that needs one fails, unless that is named in WITHOUT, where the steps get all names. With
+UPSTREAM, upstream's crate in a folder that all may read and that isn't temporary, upstream's tests, public surface and
+dependents are tried too. The last lines say how long each step took, by the clock and in minutes of a processor, what
+was left out, and which step failed.
 """
 import argparse
 import concurrent.futures
 import glob
-import itertools
 import os
 import re
 import shutil
 import signal
 import subprocess
 import sys
+import tempfile
 import threading
 import time
 import traceback
@@ -54,6 +55,7 @@ GROUPS = {"kit": ["rt"], "browser": ["chromium", "chromedriver", "selenium"]}
 
 parser = argparse.ArgumentParser(prog=".ci/run", description=__doc__,
                                  formatter_class=argparse.RawDescriptionHelpFormatter)
+parser.add_argument("--half", choices=("proved", "around"))
 parser.add_argument("--without", metavar="NAME", action="append", default=[])
 parser.add_argument("--since", metavar="COMMIT", default="")
 parser.add_argument("--prepare", action="store_true", help=argparse.SUPPRESS)
@@ -68,7 +70,8 @@ BUILT, CARGO_HOME, WASM = f"{WORK}/built", f"{WORK}/cargo", f"{WORK}/rust"
 COMMANDS = "packages/target/release"
 
 # Each step: what it is for, its command, the tools without which it isn't run, and the rooms that it reads, if it isn't
-# always run. What is neither a page nor in a room is read by each.
+# always run. What is neither a page nor in a room is read by each. The halves are what is proved, and what is around
+# it, of which the rows run at the same time. The second row of the latter has what is built for others.
 ROOM = re.compile(r"crates/|packages/(\w+)/|checks/(coq|upstream|comparisons)/|docs/|[A-Z]+\.md$")
 FIRST = [
     ("lists of names and the Rust source are what they are made from; what was reviewed of the statement is as it "
@@ -78,15 +81,10 @@ FIRST = [
     ("nothing that another user of the machine plants reaches the gate", "checks/gate/planted", ""),
 ]
 PROOFS = ("all proofs, must-fail edits, tests and proved programs", "rt ci", "rt", "crates")
-# Two rows of steps: those that need nothing which the gate builds, and those that build something, or need what is
-# built before them.
-WITHOUT_PROOF = [[
+ROWS = {"proved": [[PROOFS], [
     ("the Rust crate, as its users build it: tests, samples of the documentation, public surface, features, "
      "a dependent",
      "packages/rust/test", "cargo", "rust coq"),
-    ("the crate of other tools' names: each row, shape and rule, laws over generated strings, samples of the "
-     "documentation, the schema of the table",
-     "packages/names/test", "cargo", "rust names"),
     ("the definitions, as Coq extracts them, say what upstream and the Rust crate answer; bad input",
      "checks/specification quick && checks/upstream/extracted/test", "cargo coqc ocamlopt",
      "crates rust coq upstream"),
@@ -99,11 +97,15 @@ WITHOUT_PROOF = [[
      'if [ "$UPSTREAM" ]; then tools/port "$UPSTREAM"; '
      'else echo "left out: upstream\'s crate (UPSTREAM isn\'t set)"; fi',
      "cargo coqc ocamlopt", "crates rust coq upstream"),
+]], "around": [[
+    ("the crate of other tools' names: each row, shape and rule, laws over generated strings, samples of the "
+     "documentation, the schema of the table",
+     "packages/names/test", "cargo", "rust names"),
     ("the command `target-lexicon`: arguments, output and statuses", "packages/command/test", "cargo cram3 jq",
      "rust names command"),
     ("the library for C, header, packages and samples, as C and C++ users have them", "packages/c/test", "cargo cc",
      "rust names c"),
-    ("Debian's packages are built, and lintian finds no error", 'checks/gate/planted packages/debian/build debian -d',
+    ("Debian's packages are built, and lintian finds no error", "checks/gate/planted packages/debian/build debian -d",
      "cargo cc dpkg-buildpackage", "rust names c command python debian"),
 ], [
     ("the command `target-lexicon`, and a program to compare with, are built for the next steps",
@@ -112,34 +114,37 @@ WITHOUT_PROOF = [[
     ("the library for C is built and installed for the next steps", 'checks/gate/planted packages/c/install "$BUILT"',
      "cargo cc"),
     ("what other tools say of names and targets; suggestions keep the machine",
-     "checks/compare elsewhere && checks/compare llvm && checks/compare suggestions", "cargo cc", "rust names c comparisons"),
+     "checks/compare elsewhere && checks/compare llvm && checks/compare suggestions", "cargo cc",
+     "rust names c comparisons"),
     ("the Python package: each answer, wheels, types, samples",
      f'packages/python/test "$BUILT/lib/libtarget_lexicon.so" {COMMANDS}/lines',
      "cargo cc hatchling", "rust names c python"),
     ("a list of misspelled names takes at most ten times as long as one of right names",
      f"packages/command/tests/cost {COMMANDS}/target-lexicon", "cargo valgrind", "rust names command"),
-    ("what is released is made, and works in clean folders", 'umask 077; checks/gate/planted tools/release release',
+    ("what is released is made, and works in clean folders", "umask 077; checks/gate/planted tools/release release",
      "cargo cc", "rust names c command python javascript"),
     ("the module, the package and the page for JavaScript are built",
      'checks/gate/planted packages/javascript/build --out "$WORK/web"', "cargo wasm32", "rust names c javascript"),
     ("the page and the package for JavaScript answer as the command does, in Node and in a browser",
      f'packages/javascript/test "$WORK/web" --command {COMMANDS}/target-lexicon', "cargo wasm32",
      "rust names c javascript"),
-]]
-LAST = [
-    ("links, names, samples, counts and versions of the pages, and the pictures", "checks/gate/pages", "cargo"),
-    ("the program `triples` and the command `target-lexicon`: stored rows, unusual streams, large inputs, samples "
-     "of the pages", "checks/gate/rows/run", "cargo coqc cram3 ocamlopt"),
-    ("no message and no output has what isn't printable ASCII of a hostile string; SECURITY's other promises",
-     "checks/gate/visible && checks/gate/security", "cargo cc strace"),
+]]}
+LAST = {"proved": [
     ("each allocation fails in turn", "checks/gate/fail_allocations", "rt cc", "crates"),
     ("names, rules and tables are upstream's, by its kept answers", "checks/compare answers", "cargo"),
     ("the mode json: the proved program answers as Rust's serde_json does",
      "/usr/bin/python3 checks/compare json --inputs 200",
      "rt cargo hypothesis", "crates"),
-]
+], "around": [
+    ("links, names, samples, counts and versions of the pages, and the pictures", "checks/gate/pages", "cargo"),
+    ("the program `triples` and the command `target-lexicon`: stored rows, unusual streams, large inputs, samples "
+     "of the pages", "checks/gate/rows/run", "cargo coqc cram3 ocamlopt"),
+    ("no message and no output has what isn't printable ASCII of a hostile string; SECURITY's other promises",
+     "checks/gate/visible && checks/gate/security", "cargo cc strace"),
+]}
 
 running, passed, left_out, failed = set(), [], [], []
+HALVES = [half for half in ROWS if OPTIONS.half in (None, half)]
 ENVIRONMENT = {**os.environ, "WORK": WORK, "BUILT": BUILT, "WASM_RUST": WASM, "PYTHONDONTWRITEBYTECODE": "1",
                "WITHOUT": " ".join(sorted(WITHOUT))}
 
@@ -159,7 +164,7 @@ def changed():
 
 def missing():
     """The tools that aren't there, and that aren't named."""
-    steps = [*FIRST, PROOFS, *itertools.chain(*WITHOUT_PROOF), *LAST]
+    steps = [*FIRST, *(step for half in HALVES for row in [*ROWS[half], LAST[half]] for step in row)]
     tools = dict.fromkeys([*PACKAGES, *(tool for step in steps for tool in step[2].split())])
     return [tool for tool in tools if tool not in WITHOUT and (not has(tool) or too_old(tool))]
 
@@ -198,29 +203,31 @@ def run(step):
         return not failed
     path = f"{WASM}/bin:{ENVIRONMENT['PATH']}" if "wasm32" in tools else ENVIRONMENT["PATH"]
     print(f"step: {command}   # {purpose}\n", end="", flush=True)
-    begun = time.monotonic()
-    process = subprocess.Popen(command, shell=True, cwd=TOP, env={**ENVIRONMENT, "PATH": path},
-                               stdin=subprocess.DEVNULL,
-                               stdout=subprocess.PIPE, stderr=subprocess.STDOUT, text=True, errors="replace",
-                               start_new_session=True)
-    running.add(process)
-    output = None
-    while output is None:
-        try:
-            output = process.communicate(timeout=60)[0]
-        except subprocess.TimeoutExpired:
-            print(f"-- {command}: for {(time.monotonic() - begun) / 60:.0f} min\n", end="", flush=True)
-            if process.poll() is not None:
-                stop([process])  # what the step left running keeps its output open
-    running.discard(process)
-    print(f"{command}, after {(time.monotonic() - begun) / 60:.0f} min:\n{output}", end="", flush=True)
+    begun, minutes = time.monotonic(), 0
+    with tempfile.TemporaryFile("w+", errors="replace") as file:
+        process = subprocess.Popen(command, shell=True, cwd=TOP, env={**ENVIRONMENT, "PATH": path},
+                                   stdin=subprocess.DEVNULL, stdout=file, stderr=subprocess.STDOUT,
+                                   start_new_session=True)
+        running.add(process)
+        while not (ended := os.wait4(process.pid, os.WNOHANG))[0]:
+            time.sleep(0.1)
+            if time.monotonic() - begun > 60 * (minutes + 1):
+                minutes += 1
+                print(f"-- {command}: for {minutes} min\n", end="", flush=True)
+        running.discard(process)
+        stop([process])  # what it left running
+        file.seek(0)
+        output = file.read()
+    process.returncode = status = os.waitstatus_to_exitcode(ended[1])
+    seconds = time.monotonic() - begun
+    print(f"{command}, after {seconds / 60:.0f} min:\n{output}", end="", flush=True)
     left_out.extend(f"within {command}: {line}" for line in output.splitlines() if re.search("left out[:,] ", line))
-    if process.returncode == 0:
-        passed.append((command, time.monotonic() - begun))
+    if status == 0:
+        passed.append((command, seconds, (ended[2].ru_utime + ended[2].ru_stime) / 60))
     elif not failed:
-        failed.append((command, process.returncode))
+        failed.append((command, status))
         stop(running)
-    return process.returncode == 0
+    return status == 0
 
 
 def in_turn(steps):
@@ -260,16 +267,16 @@ def main():
         ["tools/debian_crates", CARGO_HOME], cwd=TOP).returncode == 0:
         ENVIRONMENT["CARGO_HOME"] = CARGO_HOME
     with concurrent.futures.ThreadPoolExecutor(max(3, os.cpu_count())) as pool:
-        if not in_turn(FIRST) or not all([*pool.map(in_turn, [[PROOFS], *WITHOUT_PROOF])]):
+        if not in_turn(FIRST) or not all([*pool.map(in_turn, [row for half in HALVES for row in ROWS[half]])]):
             return
-        if PROOFS[1] not in [command for command, _ in passed] and "cargo" not in WITHOUT:
+        if PROOFS[1] not in [it[0] for it in passed] and "cargo" not in WITHOUT:
             ENVIRONMENT["WITHOUT"] += " rt"  # as checks/built.py says
             left_out.append(
                 "all proofs; the pages were tried with the Rust crate's program instead of the proved `triples`")
         for program in glob.glob(f"{TOP}/crates/triples/out/triples") + glob.glob(
             f"{TOP}/crates/oom_probe/out/oom_probe"):
             shutil.copy(program, f"{BUILT}/bin")  # where `rt ci` left none, the checks ask `rt run`
-        list(pool.map(run, LAST))
+        list(pool.map(run, [step for half in HALVES for step in LAST[half]]))
 
 
 if OPTIONS.prepare:
@@ -288,8 +295,9 @@ except Exception:
     failed.append(("the gate itself", 1))
 stop(running)
 print(f"the steps of .ci/run, after {(time.monotonic() - begun) / 60:.0f} min")
-for command, seconds in passed:
-    print(f"{seconds:6.0f} s  {command}")
+for command, seconds, used in passed:
+    print(f"{seconds:6.0f} s {used:5.1f} CPU min  {command}")
+print(f"{sum(used for command, _, used in passed if command != PROOFS[1]):.1f} CPU minutes, apart from {PROOFS[1]}")
 for what in left_out:
     print(f"left out: {what}")
 for command, code in failed:
