@@ -11,9 +11,9 @@ missing, or too old, that no --without names, no step runs, and the gate fails. 
 at the same time; what all these built is tested after them, each step at the same time as the others. Each step runs by
 itself too, as it is printed, with WORK as any folder, and BUILT as WORK/built. A step that needs a named tool isn't
 run; a step without a part that needs one fails, unless that is named in WITHOUT, where the steps get all names. With
-UPSTREAM, upstream's crate in a folder that all may read and that isn't temporary, upstream's tests, public surface and
-dependents are tried too. The last lines say how long each step took, by the clock and in minutes of a processor, what
-was left out, and which step failed.
+UPSTREAM, upstream's crate in a folder that all may read and that isn't temporary, upstream's tests and dependents are
+tried too. The last lines say how long each step took, by the clock and in minutes of a processor, what was left out,
+and which step failed.
 """
 import argparse
 import concurrent.futures
