@@ -3,6 +3,7 @@
 //! one letter is asked, and some of two. A suggestion must have its place, and keep machine, width, byte order and
 //! float ABI: those of the name, or of a machine that the edited name states by its whole word.
 use std::collections::{BTreeMap, BTreeSet, HashMap};
+use std::thread;
 use target_lexicon::{Architecture, Endianness, PointerWidth, Triple, TripleExt as _, TripleRef};
 use target_names::{Dialect, FloatAbi, NameError, Suggest as _, TargetInfo};
 
@@ -80,7 +81,46 @@ fn suggested(words: &HashMap<&str, Said>, kind: &str, name: &str, text: &str, me
     }
 }
 
-/// Prints how many edits were asked of, of how many the name is suggested, and the suggestions that are wrong.
+/// How many edits were asked of, of how many the name is suggested, and the suggestions that are wrong.
+#[derive(Default)]
+struct Found {
+    asked: u64,
+    right: u64,
+    wrong: Vec<String>,
+}
+
+/// Asks the edits of a name with this meaning.
+fn ask_edits(words: &HashMap<&str, Said>, kind: &str, letters: &BTreeSet<char>, name: &str, means: &Said) -> Found {
+    let mut found = Found::default();
+    let mut ask = |edited: &[char]| {
+        let text: String = edited.iter().collect();
+        found.asked += 1;
+        if let Some((suggested, is_wrong)) = suggested(words, kind, name, &text, means) {
+            found.right += u64::from(suggested == name);
+            if is_wrong {
+                found.wrong.push(format!("wrong: {kind}: {name} -> {text} -> {suggested}"));
+            }
+        }
+    };
+    let letters_of_name: Vec<char> = name.chars().collect();
+    let mut count = name.len();
+    edits(&letters_of_name, letters, &mut |once| {
+        count += 1;
+        ask(&once);
+        if count % CONTINUED > 0 {
+            return;
+        }
+        edits(&once, letters, &mut |twice| {
+            count += 1;
+            if count % ASKED == 0 {
+                ask(&twice);
+            }
+        });
+    });
+    found
+}
+
+/// Prints what was found of each kind of names, which all processors ask.
 pub fn check(input: &str) {
     let mut words = HashMap::new();
     let mut kinds: BTreeMap<&str, Vec<(&str, Said)>> = BTreeMap::new();
@@ -96,42 +136,24 @@ pub fn check(input: &str) {
             kinds.entry(kind).or_default().push((name, means));
         }
     }
-    for (kind, names) in kinds {
+    let processors = thread::available_parallelism().map_or(1, usize::from);
+    for (kind, names) in &kinds {
         let mut letters: BTreeSet<char> = names.iter().flat_map(|it| it.0.chars()).collect();
         letters.extend(['q', '7', '_']);
-        let (mut asked, mut right, mut found) = (0_u64, 0_u64, 0_u64);
-        for (name, means) in &names {
-            let mut ask = |edited: &[char]| {
-                let text: String = edited.iter().collect();
-                asked += 1;
-                let Some((suggested, is_wrong)) = suggested(&words, kind, name, &text, means) else {
-                    return;
-                };
-                right += u64::from(suggested == *name);
-                if is_wrong {
-                    found += 1;
-                    if found <= 20 {
-                        println!("wrong: {kind}: {name} -> {text} -> {suggested}");
-                    }
-                }
-            };
-            let letters_of_name: Vec<char> = name.chars().collect();
-            let mut count = name.len();
-            edits(&letters_of_name, &letters, &mut |once| {
-                count += 1;
-                ask(&once);
-                if count % CONTINUED > 0 {
-                    return;
-                }
-                edits(&once, &letters, &mut |twice| {
-                    count += 1;
-                    if count % ASKED == 0 {
-                        ask(&twice);
-                    }
-                });
-            });
+        let share = |from: usize| -> Vec<Found> {
+            let names = names.iter().skip(from).step_by(processors);
+            names.map(|(name, means)| ask_edits(&words, kind, &letters, name, means)).collect()
+        };
+        let found: Vec<Found> = thread::scope(|scope| {
+            let share = &share;
+            let threads: Vec<_> = (0..processors).map(|from| scope.spawn(move || share(from))).collect();
+            threads.into_iter().flat_map(|it| it.join().expect("no panic")).collect()
+        });
+        let wrong: Vec<&String> = found.iter().flat_map(|it| &it.wrong).collect();
+        for line in wrong.iter().take(20) {
+            println!("{line}");
         }
-        let count = names.len();
-        println!("{kind}: {count} names, {asked} asked, {right} right, {found} wrong");
+        let (asked, right) = found.iter().fold((0, 0), |sum, it| (sum.0 + it.asked, sum.1 + it.right));
+        println!("{kind}: {} names, {asked} asked, {right} right, {} wrong", names.len(), wrong.len());
     }
 }
