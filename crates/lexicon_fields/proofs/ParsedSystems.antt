@@ -2,9 +2,9 @@
 -- longer.
 use Rattle.lexicon_fields.proofs.Common
 use Common.{◌&&◌, ◌++◌, ◌+◌, ◌<◌, ◌^◌, ◌∙◌, ◌∷◌, ◌≡◌, ◌≤◌, Bool, IfSome, List, None, Option, Some, [], ap, arith, cond}
-use Common.{drop, false, is_none, length, nat_eq, nat_le, option_and_then, refl, subst, sym, take, true, ℕ, and_parts}
-use Common.{leb-true, ltb-true, length-append, MatchOption-at_some, cond_some, bytes_eq-Decides, decimal, list_all}
-use Common.{HasVersionInRange, IsVersionInRange, Pair, dash, is_dash_free, named_values, darwin_like_system}
+use Common.{drop, false, is_none, length, nat_eq, nat_le, option_and_then, refl, rules, subst, sym, take, true, ℕ}
+use Common.{and_parts, leb-true, ltb-true, length-append, MatchOption-at_some, cond_some, bytes_eq-Decides, decimal}
+use Common.{list_all, HasVersionInRange, IsVersionInRange, Pair, dash, is_dash_free, named_values, darwin_like_system}
 use Common.{darwin_prefixes, fixed_operating_system_of, operating_system_name, operating_system_of, optional_version_of}
 use Common.{version_suffix, dot, version_name, version_of, DeploymentTarget, OperatingSystem}
 use Rattle.std.specs.{Char.is_ascii_digit, List.join_with_byte, List.starts_with, Str.Parse.digits_value}
@@ -199,25 +199,16 @@ fixed-read text = holds-if_read _ (fixed_operating_system_of text) (λ s is.
     let prefix_key = and_parts (is_dash_free text) (is_none (system_version s)) parts.0 in
     (prefix_key.0, no_version-in_range (system_version s) prefix_key.1, omega (arith, leb-true _ _ parts.1)))
 
+prefixes : ArePrefixes darwin_prefixes
+prefixes = search rules
+
 pub operating_system-read : (text : List ℕ) (s : OperatingSystem) → operating_system_of text ≡ Some s
     → IsSystemRead text s
 unfolding operating_system_of
 operating_system-read text s is =
     MatchOption-at_some _ (IsSystemRead text) s is
     (option_or-holds _ (fixed_operating_system_of text) (darwin_like_system darwin_prefixes text) (fixed-read text)
-    (darwin_like_system-read darwin_prefixes text (
-      (refl, λ _. (refl, refl)),
-      (
-        (refl, λ _. (refl, refl)),
-        (
-          (refl, λ _. (refl, refl)),
-          (
-            (refl, λ _. (refl, refl)),
-            ((refl, λ _. (refl, refl)), ((refl, λ _. (refl, refl)), ((refl, λ _. (refl, refl)), tt))),
-          ),
-        ),
-      ),
-    )))
+    (darwin_like_system-read darwin_prefixes text prefixes))
 
 pub version_in_range : (text : List ℕ) (s : OperatingSystem) → operating_system_of text ≡ Some s → HasVersionInRange s
 version_in_range text s is = (operating_system-read text s is).1
