@@ -76,9 +76,11 @@ ROOM = re.compile(r"crates/|packages/(\w+)/|checks/(coq|upstream|comparisons)/|d
 FIRST = [
     ("lists of names and the Rust source are what they are made from; what was reviewed of the statement is as it "
      "was", "tools/write --check", "rustfmt"),
-    ("upstream's answers contradict each change of one cell of the table of names", "checks/upstream/cells", ""),
-    ("no script has a warning", "checks/gate/scripts", "shellcheck pyflakes3"),
-    ("nothing that another user of the machine plants reaches the gate", "checks/gate/planted", ""),
+    ("upstream's answers contradict each change of one cell of the table of names", "checks/upstream/cells", "",
+     "upstream"),
+    ("no script has a warning", "checks/gate/scripts", "shellcheck pyflakes3",
+     "crates rust names c command python javascript debian coq upstream comparisons"),
+    ("nothing that another user of the machine plants reaches the gate", "checks/gate/planted", "", ""),
 ]
 PROOFS = ("all proofs, must-fail edits, tests and proved programs", "rt ci", "rt", "crates")
 ROWS = {"proved": [[PROOFS], [
@@ -112,7 +114,7 @@ ROWS = {"proved": [[PROOFS], [
      "(cd packages/command && ../../tools/cargo build --quiet --locked --release --all-features) && "
      f'cp {COMMANDS}/lines {COMMANDS}/target-lexicon "$BUILT/bin"', "cargo"),
     ("the library for C is built and installed for the next steps", 'checks/gate/planted packages/c/install "$BUILT"',
-     "cargo cc"),
+     "cargo cc", "rust names c command python comparisons"),
     ("what other tools say of names and targets; suggestions keep the machine",
      "checks/compare elsewhere && checks/compare llvm && checks/compare suggestions", "cargo cc",
      "rust names c comparisons"),
@@ -131,7 +133,8 @@ ROWS = {"proved": [[PROOFS], [
 ]]}
 LAST = {"proved": [
     ("each allocation fails in turn", "checks/gate/fail_allocations", "rt cc", "crates"),
-    ("names, rules and tables are upstream's, by its kept answers", "checks/compare answers", "cargo"),
+    ("names, rules and tables are upstream's, by its kept answers", "checks/compare answers", "cargo",
+     "crates rust upstream"),
     ("the mode json: the proved program answers as Rust's serde_json does",
      "/usr/bin/python3 checks/compare json --inputs 200",
      "rt cargo hypothesis", "crates"),
@@ -139,8 +142,9 @@ LAST = {"proved": [
     ("links, names, samples, counts and versions of the pages, and the pictures", "checks/gate/pages", "cargo"),
     ("the program `triples` and the command `target-lexicon`: stored rows, unusual streams, large inputs, samples "
      "of the pages", "checks/gate/rows/run", "cargo coqc cram3 ocamlopt"),
-    ("no message and no output has what isn't printable ASCII of a hostile string; SECURITY's other promises",
-     "checks/gate/visible && checks/gate/security", "cargo cc strace"),
+    ("no message and no output has what isn't printable ASCII of a hostile string", "checks/gate/visible", "cargo cc",
+     "rust names c command python"),
+    ("SECURITY's other promises", "checks/gate/security", "cargo cc strace"),
 ]}
 
 running, passed, left_out, failed = set(), [], [], []
@@ -219,11 +223,11 @@ def run(step):
         file.seek(0)
         output = file.read()
     process.returncode = status = os.waitstatus_to_exitcode(ended[1])
-    seconds = time.monotonic() - begun
-    print(f"{command}, after {seconds / 60:.0f} min:\n{output}", end="", flush=True)
+    seconds, used = time.monotonic() - begun, (ended[2].ru_utime + ended[2].ru_stime) / 60
+    print(f"{command}, after {seconds / 60:.0f} min ({used:.1f} CPU minutes):\n{output}", end="", flush=True)
     left_out.extend(f"within {command}: {line}" for line in output.splitlines() if re.search("left out[:,] ", line))
     if status == 0:
-        passed.append((command, seconds, (ended[2].ru_utime + ended[2].ru_stime) / 60))
+        passed.append((command, seconds, used))
     elif not failed:
         failed.append((command, status))
         stop(running)
