@@ -18,7 +18,7 @@ HERE = Path(__file__).parent
 TRIED = "1.95"  # the version of rustc whose MIR was read; another one's may have other forms
 CRATE = ("--crate-name", "target_lexicon", "--edition=2021", "--crate-type=lib")
 FLAGS = ("-Copt-level=0", "-Coverflow-checks=on", "-Ztrim-diagnostic-paths=no")
-FEATURES = "std", "arch_zkasm", "arch_z80"  # of upstream
+FEATURES = "std", "arch_zkasm", "arch_z80"  # of upstream, whose last two decide nothing here
 UNPROVED = []  # a part of which something isn't proved, as isn't written what it needs
 UPSTREAM = "UpstreamCrate", "UpstreamTriple"  # the proofs about upstream's own crate
 BOTH = "Pairs", "Both"  # and about ours and it; Pairs is written
@@ -88,8 +88,8 @@ def rustc(folder, features, *words, at="", older=False):
 
 def conditions(file, text):
     """That nothing but the features, and what no build of a user has, decides what is compiled."""
-    text = re.sub(r'#\[cfg\(feature = "serde_support"\)\]\s+mod \w+;', "", text)
-    names = r'\bfeature = "(?:alloc|%s)"|\b(?:not|any|all|core_error|doc\w*|test)\b' % "|".join(FEATURES)
+    text = text.replace('#[cfg(feature = "serde_support")]\nmod serde;', "")
+    names = r'\bfeature = "(?:alloc|std)"|\b(?:not|any|all|core_error|doc|docsrs|doctest|test)\b'
     for m in re.finditer(r"\bcfg\w*", text):
         it = re.compile(r"cfg(_attr)?!?\(").match(text, m.start())
         inner = text[it.end():close(text, it.end() - 1)] if it else m[0]
@@ -114,8 +114,12 @@ def all_of(crate):
 
 def same_without_alloc(root, crate, known):
     """That each function without the feature `alloc` is written as with it, but for what owned names differ in."""
-    other = mir.Crate(*rustc(root.resolve() / "packages/rust", []), known)
-    all_of(other)
+    folder = root.resolve() / "packages/rust"
+    main = rustc(folder, [])
+    same(main, rustc(folder, [], older=True), "without the feature `alloc`, as for an older rustc")
+    other = crate_of(main, known)
+    if unknown := {*all_of(other)} - {*LEFT_OUT}:
+        raise Untranslated(f"{min(unknown)} isn't known without the feature `alloc`")
     ours = {code for _, _, code in crate.out}
     for title, _, code in other.out:
         if code not in ours and title not in OWNED:
@@ -146,8 +150,17 @@ def source(root, known):
     main = rustc(crate, ["alloc"])
     same(main, rustc(crate, ["alloc"], "-Cdebug-assertions=off", at="./", older=True),
          "without debug assertions, in another folder, as for an older rustc")
-    same(main, rustc(crate, ["alloc", *FEATURES]), f"with {', '.join(FEATURES)}")
-    return mir.Crate(*main, known)
+    same(main, rustc(crate, ["alloc", "std"]), "with the feature `std`")
+    same(main, rustc(crate, ["alloc", "std"], "-Cdebug-assertions=off", older=True),
+         "with the feature `std`, as for an older rustc")
+    return crate_of(main, known)
+
+
+def crate_of(written, known):
+    """The crate of what rustc writes, without the constant that the build script decides."""
+    crate = mir.Crate(*written, known)
+    del crate.constants["host::HOST"]
+    return crate
 
 
 def upstream(_root, folder, crate, is_compared=False):

@@ -139,7 +139,8 @@ def of_call(path):
         return trait, owner, name[1]
     if m := re.search(r"<impl ", path):
         end = close(path, m.start())
-        return None, path[m.end():end], re.match(r"::(\w+)", path[end + 1:])[1]
+        owner = path if path.startswith("std::") else path[m.end():end]  # the crate may have a module `str`
+        return None, owner, re.match(r"::(\w+)", path[end + 1:])[1]
     while (plain := re.sub(r"::<[^<>]*>", "", path)) != path:
         path = plain
     owner, _, name = path.rpartition("::")

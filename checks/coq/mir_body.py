@@ -8,7 +8,7 @@ from collections import namedtuple
 
 from mir import BITS, TEXTS, Unknown, arguments, of_call, referred, split, strip
 from mir_grammar import Function, close
-from mir_std import CLOSED, COUNTED, EQUAL, FED, ITERATORS, MAPPED, STD
+from mir_std import CLOSED, COUNTED, EQUAL, FED, GENERIC, ITERATORS, MAPPED, STD
 
 Con = namedtuple("Con", "name args")  # a constructor of values; "tuple", "branching" and a closure aren't Coq's
 Mut = namedtuple("Mut", "cell path")  # a mutable borrow
@@ -38,10 +38,10 @@ def after(type, step):
 
 
 def without_generics(path):
-    """The path of a function of std without arguments of generics, and of an array as that of a slice."""
+    """The path of a function of std without arguments of generics."""
     while m := re.search(r"::<(?!impl )", path):
         path = path[:m.start()] + path[close(path, m.end() - 1) + 1:]
-    return re.sub(r"^<\[u8; \d+\]", "<[u8]", path)
+    return path
 
 
 class Body:
@@ -129,11 +129,12 @@ class Body:
         return self.f.types[local].startswith("&mut ")
 
     def varying(self, b, among, env):
-        """The locals and cells that are live at b and that the blocks `among` may change; and all that these change."""
+        """The locals and cells that are live at b and that the blocks `among` may change; and all that these change, of
+        which the others aren't known at b."""
         changed = set().union(*[self.writes[it][0] for it in among]) | self.borrowed
         live = self.live[b] | (self.borrowed if any(map(self.is_mutable, self.live[b])) else set())
         names = [n for n in sorted(live & changed) if not self.is_mutable(n)]
-        return [n for n in names if n in env or n in self.live[b]] + self.cells, changed - self.borrowed
+        return [n for n in names if n in env or n in self.live[b]] + self.cells, changed
 
     # ---- values
     def code(self, value):
@@ -417,7 +418,7 @@ class Body:
         plain = without_generics(path)
         if plain.startswith("std::fmt::") and (it := self.formatted(plain, path, values, env)):
             return it
-        if form := STD.get(plain):
+        if form := GENERIC.get(plain) or STD.get(re.sub(r"^<\[u8; \d+\]", "<[u8]", path)):
             code = form.format(*[self.code(self.read(it, env)) for it in values])
             if plain.endswith(("::split_once", "::split")) and operands[1][0] != "number":  # which is an ASCII character
                 raise Unknown("a split at a character that isn't known")
@@ -551,7 +552,7 @@ class Body:
         it = self.crate.closure(value.name)
         if it.captured or len(it.parameters) != 1:
             raise Unknown(f"what {value.name} captures")
-        name = self.new("x")
+        name = self.new("given")  # which is no name in the body
         return f"(λ {name}, {Body(self.crate, it, True).block(0, {it.parameters[0][0]: name}, {})})"
 
     def equality(self, path, owner, name, types, values, env):

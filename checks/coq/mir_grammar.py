@@ -245,6 +245,8 @@ def read_mir(text):
             last[name].promoted[promoted[:-1]] = value
         elif clean(name) in constants:
             raise Unknown(f"a second constant {name}")
+        elif "{constant#" in name and not m["value"]:  # of a type
+            raise Unknown(f"{name}, which rustc computes, and isn't a number in the source")
         else:
             constants[clean(name)] = last[name] = value
     statics = dict(re.findall(r"^(alloc\d+) \(static: ([\w:]+),", text, re.M))
@@ -277,6 +279,9 @@ def std_trait(path):
     return "std::" + path.split("::")[-1]
 
 
+# A pattern that is neither a literal nor a variant: rustc computes its value.
+PATTERN = re.compile(r"PatExpr \{\n.*\n.*\n +kind: (?!Lit \{|Path\(\n +Resolved\(\n +None,\n +Path \{\n.*\n +res: "
+                     r"Def\(\n +Ctor\()")
 KINDS = "Const Enum ExternCrate Fn Impl Macro Mod Static Struct Trait TyAlias Type Use".split()
 
 
@@ -290,10 +295,12 @@ def read_hir(text):
             raise Unknown(f"an item {block.splitlines()[0]} of kind {kind and kind[1]}")
         crate, path = m[1], m[2]
         is_type = kind[1] in ("Enum", "Struct")
-        if re.match(r"(core|alloc|std)(#\d+)?::", path) or is_type and (path in taken or path.islower()):
+        if re.match(r"(core|alloc|std)::", path) or is_type and (path in taken or path.islower()):
             raise Unknown(f"{path}, whose name could be another one's")
-        if is_type and "#" in path:
+        if "#" in re.sub(r"\{\w+#\d+\}", "", path):
             raise Unknown(f"{path}, which isn't the only one of its path")
+        if re.search(PATTERN, block):
+            raise Unknown(f"a constant in a pattern of {path}")
         if kind[1] == "Enum":
             parts = re.split(r"^ {28}Variant \{$", block, flags=re.M)[1:]
             types[path] = [(re.search(r"ident: (\w+)#", it)[1], it.count(" FieldDef {")) for it in parts]

@@ -1,10 +1,22 @@
-"""What std's functions are in Coq, by their path without arguments of generics: a value of their arguments, or after
-a ? an option, which is none if they panic. Rust.v and Kit.v have these functions of Coq."""
+"""What std's functions are in Coq: a value of their arguments, or after a ? an option, which is none if they panic.
+Rust.v and Kit.v have these functions of Coq."""
 
+# By their path without arguments of generics, which may be any.
+GENERIC = {
+    "std::hint::must_use": "{0}",
+    "std::boxed::Box::new": "{0}",
+    "std::option::Option::is_some": "(option_is_some {0})",
+    "std::option::Option::is_none": "(option_is_none {0})",
+    "std::option::Option::ok_or": "(ok_or {0} {1})",
+    "std::option::Option::unwrap": "? {0}",
+    "std::result::Result::is_ok": "(result_is_ok {0})",
+    "std::bool::<impl bool>::then_some": "(then_some {0} {1})",
+}
+# By their whole path.
 STD = {
     # references, strings and boxes of them are the values that they refer to
     **dict.fromkeys((
-        "std::str::<impl str>::as_bytes", "std::slice::<impl [u8]>::iter", "std::boxed::Box::new",
+        "std::str::<impl str>::as_bytes", "std::slice::<impl [u8]>::iter",
         "std::string::String::as_str", "<std::string::String as std::ops::Deref>::deref",
         "<std::borrow::Cow<str> as std::ops::Deref>::deref",
         "<&str as std::convert::Into<std::boxed::Box<str>>>::into",
@@ -13,7 +25,6 @@ STD = {
         "<std::string::String as std::convert::Into<std::borrow::Cow<str>>>::into",
         "<std::string::String as std::convert::From<&str>>::from",
         "<str as std::borrow::ToOwned>::to_owned",
-        "std::hint::must_use",
         # numbers of a wider type
         "<u64 as std::convert::From<u32>>::from", "<u64 as std::convert::From<u8>>::from",
         "<usize as std::convert::From<u16>>::from",
@@ -21,11 +32,11 @@ STD = {
     ), "{0}"),
     "std::str::<impl str>::len": "(length {0})",
     "std::str::<impl str>::is_empty": "(is_empty {0})",
-    "std::str::<impl str>::strip_prefix": "(strip_prefix {0} {1})",
-    "std::str::<impl str>::split_once": "(split_once {0} {1})",
-    "std::str::<impl str>::get": "(str_get {0} {1})",
-    "std::str::<impl str>::starts_with": "(starts_with N.eqb {0} {1})",
-    "std::str::<impl str>::split": "(slice_split (λ c, c == {1}) {0})",
+    "std::str::<impl str>::strip_prefix::<&str>": "(strip_prefix {0} {1})",
+    "std::str::<impl str>::split_once::<char>": "(split_once {0} {1})",
+    "std::str::<impl str>::get::<std::ops::Range<usize>>": "(str_get {0} {1})",
+    "std::str::<impl str>::starts_with::<&str>": "(starts_with N.eqb {0} {1})",
+    "std::str::<impl str>::split::<char>": "(slice_split (λ c, c == {1}) {0})",
     "std::str::<impl str>::chars": "(chars {0})",
     "std::str::from_utf8": "? from_utf8 {0}",
     "std::slice::<impl [u8]>::split_first": "(split_first {0})",
@@ -37,12 +48,6 @@ STD = {
     "std::num::<impl u64>::wrapping_mul": "(wrapping_mul 64 {0} {1})",
     "std::num::<impl u64>::trailing_zeros": "(trailing_zeros 64 {0})",
     "std::num::<impl usize>::saturating_add": "(saturating_add usize_bits {0} {1})",
-    "std::option::Option::is_some": "(option_is_some {0})",
-    "std::option::Option::is_none": "(option_is_none {0})",
-    "std::option::Option::ok_or": "(ok_or {0} {1})",
-    "std::option::Option::unwrap": "? {0}",
-    "std::result::Result::is_ok": "(result_is_ok {0})",
-    "std::bool::<impl bool>::then_some": "(then_some {0} {1})",
     "<str as std::ops::Index<std::ops::RangeTo<usize>>>::index": "? str_between {0} 0 {1}",
     "<str as std::ops::Index<std::ops::RangeFrom<usize>>>::index": "? str_between {0} {1} (length {0})",
     "<str as std::ops::Index<std::ops::Range<usize>>>::index": "? str_between {0} (fst {1}) (snd {1})",
