@@ -131,14 +131,16 @@ def version():
 
 
 def same(main, other, where):
-    """That another configuration has no type and no function that is another one than in the main configuration."""
+    """That another configuration has no type, impl or function that the main configuration doesn't have."""
     def items(text, hir):
         statics = dict(re.findall(r"^(alloc\d+) \(static: ([\w:]+),", text, re.M))
         text = re.sub(r"\balloc\d+\b", lambda m: statics.get(m[0], "alloc"), text)
         text = re.sub(r"\b(core|alloc|std)::", "std::", text)
         text = re.sub(r"DefId\(\d+:\d+ ~ (\w+)\[\w+\]", r"DefId(\1", text)  # which also depends on rustc's flags
         text = re.sub(r"(<impl at |\{closure@)\S*?\bsrc/", r"\1src/", text)
-        return {m[0] for m in re.finditer(ITEM, text)} | {str(it) for it in read_hir(hir)[0].items()}
+        types, impls = read_hir(hir)
+        return {m[0] for m in re.finditer(ITEM, text)} | {str(it) for it in types.items()} | {
+            f"{it.trait} for {it.owner}: {it.methods}" for it in impls if it.trait not in UNSAID}
     if others := items(*other) - items(*main):
         raise Untranslated(f"{where}, rustc compiles another item: {min(others).splitlines()[0][:200]}")
 

@@ -5,9 +5,9 @@ import re
 from mir_grammar import Function, Unknown, clean, close, read_hir, read_mir, split, std_trait
 
 BITS = {"u8": "8", "u16": "16", "u32": "32", "u64": "64", "usize": "usize_bits"}
-TEXTS = ("str", "std::string::String", "std::vec::Vec<u8>")
+TEXTS = ("str", "std::string::String")
 PLAIN = {"bool": "bool", "char": "ℕ", "()": "unit", "std::fmt::Error": "unit", "std::fmt::Formatter": "Formatter",
-         "std::cmp::Ordering": "comparison", "std::ops::Range<usize>": "(ℕ × ℕ)", "std::str::Chars": "(list ℕ)",
+         "std::cmp::Ordering": "comparison", "std::ops::Range<usize>": "(ℕ × ℕ)",
          "std::str::Split<char>": "(list (list ℕ))", "std::num::ParseIntError": "unit",
          "H": "Fed", "__H": "Fed",  # a hasher, whatever it makes of what it is fed
          **dict.fromkeys(BITS, "ℕ"), **dict.fromkeys(TEXTS, "(list ℕ)")}
@@ -117,8 +117,6 @@ class Types:
             for it in others:
                 first = f"({first} × {it})"
             return first
-        if m := re.fullmatch(r"std::slice::Iter<(.*)>", type):
-            return f"(list {self.coq(m[1])})"
         if re.match(r"std::(option::Option|result::Result)<", type):
             return f"({self.head(type)} {' '.join(map(self.coq, arguments(type)))})"
         return self.title(type)

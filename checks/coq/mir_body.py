@@ -8,7 +8,7 @@ from collections import namedtuple
 
 from mir import BITS, TEXTS, Unknown, arguments, of_call, referred, split, strip
 from mir_grammar import Function, close
-from mir_std import CLOSED, COUNTED, EQUAL, FED, GENERIC, ITERATORS, MAPPED, STD
+from mir_std import CLOSED, EQUAL, FED, GENERIC, ITERATORS, MAPPED, STD
 
 Con = namedtuple("Con", "name args")  # a constructor of values; "tuple", "branching" and a closure aren't Coq's
 Mut = namedtuple("Mut", "cell path")  # a mutable borrow
@@ -19,7 +19,6 @@ BITWISE = {"BitAnd": "N.land", "BitOr": "N.lor", "BitXor": "N.lxor"}
 Shown = namedtuple("Shown", "code")  # what `format_args!` has: an argument's code, or that of all pieces
 COMPARE = {"Eq": "({0} == {1})", "Ne": "(negb ({0} == {1}))", "Lt": "({0} <? {1})", "Le": "({0} <=? {1})",
            "Gt": "({1} <? {0})", "Ge": "({1} <=? {0})"}
-ORDERING = {"Less": "Lt", "Equal": "Eq", "Greater": "Gt"}
 TAGS = {"comparison": {255: ("Lt", 0), 0: ("Eq", 0), 1: ("Gt", 0)}}
 
 
@@ -284,7 +283,7 @@ class Body:
         if what == "std::fmt::Error":
             return "tt"
         if m := re.search(r"::(\w+)::promoted\[(\d+)\]$", what):
-            return self.promoted(m[1], m[2], env)
+            return self.promoted(m[1], m[2])
         if what in self.crate.constants:
             value = self.crate.constants[what]
             return self.inline(value) if isinstance(value, Function) else self.operand(value, {})
@@ -293,17 +292,13 @@ class Body:
     def inline(self, constant):
         return Body(self.crate, constant, True).whole()
 
-    def promoted(self, name, number, env):
+    def promoted(self, name, number):
         """A constant that rustc took out of this function."""
         it = self.f.promoted.get(number)
         if it is None or not self.f.path.endswith("::" + name):
             raise Unknown(f"the constant of {name}")
         if not isinstance(it, Function):
             return self.operand(it, {})
-        if it.result == "&mut [u8; 0]":
-            cell = f"*{len(self.f.types)}"
-            self.f.types[int(cell[1:])], env[cell] = it.result, "[]"
-            return Mut(cell, ())
         return self.inline(it)
 
     def aggregate(self, path, args, names=None):
@@ -315,8 +310,6 @@ class Body:
             return Con("Result__" + m[1], args)
         if m := re.match(r"std::borrow::Cow(?:::<.*>)?::(Owned|Borrowed)$", path):
             return args[0]
-        if m := re.match(r"std::cmp::Ordering::(\w+)$", path):
-            return Con(ORDERING[m[1]], [])
         if m := re.match(r"std::ops::Range(To|From)?(?:::)?<usize>$", path):
             return args[0] if m[1] else Con("tuple", args)
         owner, _, variant = path.rpartition("::")
@@ -341,8 +334,6 @@ class Body:
             return self.get(what, env)
         if kind == "mut":
             cell, path = self.root(what, env)
-            if path == [("*",)] and isinstance(env.get(cell), Slice):
-                return env[cell]
             if any(step[0] in ("[]", "[c]", "*") for step in path):
                 raise Unknown("a mutable borrow of an item, or through a pointer")
             return Mut(cell, tuple(path))
@@ -409,8 +400,6 @@ class Body:
             return self.own(it, values, types, env)
         if trait == "std::Into" and owner.startswith("impl Into<"):
             return values[0]  # the parameter is what this returns
-        if trait == "std::Into" and (it := self.conversion(path.partition("::Into<")[2][:-len(">>::into")], types[0])):
-            return self.own(it, values, types, env)
         if trait in ("std::Fn", "std::FnMut", "std::FnOnce") and owner.startswith("{closure@"):
             return self.own(*self.captures(self.read(values[0], env), values[1], env), [], env)
         if trait == "std::Hash" and name == "hash" and types[1] in ("&mut H", "&mut __H"):
@@ -423,10 +412,6 @@ class Body:
             if plain.endswith(("::split_once", "::split")) and operands[1][0] != "number":  # which is an ASCII character
                 raise Unknown("a split at a character that isn't known")
             return self.emit(code[2:]) if code[0] == "?" else code
-        if plain in COUNTED:
-            n = re.search(r"::<(\w+)>$", path)[1]
-            most = 2 ** int(BITS[n]) - 1 if n in BITS else None
-            return COUNTED[plain].format(self.code(values[0]), n=n, most=most)
         if plain in MAPPED:
             return MAPPED[plain].format(self.code(values[0]), self.closure(values[1]))
         if plain in ITERATORS:
@@ -520,16 +505,11 @@ class Body:
                     for (_, type), value in zip(it.captured, closure.args)]
         return it, captured + arguments.args
 
-    def conversion(self, to, type):
-        """The crate's own conversion to a type, or none."""
-        return self.crate.find(("std::From", strip(to), "from"), [type])
-
     def own(self, it, values, types, env):
         """A call of a function of the crate."""
-        for i, (_, to) in enumerate(it.parameters):  # of an `impl Into`
-            if it.into[i] and types[i] != to and not {strip(types[i]), strip(to)} <= {*TEXTS}:
-                value = self.own(self.conversion(to, types[i]), [values[i]], [types[i]], env)
-                values = [*values[:i], value, *values[i + 1:]]
+        if any(is_into and of != to and not {strip(of), strip(to)} <= {*TEXTS}
+               for is_into, of, (_, to) in zip(it.into, types, it.parameters)):
+            raise Unknown(f"a conversion for {it.path}")
         title = self.crate.write(it, self.pure)
         fuel = "" if self.pure else " fuel"
         code = f"{title}{fuel}{''.join(' ' + self.code(self.read(value, env)) for value in values)}"
@@ -763,10 +743,7 @@ class Body:
                     self.set(tag.place, known, inner)
             return self.go(b, inner, joins)
         if isinstance(value, Con):
-            tags = [i for i, (name, _) in cases.items() if name == value.name]
-            if not tags or targets.get(tags[0], other) is None:
-                raise Unknown(f"a case of {type}")
-            return self.aside(lambda: branch(targets.get(tags[0], other), value))
+            raise Unknown(f"a case of a {type} that is made here")
         arms = []
         for i, (name, count) in cases.items():
             if i in targets:

@@ -71,8 +71,6 @@ def place(text):
             steps = [*steps, ("*",)]
         else:
             end = close(inner) + 1 if inner[0] == "(" else re.match(r"_\d+|", inner).end()
-            while inner[end:end + 1] == "[":
-                end = close(inner, end) + 1
             local, steps = place(inner[:end])
             if m := re.fullmatch(r"\.(\d+): (.*)", inner[end:]):
                 steps = [*steps, (".", int(m[1]), clean(m[2]))]
@@ -245,8 +243,6 @@ def read_mir(text):
             last[name].promoted[promoted[:-1]] = value
         elif clean(name) in constants:
             raise Unknown(f"a second constant {name}")
-        elif "{constant#" in name and not m["value"]:  # of a type
-            raise Unknown(f"{name}, which rustc computes, and isn't a number in the source")
         else:
             constants[clean(name)] = last[name] = value
     statics = dict(re.findall(r"^(alloc\d+) \(static: ([\w:]+),", text, re.M))
@@ -297,7 +293,7 @@ def read_hir(text):
         is_type = kind[1] in ("Enum", "Struct")
         if re.match(r"(core|alloc|std)::", path) or is_type and (path in taken or path.islower()):
             raise Unknown(f"{path}, whose name could be another one's")
-        if "#" in re.sub(r"\{\w+#\d+\}", "", path):
+        if "#" in re.sub(r"\{\w+#\d+\}", "", path) or path in types:
             raise Unknown(f"{path}, which isn't the only one of its path")
         if re.search(PATTERN, block):
             raise Unknown(f"a constant in a pattern of {path}")

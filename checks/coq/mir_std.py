@@ -57,12 +57,11 @@ STD = {
 # Orders of numbers.
 STD |= {f"<{it} as std::cmp::{of}>::{name}": form for it in ("u8", "u16") for of, name, form in (
     ("Ord", "cmp", "(N.compare {0} {1})"), ("PartialOrd", "partial_cmp", "(Some (N.compare {0} {1}))"))}
+STD |= {f"std::slice::<impl [u8]>::{it}::<{n}>": f"({it} {n} {{0}})" for it in ("first_chunk", "last_chunk")
+        for n in (4, 8)}
+STD |= {f"std::str::<impl str>::parse::<u{n}>": f"(parse_unsigned {2 ** n - 1} {{0}})" for n in (8, 16)}
 # The types whose hash is one call of a hasher.
 FED = ("u8", "u16", "isize", "str")
-# These have the number of their generic argument, or its greatest value.
-COUNTED = {"std::slice::<impl [u8]>::first_chunk": "(first_chunk {n} {0})",
-           "std::slice::<impl [u8]>::last_chunk": "(last_chunk {n} {0})",
-          "std::str::<impl str>::parse": "(parse_unsigned {most} {0})"}
 # These iterators are the lists of what is left.
 ITERATORS = ("<std::str::Split<char> as std::iter::Iterator>::next", "<std::str::Chars as std::iter::Iterator>::next")
 # These take a closure; the latter ones use up an iterator.
@@ -71,6 +70,4 @@ CLOSED = {"<std::str::Chars as std::iter::Iterator>::any": "(existsb {1} {0})",
           "<std::slice::Iter<u8> as std::iter::Iterator>::position": "(position {1} {0})",
           "<std::slice::Iter<u8> as std::iter::Iterator>::all": "(forallb {1} {0})"}
 # The equality of std's types.
-EQUAL = {"()": "(λ _ _ : unit, true)", "std::fmt::Error": "(λ _ _ : unit, true)", "bool": "Bool.eqb",
-         **dict.fromkeys(("u8", "u16", "u32", "u64", "usize"), "N.eqb"),
-         **dict.fromkeys(("str", "std::string::String", "[u8]"), "bytes_eq")}
+EQUAL = {"()": "(λ _ _ : unit, true)", "str": "bytes_eq", "std::string::String": "bytes_eq"}

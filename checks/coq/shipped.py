@@ -48,13 +48,15 @@ def check(crate, problems, left_out):
             raise Untranslated(f"{owner}::{name} is left out, and could be written")
 
 
-# What of the crate's manifest decides what its source means: the edition, and that lib.rs is the library.
+# What of the crate's manifest decides what its source means: the edition, that lib.rs is the library, and which features
+# come together.
 MANIFEST = {
     'edition = ".*"': 'edition = "2021"',
     r"\[lib\]\n(?:[^\[].*\n)*": '[lib]\nname = "target_lexicon"\n',
-    r"\[(?:dependencies|target).*\]\n(?:[^\[].*\n)*":
-        '[dependencies]\nserde = { version = "1.0", optional = true }\n',
+    r"\[dependencies\]\n(?:[^\[].*\n)*": '[dependencies]\nserde = { version = "1.0", optional = true }\n',
+    "alloc = .*": "alloc = []", "std = .*": 'std = ["alloc"]',
 }
+TABLES = "[workspace] [package] [package.metadata.docs.rs] [lib] [[test]] [dependencies] [features]".split()
 
 
 def check_manifest(root):
@@ -62,6 +64,10 @@ def check_manifest(root):
     for form, wanted in MANIFEST.items():
         if re.findall(rf"^{form}", manifest, re.M) != [wanted]:
             raise Untranslated(f"packages/rust/Cargo.toml has not only {wanted!r}")
+    lines = re.findall(r"^[^#\n].*", manifest, re.M)
+    for it in lines[:1] + [it for it in lines if not re.match(r"(?!build\b)[\w-]+ = ", it)]:
+        if it not in TABLES:
+            raise Untranslated(f"packages/rust/Cargo.toml has {it}")
 
 
 def read(root, features):
