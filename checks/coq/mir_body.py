@@ -8,7 +8,7 @@ from collections import namedtuple
 
 from mir import BITS, TEXTS, Unknown, arguments, of_call, referred, split, strip
 from mir_grammar import Function, close
-from mir_std import CLOSED, EQUAL, FED, GENERIC, ITERATORS, MAPPED, STD
+from mir_std import CLOSED, EQUAL, FED, GENERIC, ITERATORS, STD
 
 Con = namedtuple("Con", "name args")  # a constructor of values; "tuple", "branching" and a closure aren't Coq's
 Mut = namedtuple("Mut", "cell path")  # a mutable borrow
@@ -164,6 +164,11 @@ class Body:
         self.before.append((f"match {code} with None => None | Some {name} =>\n", " end"))
         return name
 
+    def named(self, code, base):
+        name = self.new(base)
+        self.before.append((f"let {name} := {code} in\n", ""))
+        return name
+
     def parts(self, value, type):
         """A value as a constructor of its parts."""
         if isinstance(value, Con):
@@ -308,7 +313,7 @@ class Body:
             return Con(m[1], args)
         if m := re.match(r"std::result::Result(?:::<.*>)?::(Ok|Err)$", path):
             return Con("Result__" + m[1], args)
-        if m := re.match(r"std::borrow::Cow(?:::<.*>)?::(Owned|Borrowed)$", path):
+        if re.match(r"std::borrow::Cow(?:::<.*>)?::(Owned|Borrowed)$", path):
             return args[0]
         if m := re.match(r"std::ops::Range(To|From)?(?:::)?<usize>$", path):
             return args[0] if m[1] else Con("tuple", args)
@@ -412,16 +417,14 @@ class Body:
             if plain.endswith(("::split_once", "::split")) and operands[1][0] != "number":  # which is an ASCII character
                 raise Unknown("a split at a character that isn't known")
             return self.emit(code[2:]) if code[0] == "?" else code
-        if plain in MAPPED:
-            return MAPPED[plain].format(self.code(values[0]), self.closure(values[1]))
         if plain in ITERATORS:
-            name = self.new("left")
-            self.before.append((f"let {name} := {self.code(self.read(values[0], env))} in\n", ""))
+            name = self.named(self.code(self.read(values[0], env)), "left")
             self.store(*values[0], f"(tl {name})", env)
             return f"(hd_error {name})"
         if plain in CLOSED:
             code = CLOSED[plain].format(self.code(self.read(values[0], env)), self.closure(values[1]))
-            env.pop(values[0].cell)  # what is left of the iterator isn't known
+            if isinstance(values[0], Mut):
+                env.pop(values[0].cell)  # what is left of the iterator isn't known
             return code
         if trait == "std::PartialEq" and name in ("eq", "ne"):
             return self.equality(path, owner, name, types, values, env)
@@ -434,9 +437,7 @@ class Body:
         if trait == "std::FromResidual" and self.same_residual(owner, path):
             return values[0]
         if plain == "std::fmt::Formatter::write_str":
-            name = self.new("it")
-            code = f"write_str {self.code(self.read(values[0], env))} {self.code(values[1])}"
-            self.before.append((f"let {name} := {code} in\n", ""))
+            name = self.named(f"write_str {self.code(self.read(values[0], env))} {self.code(values[1])}", "it")
             self.store(*values[0], f"(snd {name})", env)
             return f"(fst {name})"
         if path == "<[u8] as std::ops::IndexMut<std::ops::Range<usize>>>::index_mut" and isinstance(values[0], Mut):
@@ -491,9 +492,7 @@ class Body:
                             f"match {hashed} with Some it => Some (snd it) | None => None end end)")
         else:
             raise Unknown(f"the hash of {type}")
-        name = self.new("fed")
-        self.before.append((f"let {name} := {new} in\n", ""))
-        self.store(*values[1], name, env)
+        self.store(*values[1], self.named(new, "fed"), env)
         return "tt"
 
     def captures(self, closure, arguments, env):

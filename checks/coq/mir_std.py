@@ -64,9 +64,9 @@ STD |= {f"std::str::<impl str>::parse::<u{n}>": f"(parse_unsigned {2 ** n - 1} {
 FED = ("u8", "u16", "isize", "str")
 # These iterators are the lists of what is left.
 ITERATORS = ("<std::str::Split<char> as std::iter::Iterator>::next", "<std::str::Chars as std::iter::Iterator>::next")
-# These take a closure; the latter ones use up an iterator.
-MAPPED = {"std::result::Result::map_err": "(map_err {1} {0})"}
-CLOSED = {"<std::str::Chars as std::iter::Iterator>::any": "(existsb {1} {0})",
+# These take a closure, and some use up an iterator.
+CLOSED = {"std::result::Result::map_err": "(map_err {1} {0})",
+          "<std::str::Chars as std::iter::Iterator>::any": "(existsb {1} {0})",
           "<std::slice::Iter<u8> as std::iter::Iterator>::position": "(position {1} {0})",
           "<std::slice::Iter<u8> as std::iter::Iterator>::all": "(forallb {1} {0})"}
 # The equality of std's types.

@@ -32,6 +32,7 @@ OPTION, METHODS = lambda type: T("Option", type), {
     ("Option", "ok_or"): ("ok_or", lambda t, u: T("Result", t[2][0], u)),
     ("bool", "then_some"): ("then_some", lambda t, u: OPTION(u)),
 }
+PATTERNS = {"strip_prefix": STR, "split_once": T("char")}  # the types of their argument
 SAME = {("slice", "iter"): None, ("str", "as_bytes"): BYTES, ("str", "as_str"): STR, ("str", "into"): STR,
         ("str", "to_string"): STR}
 
@@ -621,9 +622,13 @@ class Body:
             title, result = METHODS[kind, name]
             if name in ("position", "all"):
                 return k(f"({title} {self.closure(args[0], type[1], env)} {code})", result(type))
-            return self.all(args, env, lambda found: k(
-                "(" + " ".join([title, code, *[c for c, _ in found]]) + ")",
-                result(type, *[t for _, t in found if name in ("ok_or", "then_some")])))
+
+            def applied(found):
+                if name in PATTERNS and self.real(found[0][1]) != PATTERNS[name]:
+                    raise Unknown(f"{name} of another pattern")
+                return k("(" + " ".join([title, code, *[c for c, _ in found]]) + ")",
+                         result(type, *[t for _, t in found if name in ("ok_or", "then_some")]))
+            return self.all(args, env, applied)
         return self.ex(of, env, made)
 
 

@@ -56,7 +56,7 @@ MANIFEST = {
     r"\[dependencies\]\n(?:[^\[].*\n)*": '[dependencies]\nserde = { version = "1.0", optional = true }\n',
     "alloc = .*": "alloc = []", "std = .*": 'std = ["alloc"]',
 }
-TABLES = "[workspace] [package] [package.metadata.docs.rs] [lib] [[test]] [dependencies] [features]".split()
+TABLES = "[workspace] [package] [package.metadata.docs.rs] [lib] [dependencies] [features]".split()
 
 
 def check_manifest(root):
