@@ -1,22 +1,26 @@
 -- Parsing as a function gives the triple that a string reads as by placements, and how it is refused.
-use Rattle.std.proofs.Common.{◌≡◌, ℕ, List, [], ◌∷◌, true, false, refl, sym, ◌∙◌, ap, subst, Option, Some, None, Result, Ok, Err, inl, inr, ◌↔◌, ◌⊎◌}
-use Rattle.std.specs.Prelude.{MatchResult, is_some, unwrap_or}
-use Rattle.std.specs.Option.{option_map_or}
-use Rattle.std.proofs.lemmas.Bool.{cases_Bool, false≢true}
-use Rattle.lexicon_fields.specs.{Architecture.architecture_of, Vendor.vendor_of, OperatingSystem.operating_system_of, Environment.environment_of, BinaryFormat.binary_format_of}
-use Rattle.target_lexicon.specs.{Values.Values, Values.unknown_values, ImpliedFormat.default_binary_format, Laws.EveryStringHasOneOutcome, Laws.ReadingIsComputed, SpecialStrings.special_values, Parsing.parts_of, Refusal.Refusal, Refusal.refusal_with}
-use Rattle.target_lexicon.specs.Field.{Field, Architecture, Vendor, OperatingSystem, Environment, BinaryFormat, parses_as}
-use Rattle.target_lexicon.specs.Parsing.{part_at, IsValueOf, HoldsParts, ParsesAs, IsRefusal, IsRefusedAs, IsRefused, expected_after, last_field}
-use Rattle.target_lexicon.specs.GreedyReading.{field_for, finished, reading_from, reading_of_parts, reading_unless_special, reading, with_value}
+use Rattle.target_lexicon.proofs.Common
+use Common.{◌↔◌, ◌∙◌, ◌∷◌, ◌≡◌, ◌⊎◌, Err, List, None, Ok, Option, Result, Some, [], ap, false, inl, inr, is_some, refl}
+use Common.{subst, sym, true, ℕ, cases_Bool, false≢true, option_map_or, MatchResult, unwrap_or, architecture_of}
+use Common.{binary_format_of, environment_of, operating_system_of, vendor_of, Field, Vendor, parses_as, field_for}
+use Common.{reading, reading_from, reading_of_parts, with_value, default_binary_format, EveryStringHasOneOutcome}
+use Common.{HoldsParts, IsRefusal, IsRefusedAs, IsValueOf, ParsesAs, expected_after, last_field, part_at, parts_of}
+use Common.{Refusal, refusal_with, special_values, Values, unknown_values}
+use Rattle.target_lexicon.specs.Field.{Architecture, OperatingSystem, Environment, BinaryFormat}
+use Rattle.target_lexicon.specs.{Laws.ReadingIsComputed, Parsing.IsRefused, GreedyReading.finished}
+use Rattle.target_lexicon.specs.{GreedyReading.reading_unless_special}
 use Rattle.target_lexicon.proofs.GreedyPlacement.{cases_Option, field-after, fields_from, greedy-least, left_from}
-use Rattle.target_lexicon.proofs.{PartLemmas.parts_of-are, PartLemmas.parts_of-some, ReadParts.absent, RefusalLemmas.refused_first, RefusalLemmas.left-refused, UniqueReading.values_unique, UniqueReading.refusal_unique, UniqueReading.read_not_refused}
+use Rattle.target_lexicon.proofs.UniqueReading.{values_unique, refusal_unique, read_not_refused}
+use Rattle.target_lexicon.proofs.{PartLemmas.parts_of-are, PartLemmas.parts_of-some, ReadParts.absent}
+use Rattle.target_lexicon.proofs.{RefusalLemmas.refused_first, RefusalLemmas.left-refused}
 
 -- the values that these parts give where this field is expected and those before have these
 abbrev fill : Option Field → Values → List (List ℕ) → Values
 fill expected t [] = finished expected t
 fill expected t (p ∷ ps) = option_map_or (λ f. fill (expected_after f) (with_value f p t) ps) (field_for expected p) t
 
-read-filled : (expected : Option Field) (t : Values) (ps : List (List ℕ)) → left_from expected ps ≡ [] → reading_from expected t ps ≡ Ok (fill expected t ps)
+read-filled : (expected : Option Field) (t : Values) (ps : List (List ℕ)) → left_from expected ps ≡ []
+    → reading_from expected t ps ≡ Ok (fill expected t ps)
 read-filled expected t [] done = refl
 read-filled expected t (p ∷ ps) done =
     elim (cases_Option (field_for expected p)) [
@@ -25,8 +29,10 @@ read-filled expected t (p ∷ ps) done =
     ]
 
 -- or the refusal of the first part that is left
-read-left : (l : Field) (t : Values) (ps : List (List ℕ)) (q : List ℕ) (rest : List (List ℕ)) → left_from (expected_after l) ps ≡ q ∷ rest
-    → reading_from (expected_after l) t ps ≡ Err (refusal_with (expected_after (last_field l (fields_from (expected_after l) ps))) q)
+read-left : (l : Field) (t : Values) (ps : List (List ℕ)) (q : List ℕ) (rest : List (List ℕ))
+    → left_from (expected_after l) ps ≡ q ∷ rest
+    → reading_from (expected_after l) t ps
+    ≡ Err (refusal_with (expected_after (last_field l (fields_from (expected_after l) ps))) q)
 read-left l t [] q rest left = cc
 read-left l t (p ∷ ps) q rest left =
     elim (cases_Option (field_for (expected_after l) p)) [
@@ -43,25 +49,34 @@ record Fills (expected : Option Field) (t u : Values) (ps : List (List ℕ)) (fs
   vendor : IsValueOf vendor_of t.vendor (part_at Vendor ps fs) u.vendor
   operating_system : IsValueOf operating_system_of t.operating_system (part_at OperatingSystem ps fs) u.operating_system
   environment : IsValueOf environment_of t.environment (part_at Environment ps fs) u.environment
-  binary_format : IsValueOf binary_format_of (option_map_or (λ (x : Field). default_binary_format u) expected t.binary_format) (part_at BinaryFormat ps fs) u.binary_format
+  binary_format : IsValueOf binary_format_of
+      (option_map_or (λ (x : Field). default_binary_format u) expected t.binary_format) (part_at BinaryFormat ps fs)
+      u.binary_format
 
 fills-end : (expected : Option Field) (t : Values) → Fills expected t (finished expected t) [] []
-fills-end None t = record { architecture = refl; vendor = refl; operating_system = refl; environment = refl; binary_format = refl }
-fills-end (Some x) t = record { architecture = refl; vendor = refl; operating_system = refl; environment = refl; binary_format = refl }
+fills-end None t =
+    record { architecture = refl; vendor = refl; operating_system = refl; environment = refl; binary_format = refl }
+fills-end (Some x) t =
+    record { architecture = refl; vendor = refl; operating_system = refl; environment = refl; binary_format = refl }
 
-value-taken : {A : Type 0} (find : List ℕ → Option A) (p : List ℕ) (d u : A) → is_some (find p) ≡ true → u ≡ unwrap_or (find p) d → find p ≡ Some u
+value-taken : {A : Type 0} (find : List ℕ → Option A) (p : List ℕ) (d u : A) → is_some (find p) ≡ true
+    → u ≡ unwrap_or (find p) d → find p ≡ Some u
 value-taken find p d u takes is =
     elim (cases_Option (find p)) [
       | inl none ↦ absurd (false≢true (rw none at takes))
       | inr some ↦ let same : u ≡ some.0 = (rw some.1 at is) in some.1 ∙ ap Some (sym same)
     ]
 
-fills-next : (p : List ℕ) (ps : List (List ℕ)) (t u : Values) (expected : Option Field) (f : Field) → field_for expected p ≡ Some f → parses_as f p ≡ true
-    → Fills (expected_after f) (with_value f p t) u ps (fields_from (expected_after f) ps) → Fills expected t u (p ∷ ps) (f ∷ fields_from (expected_after f) ps)
+fills-next : (p : List ℕ) (ps : List (List ℕ)) (t u : Values) (expected : Option Field) (f : Field)
+    → field_for expected p ≡ Some f → parses_as f p ≡ true
+    → Fills (expected_after f) (with_value f p t) u ps (fields_from (expected_after f) ps)
+    → Fills expected t u (p ∷ ps) (f ∷ fields_from (expected_after f) ps)
 unfolding parses_as
 fills-next p ps t u None f found takes h = absurd cc
 fills-next p ps t u (Some x) Architecture found takes h = record {
-  architecture = value-taken architecture_of p t.architecture u.architecture takes (rw (absent Architecture ps ps) at h.architecture);
+  architecture =
+      value-taken architecture_of p t.architecture u.architecture takes
+      (rw (absent Architecture ps ps) at h.architecture);
   vendor = h.vendor;
   operating_system = h.operating_system;
   environment = h.environment;
@@ -77,7 +92,9 @@ fills-next p ps t u (Some x) Vendor found takes h = record {
 fills-next p ps t u (Some x) OperatingSystem found takes h = record {
   architecture = h.architecture;
   vendor = h.vendor;
-  operating_system = value-taken operating_system_of p t.operating_system u.operating_system takes (rw (absent OperatingSystem ps ps) at h.operating_system);
+  operating_system =
+      value-taken operating_system_of p t.operating_system u.operating_system takes
+      (rw (absent OperatingSystem ps ps) at h.operating_system);
   environment = h.environment;
   binary_format = h.binary_format;
 }
@@ -85,7 +102,8 @@ fills-next p ps t u (Some x) Environment found takes h = record {
   architecture = h.architecture;
   vendor = h.vendor;
   operating_system = h.operating_system;
-  environment = value-taken environment_of p t.environment u.environment takes (rw (absent Environment ps ps) at h.environment);
+  environment =
+      value-taken environment_of p t.environment u.environment takes (rw (absent Environment ps ps) at h.environment);
   binary_format = h.binary_format;
 }
 fills-next p ps t u (Some x) BinaryFormat found takes h = record {
@@ -93,7 +111,9 @@ fills-next p ps t u (Some x) BinaryFormat found takes h = record {
   vendor = h.vendor;
   operating_system = h.operating_system;
   environment = h.environment;
-  binary_format = value-taken binary_format_of p t.binary_format u.binary_format takes (rw (absent BinaryFormat ps ps) at h.binary_format);
+  binary_format =
+      value-taken binary_format_of p t.binary_format u.binary_format takes
+      (rw (absent BinaryFormat ps ps) at h.binary_format);
 }
 
 fills : (l : Field) (t : Values) (ps : List (List ℕ)) → left_from (expected_after l) ps ≡ []
@@ -102,27 +122,45 @@ fills l t [] done = fills-end (expected_after l) t
 fills l t (p ∷ ps) done =
     elim (cases_Option (field_for (expected_after l) p)) [
       | inl none ↦ absurd (let left = rw none at done in cc)
-      | inr some ↦ rw some.1 (fills-next p ps t _ (expected_after l) some.0 some.1 (field-after l p some.0 some.1).1 (fills some.0 (with_value some.0 p t) ps (rw some.1 at done)))
+      | inr some ↦
+          rw some.1 (fills-next p ps t _ (expected_after l) some.0 some.1 (field-after l p some.0 some.1).1
+          (fills some.0 (with_value some.0 p t) ps (rw some.1 at done)))
     ]
 
 -- what holds for a string: the function gives what it reads as, or how it is refused
 abbrev pub Holds : List ℕ → Result Values Refusal → Type 0
 Holds text found = MatchResult found (λ t. ParsesAs text t) (λ refusal. IsRefusedAs text refusal)
 
-module _ (text p : List ℕ) (ps : List (List ℕ)) (ordinary : special_values text ≡ None) (are : parts_of text ≡ p ∷ ps) where
+module _ (text p : List ℕ) (ps : List (List ℕ)) (ordinary : special_values text ≡ None)
+    (are : parts_of text ≡ p ∷ ps) where
   is_refused : (x : Refusal) → IsRefusal (p ∷ ps) x → IsRefusedAs text x
   is_refused x h = (ordinary, (parts_of text, parts_of-are text, rw are h))
 
-  by_left : parses_as Architecture p ≡ true → (left : List (List ℕ)) → left_from (Some Vendor) ps ≡ left → Holds text (reading_from (Some Vendor) (with_value Architecture p unknown_values) ps)
+  by_left : parses_as Architecture p ≡ true → (left : List (List ℕ)) → left_from (Some Vendor) ps ≡ left
+      → Holds text (reading_from (Some Vendor) (with_value Architecture p unknown_values) ps)
   by_left takes [] done =
       let t = with_value Architecture p unknown_values in
       let u = fill (Some Vendor) t ps in
       let found : field_for (Some Architecture) p ≡ Some Architecture = rw takes refl in
-      let h = fills-next p ps unknown_values u (Some Architecture) Architecture found takes (fills Architecture t ps done) in
+      let h = fills-next p ps unknown_values u (Some Architecture) Architecture found takes
+      (fills Architecture t ps done) in
       let holds : HoldsParts (p ∷ ps) (Architecture ∷ fields_from (Some Vendor) ps) u =
-      record { architecture = h.architecture; vendor = h.vendor; operating_system = h.operating_system; environment = h.environment; binary_format = h.binary_format } in
-      rw (read-filled (Some Vendor) t ps done) (rw ordinary (parts_of text, parts_of-are text, rw are (Architecture ∷ fields_from (Some Vendor) ps, greedy-least p ps takes done, holds)))
-  by_left takes (q ∷ rest) left = rw (read-left Architecture (with_value Architecture p unknown_values) ps q rest left) (is_refused _ (left-refused p ps q rest takes left))
+      record {
+        architecture = h.architecture;
+        vendor = h.vendor;
+        operating_system = h.operating_system;
+        environment = h.environment;
+        binary_format = h.binary_format;
+      } in
+      rw (read-filled (Some Vendor) t ps done)
+      (rw ordinary (
+        parts_of text,
+        parts_of-are text,
+        rw are (Architecture ∷ fields_from (Some Vendor) ps, greedy-least p ps takes done, holds),
+      ))
+  by_left takes (q ∷ rest) left =
+      rw (read-left Architecture (with_value Architecture p unknown_values) ps q rest left)
+      (is_refused _ (left-refused p ps q rest takes left))
 
   parts-hold : Holds text (reading_of_parts (p ∷ ps))
   parts-hold =
@@ -131,7 +169,8 @@ module _ (text p : List ℕ) (ps : List (List ℕ)) (ordinary : special_values t
         | inr skips ↦ rw skips (is_refused _ (refused_first p ps skips))
       ]
 
-by_parts : (text : List ℕ) (parts : List (List ℕ)) → special_values text ≡ None → parts_of text ≡ parts → Holds text (reading_of_parts parts)
+by_parts : (text : List ℕ) (parts : List (List ℕ)) → special_values text ≡ None → parts_of text ≡ parts
+    → Holds text (reading_of_parts parts)
 by_parts text [] ordinary are = absurd (parts_of-some text are)
 by_parts text (p ∷ ps) ordinary are = parts-hold text p ps ordinary are
 
@@ -159,10 +198,12 @@ computed text (Err y) h = (
 )
 
 pub reading_computed : ReadingIsComputed
-reading_computed text = let both = computed text (reading text) (reading-holds text) in record { read = both.0; refused = both.1 }
+reading_computed text = let both = computed text (reading text) (reading-holds text) in
+    record { read = both.0; refused = both.1 }
 
 -- a string reads or is refused
-outcome : (text : List ℕ) (found : Result Values Refusal) → Holds text found → ((t : Values) × ParsesAs text t) ⊎ IsRefused text
+outcome : (text : List ℕ) (found : Result Values Refusal) → Holds text found → ((t : Values) × ParsesAs text t)
+    ⊎ IsRefused text
 outcome text (Ok t) h = inl (t, h)
 outcome text (Err x) h = inr (x, h)
 

@@ -1,58 +1,72 @@
 -- The elements of a JSON array that have been parsed so far.
-use Rattle.std.proofs.Common.{◌≡◌, ℕ, zero, suc, ◌+◌, ◌<◌, ◌≤◌, List, [], ◌∷◌, ◌++◌, Option, Some, MatchOption, All, length, get_or, take, map, add-one, arith, subst, refl}
-use Rattle.std.proofs.lemmas.{List.map-append, List.take_all, List.Elements.All-append}
-use Rattle.serde_json.specs.{Data.Data, Data.Items, Find.get_item, View.view, View.items_view, declared.value.Value.Value}
-use Rattle.target_lexicon.specs.{Json.JsonParsesAs, Json.ElementsParseAs, Json.IsElementParsed, Json.JsonErrorValue, Json.IsJsonErrorOf, Json.IsFirstError, Values.Values, Values.values_of}
-use Rattle.target_lexicon.specs.declared.triple.Triple.{Triple}
+use Rattle.target_lexicon.proofs.Common.{◌++◌, ◌+◌, ◌<◌, ◌∷◌, ◌≡◌, ◌≤◌, All, List, Option, Some, [], add-one, arith}
+use Rattle.target_lexicon.proofs.Common.{get_or, length, map, refl, subst, suc, take, zero, ℕ, MatchOption}
+use Rattle.target_lexicon.proofs.Common.{ElementsParseAs, Values, values_of, Triple}
+use Rattle.std.proofs.{lemmas.List.map-append, lemmas.List.take_all, lemmas.List.Elements.All-append}
+use Rattle.serde_json.specs.{Data.Data, Data.Items, Find.get_item, View.view, View.items_view}
+use Rattle.serde_json.specs.{declared.value.Value.Value}
+use Rattle.target_lexicon.specs.Json.{JsonParsesAs, IsElementParsed, JsonErrorValue, IsJsonErrorOf, IsFirstError}
 
 -- an element of an array, by its index
-get_item-view : (xs : List Value) (i : ℕ) (x : Value) → i < length xs → Some (view (get_or xs i x)) ≡ get_item i (items_view xs)
+get_item-view : (xs : List Value) (i : ℕ) (x : Value) → i < length xs
+    → Some (view (get_or xs i x)) ≡ get_item i (items_view xs)
 get_item-view [] i x within = absurd (omega arith)
 get_item-view (y ∷ ys) zero x within = refl
 get_item-view (y ∷ ys) (suc i) x within = get_item-view ys i x (omega arith)
 
 -- a fact about the elements of an array is one about the value
-pub at_array : (P : Items → Type 0) (elements : Option Items) (xs ys : List Value) → Some (items_view xs) ≡ elements → ys ≡ xs → P (items_view ys)
+pub at_array : (P : Items → Type 0) (elements : Option Items) (xs ys : List Value) → Some (items_view xs) ≡ elements
+    → ys ≡ xs → P (items_view ys)
     → MatchOption elements ⊥ P
 at_array P elements xs ys found same holds =
     subst (λ (o : Option Items). MatchOption o ⊥ P) found (subst (λ (zs : List Value). P (items_view zs)) same holds)
 
 -- one more element parses
 read-more : (xs : List Value) (i : ℕ) (x : Value) (ts : List Values) (t : Values) → i < length xs
-    → ElementsParseAs (items_view (take i xs)) ts → JsonParsesAs (view (get_or xs i x)) t → ElementsParseAs (items_view (take (suc i) xs)) (ts ++ t ∷ [])
+    → ElementsParseAs (items_view (take i xs)) ts → JsonParsesAs (view (get_or xs i x)) t
+    → ElementsParseAs (items_view (take (suc i) xs)) (ts ++ t ∷ [])
 read-more [] i x ts t within read reads = absurd (omega arith)
 read-more (y ∷ ys) zero x [] t within read reads = (reads, tt)
 read-more (y ∷ ys) (suc i) x (u ∷ us) t within read reads = (read.0, read-more ys i x us t (omega arith) read.1 reads)
 read-more _ _ x _ t within read reads = absurd read
 
-pub elements_read-more : (xs : List Value) (i : ℕ) (x : Value) (old new : List Triple) (t : Triple) → i < length xs → x ≡ get_or xs i x → new ≡ old ++ t ∷ []
+pub elements_read-more : (xs : List Value) (i : ℕ) (x : Value) (old new : List Triple) (t : Triple) → i < length xs
+    → x ≡ get_or xs i x → new ≡ old ++ t ∷ []
     → ElementsParseAs (items_view (take i xs)) (map values_of old) → JsonParsesAs (view x) (values_of t)
     → ElementsParseAs (items_view (take (i + 1) xs)) (map values_of new)
 elements_read-more xs i x old new t within is grown read reads =
-    let here : JsonParsesAs (view (get_or xs i x)) (values_of t) = subst (λ (v : Value). JsonParsesAs (view v) (values_of t)) is reads in
+    let here : JsonParsesAs (view (get_or xs i x)) (values_of t) =
+    subst (λ (v : Value). JsonParsesAs (view v) (values_of t)) is reads in
     rw (add-one, grown, map-append) (read-more xs i x (map values_of old) (values_of t) within read here)
 
 -- each earlier element parses
-read-before : (xs : List Value) (i : ℕ) (ts : List Values) (k : ℕ) → k < i → i ≤ length xs → ElementsParseAs (items_view (take i xs)) ts
+read-before : (xs : List Value) (i : ℕ) (ts : List Values) (k : ℕ) → k < i → i ≤ length xs
+    → ElementsParseAs (items_view (take i xs)) ts
     → IsElementParsed (items_view xs) k
 read-before [] i ts k before within read = absurd (omega arith)
 read-before (y ∷ ys) zero ts k before within read = absurd (omega arith)
 read-before (y ∷ ys) (suc i) [] k before within read = absurd read
 read-before (y ∷ ys) (suc i) (u ∷ us) zero before within read = (u, read.0)
-read-before (y ∷ ys) (suc i) (u ∷ us) (suc k) before within read = read-before ys i us k (omega arith) (omega arith) read.1
+read-before (y ∷ ys) (suc i) (u ∷ us) (suc k) before within read =
+    read-before ys i us k (omega arith) (omega arith) read.1
 
 -- the element at i is the first that doesn't parse
-pub elements_refused : (xs : List Value) (i : ℕ) (x : Value) (ts : List Values) (error : JsonErrorValue) → i < length xs → x ≡ get_or xs i x
+pub elements_refused : (xs : List Value) (i : ℕ) (x : Value) (ts : List Values) (error : JsonErrorValue) → i < length xs
+    → x ≡ get_or xs i x
     → ElementsParseAs (items_view (take i xs)) ts → IsJsonErrorOf (view x) error → IsFirstError (items_view xs) i error
 elements_refused xs i x ts error within is read refused =
-    let here : IsJsonErrorOf (view (get_or xs i x)) error = subst (λ (v : Value). IsJsonErrorOf (view v) error) is refused in
+    let here : IsJsonErrorOf (view (get_or xs i x)) error = subst (λ (v : Value). IsJsonErrorOf (view v) error)
+    is refused in
     record {
-      here = subst (λ (o : Option Data). MatchOption o ⊥ (λ value. IsJsonErrorOf value error)) (get_item-view xs i x within) here;
+      here =
+          subst (λ (o : Option Data). MatchOption o ⊥ (λ value. IsJsonErrorOf value error))
+          (get_item-view xs i x within) here;
       before = λ k before. read-before xs i ts k before (omega arith) read;
     }
 
 -- if one more element parses, the first element parses
-pub elements_begun : (xs : List Value) (i : ℕ) (x : Value) (ts : List Values) (t : Values) → i < length xs → x ≡ get_or xs i x
+pub elements_begun : (xs : List Value) (i : ℕ) (x : Value) (ts : List Values) (t : Values) → i < length xs
+    → x ≡ get_or xs i x
     → ElementsParseAs (items_view (take i xs)) ts → JsonParsesAs (view x) t → IsElementParsed (items_view xs) 0
 elements_begun xs i x ts t within is read reads =
     let here : JsonParsesAs (view (get_or xs i x)) t = subst (λ (v : Value). JsonParsesAs (view v) t) is reads in
@@ -63,9 +77,11 @@ all-one : (P : Triple → Type 0) (t : Triple) → P t → All P (t ∷ [])
 all-one P t here zero d within = here
 all-one P t here (suc k) d within = absurd (omega arith)
 
-pub all_triples-more : (P : Triple → Type 0) (old new : List Triple) (t : Triple) → new ≡ old ++ t ∷ [] → All P old → P t → All P new
+pub all_triples-more : (P : Triple → Type 0) (old new : List Triple) (t : Triple) → new ≡ old ++ t ∷ [] → All P old
+    → P t → All P new
 all_triples-more P old new t grown all here = rw grown (All-append P old (t ∷ []) all (all-one P t here))
 
 -- all elements parse if those before the end do
-pub elements_read : (xs : List Value) (i : ℕ) (ts : List Values) → length xs ≤ i → ElementsParseAs (items_view (take i xs)) ts → ElementsParseAs (items_view xs) ts
+pub elements_read : (xs : List Value) (i : ℕ) (ts : List Values) → length xs ≤ i
+    → ElementsParseAs (items_view (take i xs)) ts → ElementsParseAs (items_view xs) ts
 elements_read xs i ts whole read = rw (take_all i xs whole) at read

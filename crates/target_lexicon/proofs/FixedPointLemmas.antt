@@ -1,7 +1,7 @@
 -- The normal step leaves a triple unchanged exactly outside the exceptions.
-use Rattle.std.proofs.Common.{◌≡◌, true, sym, ap, subst}
-use Rattle.lexicon_fields.specs.{Vendor.is_plain, Laws.HasVersionInRange}
-use Rattle.target_lexicon.specs.{FixedPoints.FixedExactlyOutsideExceptions, FixedPoints.RoundIsNormalStep, Laws.ComesBack, NormalStep.normal_step, Printing.string_of, Parsing.ParsesAs, Values.Values}
+use Rattle.target_lexicon.proofs.Common.{◌≡◌, ap, subst, sym, true, HasVersionInRange, is_plain, RoundIsNormalStep}
+use Rattle.target_lexicon.proofs.Common.{ComesBack, normal_step, ParsesAs, string_of, Values}
+use Rattle.target_lexicon.specs.FixedPoints.{FixedExactlyOutsideExceptions}
 use Rattle.target_lexicon.proofs.StepCases.{IsOutside, step_cases, outside-fixed, plain-exception, none-plain_outside}
 use Rattle.target_lexicon.proofs.{ReadValues.read_plain, UniqueReading.values_unique}
 
@@ -16,13 +16,20 @@ fixed-outside t = step_cases (λ u. u ≡ t → IsOutside t) t
 -- with the placements
 
 module _ (round : RoundIsNormalStep) where
-  back-outside : (t : Values) → HasVersionInRange t.operating_system → ComesBack t → (is_plain t.vendor ≡ true) × IsOutside t
+  back-outside : (t : Values) → HasVersionInRange t.operating_system → ComesBack t
+      → (is_plain t.vendor ≡ true) × IsOutside t
   back-outside t range back =
-      let plain = read_plain (string_of t) t back in
-      (plain, fixed-outside t (values_unique (string_of t) (normal_step t) t (round t (record { vendor = plain; version = range })) back))
+      let plain = read_plain (string_of t) t back in (
+        plain,
+        fixed-outside t (values_unique (string_of t) (normal_step t) t
+            (round t (record { vendor = plain; version = range })) back),
+      )
 
-  outside-back : (t : Values) → HasVersionInRange t.operating_system → is_plain t.vendor ≡ true → IsOutside t → ComesBack t
-  outside-back t range plain outside = subst (λ (u : Values). ParsesAs (string_of t) u) (outside-fixed t outside) (round t (record { vendor = plain; version = range }))
+  outside-back : (t : Values) → HasVersionInRange t.operating_system → is_plain t.vendor ≡ true → IsOutside t
+      → ComesBack t
+  outside-back t range plain outside =
+      subst (λ (u : Values). ParsesAs (string_of t) u) (outside-fixed t outside)
+      (round t (record { vendor = plain; version = range }))
 
   -- a triple comes back exactly outside the exceptions
   pub fixed_exactly_outside : FixedExactlyOutsideExceptions

@@ -1,24 +1,32 @@
 -- Printed strings are at most so much longer than the string that was parsed, and the canonical form makes no string
 -- longer.
-use Rattle.std.proofs.Common.{◌≡◌, ◌≢◌, ◌∙◌, ℕ, zero, suc, ◌+◌, ◌≤◌, ◌<◌, ◌^◌, List, [], ◌∷◌, length, nat_le, Bool, true, false, true≢false, not, ◌&&◌, ◌||◌, Option, Some, None, is_some, unwrap_or, refl, sym, ap, subst, arith, inl, inr}
-use Rattle.std.specs.{List.join_with_byte, List.slice_get, Prelude.MatchOption}
-use Rattle.std.proofs.{lemmas.List.length-append, lemmas.Bool.and_parts, lemmas.Bool.leb-true, lemmas.Bool.not-true, Math.Bool.and-false, Math.Bool.or-true}
-use Rattle.lexicon_fields.specs.Names.{dash}
-use Rattle.target_lexicon.specs.Values.{Architecture, OperatingSystem, Environment, BinaryFormat, VendorValue, Known, Values, values, is_unknown_vendor, is_clever_without_system, is_same_format}
-use Rattle.target_lexicon.specs.{ImpliedFormat.default_binary_format, ImpliedFormat.implied_format, ImpliedFormat.wasm_or_elf, NormalStep.normal_step, NormalStep.elf_if_unknown}
-use Rattle.target_lexicon.specs.{FixedPoints.PrintedStringsGrowAtMost, FixedPoints.CanonicalStringsGrowAtMost, FixedPoints.RefusedPartsDoNotGrow}
-use Rattle.target_lexicon.specs.SpecialStrings.{SpecialRow, special_triple, special_string, special_values, implies_newlib}
-use Rattle.target_lexicon.specs.ExceptionFacts.{HasFieldsOf, HasSystemOf, HasSpecialFields, HidesNewlib, PrintsTheEspIdfString, ShowsOnlyNone}
-use Rattle.target_lexicon.specs.Printing.{architecture_implies_format, environment_implies_format, is_none_or_unknown, shows_vendor, shows_operating_system, shows_environment, shows_implied_format, shows_binary_format, shows_unknowns, shown_names, cons_if, string_of, text_with}
-use Rattle.target_lexicon.specs.{Field.Field, Field.field_number, Field.parses_as, GreedyReading.field_for, GreedyReading.open_fields}
-use Rattle.target_lexicon.specs.Parsing.{ArePartsOf, HoldsParts, IsLeastPlacement, IsValueOf, PartsParseAs, expected_after, part_at}
-use Rattle.target_lexicon.proofs.GreedyPlacement.{cases_Option, fields_from, first-least, greedy-finds, greedy-least, least-unique, left_from, open-follows}
-use Rattle.lexicon_fields.specs.{declared.architecture.families.CleverArchitecture.CleverArchitecture, Architecture.architecture_name, Architecture.architecture_of, Architecture.architecture_texts, Laws.TextsAreNames, Laws.NamesGrowAtMost, Laws.NamesAreShort, Laws.max_name_length, Vendor.vendor_name, Vendor.known_vendor_name, Vendor.vendor_of}
-use Rattle.lexicon_fields.specs.declared.known_vendor.KnownVendor.TheVariants.{Unknown, Espressif}
-use Rattle.lexicon_fields.specs.{OperatingSystem.operating_system_name, OperatingSystem.operating_system_of, Environment.environment_name, Environment.environment_of, ArchitectureQueries.is_clever}
-use Rattle.lexicon_fields.specs.BinaryFormat.{binary_format_name, binary_format_of}
-use Rattle.target_lexicon.proofs.SpecialRows.{RowFacts, row_of_fields, row_of_system, row_of_text, fields_of_special, prints_row}
-use Rattle.target_lexicon.proofs.{NamesAcross.environment_of-format, PrintingLemmas.printed_names, ReadParts.absent, RoundTrips.is_same_format-is, RoundTrips.without_system, StepCases.step_cases}
+use Rattle.target_lexicon.proofs.Common
+use Common.{◌&&◌, ◌+◌, ◌<◌, ◌^◌, ◌||◌, ◌∙◌, ◌∷◌, ◌≡◌, ◌≢◌, ◌≤◌, Bool, List, None, Option, Some, [], ap, arith, false}
+use Common.{inl, inr, is_some, length, nat_le, not, refl, subst, suc, sym, true, true≢false, zero, ℕ, and-false}
+use Common.{and_parts, not-true, length-append, join_with_byte, MatchOption, slice_get, unwrap_or, architecture_name}
+use Common.{architecture_of, is_clever, binary_format_name, binary_format_of, environment_name, environment_of, dash}
+use Common.{operating_system_name, operating_system_of, vendor_name, vendor_of, Espressif, Unknown, HasFieldsOf}
+use Common.{HasSpecialFields, HasSystemOf, HidesNewlib, PrintsTheEspIdfString, ShowsOnlyNone, Field, field_number}
+use Common.{parses_as, field_for, open_fields, default_binary_format, implied_format, elf_if_unknown, normal_step}
+use Common.{ArePartsOf, HoldsParts, IsLeastPlacement, IsValueOf, PartsParseAs, expected_after, part_at, cons_if}
+use Common.{shown_names, shows_binary_format, shows_environment, shows_operating_system, shows_unknowns, shows_vendor}
+use Common.{string_of, SpecialRow, implies_newlib, special_string, special_triple, special_values, Architecture}
+use Common.{BinaryFormat, Environment, Known, OperatingSystem, Values, VendorValue, is_clever_without_system}
+use Common.{is_same_format, is_unknown_vendor, values}
+use Rattle.std.proofs.{lemmas.Bool.leb-true, Math.Bool.or-true}
+use Rattle.target_lexicon.specs.{ImpliedFormat.wasm_or_elf, FixedPoints.PrintedStringsGrowAtMost}
+use Rattle.target_lexicon.specs.{FixedPoints.CanonicalStringsGrowAtMost, FixedPoints.RefusedPartsDoNotGrow}
+use Rattle.target_lexicon.specs.{Printing.architecture_implies_format, Printing.environment_implies_format}
+use Rattle.target_lexicon.specs.{Printing.is_none_or_unknown, Printing.shows_implied_format, Printing.text_with}
+use Rattle.target_lexicon.proofs.GreedyPlacement.{cases_Option, fields_from, first-least, greedy-finds, greedy-least}
+use Rattle.target_lexicon.proofs.GreedyPlacement.{least-unique, left_from, open-follows}
+use Rattle.target_lexicon.proofs.SpecialRows.{RowFacts, row_of_fields, row_of_system, row_of_text, fields_of_special}
+use Rattle.target_lexicon.proofs.SpecialRows.{prints_row}
+use Rattle.target_lexicon.proofs.{NamesAcross.environment_of-format, PrintingLemmas.printed_names, ReadParts.absent}
+use Rattle.target_lexicon.proofs.{RoundTrips.is_same_format-is, RoundTrips.without_system, StepCases.step_cases}
+use Rattle.lexicon_fields.specs.Laws.{TextsAreNames, NamesGrowAtMost, NamesAreShort, max_name_length}
+use Rattle.lexicon_fields.specs.{declared.architecture.families.CleverArchitecture.CleverArchitecture}
+use Rattle.lexicon_fields.specs.{Architecture.architecture_texts, Vendor.known_vendor_name}
 use Rattle.lexicon_fields.proofs.LookUpLemmas.{value_named-all}
 use Rattle.target_lexicon.specs.Values.architecture
 use Rattle.target_lexicon.specs.Values.operating_system
@@ -31,27 +39,40 @@ abbrev weight : List (List ℕ) → ℕ
 weight [] = 0
 weight (part ∷ parts) = suc (length part) + weight parts
 
-weight-joined : (part : List ℕ) (parts : List (List ℕ)) → weight (part ∷ parts) ≡ suc (length (join_with_byte dash (part ∷ parts)))
+weight-joined : (part : List ℕ) (parts : List (List ℕ))
+    → weight (part ∷ parts) ≡ suc (length (join_with_byte dash (part ∷ parts)))
 weight-joined part [] = omega arith
-weight-joined part (next ∷ parts) = omega (arith, weight-joined next parts, length-append part (dash ∷ join_with_byte dash (next ∷ parts)))
+weight-joined part (next ∷ parts) =
+    omega (arith, weight-joined next parts, length-append part (dash ∷ join_with_byte dash (next ∷ parts)))
 
-weight-cons_if : (b : Bool) (part : List ℕ) (parts : List (List ℕ)) → weight (cons_if b part parts) ≤ suc (length part) + weight parts
+weight-cons_if : (b : Bool) (part : List ℕ) (parts : List (List ℕ))
+    → weight (cons_if b part parts) ≤ suc (length part) + weight parts
 weight-cons_if true part parts = omega arith
 weight-cons_if false part parts = omega arith
 
-weight-hidden : (b : Bool) (part : List ℕ) (parts : List (List ℕ)) → weight (cons_if (b && false) part parts) ≡ weight parts
+weight-hidden : (b : Bool) (part : List ℕ) (parts : List (List ℕ))
+    → weight (cons_if (b && false) part parts) ≡ weight parts
 weight-hidden b part parts = rw and-false refl
 
 -- the parts that are shown after the system
 abbrev after_system : Bool → Values → List (List ℕ)
-after_system b t = cons_if (b || shows_environment t) (environment_name t.environment) (cons_if (b || shows_binary_format t) (binary_format_name t.binary_format) [])
+after_system b t =
+    cons_if (b || shows_environment t) (environment_name t.environment)
+    (cons_if (b || shows_binary_format t) (binary_format_name t.binary_format) [])
 
 weight-parts : (t : Values) (b : Bool) → weight (shown_names b t)
-    ≤ suc (length (architecture_name t.architecture)) + (suc (length (vendor_name t.vendor)) + (suc (length (operating_system_name t.operating_system)) + weight (after_system b t)))
+    ≤ suc (length (architecture_name t.architecture))
+    + (suc (length (vendor_name t.vendor))
+    + (suc (length (operating_system_name t.operating_system)) + weight (after_system b t)))
 unfolding shown_names
 weight-parts t b =
-    let system = cons_if (b || shows_operating_system t) (operating_system_name t.operating_system) (after_system b t) in
-    omega (arith, weight-cons_if (shows_vendor t) (vendor_name t.vendor) system, weight-cons_if (b || shows_operating_system t) (operating_system_name t.operating_system) (after_system b t))
+    let system = cons_if (b || shows_operating_system t) (operating_system_name t.operating_system)
+    (after_system b t) in
+    omega (
+      arith,
+      weight-cons_if (shows_vendor t) (vendor_name t.vendor) system,
+      weight-cons_if (b || shows_operating_system t) (operating_system_name t.operating_system) (after_system b t),
+    )
 
 weight-shown : (t : Values) (b : Bool) → weight (shown_names b t) ≡ suc (length (join_with_byte dash (shown_names b t)))
 unfolding shown_names
@@ -64,16 +85,19 @@ size_of (Some part) = suc (length part)
 
 abbrev sizes_at : List (List ℕ) → List Field → ℕ
 sizes_at parts fields =
-    size_of (part_at field.Architecture parts fields) + (size_of (part_at field.Vendor parts fields) + (size_of (part_at field.OperatingSystem parts fields)
+    size_of (part_at field.Architecture parts fields)
+    + (size_of (part_at field.Vendor parts fields) + (size_of (part_at field.OperatingSystem parts fields)
     + (size_of (part_at field.Environment parts fields) + size_of (part_at field.BinaryFormat parts fields))))
 
 -- each part is that of a field
-weight-next : (p : List ℕ) (ps : List (List ℕ)) (f : Field) → weight ps ≡ sizes_at ps (fields_from (expected_after f) ps)
+weight-next : (p : List ℕ) (ps : List (List ℕ)) (f : Field)
+    → weight ps ≡ sizes_at ps (fields_from (expected_after f) ps)
     → weight (p ∷ ps) ≡ sizes_at (p ∷ ps) (f ∷ fields_from (expected_after f) ps)
 weight-next p ps field.Vendor is = omega (arith, is, ap size_of (absent field.Vendor ps ps))
 weight-next p ps f is = omega (arith, is, ap size_of (absent f ps ps))
 
-weight-fields : (l : Field) (ps : List (List ℕ)) → left_from (expected_after l) ps ≡ [] → weight ps ≡ sizes_at ps (fields_from (expected_after l) ps)
+weight-fields : (l : Field) (ps : List (List ℕ)) → left_from (expected_after l) ps ≡ []
+    → weight ps ≡ sizes_at ps (fields_from (expected_after l) ps)
 weight-fields l [] done = omega arith
 weight-fields l (p ∷ ps) done =
     elim (cases_Option (field_for (expected_after l) p)) [
@@ -84,7 +108,8 @@ weight-fields l (p ∷ ps) done =
 -- the name of a field's value, which grows at most so
 value-growth : {A : Type 0} (name : A → List ℕ) (find : List ℕ → Option A) (unfilled : A) (bytes : ℕ) (growth : A → ℕ)
     → NamesGrowAtMost bytes name find → ((x : A) → bytes ≤ growth x) → suc (length (name unfilled)) ≤ growth unfilled
-    → (part : Option (List ℕ)) (x : A) → IsValueOf find unfilled part x → suc (length (name x)) ≤ size_of part + growth x
+    → (part : Option (List ℕ)) (x : A) → IsValueOf find unfilled part x
+    → suc (length (name x)) ≤ size_of part + growth x
 value-growth name find unfilled bytes growth grows least short None x is = rw is (omega (arith, short))
 value-growth name find unfilled bytes growth grows least short (Some p) x is = omega (arith, grows p x is, least x)
 
@@ -112,10 +137,12 @@ alone-growth : (text : List ℕ) (a : Architecture) → architecture_of text ≡
     → length (architecture_name a) + alone_size a ≤ length text + 6
 unfolding architecture_of
 alone-growth text a found =
-    leb-true _ _ (value_named-all (λ pair. nat_le (length (architecture_name pair.1) + alone_size pair.1) (length pair.0 + 6))
+    leb-true _ _ (value_named-all
+    (λ pair. nat_le (length (architecture_name pair.1) + alone_size pair.1) (length pair.0 + 6))
     architecture_texts text a refl found)
 
-weight-fewer : (a s e f : Bool) (part : List ℕ) → weight (cons_if (a && s && e && f) part []) ≤ weight (cons_if (a && f) part [])
+weight-fewer : (a s e f : Bool) (part : List ℕ)
+    → weight (cons_if (a && s && e && f) part []) ≤ weight (cons_if (a && f) part [])
 weight-fewer true true true f part = omega arith
 weight-fewer _ _ _ _ part = omega arith
 
@@ -125,15 +152,18 @@ format-short _ = omega arith
 
 -- a special string is not longer than the parts that are shown otherwise
 
-system_shown : (a : Architecture) (s : OperatingSystem) → is_none_or_unknown s ≡ false → is_clever_without_system a s ≡ false
+system_shown : (a : Architecture) (s : OperatingSystem) → is_none_or_unknown s ≡ false
+    → is_clever_without_system a s ≡ false
 system_shown (architecture.Clever sub) operating_system.Unknown known = absurd (true≢false known)
 system_shown _ _ known = refl
 
-weight-row : (t : Values) (b : Bool) (row : SpecialRow) → HasFieldsOf row t → RowFacts row → length row.text ≤ length (join_with_byte dash (shown_names b t))
+weight-row : (t : Values) (b : Bool) (row : SpecialRow) → HasFieldsOf row t → RowFacts row
+    → length row.text ≤ length (join_with_byte dash (shown_names b t))
 unfolding shown_names shows_vendor shows_operating_system
 weight-row t b row is facts = omega (arith, facts.short, weight-shown t b, at_least)
   where
-    at_least : length (architecture_name row.architecture) + (1 + length (known_vendor_name row.vendor)) + (1 + length (operating_system_name row.operating_system)) < weight (shown_names b t)
+    at_least : length (architecture_name row.architecture) + (1 + length (known_vendor_name row.vendor))
+        + (1 + length (operating_system_name row.operating_system)) < weight (shown_names b t)
     at_least = rw (
       is.architecture,
       is.system.vendor,
@@ -143,10 +173,12 @@ weight-row t b row is facts = omega (arith, facts.short, weight-shown t b, at_le
       or-true b,
     ) (omega arith)
 
-special-short : (t : Values) (b : Bool) (n : ℕ) → length (join_with_byte dash (shown_names b t)) ≤ n → length (unwrap_or (special_string t) (join_with_byte dash (shown_names b t))) ≤ n
+special-short : (t : Values) (b : Bool) (n : ℕ) → length (join_with_byte dash (shown_names b t)) ≤ n
+    → length (unwrap_or (special_string t) (join_with_byte dash (shown_names b t))) ≤ n
 special-short t b n short = by_special (special_string t) refl
   where
-    by_special : (special : Option (List ℕ)) → special_string t ≡ special → length (unwrap_or special (join_with_byte dash (shown_names b t))) ≤ n
+    by_special : (special : Option (List ℕ)) → special_string t ≡ special
+        → length (unwrap_or special (join_with_byte dash (shown_names b t))) ≤ n
     by_special None is = short
     by_special (Some text) is =
         let at = row_of_fields t (fields_of_special t (ap is_some is)) in
@@ -160,19 +192,23 @@ unknown-environment = rw (environment_of-format binary_format.Unknown) refl
 
 -- a part that is an unknown format comes after an environment, since it would be an unknown environment
 abbrev HasUnknownLast : List (List ℕ) → List Field → Type 0
-HasUnknownLast ps fs = part_at field.BinaryFormat ps fs ≡ Some (binary_format_name binary_format.Unknown) → part_at field.Environment ps fs ≢ None
+HasUnknownLast ps fs = part_at field.BinaryFormat ps fs ≡ Some (binary_format_name binary_format.Unknown)
+    → part_at field.Environment ps fs ≢ None
 
-unknown-next : (l : Field) (p : List ℕ) (ps : List (List ℕ)) (f : Field) (fs : List Field) → field_number l < 3 → field_for (expected_after l) p ≡ Some f
+unknown-next : (l : Field) (p : List ℕ) (ps : List (List ℕ)) (f : Field) (fs : List Field) → field_number l < 3
+    → field_for (expected_after l) p ≡ Some f
     → (field_number f < 3 → HasUnknownLast ps fs) → HasUnknownLast (p ∷ ps) (f ∷ fs)
 unknown-next l p ps field.BinaryFormat fs near found later last none =
     let same : p ≡ binary_format_name binary_format.Unknown = cc in
-    let first = first-least l (open_fields (expected_after l)) p field.Environment (open-follows l) near (rw same unknown-environment) in
+    let first = first-least l (open_fields (expected_after l)) p field.Environment (open-follows l) near
+    (rw same unknown-environment) in
     let is : first.0 ≡ field.BinaryFormat = cc in
     omega (arith, ap field_number is, first.2)
 unknown-next l p ps field.Environment fs near found later last none = cc
 unknown-next l p ps f fs near found later last none = later (omega arith) last none
 
-unknown-last : (l : Field) (ps : List (List ℕ)) → field_number l < 3 → HasUnknownLast ps (fields_from (expected_after l) ps)
+unknown-last : (l : Field) (ps : List (List ℕ)) → field_number l < 3
+    → HasUnknownLast ps (fields_from (expected_after l) ps)
 unknown-last l [] near = λ last none. cc
 unknown-last l (p ∷ ps) near =
     elim (cases_Option (field_for (expected_after l) p)) [
@@ -180,74 +216,124 @@ unknown-last l (p ∷ ps) near =
       | inr some ↦ rw some.1 (unknown-next l p ps some.0 _ near some.1 (unknown-last some.0 ps))
     ]
 
-module _ (formats : TextsAreNames binary_format_name binary_format_of) (environments : TextsAreNames environment_name environment_of)
+module _ (formats : TextsAreNames binary_format_name binary_format_of)
+    (environments : TextsAreNames environment_name environment_of)
     (architectures : NamesGrowAtMost 2 architecture_name architecture_of) (machine : List ℕ) where
   -- the names of the architecture and of an implied format that is shown, and the growth of the system
   abbrev IsShort : Architecture → VendorValue → OperatingSystem → Environment → Type 0
   IsShort a v s e = length (architecture_name a)
-      + (weight (cons_if (shows_implied_format (values a v s e (implied_format a s e))) (binary_format_name (implied_format a s e)) []) + system_growth s)
+      + (weight (cons_if (shows_implied_format (values a v s e (implied_format a s e)))
+      (binary_format_name (implied_format a s e)) []) + system_growth s)
       ≤ length machine + 14
 
-  implied_format-short : (a : Architecture) (v : VendorValue) (s : OperatingSystem) (e : Environment) → architecture_of machine ≡ Some a → IsShort a v s e
+  implied_format-short : (a : Architecture) (v : VendorValue) (s : OperatingSystem) (e : Environment)
+      → architecture_of machine ≡ Some a → IsShort a v s e
   unfolding implied_format
   implied_format-short a v operating_system.Unknown e found =
-      omega (arith, alone-growth machine a found, weight-fewer (not (architecture_implies_format a)) true (not (environment_implies_format e)) (not (is_same_format (wasm_or_elf a) binary_format.Unknown)) (binary_format_name (wasm_or_elf a)))
-  implied_format-short a v s e found = omega (arith, architectures machine a found, weight-cons_if, format-short (implied_format a s e))
+      omega (
+        arith,
+        alone-growth machine a found,
+        weight-fewer (not (architecture_implies_format a)) true
+            (not (environment_implies_format e)) (not (is_same_format (wasm_or_elf a) binary_format.Unknown))
+            (binary_format_name (wasm_or_elf a)),
+      )
+  implied_format-short a v s e found =
+      omega (arith, architectures machine a found, weight-cons_if, format-short (implied_format a s e))
 
-  format-growth : (t : Values) (part : Option (List ℕ)) → architecture_of machine ≡ Some t.architecture → IsValueOf binary_format_of (default_binary_format t) part t.binary_format
-      → length (architecture_name t.architecture) + (weight (cons_if (shows_binary_format t) (binary_format_name t.binary_format) []) + system_growth t.operating_system)
+  format-growth : (t : Values) (part : Option (List ℕ)) → architecture_of machine ≡ Some t.architecture
+      → IsValueOf binary_format_of (default_binary_format t) part t.binary_format
+      → length (architecture_name t.architecture)
+      + (weight (cons_if (shows_binary_format t) (binary_format_name t.binary_format) []) + system_growth
+      t.operating_system)
       ≤ length machine + (size_of part + 14)
   unfolding shows_binary_format
   format-growth t None found is =
-      rw (is, is_same_format-self (default_binary_format t)) (omega (arith, implied_format-short t.architecture t.vendor t.operating_system t.environment found))
+      rw (is, is_same_format-self (default_binary_format t))
+      (omega (arith, implied_format-short t.architecture t.vendor t.operating_system t.environment found))
   format-growth t (Some p) found is =
-      omega (arith, weight-cons_if (shows_binary_format t) (binary_format_name t.binary_format) [], ap length (formats p t.binary_format is), (system_growth-within t.operating_system).1, architectures machine t.architecture found)
+      omega (
+        arith,
+        weight-cons_if (shows_binary_format t) (binary_format_name t.binary_format) [],
+        ap length (formats p t.binary_format is),
+        (system_growth-within t.operating_system).1,
+        architectures machine t.architecture found,
+      )
 
-  environment-growth : (t : Values) (part : Option (List ℕ)) (rest : List (List ℕ)) → IsValueOf environment_of environment.Unknown part t.environment
+  environment-growth : (t : Values) (part : Option (List ℕ)) (rest : List (List ℕ))
+      → IsValueOf environment_of environment.Unknown part t.environment
       → weight (cons_if (shows_environment t) (environment_name t.environment) rest) ≤ size_of part + weight rest
   unfolding shows_environment
   environment-growth t None rest is = rw is (omega arith)
   environment-growth t (Some p) rest is =
-      omega (arith, weight-cons_if (shows_environment t) (environment_name t.environment) rest, ap length (environments p t.environment is))
+      omega (
+        arith,
+        weight-cons_if (shows_environment t) (environment_name t.environment) rest,
+        ap length (environments p t.environment is),
+      )
 
   -- the architecture, and the parts that are shown after the system
-  after_system-growth : (t : Values) (e f : Option (List ℕ)) (b : Bool) → shows_unknowns t ≡ b → architecture_of machine ≡ Some t.architecture
+  after_system-growth : (t : Values) (e f : Option (List ℕ)) (b : Bool) → shows_unknowns t ≡ b
+      → architecture_of machine ≡ Some t.architecture
       → IsValueOf environment_of environment.Unknown e t.environment
-      → IsValueOf binary_format_of (default_binary_format t) f t.binary_format → (f ≡ Some (binary_format_name binary_format.Unknown) → e ≢ None)
-      → length (architecture_name t.architecture) + (weight (after_system b t) + system_growth t.operating_system) ≤ length machine + (size_of e + (size_of f + 14))
+      → IsValueOf binary_format_of (default_binary_format t) f t.binary_format
+      → (f ≡ Some (binary_format_name binary_format.Unknown) → e ≢ None)
+      → length (architecture_name t.architecture) + (weight (after_system b t) + system_growth t.operating_system)
+      ≤ length machine + (size_of e + (size_of f + 14))
   after_system-growth t e f false shown found is_e is_f last =
-      omega (arith, environment-growth t e (cons_if (shows_binary_format t) (binary_format_name t.binary_format) []) is_e, format-growth t f found is_f)
+      omega (
+        arith,
+        environment-growth t e (cons_if (shows_binary_format t) (binary_format_name t.binary_format) [])
+            is_e,
+        format-growth t f found is_f,
+      )
   after_system-growth t e None true shown found is_e is_f last =
-      let differs : is_same_format t.binary_format (default_binary_format t) ≡ false = not-true _ (and_parts _ _ shown).1 in
+      let differs : is_same_format t.binary_format (default_binary_format t) ≡ false =
+      not-true _ (and_parts _ _ shown).1 in
       absurd (true≢false (sym (is_same_format-self (default_binary_format t)) ∙ rw is_f at differs))
   after_system-growth t None (Some p) true shown found is_e is_f last =
-      let unknown : t.binary_format ≡ binary_format.Unknown = is_same_format-is _ _ (and_parts _ _ (and_parts _ _ shown).0).1 in
+      let unknown : t.binary_format ≡ binary_format.Unknown =
+      is_same_format-is _ _ (and_parts _ _ (and_parts _ _ shown).0).1 in
       absurd (last (ap Some (sym (formats p t.binary_format is_f) ∙ ap binary_format_name unknown)) refl)
   after_system-growth t (Some q) (Some p) true shown found is_e is_f last =
-      omega (arith, ap length (formats p t.binary_format is_f), ap length (environments q t.environment is_e), (system_growth-within t.operating_system).1, architectures machine t.architecture found)
+      omega (
+        arith,
+        ap length (formats p t.binary_format is_f),
+        ap length (environments q t.environment is_e),
+        (system_growth-within t.operating_system).1,
+        architectures machine t.architecture found,
+      )
 
-module _ (formats : TextsAreNames binary_format_name binary_format_of) (environments : TextsAreNames environment_name environment_of)
-    (architectures : NamesGrowAtMost 2 architecture_name architecture_of) (vendors : TextsAreNames vendor_name vendor_of)
+module _ (formats : TextsAreNames binary_format_name binary_format_of)
+    (environments : TextsAreNames environment_name environment_of)
+    (architectures : NamesGrowAtMost 2 architecture_name architecture_of)
+    (vendors : TextsAreNames vendor_name vendor_of)
     (systems : NamesGrowAtMost 4 operating_system_name operating_system_of) where
   abbrev GrowsAtMost : List ℕ → Values → Type 0
   GrowsAtMost text t = length (string_of t) ≤ length text + 22
 
-  by_fields : (p : List ℕ) (ps : List (List ℕ)) (t : Values) → left_from (Some field.Vendor) ps ≡ [] → HoldsParts (p ∷ ps) (field.Architecture ∷ fields_from (Some field.Vendor) ps) t
+  by_fields : (p : List ℕ) (ps : List (List ℕ)) (t : Values) → left_from (Some field.Vendor) ps ≡ []
+      → HoldsParts (p ∷ ps) (field.Architecture ∷ fields_from (Some field.Vendor) ps) t
       → GrowsAtMost (join_with_byte dash (p ∷ ps)) t
   unfolding string_of
   by_fields p ps t done holds =
       special-short t (shows_unknowns t) _ (omega (
         arith,
-        value-growth vendor_name vendor_of (Known Unknown) 0 (λ _. 8) (λ text x found. omega (arith, ap length (vendors text x found))) (λ x. omega arith) (omega arith) _ t.vendor holds.vendor,
-        value-growth operating_system_name operating_system_of operating_system.Unknown 4 system_growth systems (λ s. (system_growth-within s).0) (omega arith) _ t.operating_system holds.operating_system,
-        after_system-growth formats environments architectures p t _ _ (shows_unknowns t) refl holds.architecture holds.environment holds.binary_format (unknown-last field.Architecture ps (omega arith)),
+        value-growth vendor_name vendor_of (Known Unknown) 0 (λ _. 8)
+            (λ text x found. omega (arith, ap length (vendors text x found))) (λ x. omega arith)
+            (omega arith) _ t.vendor
+            holds.vendor,
+        value-growth operating_system_name operating_system_of operating_system.Unknown 4 system_growth systems
+            (λ s. (system_growth-within s).0) (omega arith) _ t.operating_system holds.operating_system,
+        after_system-growth formats environments architectures p t _ _ (shows_unknowns t) refl holds.architecture
+            holds.environment holds.binary_format (unknown-last field.Architecture ps (omega arith)),
         weight-parts t (shows_unknowns t),
         weight-shown t (shows_unknowns t),
         weight-joined p ps,
         weight-next p ps field.Architecture (weight-fields field.Architecture ps done),
       ))
 
-  by_placement : (parts : List (List ℕ)) (fs : List Field) (t : Values) → parts ≢ [] → IsLeastPlacement parts fs → HoldsParts parts fs t → GrowsAtMost (join_with_byte dash parts) t
+  by_placement : (parts : List (List ℕ)) (fs : List Field) (t : Values) → parts ≢ [] → IsLeastPlacement parts fs
+      → HoldsParts parts fs t → GrowsAtMost (join_with_byte dash parts) t
   by_placement [] fs t some least holds = absurd (some refl)
   by_placement (p ∷ ps) fs t some least holds =
       let found = greedy-finds p ps (fs, least.placed) in
@@ -259,18 +345,22 @@ module _ (formats : TextsAreNames binary_format_name binary_format_of) (environm
   row-grows row facts = rw (facts.prints environment.Newlib binary_format.Elf) (omega arith)
 
   by_special : (text : List ℕ) (t : Values) (o : Option Values) → special_values text ≡ o
-      → MatchOption o ((parts : List (List ℕ)) × ArePartsOf text parts × PartsParseAs parts t) (λ values. t ≡ values) → GrowsAtMost text t
-  by_special text t None is (parts, are, (fs, least, holds)) = subst (λ (x : List ℕ). GrowsAtMost x t) are.joined (by_placement parts fs t are.some least holds)
+      → MatchOption o ((parts : List (List ℕ)) × ArePartsOf text parts × PartsParseAs parts t) (λ values. t ≡ values)
+      → GrowsAtMost text t
+  by_special text t None is (parts, are, (fs, least, holds)) =
+      subst (λ (x : List ℕ). GrowsAtMost x t) are.joined (by_placement parts fs t are.some least holds)
   by_special text t (Some u) is same =
       let at = row_of_text text u is in
-      subst (GrowsAtMost text) (sym (same ∙ at.2)) (subst (λ (x : List ℕ). GrowsAtMost x (special_triple at.0)) (sym at.1) (row-grows at.0 at.3))
+      subst (GrowsAtMost text) (sym (same ∙ at.2))
+      (subst (λ (x : List ℕ). GrowsAtMost x (special_triple at.0)) (sym at.1) (row-grows at.0 at.3))
 
   pub printed_max_growth : PrintedStringsGrowAtMost
   printed_max_growth text t reads = by_special text t (special_values text) refl reads
 
 -- a refused part is a part of the string
 
-part-lighter : (parts : List (List ℕ)) (n : ℕ) (part : List ℕ) → slice_get parts n ≡ Some part → suc (length part) ≤ weight parts
+part-lighter : (parts : List (List ℕ)) (n : ℕ) (part : List ℕ) → slice_get parts n ≡ Some part
+    → suc (length part) ≤ weight parts
 part-lighter [] n part is = absurd cc
 part-lighter (p ∷ ps) zero part is = let same : p ≡ part = cc in omega (arith, ap length same)
 part-lighter (p ∷ ps) (suc n) part is = omega (arith, part-lighter ps n part is)
@@ -286,26 +376,36 @@ abbrev DoesNotGrow : Values → Values → Type 0
 DoesNotGrow u t = length (string_of u) ≤ length (string_of t)
 
 -- if both print the same special string or none
-by_weight : (u t : Values) → special_string u ≡ special_string t → weight (printed_names u) ≤ weight (printed_names t) → DoesNotGrow u t
+by_weight : (u t : Values) → special_string u ≡ special_string t → weight (printed_names u) ≤ weight (printed_names t)
+    → DoesNotGrow u t
 unfolding string_of
 by_weight u t special lighter = rw special (by_option (special_string t))
   where
-    by_option : (o : Option (List ℕ)) → length (unwrap_or o (join_with_byte dash (printed_names u))) ≤ length (unwrap_or o (join_with_byte dash (printed_names t)))
+    by_option : (o : Option (List ℕ))
+        → length (unwrap_or o (join_with_byte dash (printed_names u)))
+        ≤ length (unwrap_or o (join_with_byte dash (printed_names t)))
     by_option (Some text) = omega arith
     by_option None = omega (arith, weight-shown u (shows_unknowns u), weight-shown t (shows_unknowns t))
 
-row-does_not_grow : (t : Values) (row : SpecialRow) → HasFieldsOf row t → RowFacts row → DoesNotGrow (values t.architecture t.vendor t.operating_system environment.Newlib binary_format.Elf) t
+row-does_not_grow : (t : Values) (row : SpecialRow) → HasFieldsOf row t → RowFacts row
+    → DoesNotGrow (values t.architecture t.vendor t.operating_system environment.Newlib binary_format.Elf) t
 unfolding string_of
 row-does_not_grow t row is facts =
     let u = values t.architecture t.vendor t.operating_system environment.Newlib binary_format.Elf in
-    let of_u : HasFieldsOf row u = record { architecture = is.architecture; system = record { vendor = is.system.vendor; operating_system = is.system.operating_system } } in
+    let of_u : HasFieldsOf row u = record {
+      architecture = is.architecture;
+      system = record { vendor = is.system.vendor; operating_system = is.system.operating_system };
+    } in
     rw (prints_row u row of_u facts, prints_row t row is facts) (omega arith)
 
-special-does_not_grow : (t : Values) → HasSpecialFields t → DoesNotGrow (values t.architecture t.vendor t.operating_system environment.Newlib binary_format.Elf) t
+special-does_not_grow : (t : Values) → HasSpecialFields t
+    → DoesNotGrow (values t.architecture t.vendor t.operating_system environment.Newlib binary_format.Elf) t
 special-does_not_grow t has = let at = row_of_fields t has in row-does_not_grow t at.0 at.1 at.2
 
-esp-does_not_grow : (t : Values) → PrintsTheEspIdfString t → DoesNotGrow (values t.architecture (Known Espressif) t.operating_system environment.Newlib binary_format.Elf) t
-unfolding string_of shown_names shows_vendor shows_operating_system shows_environment shows_binary_format implied_format special_string implies_newlib
+esp-does_not_grow : (t : Values) → PrintsTheEspIdfString t
+    → DoesNotGrow (values t.architecture (Known Espressif) t.operating_system environment.Newlib binary_format.Elf) t
+unfolding string_of shown_names shows_vendor shows_operating_system shows_environment shows_binary_format implied_format
+    special_string implies_newlib
 esp-does_not_grow t is = rw is (omega arith)
 
 row-lighter : (a : Architecture) (row : SpecialRow) → RowFacts row → (f : BinaryFormat)
@@ -313,47 +413,85 @@ row-lighter : (a : Architecture) (row : SpecialRow) → RowFacts row → (f : Bi
     ≤ weight (printed_names (values a (Known row.vendor) row.operating_system environment.Newlib f))
 unfolding shown_names shows_vendor shows_operating_system shows_environment shows_binary_format
 row-lighter a row facts binary_format.Unknown =
-    rw (facts.vendor, facts.newlib, facts.implied a environment.Unknown, facts.implied a environment.Newlib, facts.operating_system, system_shown a row.operating_system facts.operating_system, and-false (not (architecture_implies_format a))) (omega arith)
+    rw (
+      facts.vendor,
+      facts.newlib,
+      facts.implied a environment.Unknown,
+      facts.implied a environment.Newlib,
+      facts.operating_system,
+      system_shown a row.operating_system facts.operating_system,
+      and-false (not (architecture_implies_format a)),
+    ) (omega arith)
 row-lighter a row facts binary_format.Elf =
-    rw (facts.vendor, facts.newlib, facts.implied a environment.Unknown, facts.implied a environment.Newlib, facts.operating_system, system_shown a row.operating_system facts.operating_system, and-false (not (architecture_implies_format a))) (omega arith)
+    rw (
+      facts.vendor,
+      facts.newlib,
+      facts.implied a environment.Unknown,
+      facts.implied a environment.Newlib,
+      facts.operating_system,
+      system_shown a row.operating_system facts.operating_system,
+      and-false (not (architecture_implies_format a)),
+    ) (omega arith)
 row-lighter a row facts _ =
-    rw (facts.vendor, facts.newlib, facts.implied a environment.Unknown, facts.implied a environment.Newlib, system_shown a row.operating_system facts.operating_system) (omega arith)
+    rw (
+      facts.vendor,
+      facts.newlib,
+      facts.implied a environment.Unknown,
+      facts.implied a environment.Newlib,
+      system_shown a row.operating_system facts.operating_system,
+    ) (omega arith)
 
-lighter-by : (t : Values) (f : BinaryFormat) (row : SpecialRow) → HasSystemOf row t → RowFacts row → t.binary_format ≡ f → t.environment ≡ environment.Newlib
-    → weight (printed_names (values t.architecture t.vendor t.operating_system environment.Unknown (elf_if_unknown t.binary_format))) ≤ weight (printed_names t)
-lighter-by t f row is facts format newlib = rw (format, newlib, is.vendor, is.operating_system) (row-lighter t.architecture row facts f)
+lighter-by : (t : Values) (f : BinaryFormat) (row : SpecialRow) → HasSystemOf row t → RowFacts row → t.binary_format ≡ f
+    → t.environment ≡ environment.Newlib
+    → weight (printed_names (values t.architecture t.vendor t.operating_system environment.Unknown
+    (elf_if_unknown t.binary_format))) ≤ weight (printed_names t)
+lighter-by t f row is facts format newlib =
+    rw (format, newlib, is.vendor, is.operating_system) (row-lighter t.architecture row facts f)
 
 newlib-lighter : (t : Values) (f : BinaryFormat) → t.binary_format ≡ f → HidesNewlib t
-    → weight (printed_names (values t.architecture t.vendor t.operating_system environment.Unknown (elf_if_unknown t.binary_format))) ≤ weight (printed_names t)
+    → weight (printed_names (values t.architecture t.vendor t.operating_system environment.Unknown
+    (elf_if_unknown t.binary_format))) ≤ weight (printed_names t)
 newlib-lighter t f format is =
     let at = row_of_system t is.system in lighter-by t f at.0 at.1 at.2 format is.environment
 
 clever-lighter : (c : CleverArchitecture) (v : VendorValue) (f : BinaryFormat) → let a = architecture.Clever c in
-    weight (printed_names (values a v operating_system.None_ environment.Unknown f)) ≤ weight (printed_names (values a v operating_system.Unknown environment.None f))
+    weight (printed_names (values a v operating_system.None_ environment.Unknown f))
+    ≤ weight (printed_names (values a v operating_system.Unknown environment.None f))
 unfolding shown_names shows_vendor shows_operating_system shows_environment shows_binary_format implied_format
-clever-lighter c v binary_format.Unknown = rw (or-true (not (is_unknown_vendor v) || false), without_system v) (omega arith)
+clever-lighter c v binary_format.Unknown =
+    rw (or-true (not (is_unknown_vendor v) || false), without_system v) (omega arith)
 clever-lighter c v f = rw (or-true (not (is_unknown_vendor v) || false), without_system v) (omega arith)
 
 clever-does_not_grow : (a : Architecture) (v : VendorValue) (f : BinaryFormat) → is_clever a ≡ true
-    → DoesNotGrow (values a v operating_system.None_ environment.Unknown f) (values a v operating_system.Unknown environment.None f)
+    → DoesNotGrow (values a v operating_system.None_ environment.Unknown f)
+    (values a v operating_system.Unknown environment.None f)
 unfolding special_string
 clever-does_not_grow (architecture.Clever c) v f is = by_weight _ _ refl (clever-lighter c v f)
 clever-does_not_grow _ v f is = absurd (true≢false (sym is))
 
-none-does_not_grow : (t : Values) → ShowsOnlyNone t → DoesNotGrow (values t.architecture t.vendor operating_system.None_ environment.Unknown t.binary_format) t
-none-does_not_grow t is = rw (is.operating_system, is.environment) (clever-does_not_grow t.architecture t.vendor t.binary_format is.architecture)
+none-does_not_grow : (t : Values) → ShowsOnlyNone t
+    → DoesNotGrow (values t.architecture t.vendor operating_system.None_ environment.Unknown t.binary_format) t
+none-does_not_grow t is =
+    rw (is.operating_system, is.environment)
+    (clever-does_not_grow t.architecture t.vendor t.binary_format is.architecture)
 
 step-does_not_grow : (t : Values) → DoesNotGrow (normal_step t) t
 unfolding special_string
 step-does_not_grow t = step_cases (λ u. DoesNotGrow u t) t
-    (λ is. special-does_not_grow t is.fields) (λ is. by_weight (values t.architecture t.vendor t.operating_system environment.Unknown (elf_if_unknown t.binary_format)) t refl (newlib-lighter t t.binary_format refl is)) (esp-does_not_grow t) (none-does_not_grow t) (λ _. omega arith)
+    (λ is. special-does_not_grow t is.fields)
+    (λ is. by_weight (values t.architecture t.vendor t.operating_system environment.Unknown
+    (elf_if_unknown t.binary_format)) t refl (newlib-lighter t t.binary_format refl is)) (esp-does_not_grow t)
+    (none-does_not_grow t) (λ _. omega arith)
 
 pub canonical_max_growth : PrintedStringsGrowAtMost → CanonicalStringsGrowAtMost
-canonical_max_growth printed text t reads = omega (arith, step-does_not_grow (normal_step t), step-does_not_grow t, printed text t reads)
+canonical_max_growth printed text t reads =
+    omega (arith, step-does_not_grow (normal_step t), step-does_not_grow t, printed text t reads)
 
 -- a string with a vendor that fits into memory fits into memory
-pub text_with-short : (b : Bool) (t : Values) → NamesAreShort architecture_name → NamesAreShort environment_name → NamesAreShort binary_format_name
-    → length (operating_system_name t.operating_system) ≤ max_name_length → (special_string t ≡ None → length (vendor_name t.vendor) < 2 ^ 63)
+pub text_with-short : (b : Bool) (t : Values) → NamesAreShort architecture_name → NamesAreShort environment_name
+    → NamesAreShort binary_format_name
+    → length (operating_system_name t.operating_system) ≤ max_name_length
+    → (special_string t ≡ None → length (vendor_name t.vendor) < 2 ^ 63)
     → length (text_with b t) < 2 ^ 64
 text_with-short b t architecture environment binary_format system vendor = by_special (special_string t) refl
   where
@@ -365,7 +503,8 @@ text_with-short b t architecture environment binary_format system vendor = by_sp
       arith,
       weight-shown t b,
       weight-parts t b,
-      weight-cons_if (b || shows_environment t) (environment_name t.environment) (cons_if (b || shows_binary_format t) (binary_format_name t.binary_format) []),
+      weight-cons_if (b || shows_environment t) (environment_name t.environment)
+          (cons_if (b || shows_binary_format t) (binary_format_name t.binary_format) []),
       weight-cons_if (b || shows_binary_format t) (binary_format_name t.binary_format) [],
       architecture t.architecture,
       environment t.environment,

@@ -11,6 +11,8 @@
 -- unchanged), SettleLemmas (a second step changes none), RoundCall (what the call `round` gives), ModelsKnown,
 -- QueriesKept (the step keeps the answers of queries).
 -- Equality and hashing: SameValues, HashInputPairs, VariantHashes. JSON lists: Elements. Callers' proofs: OnLiterals.
+-- Common passes on the names that most of them import.
+pub mod Common
 pub mod ComputedReading
 pub mod Elements
 pub mod FixedPointLemmas

@@ -1,13 +1,17 @@
 -- The data models of triples.
-use Rattle.std.proofs.Common.{◌≡◌, ◌⊎◌, inl, inr, Bool, true, false, cond, Option, Some, None, is_none, true≢false, refl, ap, ◌∙◌}
-use Rattle.std.specs.Prelude.{option_map}
-use Rattle.target_lexicon.specs.{Values.Architecture, Values.OperatingSystem, Values.Values, declared.calling_convention.CallingConvention.CallingConvention, declared.data_model.CDataModel.CDataModel}
+use Rattle.target_lexicon.proofs.Common.{◌∙◌, ◌≡◌, ◌⊎◌, Bool, None, Option, Some, ap, cond, false, inl, inr, is_none}
+use Rattle.target_lexicon.proofs.Common.{refl, true, true≢false, option_map, U32, convention_on, data_model}
+use Rattle.target_lexicon.proofs.Common.{pointer_width, Architecture, OperatingSystem, Values}
+use Rattle.target_lexicon.specs.declared.calling_convention.CallingConvention.{CallingConvention}
+use Rattle.target_lexicon.specs.declared.data_model.CDataModel.{CDataModel}
 use Rattle.target_lexicon.specs.DataModel.{size_bits, sizes_of}
 use Rattle.target_lexicon.specs.declared.calling_convention.CallingConvention.TheVariants.{SystemV, AppleAarch64}
 use Rattle.target_lexicon.specs.declared.data_model.CDataModel.TheVariants.{ILP32, LLP64, LP64}
-use Rattle.target_lexicon.specs.Queries.{convention_on, convention_model_64, convention_model_32, has_llp64, has_ilp32, other_model_64, other_model_32, model_64, model_32, model_of_width, pointer_width, data_model}
-use Rattle.lexicon_fields.specs.{declared.architecture.Architecture.TheVariants.Wasm32, declared.architecture.Architecture.TheVariants.Wasm64, declared.pointer_width.PointerWidth.PointerWidth}
-use Rattle.lexicon_fields.specs.{declared.pointer_width.PointerWidth.TheVariants.U32, declared.pointer_width.PointerWidth.TheVariants.U64}
+use Rattle.target_lexicon.specs.Queries.{convention_model_64, convention_model_32, has_llp64, has_ilp32, other_model_64}
+use Rattle.target_lexicon.specs.Queries.{other_model_32, model_64, model_32, model_of_width}
+use Rattle.lexicon_fields.specs.declared.architecture.Architecture.TheVariants.{Wasm32, Wasm64}
+use Rattle.lexicon_fields.specs.declared.pointer_width.PointerWidth.{PointerWidth}
+use Rattle.lexicon_fields.specs.declared.pointer_width.PointerWidth.TheVariants.{U64}
 use Rattle.lexicon_fields.specs.PointerWidth.{width_bits}
 
 -- the two models of 64-bit pointers
@@ -24,7 +28,8 @@ off_llp64 _ c m h = by_convention_64 c m h
 at_64 : (a : Architecture) (s : OperatingSystem) (m : CDataModel) → model_64 a s ≡ Some m → (m ≡ LLP64) ⊎ (m ≡ LP64)
 at_64 a s m h = by_system (has_llp64 s) h
   where
-    by_system : (b : Bool) → cond b (Some LLP64) (other_model_64 a (convention_on a s)) ≡ Some m → (m ≡ LLP64) ⊎ (m ≡ LP64)
+    by_system : (b : Bool) → cond b (Some LLP64) (other_model_64 a (convention_on a s)) ≡ Some m
+        → (m ≡ LLP64) ⊎ (m ≡ LP64)
     by_system true is = inl cc
     by_system false is = inr (off_llp64 a (convention_on a s) m is)
 
@@ -46,13 +51,16 @@ at_32 a s m h = by_system (has_ilp32 s) h
     by_system false is = off_ilp32 a (convention_on a s) m is
 
 -- a model has the pointer width by which it is chosen, and is one of three
-chosen : (w : Option PointerWidth) (a : Architecture) (s : OperatingSystem) (m : CDataModel) → model_of_width w a s ≡ Some m
+chosen : (w : Option PointerWidth) (a : Architecture) (s : OperatingSystem) (m : CDataModel)
+    → model_of_width w a s ≡ Some m
     → (option_map width_bits w ≡ Some (size_bits (sizes_of m).pointer)) × ((m ≡ ILP32) ⊎ ((m ≡ LLP64) ⊎ (m ≡ LP64)))
-chosen (Some U64) a s m h = elim (at_64 a s m h) [ inl e ↦ rw e (refl, inr (inl refl)) | inr e ↦ rw e (refl, inr (inr refl)) ]
+chosen (Some U64) a s m h =
+    elim (at_64 a s m h) [ inl e ↦ rw e (refl, inr (inl refl)) | inr e ↦ rw e (refl, inr (inr refl)) ]
 chosen (Some U32) a s m h = rw (at_32 a s m h) (refl, inl refl)
 chosen _ a s m h = absurd cc
 
-pub model_pointers : (t : Values) (m : CDataModel) → data_model t ≡ Some m → option_map width_bits (pointer_width t) ≡ Some (size_bits (sizes_of m).pointer)
+pub model_pointers : (t : Values) (m : CDataModel) → data_model t ≡ Some m
+    → option_map width_bits (pointer_width t) ≡ Some (size_bits (sizes_of m).pointer)
 unfolding data_model
 model_pointers t m h = (chosen (pointer_width t) t.architecture t.operating_system m h).0
 
@@ -62,36 +70,43 @@ one_of_three t m h = (chosen (pointer_width t) t.architecture t.operating_system
 
 -- the model on another system is that of the convention, except on WebAssembly
 
-off_llp64-is : (a : Architecture) (s : OperatingSystem) → has_llp64 s ≡ false → model_64 a s ≡ other_model_64 a (convention_on a s)
+off_llp64-is : (a : Architecture) (s : OperatingSystem) → has_llp64 s ≡ false
+    → model_64 a s ≡ other_model_64 a (convention_on a s)
 off_llp64-is a s n = rw n refl
 
-off_wasm_64-is : (a : Architecture) (c : Option CallingConvention) → (a ≡ Wasm64 → ⊥) → other_model_64 a c ≡ convention_model_64 c
+off_wasm_64-is : (a : Architecture) (c : Option CallingConvention) → (a ≡ Wasm64 → ⊥)
+    → other_model_64 a c ≡ convention_model_64 c
 off_wasm_64-is Wasm64 c n = absurd (n refl)
 off_wasm_64-is _ c n = refl
 
 pub wasm_64-is : (a : Architecture) (s : OperatingSystem) → has_llp64 s ≡ false → a ≡ Wasm64 → model_64 a s ≡ Some LP64
 wasm_64-is a s n is = off_llp64-is a s n ∙ ap (λ architecture. other_model_64 architecture (convention_on a s)) is
 
-pub convention_64-is : (a : Architecture) (s : OperatingSystem) (c : Option CallingConvention) → has_llp64 s ≡ false → (a ≡ Wasm64 → ⊥) → convention_on a s ≡ c
+pub convention_64-is : (a : Architecture) (s : OperatingSystem) (c : Option CallingConvention) → has_llp64 s ≡ false
+    → (a ≡ Wasm64 → ⊥) → convention_on a s ≡ c
     → model_64 a s ≡ convention_model_64 c
 convention_64-is a s c n p is = off_llp64-is a s n ∙ off_wasm_64-is a (convention_on a s) p ∙ ap convention_model_64 is
 
-off_ilp32-is : (a : Architecture) (s : OperatingSystem) → has_ilp32 s ≡ false → model_32 a s ≡ other_model_32 a (convention_on a s)
+off_ilp32-is : (a : Architecture) (s : OperatingSystem) → has_ilp32 s ≡ false
+    → model_32 a s ≡ other_model_32 a (convention_on a s)
 off_ilp32-is a s n = rw n refl
 
-off_wasm_32-is : (a : Architecture) (c : Option CallingConvention) → (a ≡ Wasm32 → ⊥) → other_model_32 a c ≡ convention_model_32 c
+off_wasm_32-is : (a : Architecture) (c : Option CallingConvention) → (a ≡ Wasm32 → ⊥)
+    → other_model_32 a c ≡ convention_model_32 c
 off_wasm_32-is Wasm32 c n = absurd (n refl)
 off_wasm_32-is _ c n = refl
 
 pub wasm_32-is : (a : Architecture) (s : OperatingSystem) → has_ilp32 s ≡ false → a ≡ Wasm32 → model_32 a s ≡ Some ILP32
 wasm_32-is a s n is = off_ilp32-is a s n ∙ ap (λ architecture. other_model_32 architecture (convention_on a s)) is
 
-pub convention_32-is : (a : Architecture) (s : OperatingSystem) (c : Option CallingConvention) → has_ilp32 s ≡ false → (a ≡ Wasm32 → ⊥) → convention_on a s ≡ c
+pub convention_32-is : (a : Architecture) (s : OperatingSystem) (c : Option CallingConvention) → has_ilp32 s ≡ false
+    → (a ≡ Wasm32 → ⊥) → convention_on a s ≡ c
     → model_32 a s ≡ convention_model_32 c
 convention_32-is a s c n p is = off_ilp32-is a s n ∙ off_wasm_32-is a (convention_on a s) p ∙ ap convention_model_32 is
 
 -- and other conventions have no model
-pub no_convention_64 : (c : CallingConvention) → (c ≡ SystemV → ⊥) → (c ≡ AppleAarch64 → ⊥) → convention_model_64 (Some c) ≡ None
+pub no_convention_64 : (c : CallingConvention) → (c ≡ SystemV → ⊥) → (c ≡ AppleAarch64 → ⊥)
+    → convention_model_64 (Some c) ≡ None
 no_convention_64 SystemV p q = absurd (p refl)
 no_convention_64 AppleAarch64 p q = absurd (q refl)
 no_convention_64 _ p q = refl

@@ -1,10 +1,11 @@
 -- The law of names for the five fields, and the names of one field, parsed as an earlier field.
-use Rattle.std.proofs.Common.{◌≡◌, ℕ, List, true, false, Option, Some, None, refl}
-use Rattle.std.proofs.Math.Bool.{and-false}
-use Rattle.target_lexicon.specs.Values.{OperatingSystem, Environment, BinaryFormat, VendorValue, Known}
-use Rattle.lexicon_fields.specs.{Architecture.architecture_name, Architecture.architecture_of, declared.known_vendor.KnownVendor.TheVariants.Unknown, Vendor.known_vendor_of, Vendor.is_admitted, Vendor.is_plain, Vendor.vendor_name, Vendor.vendor_of, Environment.environment_name, Environment.environment_of}
-use Rattle.lexicon_fields.specs.OperatingSystem.{operating_system_name, operating_system_of, fixed_operating_system_of}
-use Rattle.lexicon_fields.specs.{BinaryFormat.binary_format_name, BinaryFormat.binary_format_of, Laws.HasVersionInRange, Laws.NamesReadBack, Laws.NamesReadBackOn}
+use Rattle.target_lexicon.proofs.Common.{◌≡◌, List, None, Option, Some, false, refl, true, ℕ, and-false}
+use Rattle.target_lexicon.proofs.Common.{architecture_name, architecture_of, binary_format_name, binary_format_of}
+use Rattle.target_lexicon.proofs.Common.{environment_name, environment_of, HasVersionInRange, fixed_operating_system_of}
+use Rattle.target_lexicon.proofs.Common.{operating_system_name, operating_system_of, is_admitted, is_plain}
+use Rattle.target_lexicon.proofs.Common.{known_vendor_of, vendor_name, vendor_of, Unknown, BinaryFormat, Environment}
+use Rattle.target_lexicon.proofs.Common.{Known, OperatingSystem, VendorValue}
+use Rattle.lexicon_fields.specs.Laws.{NamesReadBack, NamesReadBackOn}
 use Rattle.target_lexicon.specs.Values.operating_system
 use Rattle.target_lexicon.specs.Values.environment
 use Rattle.target_lexicon.specs.Values.binary_format
@@ -42,7 +43,8 @@ environment_as_system environment.Unknown = Some operating_system.Unknown
 environment_as_system environment.None = Some operating_system.None_
 environment_as_system _ = None
 
-pub operating_system_of-environment : (e : Environment) → operating_system_of (environment_name e) ≡ environment_as_system e
+pub operating_system_of-environment : (e : Environment)
+    → operating_system_of (environment_name e) ≡ environment_as_system e
 unfolding operating_system_of fixed_operating_system_of
 operating_system_of-environment environment.Unknown = refl
 operating_system_of-environment _ = refl
@@ -58,11 +60,14 @@ unfolding is_admitted
 not_admitted text s reads = rw (reads, and-false) refl
 
 module _ (names : NamesAreRead) where
-  by_system : (s : OperatingSystem) → HasVersionInRange s → known_vendor_of (operating_system_name s) ≡ None → vendor_of (operating_system_name s) ≡ None
+  by_system : (s : OperatingSystem) → HasVersionInRange s → known_vendor_of (operating_system_name s) ≡ None
+      → vendor_of (operating_system_name s) ≡ None
   unfolding vendor_of
-  by_system s range unknown = rw (unknown, not_admitted (operating_system_name s) s (names.operating_system.reads_back s range)) refl
+  by_system s range unknown =
+      rw (unknown, not_admitted (operating_system_name s) s (names.operating_system.reads_back s range)) refl
 
-  pub vendor_of-operating_system : (s : OperatingSystem) → HasVersionInRange s → vendor_of (operating_system_name s) ≡ system_as_vendor s
+  pub vendor_of-operating_system : (s : OperatingSystem) → HasVersionInRange s
+      → vendor_of (operating_system_name s) ≡ system_as_vendor s
   unfolding known_vendor_of vendor_of
   vendor_of-operating_system operating_system.Unknown range = refl
   vendor_of-operating_system s range = by_system s range refl

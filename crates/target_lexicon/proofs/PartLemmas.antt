@@ -1,15 +1,16 @@
 -- A string has exactly one list of parts.
-use Rattle.std.proofs.Common.{◌≡◌, ◌≢◌, ◌+◌, ◌-◌, get_or, drop, take, ℕ, List, [], ◌∷◌, ◌++◌, Bool, true, false, nat_eq, refl, sym, length, ◌<◌, ◌∙◌, ap, arith, inl, inr}
-use Rattle.std.specs.List.{list_all, list_any, join_with_byte, onto_first, before_first, after_first, slice_range, position_or_len}
-use Rattle.std.specs.Prelude.{◌==◌, ◌||◌, not}
-use Rattle.std.proofs.{lemmas.Bool.and_parts, lemmas.Bool.cases_Bool, lemmas.Bool.ne_eqb, lemmas.Bool.eq-eqb, lemmas.List.Sums.fails_before_first, lemmas.List.Sums.position_or_len_is}
+use Rattle.target_lexicon.proofs.Common.{◌++◌, ◌+◌, ◌-◌, ◌<◌, ◌||◌, ◌∙◌, ◌∷◌, ◌≡◌, ◌≢◌, Bool, List, [], ap, arith, drop}
+use Rattle.target_lexicon.proofs.Common.{false, get_or, inl, inr, length, nat_eq, not, refl, sym, take, true, ℕ}
+use Rattle.target_lexicon.proofs.Common.{and_parts, cases_Bool, join_with_byte, ◌==◌, dash, ArePartsOf, parts_of}
+use Rattle.std.specs.List.{list_all, list_any, onto_first, before_first, after_first, slice_range, position_or_len}
+use Rattle.std.proofs.lemmas.Bool.{ne_eqb, eq-eqb}
+use Rattle.std.proofs.lemmas.List.Sums.{fails_before_first, position_or_len_is}
 use Rattle.std.proofs.lemmas.List.Splits.{join_with_byte-slice_split, slice_split_first, slice_split_none}
-use Rattle.lexicon_fields.specs.Names.{dash}
 use Rattle.lexicon_fields.specs.Names.{is_dash_free}
-use Rattle.target_lexicon.specs.Parsing.{ArePartsOf, parts_of}
 
 -- the first byte of a string without dashes is no dash, and the rest has none
-dash_free-parts : (b : ℕ) (bs : List ℕ) → is_dash_free (b ∷ bs) ≡ true → (nat_eq b dash ≡ false) × (is_dash_free bs ≡ true)
+dash_free-parts : (b : ℕ) (bs : List ℕ) → is_dash_free (b ∷ bs) ≡ true
+    → (nat_eq b dash ≡ false) × (is_dash_free bs ≡ true)
 dash_free-parts b bs free = by_head (nat_eq b dash) (list_any (λ c. c == dash) bs) free
   where
     by_head : (dash rest : Bool) → not (dash || rest) ≡ true → (dash ≡ false) × (not rest ≡ true)
@@ -22,15 +23,18 @@ parts_of-one (b ∷ bs) free = let apart = dash_free-parts b bs free in rw (apar
 
 parts_of-more : (bs rest : List ℕ) → is_dash_free bs ≡ true → parts_of (bs ++ (dash ∷ rest)) ≡ bs ∷ parts_of rest
 parts_of-more [] rest free = refl
-parts_of-more (b ∷ bs) rest free = let apart = dash_free-parts b bs free in rw (apart.0, parts_of-more bs rest apart.1) refl
+parts_of-more (b ∷ bs) rest free = let apart = dash_free-parts b bs free in
+    rw (apart.0, parts_of-more bs rest apart.1) refl
 
-pub parts_of-joined : (p : List ℕ) (ps : List (List ℕ)) → list_all is_dash_free (p ∷ ps) ≡ true → parts_of (join_with_byte dash (p ∷ ps)) ≡ p ∷ ps
+pub parts_of-joined : (p : List ℕ) (ps : List (List ℕ)) → list_all is_dash_free (p ∷ ps) ≡ true
+    → parts_of (join_with_byte dash (p ∷ ps)) ≡ p ∷ ps
 parts_of-joined p [] free = parts_of-one p (and_parts _ _ free).0
 parts_of-joined p (q ∷ ps) free =
     let apart = and_parts _ _ free in
     parts_of-more p (join_with_byte dash (q ∷ ps)) apart.0 ∙ ap (λ k. p ∷ k) (parts_of-joined q ps apart.1)
 
-onto_first-free : (b : ℕ) (ps : List (List ℕ)) → nat_eq b dash ≡ false → list_all is_dash_free ps ≡ true → list_all is_dash_free (onto_first b ps) ≡ true
+onto_first-free : (b : ℕ) (ps : List (List ℕ)) → nat_eq b dash ≡ false → list_all is_dash_free ps ≡ true
+    → list_all is_dash_free (onto_first b ps) ≡ true
 onto_first-free b [] other free = rw other refl
 onto_first-free b (p ∷ ps) other free = rw other free
 
@@ -66,22 +70,33 @@ parts-only text [] are = absurd (are.some refl)
 parts-only text (p ∷ ps) are = sym (parts_of-joined p ps are.dash_free) ∙ ap parts_of are.joined
 
 -- a string that is cut at its first dash, or that has none
-pub parts_of-cut : (text part after : List ℕ) → part ≡ before_first (λ b. b == dash) text → after ≡ after_first (λ b. b == dash) text
+pub parts_of-cut : (text part after : List ℕ) → part ≡ before_first (λ b. b == dash) text
+    → after ≡ after_first (λ b. b == dash) text
     → position_or_len (λ b. b == dash) text < length text → parts_of text ≡ part ∷ parts_of after
-parts_of-cut text part after before rest found = slice_split_first (λ b. b == dash) text 0 found ∙ (λ i. sym before i ∷ parts_of (sym rest i))
+parts_of-cut text part after before rest found =
+    slice_split_first (λ b. b == dash) text 0 found ∙ (λ i. sym before i ∷ parts_of (sym rest i))
 
 pub parts_of-uncut : (text : List ℕ) → position_or_len (λ b. b == dash) text ≡ length text → parts_of text ≡ text ∷ []
-parts_of-uncut text none = slice_split_none (λ b. b == dash) text (λ k d h. fails_before_first (λ b. b == dash) text k d (omega (arith, none, h)))
+parts_of-uncut text none =
+    slice_split_none (λ b. b == dash) text
+    (λ k d h. fails_before_first (λ b. b == dash) text k d (omega (arith, none, h)))
 
-module _ (text : List ℕ) (i : ℕ) (within : i < length text) (here : get_or text i 0 ≡ dash) (none : (k : ℕ) → k < i → get_or text k 0 ≢ dash) where
+module _ (text : List ℕ) (i : ℕ) (within : i < length text) (here : get_or text i 0 ≡ dash) (none : (k : ℕ) → k < i
+    → get_or text k 0 ≢ dash) where
   first_dash : position_or_len (λ b. b == dash) text ≡ i
-  first_dash = position_or_len_is (λ b. b == dash) text i 0 (omega (arith, within)) (λ k h. ne_eqb (get_or text k 0) dash (none k h)) (λ _. eq-eqb (get_or text i 0) dash here)
+  first_dash =
+      position_or_len_is (λ b. b == dash) text i 0 (omega (arith, within))
+      (λ k h. ne_eqb (get_or text k 0) dash (none k h)) (λ _. eq-eqb (get_or text i 0) dash here)
 
-  pub parts_of-cut-at : (part after : List ℕ) → part ≡ slice_range text 0 i → after ≡ drop (i + 1) text → parts_of text ≡ part ∷ parts_of after
+  pub parts_of-cut-at : (part after : List ℕ) → part ≡ slice_range text 0 i → after ≡ drop (i + 1) text
+      → parts_of text ≡ part ∷ parts_of after
   parts_of-cut-at part after prefix rest =
       let whole : i - 0 ≡ i = omega arith in
-      parts_of-cut text part after (prefix ∙ (λ j. take (whole j) text) ∙ ap (λ n. take n text) (sym first_dash)) (rest ∙ ap (λ n. drop (n + 1) text) (sym first_dash))
+      parts_of-cut text part after (prefix ∙ (λ j. take (whole j) text) ∙ ap (λ n. take n text) (sym first_dash))
+      (rest ∙ ap (λ n. drop (n + 1) text) (sym first_dash))
       (omega (arith, within, first_dash))
 
 pub parts_of-whole : (text : List ℕ) → ((k : ℕ) → k < length text → get_or text k 0 ≢ dash) → parts_of text ≡ text ∷ []
-parts_of-whole text none = parts_of-uncut text (position_or_len_is (λ b. b == dash) text (length text) 0 (omega arith) (λ k h. ne_eqb (get_or text k 0) dash (none k h)) (λ more. absurd (omega (arith, more))))
+parts_of-whole text none =
+    parts_of-uncut text (position_or_len_is (λ b. b == dash) text (length text) 0 (omega arith)
+    (λ k h. ne_eqb (get_or text k 0) dash (none k h)) (λ more. absurd (omega (arith, more))))

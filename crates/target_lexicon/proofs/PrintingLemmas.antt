@@ -1,16 +1,19 @@
 -- The pieces that are written are the string of the triple.
-use Rattle.std.proofs.Common.{◌≡◌, ◌∙◌, ℕ, Bool, true, false, not, List, [], ◌∷◌, ◌++◌, ◌||◌, refl, sym, ap, append_assoc, Option, None, if◌then◌else◌}
-use Rattle.std.specs.Borrow.{Bor}
-use Rattle.std.specs.Bool.{then_some}
-use Rattle.std.specs.List.{join_with_byte}
-use Rattle.std.proofs.{lemmas.List.append-nil, Math.Bool.and-false}
-use Rattle.lexicon_fields.specs.Names.{dash}
-use Rattle.lexicon_fields.specs.{Architecture.architecture_name, Vendor.vendor_name, OperatingSystem.operating_system_name, OperatingSystem.system_version, OperatingSystem.version_suffix, Environment.environment_name, BinaryFormat.binary_format_name, declared.deployment_target.DeploymentTarget.DeploymentTarget}
-use Rattle.target_lexicon.specs.{Values.Values, Values.Architecture, Values.OperatingSystem, Values.Environment, Values.is_unknown_environment, Values.is_newlib, Values.is_clever_without_system, Private.name_piece, SpecialStrings.implies_newlib, SpecialStrings.special_string}
+use Rattle.target_lexicon.proofs.Common
+use Common.{◌++◌, ◌||◌, ◌∙◌, ◌∷◌, ◌≡◌, Bool, List, None, Option, [], ap, append_assoc, false, if◌then◌else◌, not, refl}
+use Common.{sym, true, ℕ, and-false, join_with_byte, architecture_name, binary_format_name, environment_name, dash}
+use Common.{operating_system_name, vendor_name, cons_if, shown_names, shows_binary_format, shows_environment}
+use Common.{shows_operating_system, shows_unknowns, shows_vendor, implies_newlib, special_string, Architecture}
+use Common.{Environment, OperatingSystem, Values, is_clever_without_system}
+use Rattle.std.specs.{Borrow.Bor, Bool.then_some}
+use Rattle.std.proofs.lemmas.List.{append-nil}
+use Rattle.lexicon_fields.specs.OperatingSystem.{system_version, version_suffix}
+use Rattle.lexicon_fields.specs.declared.deployment_target.DeploymentTarget.{DeploymentTarget}
+use Rattle.target_lexicon.specs.{Values.is_unknown_environment, Values.is_newlib, Private.name_piece}
+use Rattle.target_lexicon.specs.{Printing.text_with}
 use Rattle.target_lexicon.specs.Values.architecture
 use Rattle.target_lexicon.specs.Values.operating_system
 use Rattle.target_lexicon.specs.Values.environment
-use Rattle.target_lexicon.specs.Printing.{shows_vendor, shows_operating_system, shows_environment, shows_binary_format, shows_unknowns, cons_if, shown_names, text_with}
 
 -- the names that are shown
 abbrev pub printed_names : Values → List (List ℕ)
@@ -30,12 +33,15 @@ unfolding dashed
 dashed_joined part [] = append-nil part
 dashed_joined part (next ∷ parts) = ap (λ (s : List ℕ). part ++ (dash ∷ s)) (dashed_joined next parts)
 
-part_before : (b : Bool) (part : List ℕ) (parts : List (List ℕ)) → dashed (cons_if b part parts) ≡ dashed_if b part ++ dashed parts
+part_before : (b : Bool) (part : List ℕ) (parts : List (List ℕ))
+    → dashed (cons_if b part parts) ≡ dashed_if b part ++ dashed parts
 unfolding dashed
 part_before true part parts = refl
 part_before false part parts = refl
 
-five_parts : (a p q r s : List ℕ) (w x y z : Bool) → (((a ++ dashed_if w p) ++ dashed_if x q) ++ dashed_if y r) ++ dashed_if z s ≡ join_with_byte dash (a ∷ cons_if w p (cons_if x q (cons_if y r (cons_if z s []))))
+five_parts : (a p q r s : List ℕ) (w x y z : Bool)
+    → (((a ++ dashed_if w p) ++ dashed_if x q) ++ dashed_if y r) ++ dashed_if z s
+    ≡ join_with_byte dash (a ∷ cons_if w p (cons_if x q (cons_if y r (cons_if z s []))))
 unfolding dashed
 five_parts a p q r s w x y z =
     rw (
@@ -53,30 +59,40 @@ name_piece-shown true name = refl
 name_piece-shown false name = refl
 
 -- a system that isn't shown has no version
-version-hidden : (a : Architecture) (s : OperatingSystem) → not (is_clever_without_system a s) ≡ false → system_version s ≡ None
+version-hidden : (a : Architecture) (s : OperatingSystem) → not (is_clever_without_system a s) ≡ false
+    → system_version s ≡ None
 version-hidden (architecture.Clever sub) operating_system.Unknown hidden = refl
 version-hidden _ _ hidden = absurd cc
 
 -- a system that is shown if this holds, as a piece and its version
-system-shown : (last_three : Bool) (t : Values) (before : List ℕ) (prefix : Bor (List ℕ)) (b : Bool) → b ≡ (last_three || shows_operating_system t)
+system-shown : (last_three : Bool) (t : Values) (before : List ℕ) (prefix : Bor (List ℕ)) (b : Bool)
+    → b ≡ (last_three || shows_operating_system t)
     → prefix.now ++ version_suffix (system_version t.operating_system) ≡ operating_system_name t.operating_system
-    → (before ++ name_piece (then_some b prefix)) ++ version_suffix (system_version t.operating_system) ≡ before ++ dashed_if b (operating_system_name t.operating_system)
+    → (before ++ name_piece (then_some b prefix)) ++ version_suffix (system_version t.operating_system)
+    ≡ before ++ dashed_if b (operating_system_name t.operating_system)
 unfolding shows_operating_system
-system-shown last_three t before prefix true b_is name_is = append_assoc before (dash ∷ prefix.now) (version_suffix (system_version t.operating_system)) ∙ ap (λ (s : List ℕ). before ++ (dash ∷ s)) name_is
-system-shown false t before prefix false b_is name_is = rw (version-hidden t.architecture t.operating_system (sym b_is)) (append-nil (before ++ []))
+system-shown last_three t before prefix true b_is name_is =
+    append_assoc before (dash ∷ prefix.now) (version_suffix (system_version t.operating_system))
+    ∙ ap (λ (s : List ℕ). before ++ (dash ∷ s)) name_is
+system-shown false t before prefix false b_is name_is =
+    rw (version-hidden t.architecture t.operating_system (sym b_is)) (append-nil (before ++ []))
 system-shown true t before prefix false b_is name_is = absurd cc
 
 -- without a special string these pieces are the string
-pub string_of_pieces : (last_three : Bool) (t : Values) (a v s e f : Bor (List ℕ)) (vendor system environment format : Option (Bor (List ℕ))) (version : Option DeploymentTarget) (w x y z : Bool)
+pub string_of_pieces : (last_three : Bool) (t : Values) (a v s e f : Bor (List ℕ))
+    (vendor system environment format : Option (Bor (List ℕ))) (version : Option DeploymentTarget) (w x y z : Bool)
     → None ≡ special_string t → a.now ≡ architecture_name t.architecture
     → vendor ≡ then_some w v → w ≡ shows_vendor t → v.now ≡ vendor_name t.vendor
-    → system ≡ then_some x s → x ≡ (last_three || shows_operating_system t) → s.now ++ version_suffix (system_version t.operating_system) ≡ operating_system_name t.operating_system
+    → system ≡ then_some x s → x ≡ (last_three || shows_operating_system t)
+    → s.now ++ version_suffix (system_version t.operating_system) ≡ operating_system_name t.operating_system
     → version ≡ system_version t.operating_system
     → environment ≡ then_some y e → y ≡ (last_three || shows_environment t) → e.now ≡ environment_name t.environment
     → format ≡ then_some z f → z ≡ (last_three || shows_binary_format t) → f.now ≡ binary_format_name t.binary_format
-    → ((((a.now ++ name_piece vendor) ++ name_piece system) ++ version_suffix version) ++ name_piece environment) ++ name_piece format ≡ text_with last_three t
+    → ((((a.now ++ name_piece vendor) ++ name_piece system) ++ version_suffix version) ++ name_piece environment)
+    ++ name_piece format ≡ text_with last_three t
 unfolding shown_names
-string_of_pieces last_three t a v s e f vendor system environment format version w x y z none a_is vendor_is w_is v_is system_is x_is s_is version_is environment_is y_is e_is format_is z_is f_is =
+string_of_pieces last_three t a v s e f vendor system environment format version w x y z none a_is vendor_is w_is v_is
+    system_is x_is s_is version_is environment_is y_is e_is format_is z_is f_is =
     rw (
       system_is,
       version_is,
@@ -108,6 +124,12 @@ other_than_newlib : (e : Environment) → (e ≡ environment.Newlib → ⊥) →
 other_than_newlib environment.Newlib n = absurd (n refl)
 other_than_newlib _ n = refl
 
-pub other_environment_shown : (t : Values) → (t.environment ≡ environment.Unknown → ⊥) → (t.environment ≡ environment.Newlib → ⊥) → true ≡ shows_environment t
+pub other_environment_shown : (t : Values) → (t.environment ≡ environment.Unknown → ⊥)
+    → (t.environment ≡ environment.Newlib → ⊥) → true ≡ shows_environment t
 unfolding shows_environment
-other_environment_shown t unknown newlib = rw (other_than_unknown t.environment unknown, other_than_newlib t.environment newlib, and-false (implies_newlib t.vendor t.operating_system)) refl
+other_environment_shown t unknown newlib =
+    rw (
+      other_than_unknown t.environment unknown,
+      other_than_newlib t.environment newlib,
+      and-false (implies_newlib t.vendor t.operating_system),
+    ) refl

@@ -1,8 +1,10 @@
 -- The normal step keeps the answers of the four queries.
-use Rattle.std.proofs.Common.{◌≡◌, ◌∙◌, sym, ap, refl, Bool, true, false, cond, true≢false, Some}
-use Rattle.target_lexicon.specs.Values.{Architecture, OperatingSystem, Environment, BinaryFormat, VendorValue, Values, values}
-use Rattle.target_lexicon.specs.{NormalStep.normal_step, ExceptionFacts.PrintsAsSpecial, Queries.is_ilp32, Queries.convention_on, Queries.model_of_width, Queries.pointer_width, Queries.data_model, QueryLaws.HaveSameAnswers}
-use Rattle.lexicon_fields.specs.{declared.pointer_width.PointerWidth.TheVariants.U32, ArchitectureQueries.is_clever, ArchitectureQueries.architecture_width}
+use Rattle.target_lexicon.proofs.Common.{◌∙◌, ◌≡◌, Bool, Some, ap, cond, false, refl, sym, true, true≢false, is_clever}
+use Rattle.target_lexicon.proofs.Common.{U32, PrintsAsSpecial, normal_step, convention_on, data_model, pointer_width}
+use Rattle.target_lexicon.proofs.Common.{Architecture, BinaryFormat, Environment, OperatingSystem, Values, VendorValue}
+use Rattle.target_lexicon.proofs.Common.{values}
+use Rattle.target_lexicon.specs.{Queries.is_ilp32, Queries.model_of_width, QueryLaws.HaveSameAnswers}
+use Rattle.lexicon_fields.specs.ArchitectureQueries.{architecture_width}
 use Rattle.target_lexicon.proofs.{SpecialRows.row_of_fields, StepCases.step_cases}
 use Rattle.target_lexicon.specs.Values.architecture
 use Rattle.target_lexicon.specs.Values.operating_system
@@ -10,7 +12,8 @@ use Rattle.target_lexicon.specs.Values.environment
 
 -- vendor and format don't matter, and the environment only for the width
 alike_by_width : (a : Architecture) (v w : VendorValue) (s : OperatingSystem) (e d : Environment) (f g : BinaryFormat)
-    → pointer_width (values a v s e f) ≡ pointer_width (values a w s d g) → HaveSameAnswers (values a v s e f) (values a w s d g)
+    → pointer_width (values a v s e f) ≡ pointer_width (values a w s d g)
+    → HaveSameAnswers (values a v s e f) (values a w s d g)
 unfolding data_model
 alike_by_width a v w s e d f g same = record {
   architecture = refl;
@@ -39,7 +42,8 @@ newlib-width a v w s f g = refl
 
 -- on Clever neither the system nor the environment matters
 clever-alike : (a : Architecture) (v : VendorValue) (f : BinaryFormat) → is_clever a ≡ true
-    → HaveSameAnswers (values a v operating_system.None_ environment.Unknown f) (values a v operating_system.Unknown environment.None f)
+    → HaveSameAnswers (values a v operating_system.None_ environment.Unknown f)
+    (values a v operating_system.Unknown environment.None f)
 unfolding pointer_width convention_on data_model
 clever-alike (architecture.Clever sub) v f clever = record {
   architecture = refl;
@@ -52,9 +56,11 @@ clever-alike _ v f clever = absurd (true≢false (sym clever))
 
 pub kept : (t : Values) → HaveSameAnswers (normal_step t) t
 kept t =
-    let a = t.architecture in let v = t.vendor in let s = t.operating_system in let e = t.environment in let f = t.binary_format in
+    let a = t.architecture in let v = t.vendor in let s = t.operating_system in let e = t.environment in
+    let f = t.binary_format in
     step_cases (λ u. HaveSameAnswers u t) t
-    (λ special. let narrow = special-narrow t special in alike_by_width a v v s _ e _ f (narrow_width _ narrow ∙ sym (narrow_width t narrow)))
+    (λ special. let narrow = special-narrow t special in
+    alike_by_width a v v s _ e _ f (narrow_width _ narrow ∙ sym (narrow_width t narrow)))
     (λ newlib. rw newlib.environment (alike_by_width a v v s _ _ _ f (newlib-width a v v s _ f)))
     (λ esp. rw esp (alike_by_width _ _ _ _ _ _ _ _ (sym (newlib-width _ _ _ _ _ _))))
     (λ none. rw (none.operating_system, none.environment) (clever-alike a v f none.architecture))

@@ -1,9 +1,9 @@
 -- Facts about all parsed triples: the vendor is plain, and the version in range.
-use Rattle.std.proofs.Common.{refl, ◌≡◌, ◌∙◌, ℕ, List, true, Option, Some, None, MatchOption, sym, subst}
-use Rattle.target_lexicon.specs.{Values.OperatingSystem, Values.VendorValue, Values.Known, Values.Values, Field.Field, Laws.ReadVendorsArePlain, Parsing.ArePartsOf}
-use Rattle.target_lexicon.specs.Parsing.{HoldsParts, ParsesAs, PartsParseAs, IsValueOf}
-use Rattle.target_lexicon.specs.SpecialStrings.{SpecialRow, special_triple, special_values}
-use Rattle.lexicon_fields.specs.{Laws.HasVersionInRange, OperatingSystem.operating_system_of, declared.known_vendor.KnownVendor.TheVariants.Unknown, Vendor.vendor_of, Vendor.is_plain}
+use Rattle.target_lexicon.proofs.Common.{◌∙◌, ◌≡◌, List, None, Option, Some, refl, subst, sym, true, ℕ, MatchOption}
+use Rattle.target_lexicon.proofs.Common.{HasVersionInRange, operating_system_of, is_plain, vendor_of, Unknown, Field}
+use Rattle.target_lexicon.proofs.Common.{ArePartsOf, HoldsParts, IsValueOf, ParsesAs, PartsParseAs, SpecialRow}
+use Rattle.target_lexicon.proofs.Common.{special_triple, special_values, Known, OperatingSystem, Values, VendorValue}
+use Rattle.target_lexicon.specs.Laws.{ReadVendorsArePlain}
 use Rattle.target_lexicon.proofs.{SpecialRows.RowFacts, SpecialRows.row_of_text, Vendors.vendor-plain}
 use Rattle.target_lexicon.specs.Values.operating_system
 
@@ -14,25 +14,33 @@ read-holds : (P : Values → Type 0) → ((row : SpecialRow) → RowFacts row �
 read-holds P of_row held text t reads = by_special (special_values text) refl reads
   where
     by_special : (special : Option Values) → special_values text ≡ special
-        → MatchOption special ((parts : List (List ℕ)) × ArePartsOf text parts × PartsParseAs parts t) (λ values. t ≡ values) → P t
+        → MatchOption special ((parts : List (List ℕ)) × ArePartsOf text parts × PartsParseAs parts t)
+        (λ values. t ≡ values) → P t
     by_special None is (parts, are, (fields, least, holds)) = held parts fields t holds
     by_special (Some s) is same = let at = row_of_text text s is in subst P (sym (same ∙ at.2)) (of_row at.0 at.3)
 
 -- the vendor is plain
 
-placed-plain : (part : Option (List ℕ)) (v : VendorValue) → IsValueOf vendor_of (Known Unknown) part v → is_plain v ≡ true
+placed-plain : (part : Option (List ℕ)) (v : VendorValue) → IsValueOf vendor_of (Known Unknown) part v
+    → is_plain v ≡ true
 placed-plain None v is = rw is refl
 placed-plain (Some part) v is = vendor-plain part v is
 
 pub read_plain : ReadVendorsArePlain
-read_plain = read-holds (λ t. is_plain t.vendor ≡ true) (λ row facts. refl) (λ parts fields t holds. placed-plain _ t.vendor holds.vendor)
+read_plain =
+    read-holds (λ t. is_plain t.vendor ≡ true) (λ row facts. refl)
+    (λ parts fields t holds. placed-plain _ t.vendor holds.vendor)
 
 -- the version of the system is in range
 
-module _ (version-in_range : (text : List ℕ) (s : OperatingSystem) → operating_system_of text ≡ Some s → HasVersionInRange s) where
-  placed-in_range : (part : Option (List ℕ)) (s : OperatingSystem) → IsValueOf operating_system_of operating_system.Unknown part s → HasVersionInRange s
+module _ (version-in_range : (text : List ℕ) (s : OperatingSystem) → operating_system_of text ≡ Some s
+    → HasVersionInRange s) where
+  placed-in_range : (part : Option (List ℕ)) (s : OperatingSystem)
+      → IsValueOf operating_system_of operating_system.Unknown part s → HasVersionInRange s
   placed-in_range None s is = rw is tt
   placed-in_range (Some part) s is = version-in_range part s is
 
   pub read_in_range : (text : List ℕ) (t : Values) → ParsesAs text t → HasVersionInRange t.operating_system
-  read_in_range = read-holds (λ t. HasVersionInRange t.operating_system) (λ row facts. facts.in_range) (λ parts fields t holds. placed-in_range _ t.operating_system holds.operating_system)
+  read_in_range =
+      read-holds (λ t. HasVersionInRange t.operating_system) (λ row facts. facts.in_range)
+      (λ parts fields t holds. placed-in_range _ t.operating_system holds.operating_system)

@@ -1,42 +1,56 @@
 -- What the string of a triple is read as, or refused as, by the laws alone.
-use Rattle.std.proofs.Common.{◌≡◌, ◌∙◌, ℕ, List, Bool, true, false, Option, Some, None, sym, subst}
-use Rattle.std.specs.Prelude.{◌↔◌, IfSome, MatchOption}
-use Rattle.lexicon_fields.specs.{Laws.HasVersionInRange, Vendor.is_plain}
-use Rattle.target_lexicon.specs.{Exceptions.exception, FixedPoints.FixedExactlyOutsideExceptions, FixedPoints.RoundIsNormalStep, FixedPoints.OneStepSettles, FixedPoints.CanonicalStringsAreKeys, Laws.ComesBack, Laws.EveryStringHasOneOutcome, NormalStep.normal_step, Printing.string_of}
-use Rattle.target_lexicon.specs.{QueryLaws.HaveSameAnswers, QueryLaws.QueriesKept, Parsing.ParsesAs, Parsing.IsErrorOf, Parsing.IsRefusalOrOutOfMemory, Parsing.MayAllocate, Parsing.IsRefusedAs, Refusal.Refusal, Refusal.refusal_of, Values.Values, declared.parse_error.ParseError.ParseError}
+use Rattle.target_lexicon.proofs.Common.{◌↔◌, ◌∙◌, ◌≡◌, Bool, List, None, Option, Some, false, subst, sym, true, ℕ}
+use Rattle.target_lexicon.proofs.Common.{IfSome, MatchOption, HasVersionInRange, is_plain, exception, RoundIsNormalStep}
+use Rattle.target_lexicon.proofs.Common.{ComesBack, EveryStringHasOneOutcome, normal_step, IsRefusedAs, ParsesAs}
+use Rattle.target_lexicon.proofs.Common.{string_of, Refusal, refusal_of, Values, ParseError}
+use Rattle.target_lexicon.specs.FixedPoints.{FixedExactlyOutsideExceptions, OneStepSettles, CanonicalStringsAreKeys}
+use Rattle.target_lexicon.specs.QueryLaws.{HaveSameAnswers, QueriesKept}
+use Rattle.target_lexicon.specs.Parsing.{IsErrorOf, IsRefusalOrOutOfMemory, MayAllocate}
 
-pub read-step : EveryStringHasOneOutcome → RoundIsNormalStep → (t u : Values) → is_plain t.vendor ≡ true → HasVersionInRange t.operating_system
+pub read-step : EveryStringHasOneOutcome → RoundIsNormalStep → (t u : Values) → is_plain t.vendor ≡ true
+    → HasVersionInRange t.operating_system
     → ParsesAs (string_of t) u → u ≡ normal_step t
-read-step texts round t u plain range reads = (texts (string_of t)).values u (normal_step t) reads (round t (record { vendor = plain; version = range }))
+read-step texts round t u plain range reads =
+    (texts (string_of t)).values u (normal_step t) reads (round t (record { vendor = plain; version = range }))
 
 pub step-queries : QueriesKept → (t u : Values) → u ≡ normal_step t → HaveSameAnswers u t
 step-queries kept t u step = subst (λ (x : Values). HaveSameAnswers x t) (sym step) (kept t)
 
-pub step-back : OneStepSettles → CanonicalStringsAreKeys → (t u : Values) → is_plain t.vendor ≡ true → HasVersionInRange t.operating_system → u ≡ normal_step t → ComesBack u
-step-back steps keys t u plain range step = subst ComesBack (steps t ∙ sym step) (keys.comes_back t (record { vendor = plain; version = range }))
+pub step-back : OneStepSettles → CanonicalStringsAreKeys → (t u : Values) → is_plain t.vendor ≡ true
+    → HasVersionInRange t.operating_system → u ≡ normal_step t → ComesBack u
+step-back steps keys t u plain range step =
+    subst ComesBack (steps t ∙ sym step) (keys.comes_back t (record { vendor = plain; version = range }))
 
-pub read-fixed : EveryStringHasOneOutcome → FixedExactlyOutsideExceptions → (t u : Values) → HasVersionInRange t.operating_system
+pub read-fixed : EveryStringHasOneOutcome → FixedExactlyOutsideExceptions → (t u : Values)
+    → HasVersionInRange t.operating_system
     → ParsesAs (string_of t) u → (u ≡ t) ↔ (exception t ≡ None)
 read-fixed texts fixed t u range reads = (
   λ same. (fixed t range).0 (subst (λ (x : Values). ParsesAs (string_of t) x) same reads),
   λ none. (texts (string_of t)).values u t reads ((fixed t range).1 none),
 )
 
-pub not_refused : EveryStringHasOneOutcome → RoundIsNormalStep → (t : Values) → is_plain t.vendor ≡ true → HasVersionInRange t.operating_system
+pub not_refused : EveryStringHasOneOutcome → RoundIsNormalStep → (t : Values) → is_plain t.vendor ≡ true
+    → HasVersionInRange t.operating_system
     → (x : Refusal) → IsRefusedAs (string_of t) x → ⊥
-not_refused texts round t plain range x refused = (texts (string_of t)).apart (normal_step t) (round t (record { vendor = plain; version = range })) (x, refused)
+not_refused texts round t plain range x refused =
+    (texts (string_of t)).apart (normal_step t) (round t (record { vendor = plain; version = range })) (x, refused)
 
 -- a refusal comes only if the vendor isn't plain
-pub refused-vendor : EveryStringHasOneOutcome → RoundIsNormalStep → (t : Values) (b : Bool) → is_plain t.vendor ≡ b → HasVersionInRange t.operating_system
-    → (found : Option Refusal) → IfSome found (λ x. IsRefusedAs (string_of t) x) → IfSome found (λ _. is_plain t.vendor ≡ false)
+pub refused-vendor : EveryStringHasOneOutcome → RoundIsNormalStep → (t : Values) (b : Bool) → is_plain t.vendor ≡ b
+    → HasVersionInRange t.operating_system
+    → (found : Option Refusal) → IfSome found (λ x. IsRefusedAs (string_of t) x)
+    → IfSome found (λ _. is_plain t.vendor ≡ false)
 refused-vendor texts round t false is range (Some x) refused = is
 refused-vendor texts round t true is range (Some x) refused = absurd (not_refused texts round t is range x refused)
 refused-vendor texts round t b is range None refused = tt
 
 -- the error of a string is its refusal or out of memory
-error-refused : (text : List ℕ) (found : Option Refusal) → MatchOption found (MayAllocate text) (λ x. IsRefusedAs text x) → IfSome found (λ x. IsRefusedAs text x)
+error-refused : (text : List ℕ) (found : Option Refusal)
+    → MatchOption found (MayAllocate text) (λ x. IsRefusedAs text x) → IfSome found (λ x. IsRefusedAs text x)
 error-refused text (Some x) is = is
 error-refused text None is = tt
 
-pub error-refusal : (text printed : List ℕ) (error : ParseError) → text ≡ printed → IsErrorOf text error → IsRefusalOrOutOfMemory printed error
-error-refusal text printed error same is = subst (λ (x : List ℕ). IsRefusalOrOutOfMemory x error) same (error-refused text (refusal_of error) is)
+pub error-refusal : (text printed : List ℕ) (error : ParseError) → text ≡ printed → IsErrorOf text error
+    → IsRefusalOrOutOfMemory printed error
+error-refusal text printed error same is =
+    subst (λ (x : List ℕ). IsRefusalOrOutOfMemory x error) same (error-refused text (refusal_of error) is)

@@ -1,16 +1,23 @@
 -- The shown parts of a triple with a plain vendor parse as its normal step, if no special string is printed.
-use Rattle.std.proofs.Common.{◌≡◌, ◌≢◌, ◌∙◌, ℕ, Bool, true, false, not, ◌&&◌, ◌||◌, cond, List, [], ◌∷◌, Some, None, Result, Ok, is_some, refl, sym, ap, subst, ◌⊎◌, inl, inr}
-use Rattle.target_lexicon.specs.Values.{Architecture, Environment, OperatingSystem, BinaryFormat, VendorValue, Known, Values, values, is_same_format, is_clever_without_system, is_unknown_vendor, unknown_values}
-use Rattle.target_lexicon.specs.{Field.parses_as, ImpliedFormat.default_binary_format, ImpliedFormat.implied_format, ExceptionFacts.HasSystemOf, ExceptionFacts.PrintsAsSpecial, ExceptionFacts.HidesNewlib, ExceptionFacts.PrintsTheEspIdfString, ExceptionFacts.ShowsOnlyNone, Refusal.Refusal, SpecialStrings.SpecialRow, SpecialStrings.implies_newlib, SpecialStrings.special_string}
-use Rattle.target_lexicon.specs.NormalStep.{normal_step, elf_if_unknown}
-use Rattle.target_lexicon.specs.Printing.{shows_vendor, omits_unknown_vendor, shows_operating_system, shows_environment, shows_binary_format, shows_unknowns, shown_names, cons_if}
-use Rattle.target_lexicon.specs.GreedyReading.{reading_from, reading_of_parts, with_value}
-use Rattle.lexicon_fields.specs.{ArchitectureQueries.is_clever, declared.architecture.families.CleverArchitecture.CleverArchitecture, Architecture.architecture_name, Laws.HasVersionInRange, Vendor.vendor_name, Vendor.vendor_of, Vendor.is_plain, OperatingSystem.operating_system_name, Environment.environment_name, BinaryFormat.binary_format_name}
-use Rattle.lexicon_fields.specs.declared.known_vendor.KnownVendor.TheVariants.{Unknown}
-use Rattle.std.proofs.{lemmas.Bool.and_parts, lemmas.Bool.or_parts, lemmas.Bool.not-false, lemmas.Bool.not-true, Math.Bool.and-false, lemmas.Bool.false≢true, lemmas.Bool.true≢false}
+use Rattle.target_lexicon.proofs.Common
+use Common.{◌&&◌, ◌||◌, ◌∙◌, ◌∷◌, ◌≡◌, ◌≢◌, ◌⊎◌, Bool, List, None, Ok, Result, Some, [], ap, cond, false, inl, inr}
+use Common.{is_some, not, refl, subst, sym, true, true≢false, ℕ, and-false, and_parts, false≢true, not-true}
+use Common.{architecture_name, is_clever, binary_format_name, environment_name, HasVersionInRange}
+use Common.{operating_system_name, is_plain, vendor_name, vendor_of, Unknown, HasSystemOf, HidesNewlib, PrintsAsSpecial}
+use Common.{PrintsTheEspIdfString, ShowsOnlyNone, parses_as, reading_from, reading_of_parts, with_value}
+use Common.{default_binary_format, implied_format, elf_if_unknown, normal_step, cons_if, shown_names}
+use Common.{shows_binary_format, shows_environment, shows_operating_system, shows_unknowns, shows_vendor, Refusal}
+use Common.{SpecialRow, implies_newlib, special_string, Architecture, BinaryFormat, Environment, Known, OperatingSystem}
+use Common.{Values, VendorValue, is_clever_without_system, is_same_format, is_unknown_vendor, unknown_values, values}
+use Rattle.target_lexicon.specs.Printing.{omits_unknown_vendor}
+use Rattle.lexicon_fields.specs.declared.architecture.families.CleverArchitecture.{CleverArchitecture}
+use Rattle.std.proofs.lemmas.Bool.{or_parts, not-false}
 use Rattle.target_lexicon.proofs.PrintingLemmas.{printed_names}
-use Rattle.target_lexicon.proofs.NamesAcross.{NamesAreRead, environment_of-format, operating_system_of-format, operating_system_of-environment, vendor_of-operating_system, system_as_vendor}
-use Rattle.target_lexicon.proofs.SpecialRows.{RowFacts, special_of_fields, system_of_newlib, row_of_system, special_system, newlib_system, no_newlib}
+use Rattle.target_lexicon.proofs.NamesAcross.{NamesAreRead, environment_of-format, operating_system_of-format}
+use Rattle.target_lexicon.proofs.NamesAcross.{operating_system_of-environment, vendor_of-operating_system}
+use Rattle.target_lexicon.proofs.NamesAcross.{system_as_vendor}
+use Rattle.target_lexicon.proofs.SpecialRows.{RowFacts, special_of_fields, system_of_newlib, row_of_system}
+use Rattle.target_lexicon.proofs.SpecialRows.{special_system, newlib_system, no_newlib}
 use Rattle.target_lexicon.proofs.StepCases.{step_cases, outside-fixed, only_none-step}
 use Rattle.target_lexicon.specs.Values.architecture
 use Rattle.target_lexicon.specs.Values.operating_system
@@ -38,12 +45,16 @@ shown_by true false f g h = sym (h refl)
 shown_by false too f g h = refl
 
 -- the format is parsed back, shown or implied
-shown_or_implied : (t : Values) → cond (shows_binary_format t) t.binary_format (default_binary_format t) ≡ t.binary_format
+shown_or_implied : (t : Values) → cond (shows_binary_format t) t.binary_format (default_binary_format t)
+    ≡ t.binary_format
 unfolding shows_binary_format
-shown_or_implied t = shown_by (is_same_format t.binary_format (default_binary_format t)) _ t.binary_format (default_binary_format t) (is_same_format-is t.binary_format (default_binary_format t))
+shown_or_implied t =
+    shown_by (is_same_format t.binary_format (default_binary_format t)) _ t.binary_format (default_binary_format t)
+    (is_same_format-is t.binary_format (default_binary_format t))
 
 -- the fields that are unknown if both are shown as unknown
-pub are_unknown : (a : Architecture) (v : VendorValue) (s : OperatingSystem) (e : Environment) (f : BinaryFormat) → shows_unknowns (values a v s e f) ≡ true
+pub are_unknown : (a : Architecture) (v : VendorValue) (s : OperatingSystem) (e : Environment) (f : BinaryFormat)
+    → shows_unknowns (values a v s e f) ≡ true
     → (e ≡ environment.Unknown) × (f ≡ binary_format.Unknown)
 are_unknown a v s environment.Unknown binary_format.Unknown shown = (refl, refl)
 are_unknown a v s _ _ shown = absurd (false≢true shown)
@@ -54,24 +65,30 @@ none-apart : (t : Values) → special_string t ≡ None → ¬ PrintsAsSpecial t
 none-apart t none is = true≢false (sym (special_of_fields t is.fields) ∙ ap is_some none)
 
 -- an environment that isn't shown is unknown, or a hidden `Newlib`
-not_shown : (a : Architecture) (v : VendorValue) (s : OperatingSystem) (e : Environment) (f : BinaryFormat) → special_string (values a v s e f) ≡ None → shows_environment (values a v s e f) ≡ false
+not_shown : (a : Architecture) (v : VendorValue) (s : OperatingSystem) (e : Environment) (f : BinaryFormat)
+    → special_string (values a v s e f) ≡ None → shows_environment (values a v s e f) ≡ false
     → (e ≡ environment.Unknown) ⊎ HidesNewlib (values a v s e f)
 unfolding shows_environment
 not_shown a v s environment.Unknown f none hidden = inl refl
 not_shown a v s environment.Newlib f none hidden = inr (record {
   environment = refl;
-  system = system_of_newlib (values a v s environment.Newlib f) (and_parts (implies_newlib v s) true (not-false _ hidden)).0;
+  system =
+      system_of_newlib (values a v s environment.Newlib f) (and_parts (implies_newlib v s) true (not-false _ hidden)).0;
   others = λ special. true≢false (sym (special_of_fields _ special) ∙ ap is_some none);
 })
 not_shown a v s _ f none hidden = absurd (true≢false (rw and-false at hidden))
 
 -- the format that is parsed if the environment isn't shown
 
-shown_unless_elf : (f : BinaryFormat) → cond (known_format f && (not (is_same_format f binary_format.Elf) || false)) f binary_format.Elf ≡ elf_if_unknown f
+shown_unless_elf : (f : BinaryFormat)
+    → cond (known_format f && (not (is_same_format f binary_format.Elf) || false)) f binary_format.Elf
+    ≡ elf_if_unknown f
 shown_unless_elf binary_format.Unknown = refl
 shown_unless_elf _ = refl
 
-shown_unless_unknown : (f i : BinaryFormat) (b : Bool) → (is_same_format f binary_format.Unknown && not (is_same_format f i)) ≡ false → cond b f i ≡ f → cond (known_format f && b) f i ≡ f
+shown_unless_unknown : (f i : BinaryFormat) (b : Bool)
+    → (is_same_format f binary_format.Unknown && not (is_same_format f i)) ≡ false → cond b f i ≡ f
+    → cond (known_format f && b) f i ≡ f
 shown_unless_unknown binary_format.Unknown binary_format.Unknown b hidden same = refl
 shown_unless_unknown binary_format.Unknown _ b hidden same = absurd cc
 shown_unless_unknown _ i b hidden same = same
@@ -90,11 +107,13 @@ hidden_vendor t h =
     let by_value = or_parts _ _ by_rule.0 in
     (unknown_vendor-is t.vendor (not-false _ by_value.0), not-false _ by_rule.1)
 
-no_vendor : (a : Architecture) (s : OperatingSystem) (e : Environment) → omits_unknown_vendor a s e ≡ true → system_as_vendor s ≡ None
+no_vendor : (a : Architecture) (s : OperatingSystem) (e : Environment) → omits_unknown_vendor a s e ≡ true
+    → system_as_vendor s ≡ None
 no_vendor a operating_system.Unknown e h = absurd (false≢true h)
 no_vendor a _ e h = refl
 
-hidden_system : (a : Architecture) (v : VendorValue) (s : OperatingSystem) (e : Environment) (f : BinaryFormat) → shows_operating_system (values a v s e f) ≡ false
+hidden_system : (a : Architecture) (v : VendorValue) (s : OperatingSystem) (e : Environment) (f : BinaryFormat)
+    → shows_operating_system (values a v s e f) ≡ false
     → (s ≡ operating_system.Unknown) × ((c : CleverArchitecture) × (a ≡ architecture.Clever c))
 unfolding shows_operating_system
 hidden_system (architecture.Clever sub) v operating_system.Unknown e f h = (refl, (sub, refl))
@@ -107,7 +126,8 @@ clever-alone _ clever = absurd (false≢true clever)
 -- if the system is shown
 shown_system : (t : Values) → shows_operating_system t ≡ true → ¬ ShowsOnlyNone t
 unfolding shows_operating_system
-shown_system t h is = false≢true (sym (not-true _ h) ∙ rw is.operating_system (clever-alone t.architecture is.architecture))
+shown_system t h is =
+    false≢true (sym (not-true _ h) ∙ rw is.operating_system (clever-alone t.architecture is.architecture))
 
 -- an unknown system implies no environment
 pub without_system : (v : VendorValue) → implies_newlib v operating_system.Unknown ≡ false
@@ -120,65 +140,102 @@ unread a v s = values a v s environment.Unknown binary_format.Unknown
 module _ (names : NamesAreRead) where
   -- the format, parsed back after an environment that is shown or not
 
-  format-read : (a : Architecture) (v : VendorValue) (s : OperatingSystem) (e : Environment) (f : BinaryFormat) (b : Bool)
-      → reading_from (Some field.BinaryFormat) (values a v s e binary_format.Unknown) (cons_if b (binary_format_name f) []) ≡ Ok (values a v s e (cond b f (implied_format a s e)))
+  format-read : (a : Architecture) (v : VendorValue) (s : OperatingSystem) (e : Environment)
+      (f : BinaryFormat) (b : Bool)
+      → reading_from (Some field.BinaryFormat) (values a v s e binary_format.Unknown)
+      (cons_if b (binary_format_name f) []) ≡ Ok (values a v s e (cond b f (implied_format a s e)))
   unfolding parses_as
   format-read a v s e f true = rw (names.binary_format.reads_back f tt, names.binary_format.reads_back f tt) refl
   format-read a v s e f false = refl
 
-  shown-read : (a : Architecture) (v : VendorValue) (s : OperatingSystem) (e : Environment) (f : BinaryFormat) (b : Bool)
-      → reading_from (Some field.Environment) (unread a v s) (environment_name e ∷ cons_if b (binary_format_name f) []) ≡ Ok (values a v s e (cond b f (implied_format a s e)))
+  shown-read : (a : Architecture) (v : VendorValue) (s : OperatingSystem) (e : Environment)
+      (f : BinaryFormat) (b : Bool)
+      → reading_from (Some field.Environment) (unread a v s) (environment_name e ∷ cons_if b (binary_format_name f) [])
+      ≡ Ok (values a v s e (cond b f (implied_format a s e)))
   unfolding parses_as
   shown-read a v s e f b =
-      let read : with_value field.Environment (environment_name e) (unread a v s) ≡ values a v s e binary_format.Unknown = rw (names.environment.reads_back e tt) refl in
-      rw (names.environment.reads_back e tt) (ap (λ (t : Values). reading_from (Some field.BinaryFormat) t (cons_if b (binary_format_name f) [])) read ∙ format-read a v s e f b)
+      let read : with_value field.Environment (environment_name e) (unread a v s)
+      ≡ values a v s e binary_format.Unknown = rw (names.environment.reads_back e tt) refl in
+      rw (names.environment.reads_back e tt)
+      (ap (λ (t : Values). reading_from (Some field.BinaryFormat) t (cons_if b (binary_format_name f) [])) read
+      ∙ format-read a v s e f b)
 
   hidden-read : (a : Architecture) (v : VendorValue) (s : OperatingSystem) (f : BinaryFormat) (b : Bool)
-      → reading_from (Some field.Environment) (unread a v s) (cons_if b (binary_format_name f) []) ≡ Ok (values a v s environment.Unknown (cond (known_format f && b) f (implied_format a s environment.Unknown)))
+      → reading_from (Some field.Environment) (unread a v s) (cons_if b (binary_format_name f) [])
+      ≡ Ok (values a v s environment.Unknown (cond (known_format f && b) f (implied_format a s environment.Unknown)))
   unfolding parses_as
   hidden-read a v s binary_format.Unknown false = refl
   hidden-read a v s f false = refl
-  hidden-read a v s binary_format.Unknown true = rw (environment_of-format binary_format.Unknown, environment_of-format binary_format.Unknown) refl
-  hidden-read a v s f true = rw (environment_of-format f, names.binary_format.reads_back f tt, names.binary_format.reads_back f tt) refl
+  hidden-read a v s binary_format.Unknown true =
+      rw (environment_of-format binary_format.Unknown, environment_of-format binary_format.Unknown) refl
+  hidden-read a v s f true =
+      rw (environment_of-format f, names.binary_format.reads_back f tt, names.binary_format.reads_back f tt) refl
 
   -- the same without a system
   alone-read : (a : Architecture) (v : VendorValue) (f : BinaryFormat) (b : Bool)
-      → reading_from (Some field.OperatingSystem) (unread a v operating_system.Unknown) (cons_if b (binary_format_name f) [])
-      ≡ Ok (values a v operating_system.Unknown environment.Unknown (cond (known_format f && b) f (implied_format a operating_system.Unknown environment.Unknown)))
+      → reading_from (Some field.OperatingSystem) (unread a v operating_system.Unknown)
+      (cons_if b (binary_format_name f) [])
+      ≡ Ok (values a v operating_system.Unknown environment.Unknown
+      (cond (known_format f && b) f (implied_format a operating_system.Unknown environment.Unknown)))
   unfolding parses_as
   alone-read a v binary_format.Unknown false = refl
   alone-read a v f false = refl
-  alone-read a v binary_format.Unknown true = rw (operating_system_of-format binary_format.Unknown, operating_system_of-format binary_format.Unknown) refl
-  alone-read a v f true = rw (operating_system_of-format f, environment_of-format f, names.binary_format.reads_back f tt, names.binary_format.reads_back f tt) refl
+  alone-read a v binary_format.Unknown true =
+      rw (operating_system_of-format binary_format.Unknown, operating_system_of-format binary_format.Unknown) refl
+  alone-read a v f true =
+      rw (
+        operating_system_of-format f,
+        environment_of-format f,
+        names.binary_format.reads_back f tt,
+        names.binary_format.reads_back f tt,
+      ) refl
 
   -- the parts that upstream shows after the system, parsed back
   abbrev ReadsAfter : Values → Values → Type 0
   ReadsAfter t u = reading_from (Some field.Environment) (unread t.architecture t.vendor t.operating_system)
-      (cons_if (shows_environment t) (environment_name t.environment) (cons_if (shows_binary_format t) (binary_format_name t.binary_format) [])) ≡ Ok u
+      (cons_if (shows_environment t) (environment_name t.environment)
+      (cons_if (shows_binary_format t) (binary_format_name t.binary_format) [])) ≡ Ok u
 
   row-read : (t : Values) (row : SpecialRow) → HasSystemOf row t → RowFacts row → t.environment ≡ environment.Newlib
-      → ReadsAfter t (values t.architecture t.vendor t.operating_system environment.Unknown (elf_if_unknown t.binary_format))
+      → ReadsAfter t (values t.architecture t.vendor t.operating_system environment.Unknown
+      (elf_if_unknown t.binary_format))
   unfolding shows_environment shows_binary_format
   row-read t row is facts newlib =
-      rw (newlib, is.vendor, is.operating_system, facts.newlib, facts.implied t.architecture environment.Newlib, facts.operating_system, and-false)
+      rw (
+        newlib,
+        is.vendor,
+        is.operating_system,
+        facts.newlib,
+        facts.implied t.architecture environment.Newlib,
+        facts.operating_system,
+        and-false,
+      )
       (hidden-read t.architecture _ _ t.binary_format _
       ∙ rw (facts.implied t.architecture environment.Unknown)
-      (ap (λ f. Ok (values t.architecture (Known row.vendor) row.operating_system environment.Unknown f)) (shown_unless_elf t.binary_format)))
+      (ap (λ f. Ok (values t.architecture (Known row.vendor) row.operating_system environment.Unknown f))
+      (shown_unless_elf t.binary_format)))
 
   newlib-read : (t : Values) → HidesNewlib t
-      → ReadsAfter t (values t.architecture t.vendor t.operating_system environment.Unknown (elf_if_unknown t.binary_format))
+      → ReadsAfter t (values t.architecture t.vendor t.operating_system environment.Unknown
+      (elf_if_unknown t.binary_format))
   newlib-read t is = let at = row_of_system t is.system in row-read t at.0 at.1 at.2 is.environment
 
-  module _ (a : Architecture) (v : VendorValue) (s : OperatingSystem) (e : Environment) (f : BinaryFormat) (none : special_string (values a v s e f) ≡ None)
+  module _ (a : Architecture) (v : VendorValue) (s : OperatingSystem) (e : Environment) (f : BinaryFormat)
+      (none : special_string (values a v s e f) ≡ None)
       (hidden : shows_unknowns (values a v s e f) ≡ false) where
     unknown-read : e ≡ environment.Unknown
-        → reading_from (Some field.Environment) (unread a v s) (cons_if (shows_binary_format (values a v s e f)) (binary_format_name f) []) ≡ Ok (values a v s e f)
+        → reading_from (Some field.Environment) (unread a v s)
+        (cons_if (shows_binary_format (values a v s e f)) (binary_format_name f) []) ≡ Ok (values a v s e f)
     unknown-read is = rw is (hidden-read a v s f _
-        ∙ ap (λ x. Ok (values a v s environment.Unknown x)) (shown_unless_unknown f _ _ (rw is at hidden) (shown_or_implied (values a v s environment.Unknown f))))
+        ∙ ap (λ x. Ok (values a v s environment.Unknown x))
+        (shown_unless_unknown f _ _ (rw is at hidden) (shown_or_implied (values a v s environment.Unknown f))))
 
     outside-read : ¬ HidesNewlib (values a v s e f) → (b : Bool) → shows_environment (values a v s e f) ≡ b
-        → reading_from (Some field.Environment) (unread a v s) (cons_if b (environment_name e) (cons_if (shows_binary_format (values a v s e f)) (binary_format_name f) [])) ≡ Ok (values a v s e f)
-    outside-read outside true is = shown-read a v s e f _ ∙ ap (λ x. Ok (values a v s e x)) (shown_or_implied (values a v s e f))
+        → reading_from (Some field.Environment) (unread a v s)
+        (cons_if b (environment_name e) (cons_if (shows_binary_format (values a v s e f)) (binary_format_name f) []))
+        ≡ Ok (values a v s e f)
+    outside-read outside true is =
+        shown-read a v s e f _ ∙ ap (λ x. Ok (values a v s e x)) (shown_or_implied (values a v s e f))
     outside-read outside false is = elim (not_shown a v s e f none is) [
       | inl unknown ↦ unknown-read unknown
       | inr newlib ↦ absurd (outside newlib)
@@ -195,38 +252,52 @@ module _ (names : NamesAreRead) where
 
   -- architecture, vendor and system, parsed back
 
-  prefix : (a : Architecture) (v : VendorValue) (b : Bool) (rest : List (List ℕ)) (result : Result Values Refusal) → is_plain v ≡ true
+  prefix : (a : Architecture) (v : VendorValue) (b : Bool) (rest : List (List ℕ)) (result : Result Values Refusal)
+      → is_plain v ≡ true
       → (b ≡ false → reading_from (Some field.Vendor) (unread a (Known Unknown) operating_system.Unknown) rest ≡ result)
       → reading_from (Some field.OperatingSystem) (unread a v operating_system.Unknown) rest ≡ result
       → reading_of_parts (architecture_name a ∷ cons_if b (vendor_name v) rest) ≡ result
   unfolding parses_as
   prefix a v true rest result plain hidden reads =
-      let first : with_value field.Architecture (architecture_name a) unknown_values ≡ unread a (Known Unknown) operating_system.Unknown = rw (names.architecture.reads_back a tt) refl in
-      let read : with_value field.Vendor (vendor_name v) (unread a (Known Unknown) operating_system.Unknown) ≡ unread a v operating_system.Unknown = rw (names.vendor.reads_back v plain) refl in
+      let first : with_value field.Architecture (architecture_name a) unknown_values
+      ≡ unread a (Known Unknown) operating_system.Unknown = rw (names.architecture.reads_back a tt) refl in
+      let read : with_value field.Vendor (vendor_name v) (unread a (Known Unknown) operating_system.Unknown)
+      ≡ unread a v operating_system.Unknown = rw (names.vendor.reads_back v plain) refl in
       rw (names.architecture.reads_back a tt, names.vendor.reads_back v plain)
-      (ap (λ (t : Values). reading_from (Some field.OperatingSystem) t rest) (ap (with_value field.Vendor (vendor_name v)) first ∙ read) ∙ reads)
+      (ap (λ (t : Values). reading_from (Some field.OperatingSystem) t rest)
+      (ap (with_value field.Vendor (vendor_name v)) first ∙ read) ∙ reads)
   prefix a v false rest result plain hidden reads =
-      let first : with_value field.Architecture (architecture_name a) unknown_values ≡ unread a (Known Unknown) operating_system.Unknown = rw (names.architecture.reads_back a tt) refl in
-      rw (names.architecture.reads_back a tt) (ap (λ (t : Values). reading_from (Some field.Vendor) t rest) first ∙ hidden refl)
+      let first : with_value field.Architecture (architecture_name a) unknown_values
+      ≡ unread a (Known Unknown) operating_system.Unknown = rw (names.architecture.reads_back a tt) refl in
+      rw (names.architecture.reads_back a tt) (ap (λ (t : Values). reading_from (Some field.Vendor) t rest) first
+      ∙ hidden refl)
 
   -- if the system is shown, with these parts after it
-  after_system : (a : Architecture) (v : VendorValue) (s : OperatingSystem) (e : Environment) (f : BinaryFormat) (rest : List (List ℕ)) (result : Result Values Refusal) → is_plain v ≡ true → HasVersionInRange s
+  after_system : (a : Architecture) (v : VendorValue) (s : OperatingSystem) (e : Environment) (f : BinaryFormat)
+      (rest : List (List ℕ)) (result : Result Values Refusal) → is_plain v ≡ true → HasVersionInRange s
       → reading_from (Some field.Environment) (unread a v s) rest ≡ result
-      → reading_of_parts (architecture_name a ∷ cons_if (shows_vendor (values a v s e f)) (vendor_name v) (operating_system_name s ∷ rest)) ≡ result
+      → reading_of_parts (architecture_name a ∷ cons_if (shows_vendor (values a v s e f)) (vendor_name v)
+      (operating_system_name s ∷ rest)) ≡ result
   unfolding parses_as
   after_system a v s e f rest result plain range reads =
-      let read : (w : VendorValue) → with_value field.OperatingSystem (operating_system_name s) (unread a w operating_system.Unknown) ≡ unread a w s = λ w. rw (names.operating_system.reads_back s range) refl in
-      let then = λ (w : VendorValue) (same : v ≡ w). ap (λ (t : Values). reading_from (Some field.Environment) t rest) (read w) ∙ subst (λ (x : VendorValue). reading_from (Some field.Environment) (unread a x s) rest ≡ result) same reads in
+      let read : (w : VendorValue)
+      → with_value field.OperatingSystem (operating_system_name s) (unread a w operating_system.Unknown)
+      ≡ unread a w s = λ w. rw (names.operating_system.reads_back s range) refl in
+      let then = λ (w : VendorValue) (same : v ≡ w). ap (λ (t : Values). reading_from (Some field.Environment) t rest)
+      (read w) ∙ subst (λ (x : VendorValue). reading_from (Some field.Environment) (unread a x s) rest ≡ result)
+      same reads in
       prefix a v (shows_vendor (values a v s e f)) _ _ plain
       (λ h.
       let is = hidden_vendor (values a v s e f) h in
-      let other : vendor_of (operating_system_name s) ≡ None = vendor_of-operating_system names s range ∙ no_vendor a s e is.1 in
+      let other : vendor_of (operating_system_name s) ≡ None = vendor_of-operating_system names s range
+      ∙ no_vendor a s e is.1 in
       rw (other, names.operating_system.reads_back s range) (then (Known Unknown) is.0))
       (rw (names.operating_system.reads_back s range) (then v refl))
 
   -- if it isn't: Clever without a system
   clever-fixed : (c : CleverArchitecture) (v : VendorValue) (e : Environment) (f : BinaryFormat) → e ≢ environment.None
-      → normal_step (values (architecture.Clever c) v operating_system.Unknown e f) ≡ values (architecture.Clever c) v operating_system.Unknown e f
+      → normal_step (values (architecture.Clever c) v operating_system.Unknown e f) ≡ values (architecture.Clever c) v
+      operating_system.Unknown e f
   clever-fixed c v e f other = outside-fixed (values (architecture.Clever c) v operating_system.Unknown e f) (record {
     special = λ is. true≢false (special_system _ is.fields);
     newlib = λ is. true≢false (newlib_system _ is.system);
@@ -235,64 +306,87 @@ module _ (names : NamesAreRead) where
   })
 
   clever-step : (c : CleverArchitecture) (v : VendorValue) (f : BinaryFormat)
-      → normal_step (values (architecture.Clever c) v operating_system.Unknown environment.None f) ≡ values (architecture.Clever c) v operating_system.None_ environment.Unknown f
+      → normal_step (values (architecture.Clever c) v operating_system.Unknown environment.None f)
+      ≡ values (architecture.Clever c) v operating_system.None_ environment.Unknown f
   clever-step c v f = only_none-step (values (architecture.Clever c) v operating_system.Unknown environment.None f)
       (record { architecture = refl; operating_system = refl; environment = refl })
 
   -- after an environment `none` the format is shown, unless it is unknown
   none-shown : (c : CleverArchitecture) (v : VendorValue) (f : BinaryFormat)
-      → cond (known_format f && shows_binary_format (values (architecture.Clever c) v operating_system.Unknown environment.None f)) f binary_format.Unknown ≡ f
+      → cond (known_format f && shows_binary_format
+      (values (architecture.Clever c) v operating_system.Unknown environment.None f)) f binary_format.Unknown ≡ f
   unfolding shows_binary_format implied_format
   none-shown c v binary_format.Unknown = refl
   none-shown c v _ = refl
 
-  clever-read : (c : CleverArchitecture) (v : VendorValue) (e : Environment) (f : BinaryFormat) → shows_unknowns (values (architecture.Clever c) v operating_system.Unknown e f) ≡ false
-      → reading_from (Some field.OperatingSystem) (unread (architecture.Clever c) v operating_system.Unknown) (cons_if (shows_environment (values (architecture.Clever c) v operating_system.Unknown e f)) (environment_name e)
-      (cons_if (shows_binary_format (values (architecture.Clever c) v operating_system.Unknown e f)) (binary_format_name f) []))
+  clever-read : (c : CleverArchitecture) (v : VendorValue) (e : Environment) (f : BinaryFormat)
+      → shows_unknowns (values (architecture.Clever c) v operating_system.Unknown e f) ≡ false
+      → reading_from (Some field.OperatingSystem) (unread (architecture.Clever c) v operating_system.Unknown)
+      (cons_if (shows_environment (values (architecture.Clever c) v operating_system.Unknown e f)) (environment_name e)
+      (cons_if (shows_binary_format (values (architecture.Clever c) v operating_system.Unknown e f))
+      (binary_format_name f) []))
       ≡ Ok (normal_step (values (architecture.Clever c) v operating_system.Unknown e f))
   unfolding parses_as shows_environment shows_binary_format implied_format
   clever-read c v environment.Unknown f hidden = rw (clever-fixed c v environment.Unknown f (λ is. cc))
-      (alone-read (architecture.Clever c) v f _ ∙ ap (λ x. Ok (values (architecture.Clever c) v operating_system.Unknown environment.Unknown x))
-      (shown_unless_unknown f _ _ hidden (shown_or_implied (values (architecture.Clever c) v operating_system.Unknown environment.Unknown f))))
+      (alone-read (architecture.Clever c) v f _
+      ∙ ap (λ x. Ok (values (architecture.Clever c) v operating_system.Unknown environment.Unknown x))
+      (shown_unless_unknown f _ _ hidden
+      (shown_or_implied (values (architecture.Clever c) v operating_system.Unknown environment.Unknown f))))
   clever-read c v environment.None f hidden = rw (clever-step c v f, without_system v)
       (simp (operating_system_of-environment environment.None)
-      (hidden-read (architecture.Clever c) v operating_system.None_ f _ ∙ ap (λ x. Ok (values (architecture.Clever c) v operating_system.None_ environment.Unknown x)) (none-shown c v f)))
+      (hidden-read (architecture.Clever c) v operating_system.None_ f _
+      ∙ ap (λ x. Ok (values (architecture.Clever c) v operating_system.None_ environment.Unknown x))
+      (none-shown c v f)))
   clever-read c v e f hidden = rw (clever-fixed c v e f (λ is. cc), without_system v, operating_system_of-environment e)
-      (simp (names.environment.reads_back e tt) (format-read (architecture.Clever c) v operating_system.Unknown e f (shows_binary_format (values (architecture.Clever c) v operating_system.Unknown e f))
-      ∙ ap (λ x. Ok (values (architecture.Clever c) v operating_system.Unknown e x)) (shown_or_implied (values (architecture.Clever c) v operating_system.Unknown e f))))
+      (simp (names.environment.reads_back e tt)
+      (format-read (architecture.Clever c) v operating_system.Unknown e f
+      (shows_binary_format (values (architecture.Clever c) v operating_system.Unknown e f))
+      ∙ ap (λ x. Ok (values (architecture.Clever c) v operating_system.Unknown e x))
+      (shown_or_implied (values (architecture.Clever c) v operating_system.Unknown e f))))
 
-  clever-round : (c : CleverArchitecture) (v : VendorValue) (e : Environment) (f : BinaryFormat) → is_plain v ≡ true → shows_unknowns (values (architecture.Clever c) v operating_system.Unknown e f) ≡ false
-      → reading_of_parts (shown_names false (values (architecture.Clever c) v operating_system.Unknown e f)) ≡ Ok (normal_step (values (architecture.Clever c) v operating_system.Unknown e f))
+  clever-round : (c : CleverArchitecture) (v : VendorValue) (e : Environment) (f : BinaryFormat) → is_plain v ≡ true
+      → shows_unknowns (values (architecture.Clever c) v operating_system.Unknown e f) ≡ false
+      → reading_of_parts (shown_names false (values (architecture.Clever c) v operating_system.Unknown e f))
+      ≡ Ok (normal_step (values (architecture.Clever c) v operating_system.Unknown e f))
   unfolding shown_names shows_operating_system
   clever-round c v e f plain hidden =
       prefix (architecture.Clever c) v _ _ _ plain
-      (λ h. absurd (let is = (hidden_vendor (values (architecture.Clever c) v operating_system.Unknown e f) h).1 in cc)) (clever-read c v e f hidden)
+      (λ h. absurd (let is = (hidden_vendor (values (architecture.Clever c) v operating_system.Unknown e f) h).1 in cc))
+      (clever-read c v e f hidden)
 
-  module _ (a : Architecture) (v : VendorValue) (s : OperatingSystem) (e : Environment) (f : BinaryFormat) (plain : is_plain v ≡ true) (range : HasVersionInRange s)
+  module _ (a : Architecture) (v : VendorValue) (s : OperatingSystem) (e : Environment) (f : BinaryFormat)
+      (plain : is_plain v ≡ true) (range : HasVersionInRange s)
       (none : special_string (values a v s e f) ≡ None) (apart : ¬ PrintsTheEspIdfString (values a v s e f)) where
-    clever_by : (c : CleverArchitecture) → a ≡ architecture.Clever c → s ≡ operating_system.Unknown → shows_unknowns (values a v s e f) ≡ false
+    clever_by : (c : CleverArchitecture) → a ≡ architecture.Clever c → s ≡ operating_system.Unknown
+        → shows_unknowns (values a v s e f) ≡ false
         → reading_of_parts (shown_names false (values a v s e f)) ≡ Ok (normal_step (values a v s e f))
     clever_by c is_a is_s hidden = rw (is_a, is_s) (clever-round c v e f plain (rw (is_a, is_s) at hidden))
 
-    upstream-round : (b : Bool) → shows_operating_system (values a v s e f) ≡ b → shows_unknowns (values a v s e f) ≡ false
+    upstream-round : (b : Bool) → shows_operating_system (values a v s e f) ≡ b
+        → shows_unknowns (values a v s e f) ≡ false
         → reading_of_parts (shown_names false (values a v s e f)) ≡ Ok (normal_step (values a v s e f))
     unfolding shown_names
     upstream-round true shown hidden = rw shown (after_system a v s e f _ _ plain range
         (tail-round a v s e f none hidden apart (shown_system (values a v s e f) shown)))
-    upstream-round false none_shown hidden = let is = hidden_system a v s e f none_shown in clever_by is.1.0 is.1.1 is.0 hidden
+    upstream-round false none_shown hidden = let is = hidden_system a v s e f none_shown in
+        clever_by is.1.0 is.1.1 is.0 hidden
 
     -- an unknown environment and an unknown format, both shown, change nothing
-    unknowns-step : (e ≡ environment.Unknown) × (f ≡ binary_format.Unknown) → normal_step (values a v s e f) ≡ values a v s e f
+    unknowns-step : (e ≡ environment.Unknown) × (f ≡ binary_format.Unknown)
+        → normal_step (values a v s e f) ≡ values a v s e f
     unknowns-step (is_e, is_f) = step_cases (λ u. u ≡ values a v s e f) (values a v s e f)
         (λ is. absurd (none-apart _ none is)) (λ is. absurd (let newlib = is.environment in cc))
         (λ is. absurd (apart is))
         (λ is. absurd (let only_none = is.environment in cc)) (λ outside. refl)
 
-    unknowns-round : (e ≡ environment.Unknown) × (f ≡ binary_format.Unknown) → reading_of_parts (shown_names true (values a v s e f)) ≡ Ok (normal_step (values a v s e f))
+    unknowns-round : (e ≡ environment.Unknown) × (f ≡ binary_format.Unknown)
+        → reading_of_parts (shown_names true (values a v s e f)) ≡ Ok (normal_step (values a v s e f))
     unfolding shown_names
-    unknowns-round is = after_system a v s e f _ _ plain range (shown-read a v s e f true ∙ ap Ok (sym (unknowns-step is)))
+    unknowns-round is =
+        after_system a v s e f _ _ plain range (shown-read a v s e f true ∙ ap Ok (sym (unknowns-step is)))
 
-    parts_by : (b : Bool) → shows_unknowns (values a v s e f) ≡ b → reading_of_parts (shown_names b (values a v s e f)) ≡ Ok (normal_step (values a v s e f))
+    parts_by : (b : Bool) → shows_unknowns (values a v s e f) ≡ b → reading_of_parts (shown_names b (values a v s e f))
+        ≡ Ok (normal_step (values a v s e f))
     parts_by true shown = unknowns-round (are_unknown a v s e f shown)
     parts_by false hidden = upstream-round _ refl hidden
 

@@ -1,10 +1,13 @@
 -- A second step changes no triple.
-use Rattle.std.proofs.Common.{◌≡◌, ℕ, List, true, refl, sym, ap, subst, Option, true≢false}
-use Rattle.target_lexicon.specs.{Values.Architecture, Values.BinaryFormat, Values.VendorValue, Values.Known, Values.Values, Values.values, Laws.ComesBack, NormalStep.normal_step, NormalStep.step_of, NormalStep.elf_if_unknown}
-use Rattle.target_lexicon.specs.{Exceptions.exception, Exceptions.RoundTripException, ExceptionFacts.HasSpecialFields, ExceptionFacts.HidesNewlib, ExceptionFacts.PrintsTheEspIdfString, Printing.string_of, Parsing.ParsesAs, SpecialStrings.special_string}
-use Rattle.target_lexicon.specs.FixedPoints.{IsPlainTriple, RoundIsNormalStep, canonical_values, OneStepSettles, CanonicalStringsAreKeys}
-use Rattle.lexicon_fields.specs.{Vendor.is_plain, Laws.HasVersionInRange, declared.known_vendor.KnownVendor.TheVariants.Espressif}
-use Rattle.target_lexicon.proofs.{SpecialRows.fields_of_special, SpecialRows.special_of_fields, SpecialRows.row_of_system, SpecialRows.special_system, StepCases.outside-fixed, StepCases.special-own, StepCases.step_cases, UniqueReading.values_unique}
+use Rattle.target_lexicon.proofs.Common.{◌≡◌, List, Option, ap, refl, subst, sym, true, true≢false, ℕ}
+use Rattle.target_lexicon.proofs.Common.{HasVersionInRange, is_plain, Espressif, HasSpecialFields, HidesNewlib}
+use Rattle.target_lexicon.proofs.Common.{PrintsTheEspIdfString, RoundTripException, exception, RoundIsNormalStep}
+use Rattle.target_lexicon.proofs.Common.{ComesBack, elf_if_unknown, normal_step, step_of, ParsesAs, string_of}
+use Rattle.target_lexicon.proofs.Common.{special_string, Architecture, BinaryFormat, Known, Values, VendorValue, values}
+use Rattle.target_lexicon.specs.FixedPoints.{IsPlainTriple, canonical_values, OneStepSettles, CanonicalStringsAreKeys}
+use Rattle.target_lexicon.proofs.SpecialRows.{fields_of_special, special_of_fields, row_of_system, special_system}
+use Rattle.target_lexicon.proofs.StepCases.{outside-fixed, special-own, step_cases}
+use Rattle.target_lexicon.proofs.UniqueReading.{values_unique}
 use Rattle.target_lexicon.specs.Values.architecture
 use Rattle.target_lexicon.specs.Values.riscv32
 use Rattle.target_lexicon.specs.Values.operating_system
@@ -13,18 +16,23 @@ use Rattle.target_lexicon.specs.Values.binary_format
 
 -- with the environment and the format of special strings
 special-stays : (t : Values) → HasSpecialFields t
-    → normal_step (values t.architecture t.vendor t.operating_system environment.Newlib binary_format.Elf) ≡ values t.architecture t.vendor t.operating_system environment.Newlib binary_format.Elf
+    → normal_step (values t.architecture t.vendor t.operating_system environment.Newlib binary_format.Elf)
+    ≡ values t.architecture t.vendor t.operating_system environment.Newlib binary_format.Elf
 unfolding normal_step special_string
 special-stays t has =
     let u = values t.architecture t.vendor t.operating_system environment.Newlib binary_format.Elf in
-    ap (λ (found : Option RoundTripException). step_of found u) (special-own u (fields_of_special u (special_of_fields t has)) (refl, refl))
+    ap (λ (found : Option RoundTripException). step_of found u)
+    (special-own u (fields_of_special u (special_of_fields t has)) (refl, refl))
 
-esp_idf-stays : let u = values (architecture.Riscv32 riscv32.Riscv32imc) (Known Espressif) operating_system.Espidf environment.Newlib binary_format.Elf in normal_step u ≡ u
+esp_idf-stays : let u =
+    values (architecture.Riscv32 riscv32.Riscv32imc) (Known Espressif) operating_system.Espidf environment.Newlib
+    binary_format.Elf in normal_step u ≡ u
 unfolding normal_step exception special_string
 esp_idf-stays = refl
 
 -- with an unknown environment only the special strings decide whether a triple is unchanged
-unknown-stays : (t : Values) → t.environment ≡ environment.Unknown → ¬ HasSpecialFields t → ¬ PrintsTheEspIdfString t → normal_step t ≡ t
+unknown-stays : (t : Values) → t.environment ≡ environment.Unknown → ¬ HasSpecialFields t → ¬ PrintsTheEspIdfString t
+    → normal_step t ≡ t
 unknown-stays t unknown special esp = outside-fixed t (record {
   special = λ is. special is.fields;
   newlib = λ is. let newlib = is.environment in cc;
@@ -33,17 +41,20 @@ unknown-stays t unknown special esp = outside-fixed t (record {
 })
 
 newlib-stays : (t : Values) → HidesNewlib t
-    → let u = values t.architecture t.vendor t.operating_system environment.Unknown (elf_if_unknown t.binary_format) in normal_step u ≡ u
+    → let u = values t.architecture t.vendor t.operating_system environment.Unknown (elf_if_unknown t.binary_format) in
+    normal_step u ≡ u
 unfolding special_string
 newlib-stays t is =
     let u = values t.architecture t.vendor t.operating_system environment.Unknown (elf_if_unknown t.binary_format) in
     unknown-stays u refl (λ special. is.others (fields_of_special t (special_of_fields u special)))
     (λ esp. let of = ap (λ x. x.vendor) esp in let known = (row_of_system t is.system).1.vendor in cc)
 
-none-stays : (a : Architecture) (v : VendorValue) (f : BinaryFormat) → let u = values a v operating_system.None_ environment.Unknown f in normal_step u ≡ u
+none-stays : (a : Architecture) (v : VendorValue) (f : BinaryFormat) → let u =
+    values a v operating_system.None_ environment.Unknown f in normal_step u ≡ u
 none-stays a v f =
     let u = values a v operating_system.None_ environment.Unknown f in
-    unknown-stays u refl (λ special. true≢false (special_system u special)) (λ esp. let of = ap (λ x. x.operating_system) esp in cc)
+    unknown-stays u refl (λ special. true≢false (special_system u special))
+    (λ esp. let of = ap (λ x. x.operating_system) esp in cc)
 
 pub second_changes_none : OneStepSettles
 second_changes_none t = step_cases (λ u. normal_step u ≡ u) t
@@ -56,10 +67,13 @@ second_changes_none t = step_cases (λ u. normal_step u ≡ u) t
 -- the step keeps a triple plain
 
 step-vendor_plain : (t : Values) → is_plain t.vendor ≡ true → is_plain (normal_step t).vendor ≡ true
-step-vendor_plain t plain = step_cases (λ u. is_plain u.vendor ≡ true) t (λ _. plain) (λ _. plain) (λ _. refl) (λ _. plain) (λ _. plain)
+step-vendor_plain t plain =
+    step_cases (λ u. is_plain u.vendor ≡ true) t (λ _. plain) (λ _. plain) (λ _. refl) (λ _. plain) (λ _. plain)
 
 step-version : (t : Values) → HasVersionInRange t.operating_system → HasVersionInRange (normal_step t).operating_system
-step-version t range = step_cases (λ u. HasVersionInRange u.operating_system) t (λ _. range) (λ _. range) (λ _. range) (λ _. tt) (λ _. range)
+step-version t range =
+    step_cases (λ u. HasVersionInRange u.operating_system) t (λ _. range) (λ _. range) (λ _. range) (λ _. tt)
+    (λ _. range)
 
 pub step-plain : (t : Values) → IsPlainTriple t → IsPlainTriple (normal_step t)
 step-plain t plain = record { vendor = step-vendor_plain t plain.vendor; version = step-version t plain.version }
@@ -69,12 +83,15 @@ step-plain t plain = record { vendor = step-vendor_plain t plain.vendor; version
 module _ (round : RoundIsNormalStep) where
   pub canonical_values-comes_back : (t : Values) → IsPlainTriple t → ComesBack (canonical_values t)
   canonical_values-comes_back t plain =
-      subst (λ (u : Values). ParsesAs (string_of (canonical_values t)) u) (second_changes_none (normal_step t)) (round (canonical_values t) (step-plain (normal_step t) (step-plain t plain)))
+      subst (λ (u : Values). ParsesAs (string_of (canonical_values t)) u) (second_changes_none (normal_step t))
+      (round (canonical_values t) (step-plain (normal_step t) (step-plain t plain)))
 
   pub canonical_are_keys : CanonicalStringsAreKeys
   canonical_are_keys = record {
     comes_back = canonical_values-comes_back;
     own = λ t u plain_t plain_u same.
-        values_unique (string_of (canonical_values t)) (canonical_values t) (canonical_values u) (canonical_values-comes_back t plain_t)
-        (subst (λ (text : List ℕ). ParsesAs text (canonical_values u)) (sym same) (canonical_values-comes_back u plain_u));
+        values_unique (string_of (canonical_values t)) (canonical_values t) (canonical_values u)
+        (canonical_values-comes_back t plain_t)
+        (subst (λ (text : List ℕ). ParsesAs text (canonical_values u)) (sym same)
+        (canonical_values-comes_back u plain_u));
   }

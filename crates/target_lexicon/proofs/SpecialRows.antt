@@ -1,16 +1,18 @@
 -- Facts of the special strings, one after the other. All that other lemmas know of these strings is here, so that they
 -- say "each row".
-use Rattle.std.proofs.Common.{◌≡◌, ◌∙◌, ℕ, ◌+◌, ◌≤◌, ◌<◌, ◌^◌, List, [], ◌∷◌, length, Bool, true, false, cond, Option, Some, None, Result, Ok, Err, inl, inr, ◌⊎◌, is_some, refl, sym, ap, arith}
-use Rattle.std.specs.{Prelude.map, Str.bytes_eq}
-use Rattle.std.proofs.{lemmas.Slice.Eq.bytes_eq-Decides, lemmas.Bool.cases_Bool, lemmas.Bool.false≢true}
-use Rattle.lexicon_fields.specs.{Laws.HasVersionInRange, Names.value_named, Architecture.architecture_name, Vendor.known_vendor_name, OperatingSystem.operating_system_name, ArchitectureQueries.architecture_width}
-use Rattle.lexicon_fields.specs.{Architecture.architecture_of, Vendor.vendor_of, Vendor.known_vendor_of, Vendor.is_admitted, OperatingSystem.operating_system_of, OperatingSystem.fixed_operating_system_of, Environment.environment_of, BinaryFormat.binary_format_of}
-use Rattle.lexicon_fields.specs.declared.pointer_width.PointerWidth.TheVariants.{U32}
+use Rattle.target_lexicon.proofs.Common
+use Common.{◌+◌, ◌<◌, ◌^◌, ◌∙◌, ◌∷◌, ◌≡◌, ◌≤◌, ◌⊎◌, Bool, Err, List, None, Ok, Option, Result, Some, [], ap, arith}
+use Common.{cond, false, inl, inr, is_some, length, map, refl, sym, true, ℕ, cases_Bool, false≢true, bytes_eq-Decides}
+use Common.{bytes_eq, architecture_name, architecture_of, binary_format_of, environment_of, HasVersionInRange}
+use Common.{fixed_operating_system_of, operating_system_name, operating_system_of, is_admitted, known_vendor_of}
+use Common.{vendor_of, U32, HasFieldsOf, HasSpecialFields, HasSystemOf, is_custom_esp, parses_as, reading_of_parts}
+use Common.{implied_format, parts_of, Refusal, SpecialRow, implies_newlib, special_string, special_triple}
+use Common.{special_values, Architecture, BinaryFormat, Environment, Known, OperatingSystem, Values, VendorValue}
+use Common.{is_unknown_vendor, values}
+use Rattle.lexicon_fields.specs.{Names.value_named, Vendor.known_vendor_name, ArchitectureQueries.architecture_width}
+use Rattle.target_lexicon.specs.{SpecialStrings.special_rows, SpecialStrings.special_pair, ExceptionFacts.SomeRow}
+use Rattle.target_lexicon.specs.{Printing.is_none_or_unknown}
 use Rattle.lexicon_fields.specs.declared.known_vendor.KnownVendor.TheVariants as known_vendor
-use Rattle.target_lexicon.specs.SpecialStrings.{SpecialRow, special_rows, special_pair, special_triple, special_values, special_string, implies_newlib}
-use Rattle.target_lexicon.specs.ExceptionFacts.{SomeRow, HasSystemOf, HasFieldsOf, HasSpecialFields}
-use Rattle.target_lexicon.specs.{Exceptions.is_custom_esp, Field.parses_as, ImpliedFormat.implied_format, Printing.is_none_or_unknown, Parsing.parts_of, GreedyReading.reading_of_parts, Refusal.Refusal}
-use Rattle.target_lexicon.specs.Values.{Architecture, OperatingSystem, Environment, BinaryFormat, VendorValue, Known, Values, values, is_unknown_vendor}
 use Rattle.target_lexicon.specs.Values.architecture
 use Rattle.target_lexicon.specs.Values.operating_system
 use Rattle.target_lexicon.specs.Values.environment
@@ -24,17 +26,21 @@ use Rattle.target_lexicon.specs.Values.riscv32
 -- the parts of a special string are refused, or give a triple that is known to print the string
 abbrev pub is_known_to_print : Result Values Refusal → Bool
 is_known_to_print (Err refusal) = true
-is_known_to_print (Ok t) = cond (is_some (special_string t)) true (is_custom_esp t.architecture t.vendor t.operating_system t.environment t.binary_format)
+is_known_to_print (Ok t) =
+    cond (is_some (special_string t)) true
+    (is_custom_esp t.architecture t.vendor t.operating_system t.environment t.binary_format)
 
 pub record RowFacts (row : SpecialRow) : Type 0 where
   -- the string parses as the triple, and by its parts as one that is known
   pub parses : special_values row.text ≡ Some (special_triple row)
   pub parts : is_known_to_print (reading_of_parts (parts_of row.text)) ≡ true
   -- the triple prints the string, whatever environment and format are
-  pub prints : (e : Environment) (f : BinaryFormat) → special_string (values row.architecture (Known row.vendor) row.operating_system e f) ≡ Some row.text
+  pub prints : (e : Environment) (f : BinaryFormat)
+      → special_string (values row.architecture (Known row.vendor) row.operating_system e f) ≡ Some row.text
   pub newlib : implies_newlib (Known row.vendor) row.operating_system ≡ true
   -- the string is not longer than the three names with dashes between them
-  pub short : length row.text ≤ length (architecture_name row.architecture) + (1 + length (known_vendor_name row.vendor)) + (1 + length (operating_system_name row.operating_system))
+  pub short : length row.text ≤ length (architecture_name row.architecture)
+      + (1 + length (known_vendor_name row.vendor)) + (1 + length (operating_system_name row.operating_system))
   pub bound : length row.text < 2 ^ 8
   pub vendor : is_unknown_vendor (Known row.vendor) ≡ false
   pub operating_system : is_none_or_unknown row.operating_system ≡ false
@@ -48,12 +54,37 @@ EachRow P [] = Unit {0}
 EachRow P (row ∷ rows) = P row × EachRow P rows
 
 row-facts : EachRow RowFacts special_rows
-unfolding special_values special_string implies_newlib implied_format parses_as architecture_of vendor_of known_vendor_of is_admitted operating_system_of fixed_operating_system_of environment_of binary_format_of
+unfolding special_values special_string implies_newlib implied_format parses_as architecture_of vendor_of
+    known_vendor_of is_admitted operating_system_of fixed_operating_system_of environment_of binary_format_of
 -- written by tools/names/write: facts of special strings
 row-facts = (
-  record { parses = refl; parts = refl; prints = λ e f. refl; newlib = refl; short = omega arith; bound = omega arith; vendor = refl; operating_system = refl; implied = λ a e. refl; in_range = tt; narrow = refl },
+  record {
+    parses = refl;
+    parts = refl;
+    prints = λ e f. refl;
+    newlib = refl;
+    short = omega arith;
+    bound = omega arith;
+    vendor = refl;
+    operating_system = refl;
+    implied = λ a e. refl;
+    in_range = tt;
+    narrow = refl;
+  },
   (
-    record { parses = refl; parts = refl; prints = λ e f. refl; newlib = refl; short = omega arith; bound = omega arith; vendor = refl; operating_system = refl; implied = λ a e. refl; in_range = tt; narrow = refl },
+    record {
+      parses = refl;
+      parts = refl;
+      prints = λ e f. refl;
+      newlib = refl;
+      short = omega arith;
+      bound = omega arith;
+      vendor = refl;
+      operating_system = refl;
+      implied = λ a e. refl;
+      in_range = tt;
+      narrow = refl;
+    },
     tt,
   ),
 )
@@ -77,13 +108,16 @@ system-by : (a : Architecture) (v : VendorValue) (s : OperatingSystem) (e : Envi
     → implies_newlib v s ≡ true → SomeRow (λ row. HasSystemOf row (values a v s e f)) special_rows
 unfolding implies_newlib
 -- written by tools/names/write: systems of special strings
-system-by a (Known known_vendor.Nintendo) operating_system.Horizon e f is = inl (record { vendor = refl; operating_system = refl })
-system-by a (Known known_vendor.Espressif) operating_system.Espidf e f is = inr (inl (record { vendor = refl; operating_system = refl }))
+system-by a (Known known_vendor.Nintendo) operating_system.Horizon e f is =
+    inl (record { vendor = refl; operating_system = refl })
+system-by a (Known known_vendor.Espressif) operating_system.Espidf e f is =
+    inr (inl (record { vendor = refl; operating_system = refl }))
 -- end of what is written
 system-by a _ _ e f is = absurd (false≢true is)
 
 -- what holds for each row holds for one that has the property
-of_row : (P Q : SpecialRow → Type 0) (rows : List SpecialRow) → EachRow Q rows → SomeRow P rows → (row : SpecialRow) × P row × Q row
+of_row : (P Q : SpecialRow → Type 0) (rows : List SpecialRow) → EachRow Q rows → SomeRow P rows
+    → (row : SpecialRow) × P row × Q row
 of_row P Q [] each none = absurd none
 of_row P Q (row ∷ rows) (here, later) (inl is) = (row, is, here)
 of_row P Q (row ∷ rows) (here, later) (inr some) = of_row P Q rows later some
@@ -93,7 +127,8 @@ of_row P Q (row ∷ rows) (here, later) (inr some) = of_row P Q rows later some
 pub row_of_fields : (t : Values) → HasSpecialFields t → (row : SpecialRow) × HasFieldsOf row t × RowFacts row
 row_of_fields t has = of_row (λ row. HasFieldsOf row t) RowFacts special_rows row-facts has
 
-pub row_of_system : (t : Values) → SomeRow (λ row. HasSystemOf row t) special_rows → (row : SpecialRow) × HasSystemOf row t × RowFacts row
+pub row_of_system : (t : Values) → SomeRow (λ row. HasSystemOf row t) special_rows
+    → (row : SpecialRow) × HasSystemOf row t × RowFacts row
 row_of_system t has = of_row (λ row. HasSystemOf row t) RowFacts special_rows row-facts has
 
 -- a triple has such fields if and only if it prints a special string
@@ -103,23 +138,28 @@ fields_of_special t is = fields-by t.architecture t.vendor t.operating_system t.
 
 pub prints_row : (t : Values) (row : SpecialRow) → HasFieldsOf row t → RowFacts row → special_string t ≡ Some row.text
 unfolding special_string
-prints_row t row is facts = rw (is.architecture, is.system.vendor, is.system.operating_system) (facts.prints t.environment t.binary_format)
+prints_row t row is facts =
+    rw (is.architecture, is.system.vendor, is.system.operating_system) (facts.prints t.environment t.binary_format)
 
 pub special_of_fields : (t : Values) → HasSpecialFields t → is_some (special_string t) ≡ true
 special_of_fields t has = let at = row_of_fields t has in ap is_some (prints_row t at.0 at.1 at.2)
 
 pub no_special : (t : Values) → ¬ HasSpecialFields t → is_some (special_string t) ≡ false
-no_special t other = elim (cases_Bool (is_some (special_string t))) [ inl is ↦ absurd (other (fields_of_special t is)) | inr is ↦ is ]
+no_special t other =
+    elim (cases_Bool (is_some (special_string t))) [ inl is ↦ absurd (other (fields_of_special t is)) | inr is ↦ is ]
 
 -- and vendor and system of a row if and only if they imply `Newlib`
 
-pub system_of_newlib : (t : Values) → implies_newlib t.vendor t.operating_system ≡ true → SomeRow (λ row. HasSystemOf row t) special_rows
+pub system_of_newlib : (t : Values) → implies_newlib t.vendor t.operating_system ≡ true
+    → SomeRow (λ row. HasSystemOf row t) special_rows
 system_of_newlib t is = system-by t.architecture t.vendor t.operating_system t.environment t.binary_format is
 
-newlib_row : (t : Values) (row : SpecialRow) → HasSystemOf row t → RowFacts row → implies_newlib t.vendor t.operating_system ≡ true
+newlib_row : (t : Values) (row : SpecialRow) → HasSystemOf row t → RowFacts row
+    → implies_newlib t.vendor t.operating_system ≡ true
 newlib_row t row is facts = rw (is.vendor, is.operating_system) facts.newlib
 
-pub newlib_of_system : (t : Values) → SomeRow (λ row. HasSystemOf row t) special_rows → implies_newlib t.vendor t.operating_system ≡ true
+pub newlib_of_system : (t : Values) → SomeRow (λ row. HasSystemOf row t) special_rows
+    → implies_newlib t.vendor t.operating_system ≡ true
 newlib_of_system t has = let at = row_of_system t has in newlib_row t at.0 at.1 at.2
 
 -- the system of a row is a known one
@@ -127,12 +167,15 @@ newlib_of_system t has = let at = row_of_system t has in newlib_row t at.0 at.1 
 pub special_system : (t : Values) → HasSpecialFields t → is_none_or_unknown t.operating_system ≡ false
 special_system t has = let at = row_of_fields t has in rw (at.1.system.operating_system) at.2.operating_system
 
-pub newlib_system : (t : Values) → SomeRow (λ row. HasSystemOf row t) special_rows → is_none_or_unknown t.operating_system ≡ false
+pub newlib_system : (t : Values) → SomeRow (λ row. HasSystemOf row t) special_rows
+    → is_none_or_unknown t.operating_system ≡ false
 newlib_system t has = let at = row_of_system t has in rw (at.1.operating_system) at.2.operating_system
 
 pub no_newlib : (v : VendorValue) (s : OperatingSystem) → is_none_or_unknown s ≡ true → implies_newlib v s ≡ false
 no_newlib v s none = elim (cases_Bool (implies_newlib v s)) [
-  | inl is ↦ absurd (let t = values architecture.Unknown v s environment.Unknown binary_format.Unknown in let known = newlib_system t (system_of_newlib t is) in false≢true (sym known ∙ none))
+  | inl is ↦
+      absurd (let t = values architecture.Unknown v s environment.Unknown binary_format.Unknown in
+      let known = newlib_system t (system_of_newlib t is) in false≢true (sym known ∙ none))
   | inr is ↦ is
 ]
 
@@ -141,12 +184,15 @@ no_newlib v s none = elim (cases_Bool (implies_newlib v s)) [
 abbrev IsTripleOf : List ℕ → Values → Type 0
 IsTripleOf text t = (row : SpecialRow) × (text ≡ row.text) × (t ≡ special_triple row) × RowFacts row
 
-special-by : (text : List ℕ) (t : Values) (row : SpecialRow) (others : Option Values) (b : Bool) → bytes_eq text row.text ≡ b → RowFacts row
+special-by : (text : List ℕ) (t : Values) (row : SpecialRow) (others : Option Values) (b : Bool)
+    → bytes_eq text row.text ≡ b → RowFacts row
     → (others ≡ Some t → IsTripleOf text t) → cond b (Some (special_triple row)) others ≡ Some t → IsTripleOf text t
-special-by text t row others true same facts later is = (row, (bytes_eq-Decides text row.text).0 same, (let of : special_triple row ≡ t = cc in sym of), facts)
+special-by text t row others true same facts later is =
+    (row, (bytes_eq-Decides text row.text).0 same, (let of : special_triple row ≡ t = cc in sym of), facts)
 special-by text t row others false other facts later is = later is
 
-special-is : (text : List ℕ) (t : Values) (rows : List SpecialRow) → EachRow RowFacts rows → value_named (map special_pair rows) text ≡ Some t → IsTripleOf text t
+special-is : (text : List ℕ) (t : Values) (rows : List SpecialRow) → EachRow RowFacts rows
+    → value_named (map special_pair rows) text ≡ Some t → IsTripleOf text t
 special-is text t [] each is = absurd cc
 special-is text t (row ∷ rows) (here, later) is = special-by text t row _ _ refl here (special-is text t rows later) is
 

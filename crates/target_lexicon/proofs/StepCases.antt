@@ -1,16 +1,18 @@
 -- From the exception of a triple to the facts of its five fields, and back. So what holds in the case of each
 -- exception, and outside them, holds for the step.
-use Rattle.std.proofs.Common.{◌≡◌, ◌∙◌, ◌⊎◌, ℕ, List, inl, inr, Bool, true, false, cond, ◌&&◌, codes, Option, Some, None, is_some, refl, sym, ap, subst}
-use Rattle.std.specs.Str.{bytes_eq}
-use Rattle.std.proofs.{lemmas.Slice.Eq.bytes_eq-Decides, lemmas.Bool.and_parts, lemmas.Bool.cases_Bool, lemmas.Bool.false≢true, Math.Bool.and-false}
-use Rattle.target_lexicon.specs.Values.{Architecture, OperatingSystem, Environment, BinaryFormat, VendorValue, Known, Custom, Values, values, is_newlib, is_none_environment, is_same_format, is_clever_without_system}
-use Rattle.target_lexicon.specs.{SpecialStrings.special_string, SpecialStrings.implies_newlib, Exceptions.RoundTripException, Exceptions.exception, Exceptions.has_newlib_and_elf, Exceptions.is_custom_esp}
+use Rattle.target_lexicon.proofs.Common
+use Common.{◌&&◌, ◌∙◌, ◌≡◌, ◌⊎◌, Bool, List, None, Option, Some, ap, codes, cond, false, inl, inr, is_some, refl, subst}
+use Common.{sym, true, ℕ, and-false, and_parts, cases_Bool, false≢true, bytes_eq-Decides, bytes_eq, architecture_of}
+use Common.{is_clever, binary_format_of, environment_of, fixed_operating_system_of, operating_system_of, is_admitted}
+use Common.{is_plain, known_vendor_of, Espressif, HasSpecialFields, HidesNewlib, PrintsAsSpecial, PrintsTheEspIdfString}
+use Common.{ShowsOnlyNone, RoundTripException, exception, is_custom_esp, elf_if_unknown, normal_step, step_of}
+use Common.{implies_newlib, special_string, Architecture, BinaryFormat, Custom, Environment, Known, OperatingSystem}
+use Common.{Values, VendorValue, is_clever_without_system, is_same_format, values}
+use Rattle.target_lexicon.specs.ExceptionFacts.{HasNewlibAndElf, VendorIsNotPlain, ExceptionsAreFactsOfFields}
+use Rattle.target_lexicon.specs.{Values.is_newlib, Values.is_none_environment, Exceptions.has_newlib_and_elf}
+use Rattle.target_lexicon.proofs.SpecialRows.{row_of_fields, row_of_system, fields_of_special, special_of_fields}
+use Rattle.target_lexicon.proofs.SpecialRows.{no_special, system_of_newlib, newlib_of_system, special_system}
 use Rattle.target_lexicon.specs.declared.exception.RoundTripException.TheVariants as exceptions
-use Rattle.target_lexicon.specs.ExceptionFacts.{HasSpecialFields, HasNewlibAndElf, PrintsAsSpecial, HidesNewlib, PrintsTheEspIdfString, ShowsOnlyNone, VendorIsNotPlain, ExceptionsAreFactsOfFields}
-use Rattle.target_lexicon.specs.NormalStep.{normal_step, step_of, elf_if_unknown}
-use Rattle.lexicon_fields.specs.{ArchitectureQueries.is_clever, Vendor.is_plain, Vendor.is_admitted, Vendor.known_vendor_of, Architecture.architecture_of, OperatingSystem.operating_system_of, OperatingSystem.fixed_operating_system_of, Environment.environment_of, BinaryFormat.binary_format_of}
-use Rattle.lexicon_fields.specs.declared.known_vendor.KnownVendor.TheVariants.{Espressif}
-use Rattle.target_lexicon.proofs.SpecialRows.{row_of_fields, row_of_system, fields_of_special, special_of_fields, no_special, system_of_newlib, newlib_of_system, special_system}
 use Rattle.target_lexicon.specs.Values.architecture
 use Rattle.target_lexicon.specs.Values.riscv32
 use Rattle.target_lexicon.specs.Values.operating_system
@@ -42,29 +44,38 @@ elf-is binary_format.Elf is = refl
 elf-is _ is = absurd (false≢true is)
 
 pub both-is : (t : Values) → has_newlib_and_elf t ≡ true → HasNewlibAndElf t
-both-is t is = let parts = and_parts (is_newlib t.environment) _ is in (newlib-is t.environment parts.0, elf-is t.binary_format parts.1)
+both-is t is = let parts = and_parts (is_newlib t.environment) _ is in
+    (newlib-is t.environment parts.0, elf-is t.binary_format parts.1)
 
 none-is : (e : Environment) → is_none_environment e ≡ true → e ≡ environment.None
 none-is environment.None is = refl
 none-is _ is = absurd (false≢true is)
 
 abbrev on_esp_idf : List ℕ → Values
-on_esp_idf text = values (architecture.Riscv32 riscv32.Riscv32imc) (Custom text) operating_system.Espidf environment.Unknown binary_format.Elf
+on_esp_idf text =
+    values (architecture.Riscv32 riscv32.Riscv32imc) (Custom text) operating_system.Espidf environment.Unknown
+    binary_format.Elf
 
-pub esp-is : (a : Architecture) (v : VendorValue) (s : OperatingSystem) (e : Environment) (f : BinaryFormat) → is_custom_esp a v s e f ≡ true → values a v s e f ≡ on_esp_idf (codes "esp")
-esp-is (architecture.Riscv32 riscv32.Riscv32imc) (Custom text) operating_system.Espidf environment.Unknown binary_format.Elf is = ap on_esp_idf ((bytes_eq-Decides text (codes "esp")).0 is)
+pub esp-is : (a : Architecture) (v : VendorValue) (s : OperatingSystem) (e : Environment) (f : BinaryFormat)
+    → is_custom_esp a v s e f ≡ true → values a v s e f ≡ on_esp_idf (codes "esp")
+esp-is (architecture.Riscv32 riscv32.Riscv32imc) (Custom text) operating_system.Espidf environment.Unknown
+    binary_format.Elf is = ap on_esp_idf ((bytes_eq-Decides text (codes "esp")).0 is)
 esp-is _ _ _ _ _ is = absurd (false≢true is)
 
-clever-is : (a : Architecture) (s : OperatingSystem) → is_clever_without_system a s ≡ true → (is_clever a ≡ true) × (s ≡ operating_system.Unknown)
+clever-is : (a : Architecture) (s : OperatingSystem) → is_clever_without_system a s ≡ true
+    → (is_clever a ≡ true) × (s ≡ operating_system.Unknown)
 clever-is (architecture.Clever sub) operating_system.Unknown is = (refl, refl)
 clever-is _ _ is = absurd (false≢true is)
 
 -- the tests of the list of exceptions, one after the other
 facts-by : (t : Values) (special both newlib esp none plain : Bool)
-    → is_some (special_string t) ≡ special → has_newlib_and_elf t ≡ both → (implies_newlib t.vendor t.operating_system && is_newlib t.environment) ≡ newlib
+    → is_some (special_string t) ≡ special → has_newlib_and_elf t ≡ both
+    → (implies_newlib t.vendor t.operating_system && is_newlib t.environment) ≡ newlib
     → is_custom_esp t.architecture t.vendor t.operating_system t.environment t.binary_format ≡ esp
-    → (is_clever_without_system t.architecture t.operating_system && is_none_environment t.environment) ≡ none → is_plain t.vendor ≡ plain
-    → FactsOf (cond special (cond both None (Some exceptions.PrintsAsSpecial)) (cond newlib (Some exceptions.HidesNewlib) (cond esp (Some exceptions.PrintsTheEspIdfString)
+    → (is_clever_without_system t.architecture t.operating_system && is_none_environment t.environment) ≡ none
+    → is_plain t.vendor ≡ plain
+    → FactsOf (cond special (cond both None (Some exceptions.PrintsAsSpecial))
+    (cond newlib (Some exceptions.HidesNewlib) (cond esp (Some exceptions.PrintsTheEspIdfString)
     (cond none (Some exceptions.ShowsOnlyNone) (cond plain None (Some exceptions.VendorIsNotPlain)))))) t
 facts-by t true true newlib esp none plain is_s is_b is_n is_e is_o is_p = special-plain t (fields_of_special t is_s)
 facts-by t true false newlib esp none plain is_s is_b is_n is_e is_o is_p = record {
@@ -77,7 +88,8 @@ facts-by t false both true esp none plain is_s is_b is_n is_e is_o is_p =
       system = system_of_newlib t parts.0;
       others = λ special. false≢true (sym is_s ∙ special_of_fields t special);
     }
-facts-by t false both false true none plain is_s is_b is_n is_e is_o is_p = esp-is t.architecture t.vendor t.operating_system t.environment t.binary_format is_e
+facts-by t false both false true none plain is_s is_b is_n is_e is_o is_p =
+    esp-is t.architecture t.vendor t.operating_system t.environment t.binary_format is_e
 facts-by t false both false false true plain is_s is_b is_n is_e is_o is_p =
     let parts = and_parts (is_clever_without_system t.architecture t.operating_system) _ is_o in
     let clever = clever-is t.architecture t.operating_system parts.0 in
@@ -112,10 +124,12 @@ unfolding exception special_string implies_newlib
 esp-exception t is = ap exception is
 
 unknown_system-other : (t : Values) → t.operating_system ≡ operating_system.Unknown → ¬ HasSpecialFields t
-unknown_system-other t unknown special = let known = special_system t special in false≢true (sym known ∙ rw unknown refl)
+unknown_system-other t unknown special = let known = special_system t special in
+    false≢true (sym known ∙ rw unknown refl)
 
 if_clever : (a : Architecture) (v : VendorValue) (f : BinaryFormat) → is_clever a ≡ true
-    → (is_custom_esp a v operating_system.Unknown environment.None f ≡ false) × (is_clever_without_system a operating_system.Unknown ≡ true)
+    → (is_custom_esp a v operating_system.Unknown environment.None f ≡ false)
+    × (is_clever_without_system a operating_system.Unknown ≡ true)
 if_clever (architecture.Clever sub) v f clever = (refl, refl)
 if_clever _ v f clever = absurd (false≢true clever)
 
@@ -123,7 +137,14 @@ pub only_none-exception : (t : Values) → ShowsOnlyNone t → exception t ≡ S
 unfolding exception
 only_none-exception t is =
     let clever = if_clever t.architecture t.vendor t.binary_format is.architecture in
-    rw (no_special t (unknown_system-other t is.operating_system), is.operating_system, is.environment, and-false, clever.0, clever.1) refl
+    rw (
+      no_special t (unknown_system-other t is.operating_system),
+      is.operating_system,
+      is.environment,
+      and-false,
+      clever.0,
+      clever.1,
+    ) refl
 
 -- none of the four exceptions applies by which a triple with a plain vendor changes
 pub record IsOutside (t : Values) : Type 0 where
@@ -133,7 +154,8 @@ pub record IsOutside (t : Values) : Type 0 where
   pub none : ¬ ShowsOnlyNone t
 
 -- the exception of a triple that is outside
-outside-exception : (t : Values) (found : Option RoundTripException) → FactsOf found t → IsOutside t → found ≡ cond (is_plain t.vendor) None (Some exceptions.VendorIsNotPlain)
+outside-exception : (t : Values) (found : Option RoundTripException) → FactsOf found t → IsOutside t
+    → found ≡ cond (is_plain t.vendor) None (Some exceptions.VendorIsNotPlain)
 outside-exception t (Some exceptions.PrintsAsSpecial) is outside = absurd (outside.special is)
 outside-exception t (Some exceptions.HidesNewlib) is outside = absurd (outside.newlib is)
 outside-exception t (Some exceptions.PrintsTheEspIdfString) is outside = absurd (outside.esp is)
@@ -145,7 +167,8 @@ pub plain-exception : (t : Values) → is_plain t.vendor ≡ true → IsOutside 
 plain-exception t plain outside = outside-exception t (exception t) (facts t) outside ∙ rw plain refl
 
 esp-plain : (t : Values) → PrintsTheEspIdfString t → is_plain t.vendor ≡ true
-unfolding is_admitted known_vendor_of architecture_of operating_system_of fixed_operating_system_of environment_of binary_format_of
+unfolding is_admitted known_vendor_of architecture_of operating_system_of fixed_operating_system_of environment_of
+    binary_format_of
 esp-plain t is = rw is refl
 
 pub vendor-exception : (t : Values) → VendorIsNotPlain t → exception t ≡ Some exceptions.VendorIsNotPlain
@@ -192,8 +215,10 @@ none-plain_outside t found = (facts_if t None found, none-outside t found)
 
 pub step_cases : (P : Values → Type 0) (t : Values)
     → (PrintsAsSpecial t → P (values t.architecture t.vendor t.operating_system environment.Newlib binary_format.Elf))
-    → (HidesNewlib t → P (values t.architecture t.vendor t.operating_system environment.Unknown (elf_if_unknown t.binary_format)))
-    → (PrintsTheEspIdfString t → P (values t.architecture (Known Espressif) t.operating_system environment.Newlib binary_format.Elf))
+    → (HidesNewlib t
+    → P (values t.architecture t.vendor t.operating_system environment.Unknown (elf_if_unknown t.binary_format)))
+    → (PrintsTheEspIdfString t
+    → P (values t.architecture (Known Espressif) t.operating_system environment.Newlib binary_format.Elf))
     → (ShowsOnlyNone t → P (values t.architecture t.vendor operating_system.None_ environment.Unknown t.binary_format))
     → (IsOutside t → P t)
     → P (normal_step t)
@@ -210,7 +235,8 @@ step_cases P t special newlib esp none outside = by_exception (exception t) refl
 
 -- the step of one exception, and outside
 
-pub only_none-step : (t : Values) → ShowsOnlyNone t → normal_step t ≡ values t.architecture t.vendor operating_system.None_ environment.Unknown t.binary_format
+pub only_none-step : (t : Values) → ShowsOnlyNone t
+    → normal_step t ≡ values t.architecture t.vendor operating_system.None_ environment.Unknown t.binary_format
 unfolding normal_step
 only_none-step t is = ap (λ (o : Option RoundTripException). step_of o t) (only_none-exception t is)
 
@@ -223,6 +249,7 @@ outside-fixed t outside = step_cases (λ u. u ≡ t) t
 pub is_esp : (t : Values) → PrintsTheEspIdfString t ⊎ ¬ PrintsTheEspIdfString t
 is_esp t = by_exception (exception t) refl
   where
-    by_exception : (found : Option RoundTripException) → exception t ≡ found → PrintsTheEspIdfString t ⊎ ¬ PrintsTheEspIdfString t
+    by_exception : (found : Option RoundTripException) → exception t ≡ found
+        → PrintsTheEspIdfString t ⊎ ¬ PrintsTheEspIdfString t
     by_exception (Some exceptions.PrintsTheEspIdfString) found = inl (facts_if t _ found)
     by_exception _ found = inr (λ is. let bad = esp-exception t is in cc)

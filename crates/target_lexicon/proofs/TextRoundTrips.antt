@@ -1,18 +1,24 @@
 -- The printed string of a triple with a plain vendor reads as its normal step.
-use Rattle.std.proofs.Common.{◌≡◌, ◌∙◌, ℕ, Bool, true, false, is_some, true≢false, ◌⊎◌, inl, inr, List, [], ◌∷◌, Option, Some, None, Ok, codes, refl, sym, ap, subst}
-use Rattle.std.specs.{List.list_all, List.join_with_byte}
-use Rattle.std.proofs.{lemmas.Bool.cases_Bool, lemmas.Bool.false≢true}
-use Rattle.lexicon_fields.specs.Names.{dash}
-use Rattle.target_lexicon.specs.Values.{Architecture, OperatingSystem, Environment, BinaryFormat, VendorValue, Known, Custom, Values, values}
-use Rattle.target_lexicon.specs.{FixedPoints.RoundIsNormalStep, ImpliedFormat.implied_format, NormalStep.normal_step, NormalStep.step_of, NormalStep.elf_if_unknown, Exceptions.RoundTripException, Exceptions.exception, Exceptions.has_newlib_and_elf, Exceptions.is_custom_esp, ExceptionFacts.HasFieldsOf, ExceptionFacts.HasSpecialFields, ExceptionFacts.PrintsTheEspIdfString, Parsing.parts_of}
-use Rattle.target_lexicon.specs.Printing.{shows_vendor, shows_operating_system, shows_environment, shows_binary_format, shows_unknowns, shown_names, string_of, cons_if}
-use Rattle.target_lexicon.specs.{Field.parses_as, Parsing.ParsesAs, GreedyReading.reading_of_parts, GreedyReading.reading_unless_special, GreedyReading.reading}
-use Rattle.target_lexicon.specs.SpecialStrings.{SpecialRow, special_triple, special_string, special_values, implies_newlib}
-use Rattle.lexicon_fields.specs.{Names.is_dash_free, Architecture.architecture_name, Laws.HasVersionInRange, Environment.environment_name}
-use Rattle.lexicon_fields.specs.{Vendor.vendor_name, Vendor.is_custom, Vendor.is_plain, BinaryFormat.binary_format_name}
-use Rattle.lexicon_fields.specs.OperatingSystem.{operating_system_name}
-use Rattle.target_lexicon.proofs.SpecialRows.{RowFacts, is_known_to_print, prints_row, row_of_fields, row_of_system, row_of_text, fields_of_special, special_of_fields, no_special, special_system}
-use Rattle.target_lexicon.proofs.{ComputedReading.reading_computed, NamesAcross.NamesAreRead, PartLemmas.parts_of-joined, PrintingLemmas.printed_names, RoundTrips.parts-round, SameValues.same_values, StepCases.both-is, StepCases.esp-is, StepCases.special-own, StepCases.special-exception, StepCases.step_cases, StepCases.is_esp}
+use Rattle.target_lexicon.proofs.Common
+use Common.{◌∙◌, ◌∷◌, ◌≡◌, ◌⊎◌, Bool, List, None, Ok, Option, Some, [], ap, codes, false, inl, inr, is_some, refl}
+use Common.{subst, sym, true, true≢false, ℕ, cases_Bool, false≢true, join_with_byte, architecture_name}
+use Common.{binary_format_name, environment_name, HasVersionInRange, dash, operating_system_name, is_plain, vendor_name}
+use Common.{HasFieldsOf, HasSpecialFields, PrintsTheEspIdfString, RoundTripException, exception, is_custom_esp}
+use Common.{parses_as, RoundIsNormalStep, reading, reading_of_parts, implied_format, elf_if_unknown, normal_step}
+use Common.{step_of, ParsesAs, parts_of, cons_if, shown_names, shows_binary_format, shows_environment}
+use Common.{shows_operating_system, shows_unknowns, shows_vendor, string_of, SpecialRow, implies_newlib, special_string}
+use Common.{special_triple, special_values, Architecture, BinaryFormat, Custom, Environment, Known, OperatingSystem}
+use Common.{Values, VendorValue, values}
+use Rattle.std.specs.List.{list_all}
+use Rattle.target_lexicon.specs.{Exceptions.has_newlib_and_elf, GreedyReading.reading_unless_special}
+use Rattle.lexicon_fields.specs.{Names.is_dash_free, Vendor.is_custom}
+use Rattle.target_lexicon.proofs.SpecialRows.{RowFacts, is_known_to_print, prints_row, row_of_fields, row_of_system}
+use Rattle.target_lexicon.proofs.SpecialRows.{row_of_text, fields_of_special, special_of_fields, no_special}
+use Rattle.target_lexicon.proofs.SpecialRows.{special_system}
+use Rattle.target_lexicon.proofs.StepCases.{both-is, esp-is, special-own, special-exception, step_cases, is_esp}
+use Rattle.target_lexicon.proofs.{ComputedReading.reading_computed, NamesAcross.NamesAreRead}
+use Rattle.target_lexicon.proofs.{PartLemmas.parts_of-joined, PrintingLemmas.printed_names, RoundTrips.parts-round}
+use Rattle.target_lexicon.proofs.{SameValues.same_values}
 use Rattle.target_lexicon.specs.Values.architecture
 use Rattle.target_lexicon.specs.Values.riscv32
 use Rattle.target_lexicon.specs.Values.operating_system
@@ -21,31 +27,37 @@ use Rattle.target_lexicon.specs.Values.binary_format
 
 -- strings without dashes are the parts of the string that joins them
 
-parts_of-join : (p : List ℕ) (ps : List (List ℕ)) → is_dash_free p ≡ true → list_all is_dash_free ps ≡ true → parts_of (join_with_byte dash (p ∷ ps)) ≡ p ∷ ps
+parts_of-join : (p : List ℕ) (ps : List (List ℕ)) → is_dash_free p ≡ true → list_all is_dash_free ps ≡ true
+    → parts_of (join_with_byte dash (p ∷ ps)) ≡ p ∷ ps
 parts_of-join p ps free others = parts_of-joined p ps (rw (free, others) refl)
 
-cons_if-free : (b : Bool) (p : List ℕ) (ps : List (List ℕ)) → is_dash_free p ≡ true → list_all is_dash_free ps ≡ true → list_all is_dash_free (cons_if b p ps) ≡ true
+cons_if-free : (b : Bool) (p : List ℕ) (ps : List (List ℕ)) → is_dash_free p ≡ true → list_all is_dash_free ps ≡ true
+    → list_all is_dash_free (cons_if b p ps) ≡ true
 cons_if-free true p ps free others = rw (free, others) refl
 cons_if-free false p ps free others = others
 
 -- the special strings, and the triples that print them
 
 -- the normal step of a triple that prints a special string is the triple of that string
-special-step : (t : Values) → HasSpecialFields t → normal_step t ≡ values t.architecture t.vendor t.operating_system environment.Newlib binary_format.Elf
+special-step : (t : Values) → HasSpecialFields t
+    → normal_step t ≡ values t.architecture t.vendor t.operating_system environment.Newlib binary_format.Elf
 unfolding normal_step
 special-step t has = elim (cases_Bool (has_newlib_and_elf t)) [
   | inl is ↦ let both = both-is t is in
       ap (λ (found : Option RoundTripException). step_of found t) (special-own t has both)
-      ∙ same_values t (values t.architecture t.vendor t.operating_system environment.Newlib binary_format.Elf) refl refl refl both.0 both.1
+      ∙ same_values t (values t.architecture t.vendor t.operating_system environment.Newlib binary_format.Elf) refl refl
+      refl both.0 both.1
   | inr other ↦ ap (λ (found : Option RoundTripException). step_of found t)
       (special-exception t (record { fields = has; others = λ is. false≢true (sym other ∙ rw (is.0, is.1) refl) }))
 ]
 
 row-round : (t : Values) (row : SpecialRow) → HasFieldsOf row t → RowFacts row
-    → normal_step t ≡ values t.architecture t.vendor t.operating_system environment.Newlib binary_format.Elf → reading (string_of t) ≡ Ok (normal_step t)
+    → normal_step t ≡ values t.architecture t.vendor t.operating_system environment.Newlib binary_format.Elf
+    → reading (string_of t) ≡ Ok (normal_step t)
 unfolding reading string_of
 row-round t row is facts step =
-    let of : special_triple row ≡ values t.architecture t.vendor t.operating_system environment.Newlib binary_format.Elf =
+    let of : special_triple row ≡ values t.architecture t.vendor t.operating_system environment.Newlib
+    binary_format.Elf =
     same_values _ _ (sym is.architecture) (sym is.system.vendor) (sym is.system.operating_system) refl refl in
     rw (prints_row t row is facts, facts.parses) (ap Ok (of ∙ sym step))
 
@@ -57,36 +69,49 @@ special-round t has =
 -- the triple that prints another's special string
 
 abbrev custom_esp : Values
-custom_esp = values (architecture.Riscv32 riscv32.Riscv32imc) (Custom (codes "esp")) operating_system.Espidf environment.Unknown binary_format.Elf
+custom_esp =
+    values (architecture.Riscv32 riscv32.Riscv32imc) (Custom (codes "esp")) operating_system.Espidf environment.Unknown
+    binary_format.Elf
 
 custom_esp-round : reading (string_of custom_esp) ≡ Ok (normal_step custom_esp)
-unfolding reading parses_as string_of special_string special_values implies_newlib shown_names shows_vendor shows_operating_system shows_environment shows_binary_format implied_format exception normal_step
+unfolding reading parses_as string_of special_string special_values implies_newlib shown_names shows_vendor
+    shows_operating_system shows_environment shows_binary_format implied_format exception normal_step
 custom_esp-round = refl
 
 -- a string that isn't special is parsed by its parts
-by_parts : (text : List ℕ) (ps : List (List ℕ)) (t : Values) (special : Option Values) → special_values text ≡ special → parts_of text ≡ ps → reading_of_parts ps ≡ Ok t
+by_parts : (text : List ℕ) (ps : List (List ℕ)) (t : Values) (special : Option Values) → special_values text ≡ special
+    → parts_of text ≡ ps → reading_of_parts ps ≡ Ok t
     → is_known_to_print (Ok t) ≡ false → reading_unless_special special text ≡ Ok t
 by_parts text ps t None is are reads apart = ap reading_of_parts are ∙ reads
 by_parts text ps t (Some s) is are reads apart =
     let at = row_of_text text s is in
-    let same : reading_of_parts (parts_of at.0.text) ≡ Ok t = ap (λ (x : List ℕ). reading_of_parts (parts_of x)) (sym at.1) ∙ ap reading_of_parts are ∙ reads in
+    let same : reading_of_parts (parts_of at.0.text) ≡ Ok t = ap (λ (x : List ℕ). reading_of_parts (parts_of x))
+    (sym at.1) ∙ ap reading_of_parts are ∙ reads in
     absurd (false≢true (sym apart ∙ ap is_known_to_print (sym same) ∙ at.3.parts))
 
 -- a triple that isn't the one that prints another's special string
 
-no_esp : (t : Values) → ¬ PrintsTheEspIdfString t → is_custom_esp t.architecture t.vendor t.operating_system t.environment t.binary_format ≡ false
-no_esp t apart = elim (cases_Bool (is_custom_esp t.architecture t.vendor t.operating_system t.environment t.binary_format)) [
-  | inl is ↦ absurd (apart (esp-is t.architecture t.vendor t.operating_system t.environment t.binary_format is))
-  | inr is ↦ is
-]
+no_esp : (t : Values) → ¬ PrintsTheEspIdfString t
+    → is_custom_esp t.architecture t.vendor t.operating_system t.environment t.binary_format ≡ false
+no_esp t apart =
+    elim (cases_Bool (is_custom_esp t.architecture t.vendor t.operating_system t.environment t.binary_format)) [
+      | inl is ↦ absurd (apart (esp-is t.architecture t.vendor t.operating_system t.environment t.binary_format is))
+      | inr is ↦ is
+    ]
 
-no_esp-known : (a : Architecture) (v : VendorValue) (s : OperatingSystem) (e : Environment) (f : BinaryFormat) → is_custom v ≡ false → is_custom_esp a v s e f ≡ false
-no_esp-known a v s e f known = no_esp (values a v s e f) (λ is. let of = ap (λ x. x.vendor) is in false≢true (sym known ∙ rw of refl))
+no_esp-known : (a : Architecture) (v : VendorValue) (s : OperatingSystem) (e : Environment) (f : BinaryFormat)
+    → is_custom v ≡ false → is_custom_esp a v s e f ≡ false
+no_esp-known a v s e f known =
+    no_esp (values a v s e f) (λ is. let of = ap (λ x. x.vendor) is in false≢true (sym known ∙ rw of refl))
 
-no_esp-none : (a : Architecture) (v : VendorValue) (f : BinaryFormat) → is_custom_esp a v operating_system.None_ environment.Unknown f ≡ false
-no_esp-none a v f = no_esp (values a v operating_system.None_ environment.Unknown f) (λ is. let of = ap (λ x. x.operating_system) is in cc)
+no_esp-none : (a : Architecture) (v : VendorValue) (f : BinaryFormat)
+    → is_custom_esp a v operating_system.None_ environment.Unknown f ≡ false
+no_esp-none a v f =
+    no_esp (values a v operating_system.None_ environment.Unknown f)
+    (λ is. let of = ap (λ x. x.operating_system) is in cc)
 
-module _ (names : NamesAreRead) (a : Architecture) (v : VendorValue) (s : OperatingSystem) (e : Environment) (f : BinaryFormat) (plain : is_plain v ≡ true) (range : HasVersionInRange s)
+module _ (names : NamesAreRead) (a : Architecture) (v : VendorValue) (s : OperatingSystem) (e : Environment)
+    (f : BinaryFormat) (plain : is_plain v ≡ true) (range : HasVersionInRange s)
     (none : special_string (values a v s e f) ≡ None) (apart : ¬ PrintsTheEspIdfString (values a v s e f)) where
   -- the step is none of the triples that print a special string
   step-apart : is_known_to_print (Ok (normal_step (values a v s e f))) ≡ false
@@ -96,21 +121,31 @@ module _ (names : NamesAreRead) (a : Architecture) (v : VendorValue) (s : Operat
       let other : ¬ HasSpecialFields t = λ special. true≢false (sym (special_of_fields t special) ∙ ap is_some none) in
       step_cases (λ u. is_known_to_print (Ok u) ≡ false) t
       (λ is. absurd (other is.fields))
-      (λ is. rw (ap is_some none) (no_esp-known a v s environment.Unknown (elf_if_unknown f) (rw ((row_of_system t is.system).1.vendor) refl)))
+      (λ is. rw (ap is_some none)
+      (no_esp-known a v s environment.Unknown (elf_if_unknown f) (rw ((row_of_system t is.system).1.vendor) refl)))
       (λ is. absurd (apart is))
-      (λ is. let u = values a v operating_system.None_ environment.Unknown f in rw (no_special u (λ special. true≢false (special_system u special))) (no_esp-none a v f))
+      (λ is. let u = values a v operating_system.None_ environment.Unknown f in
+      rw (no_special u (λ special. true≢false (special_system u special))) (no_esp-none a v f))
       (λ outside. rw (ap is_some none) (no_esp t apart))
 
-  joined-parts : (b : Bool) → let parts = shown_names b (values a v s e f) in parts_of (join_with_byte dash parts) ≡ parts
+  joined-parts : (b : Bool) → let parts = shown_names b (values a v s e f) in
+      parts_of (join_with_byte dash parts) ≡ parts
   unfolding shown_names
   joined-parts true = parts_of-join (architecture_name a) _ (names.architecture.name_dash_free a tt)
       (cons_if-free (shows_vendor (values a v s e f)) _ _ (names.vendor.name_dash_free v plain)
-      (rw (names.operating_system.name_dash_free s range, names.environment.name_dash_free e tt, names.binary_format.name_dash_free f tt) refl))
+      (rw (
+        names.operating_system.name_dash_free s range,
+        names.environment.name_dash_free e tt,
+        names.binary_format.name_dash_free f tt,
+      ) refl))
   joined-parts false = parts_of-join (architecture_name a) _ (names.architecture.name_dash_free a tt)
       (cons_if-free (shows_vendor (values a v s e f)) _ _ (names.vendor.name_dash_free v plain)
-      (cons_if-free (shows_operating_system (values a v s e f)) (operating_system_name s) _ (names.operating_system.name_dash_free s range)
-      (cons_if-free (shows_environment (values a v s e f)) (environment_name e) _ (names.environment.name_dash_free e tt)
-      (cons_if-free (shows_binary_format (values a v s e f)) (binary_format_name f) [] (names.binary_format.name_dash_free f tt) refl))))
+      (cons_if-free (shows_operating_system (values a v s e f)) (operating_system_name s)
+      _ (names.operating_system.name_dash_free s range)
+      (cons_if-free (shows_environment (values a v s e f)) (environment_name e)
+      _ (names.environment.name_dash_free e tt)
+      (cons_if-free (shows_binary_format (values a v s e f)) (binary_format_name f) []
+      (names.binary_format.name_dash_free f tt) refl))))
 
   shown-round : reading (string_of (values a v s e f)) ≡ Ok (normal_step (values a v s e f))
   unfolding reading string_of
@@ -119,15 +154,21 @@ module _ (names : NamesAreRead) (a : Architecture) (v : VendorValue) (s : Operat
       rw none (by_parts (join_with_byte dash (printed_names t)) (printed_names t) (normal_step t) _ refl
       (joined-parts (shows_unknowns t)) (parts-round names a v s e f plain range none apart) step-apart)
 
-round_by : NamesAreRead → (t : Values) (special : Option (List ℕ)) → is_plain t.vendor ≡ true → HasVersionInRange t.operating_system → special_string t ≡ special
+round_by : NamesAreRead → (t : Values) (special : Option (List ℕ)) → is_plain t.vendor ≡ true
+    → HasVersionInRange t.operating_system → special_string t ≡ special
     → PrintsTheEspIdfString t ⊎ ¬ PrintsTheEspIdfString t → reading (string_of t) ≡ Ok (normal_step t)
 round_by names t (Some text) plain range is _ = special-round t (fields_of_special t (ap is_some is))
 round_by names t None plain range is (inl esp) = rw esp custom_esp-round
-round_by names t None plain range is (inr apart) = shown-round names t.architecture t.vendor t.operating_system t.environment t.binary_format plain range is apart
+round_by names t None plain range is (inr apart) =
+    shown-round names t.architecture t.vendor t.operating_system t.environment t.binary_format plain range is apart
 
 -- the round trip of a plain triple is its normal step
 pub round : NamesAreRead → RoundIsNormalStep
-round names t plain = ((reading_computed (string_of t)).read (normal_step t)).1 (round_by names t _ plain.vendor plain.version refl (is_esp t))
+round names t plain =
+    ((reading_computed (string_of t)).read (normal_step t)).1
+    (round_by names t _ plain.vendor plain.version refl (is_esp t))
 
-pub round_by_step : RoundIsNormalStep → (t u : Values) → is_plain t.vendor ≡ true → HasVersionInRange t.operating_system → u ≡ normal_step t → ParsesAs (string_of t) u
-round_by_step round t u plain range is = subst (λ (x : Values). ParsesAs (string_of t) x) (sym is) (round t (record { vendor = plain; version = range }))
+pub round_by_step : RoundIsNormalStep → (t u : Values) → is_plain t.vendor ≡ true → HasVersionInRange t.operating_system
+    → u ≡ normal_step t → ParsesAs (string_of t) u
+round_by_step round t u plain range is =
+    subst (λ (x : Values). ParsesAs (string_of t) x) (sym is) (round t (record { vendor = plain; version = range }))

@@ -1,21 +1,25 @@
 -- A string has at most one outcome.
-use Rattle.std.proofs.Common.{◌≡◌, ℕ, ◌<◌, List, [], ◌∷◌, take, refl, sym, ◌∙◌, ap, subst, Option, Some, None, arith}
-use Rattle.std.specs.Prelude.{MatchOption, slice_get}
-use Rattle.lexicon_fields.specs.{Architecture.architecture_of, Vendor.vendor_of, OperatingSystem.operating_system_of, Environment.environment_of, BinaryFormat.binary_format_of}
-use Rattle.target_lexicon.specs.{Field.Field, ImpliedFormat.default_binary_format, Parsing.ArePartsOf, Parsing.parts_of, Parsing.HasPlacement, SpecialStrings.special_values, Values.Values}
-use Rattle.target_lexicon.specs.Refusal.{Refusal, refusal_with}
-use Rattle.target_lexicon.specs.Parsing.{IsValueOf, HoldsParts, PartsParseAs, ParsesAs, IsRefusal, IsExpectedAfter, IsRefusedAs, IsRefused, expected_after, last_field}
-use Rattle.target_lexicon.proofs.{GreedyPlacement.placement_prefix, GreedyPlacement.least-unique, PartLemmas.parts-only, SameValues.same_values}
+use Rattle.target_lexicon.proofs.Common
+use Common.{◌<◌, ◌∙◌, ◌∷◌, ◌≡◌, List, None, Option, Some, [], ap, arith, refl, subst, sym, take, ℕ, MatchOption}
+use Common.{slice_get, architecture_of, binary_format_of, environment_of, operating_system_of, vendor_of, Field}
+use Common.{default_binary_format, ArePartsOf, HasPlacement, HoldsParts, IsRefusal, IsRefusedAs, IsValueOf, ParsesAs}
+use Common.{PartsParseAs, expected_after, last_field, parts_of, Refusal, refusal_with, special_values, Values}
+use Rattle.target_lexicon.specs.Parsing.{IsExpectedAfter, IsRefused}
+use Rattle.target_lexicon.proofs.{GreedyPlacement.placement_prefix, GreedyPlacement.least-unique, PartLemmas.parts-only}
+use Rattle.target_lexicon.proofs.{SameValues.same_values}
 
-same_value : {A : Type 0} (find : List ℕ → Option A) (d e : A) (o : Option (List ℕ)) (x y : A) → d ≡ e → IsValueOf find d o x → IsValueOf find e o y → x ≡ y
+same_value : {A : Type 0} (find : List ℕ → Option A) (d e : A) (o : Option (List ℕ)) (x y : A) → d ≡ e
+    → IsValueOf find d o x → IsValueOf find e o y → x ≡ y
 same_value find d e None x y same h k = h ∙ same ∙ sym k
 same_value find d e (Some p) x y same h k = cc
 
-same_held : (parts : List (List ℕ)) (fields : List Field) (t u : Values) → HoldsParts parts fields t → HoldsParts parts fields u → t ≡ u
+same_held : (parts : List (List ℕ)) (fields : List Field) (t u : Values) → HoldsParts parts fields t
+    → HoldsParts parts fields u → t ≡ u
 same_held parts fields t u h k =
     let a = same_value architecture_of _ _ _ t.architecture u.architecture refl h.architecture k.architecture in
     let v = same_value vendor_of _ _ _ t.vendor u.vendor refl h.vendor k.vendor in
-    let s = same_value operating_system_of _ _ _ t.operating_system u.operating_system refl h.operating_system k.operating_system in
+    let s = same_value operating_system_of _ _ _ t.operating_system u.operating_system refl h.operating_system
+    k.operating_system in
     let e = same_value environment_of _ _ _ t.environment u.environment refl h.environment k.environment in
     let i : default_binary_format t ≡ default_binary_format u = cc in
     let f = same_value binary_format_of _ _ _ t.binary_format u.binary_format i h.binary_format k.binary_format in
@@ -23,17 +27,20 @@ same_held parts fields t u h k =
 
 same_least : (parts : List (List ℕ)) (t u : Values) → PartsParseAs parts t → PartsParseAs parts u → t ≡ u
 same_least parts t u (fs, least, holds) (gs, other, held) =
-    same_held parts gs t u (subst (λ fields. HoldsParts parts fields t) (least-unique parts fs gs least other) holds) held
+    same_held parts gs t u (subst (λ fields. HoldsParts parts fields t) (least-unique parts fs gs least other) holds)
+    held
 
 -- a string reads as at most one triple
 pub values_unique : (text : List ℕ) (t u : Values) → ParsesAs text t → ParsesAs text u → t ≡ u
 values_unique text t u h k = by_special (special_values text) h k
   where
-    by_special : (o : Option Values) → MatchOption o ((parts : List (List ℕ)) × ArePartsOf text parts × PartsParseAs parts t) (λ s. t ≡ s)
+    by_special : (o : Option Values)
+        → MatchOption o ((parts : List (List ℕ)) × ArePartsOf text parts × PartsParseAs parts t) (λ s. t ≡ s)
         → MatchOption o ((parts : List (List ℕ)) × ArePartsOf text parts × PartsParseAs parts u) (λ s. u ≡ s) → t ≡ u
     by_special (Some s) h k = h ∙ sym k
     by_special None (ps, are, h) (qs, others, k) =
-        same_least qs t u (subst (λ parts. PartsParseAs parts t) (parts-only text ps are ∙ sym (parts-only text qs others)) h) k
+        same_least qs t u (subst (λ parts. PartsParseAs parts t) (parts-only text ps are
+        ∙ sym (parts-only text qs others)) h) k
 
 -- refusals of the same parts are at the same part
 same_count : (parts : List (List ℕ)) (x y : Refusal) (a : IsRefusal parts x) (b : IsRefusal parts y) → a.count ≡ b.count
@@ -46,7 +53,8 @@ abbrev expected_after_all : List Field → Option Field
 expected_after_all [] = None
 expected_after_all (f ∷ fs) = expected_after (last_field f fs)
 
-same_expected : (prefix : List (List ℕ)) (j k : Option Field) → IsExpectedAfter prefix j → IsExpectedAfter prefix k → j ≡ k
+same_expected : (prefix : List (List ℕ)) (j k : Option Field) → IsExpectedAfter prefix j
+    → IsExpectedAfter prefix k → j ≡ k
 same_expected [] j k h l = h ∙ sym l
 same_expected (p ∷ ps) j k (f, (fs, least, h)) (g, (gs, other, l)) =
     h ∙ ap expected_after_all (least-unique (p ∷ ps) (f ∷ fs) (g ∷ gs) least other) ∙ sym l
@@ -56,9 +64,11 @@ same_refusal parts x y a b =
     let same = same_count parts x y a b in
     let at : slice_get parts b.count ≡ Some x.part = subst (λ n. slice_get parts n ≡ Some x.part) same a.refused in
     let other = b.refused in
-    let after : IsExpectedAfter (take b.count parts) x.expected = subst (λ n. IsExpectedAfter (take n parts) x.expected) same a.expected in
+    let after : IsExpectedAfter (take b.count parts) x.expected = subst (λ n. IsExpectedAfter (take n parts) x.expected)
+    same a.expected in
     let part : x.part ≡ y.part = cc in
-    ap (λ expected. refusal_with expected x.part) (same_expected (take b.count parts) x.expected y.expected after b.expected) ∙ ap (refusal_with y.expected) part
+    ap (λ expected. refusal_with expected x.part)
+    (same_expected (take b.count parts) x.expected y.expected after b.expected) ∙ ap (refusal_with y.expected) part
 
 pub refusal_at : (text : List ℕ) (x : Refusal) → IsRefusedAs text x → IsRefusal (parts_of text) x
 refusal_at text x (ordinary, (parts, are, h)) = subst (λ parts. IsRefusal parts x) (parts-only text parts are) h
@@ -74,4 +84,5 @@ read_not_refused text t h (refusal, r) = by_parts (rw (r.0) at h)
     by_parts : (parts : List (List ℕ)) × ArePartsOf text parts × PartsParseAs parts t → ⊥
     by_parts (parts, are, (fs, least, holds)) =
         let at = refusal_at text refusal r in
-        at.unplaced (placement_prefix at.count (parts_of text) (subst HasPlacement (parts-only text parts are) (fs, least.placed)))
+        at.unplaced (placement_prefix at.count (parts_of text)
+        (subst HasPlacement (parts-only text parts are) (fs, least.placed)))

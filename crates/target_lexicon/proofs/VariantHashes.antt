@@ -1,10 +1,9 @@
 -- The variants of an enum without fields feed a hasher differently.
-use Rattle.std.proofs.Common.{◌≡◌, ℕ, ◌≤◌, [], ◌∷◌, ◌++◌, ap, arith, length}
-use Rattle.std.specs.{Hash.HashWrites, Hash.le_bytes, Hash.usize}
+use Rattle.target_lexicon.proofs.Common.{◌++◌, ◌∷◌, ◌≡◌, ◌≤◌, [], ap, arith, length, ℕ}
+use Rattle.std.specs.Hash.{HashWrites, le_bytes, usize}
 use Rattle.lexicon_fields.specs.Laws.{HashInjective}
-use denote.Enum.Enum.{tag_below}
-use denote.Enum.Bare.{Bare, tag_one}
-use denote.Enum.Declared.{Record, declared, rowss, tag_of}
+use denote.{Enum.Enum.tag_below, Enum.Bare.Bare, Enum.Bare.tag_one, Enum.Declared.Record, Enum.Declared.declared}
+use denote.{Enum.Declared.rowss, Enum.Declared.tag_of}
 
 abbrev first_byte : HashWrites → ℕ
 first_byte [] = 0

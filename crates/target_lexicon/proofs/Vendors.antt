@@ -1,13 +1,13 @@
 -- The strings that parse as a vendor.
-use Rattle.std.proofs.Common.{◌≡◌, ◌⊎◌, inl, inr, ℕ, List, true, refl, sym, Option, Some, None}
-use Rattle.std.specs.{Prelude.option_map, Option.option_or}
-use Rattle.lexicon_fields.specs.{declared.known_vendor.KnownVendor.KnownVendor}
-use Rattle.lexicon_fields.specs.Vendor.{known_vendor_of, is_admitted, custom_vendor_of, vendor_of, is_plain}
-use Rattle.target_lexicon.specs.Values.{VendorValue, Known, Custom}
+use Rattle.target_lexicon.proofs.Common.{◌≡◌, ◌⊎◌, List, None, Option, Some, inl, inr, refl, sym, true, ℕ, option_map}
+use Rattle.target_lexicon.proofs.Common.{is_admitted, is_plain, known_vendor_of, vendor_of, Custom, Known, VendorValue}
+use Rattle.std.specs.Option.{option_or}
+use Rattle.lexicon_fields.specs.{declared.known_vendor.KnownVendor.KnownVendor, Vendor.custom_vendor_of}
 use Rattle.std.proofs.lemmas.Option.{cond_some}
 
 -- a string parses as a known vendor, or as the custom one of an admitted string
-vendor-read : (text : List ℕ) (v : VendorValue) → vendor_of text ≡ Some v → ((known : KnownVendor) × (v ≡ Known known)) ⊎ ((is_admitted text ≡ true) × (v ≡ Custom text))
+vendor-read : (text : List ℕ) (v : VendorValue) → vendor_of text ≡ Some v → ((known : KnownVendor) × (v ≡ Known known))
+    ⊎ ((is_admitted text ≡ true) × (v ≡ Custom text))
 unfolding vendor_of
 vendor-read text v h = by_known (known_vendor_of text) h
   where

@@ -1,12 +1,15 @@
 -- The words for byte order, pointer width, calling convention and data model are short.
-use Rattle.std.proofs.Common.{ℕ, ◌≤◌, length, lit≤}
-use Rattle.lexicon_fields.specs.{declared.endianness.Endianness.Endianness, declared.pointer_width.PointerWidth.PointerWidth}
+use Rattle.target_lexicon.proofs.Common.{◌≤◌, length, lit≤, ℕ}
+use Rattle.lexicon_fields.specs.declared.endianness.Endianness.{Endianness}
+use Rattle.lexicon_fields.specs.declared.pointer_width.PointerWidth.{PointerWidth}
 use Rattle.lexicon_fields.specs.declared.endianness.Endianness.TheVariants.{Little}
 use Rattle.lexicon_fields.specs.declared.pointer_width.PointerWidth.TheVariants.{U16}
-use Rattle.target_lexicon.specs.{CallingConvention.convention_name, DataModel.model_name, declared.calling_convention.CallingConvention.CallingConvention, declared.data_model.CDataModel.CDataModel}
-use Rattle.target_lexicon.specs.declared.calling_convention.CallingConvention.TheVariants.{SystemV}
-use Rattle.target_lexicon.specs.declared.data_model.CDataModel.TheVariants.{LP32}
-use Rattle.target_lexicon.specs.Queries.{endianness_name, width_name}
+use Rattle.target_lexicon.specs.{CallingConvention.convention_name, DataModel.model_name}
+use Rattle.target_lexicon.specs.{declared.calling_convention.CallingConvention.CallingConvention}
+use Rattle.target_lexicon.specs.{declared.data_model.CDataModel.CDataModel}
+use Rattle.target_lexicon.specs.{declared.calling_convention.CallingConvention.TheVariants.SystemV}
+use Rattle.target_lexicon.specs.{declared.data_model.CDataModel.TheVariants.LP32, Queries.endianness_name}
+use Rattle.target_lexicon.specs.{Queries.width_name}
 
 pub short-endianness : (e : Endianness) → length (endianness_name e) ≤ 6
 short-endianness Little = lit≤ tt

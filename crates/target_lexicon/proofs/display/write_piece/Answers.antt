@@ -1,5 +1,4 @@
-use Rattle.std.proofs.Common.{rules}
-use Rattle.std.proofs.Output.{has_written_styled_append}
+use Rattle.target_lexicon.proofs.Common.{rules, has_written_styled_append}
 use Rattle.target_lexicon.proofs.display.write_piece.Goals as goal
 
 pub returns-in_ok-write_str-in-Some : goal.returns-in_ok-write_str-in-Some

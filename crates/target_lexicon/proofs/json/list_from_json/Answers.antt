@@ -1,8 +1,8 @@
 -- The loop has the triples of the elements so far; the first element that is refused ends it.
-use Rattle.std.proofs.Common.{◌≡◌, true, map, arith}
-use Rattle.lexicon_fields.specs.Vendor.{OwnsCustomString, is_plain, vendor_value}
-use Rattle.target_lexicon.specs.{Json.ElementsParseAs, Values.values_of}
-use Rattle.target_lexicon.proofs.Elements.{at_array, elements_read, elements_begun, elements_read-more, elements_refused, all_triples-more}
+use Rattle.target_lexicon.proofs.Common.{◌≡◌, arith, map, true, is_plain, ElementsParseAs, values_of}
+use Rattle.lexicon_fields.specs.Vendor.{OwnsCustomString, vendor_value}
+use Rattle.target_lexicon.proofs.Elements.{at_array, elements_read, elements_begun, elements_read-more}
+use Rattle.target_lexicon.proofs.Elements.{elements_refused, all_triples-more}
 use Rattle.target_lexicon.proofs.json.list_from_json.Goals as goal
 
 pub returns-then-is_err-clause-err : goal.returns-then-is_err-clause-err
@@ -19,14 +19,22 @@ pub loop-i-preserved : goal.loop-i-preserved
 loop-i-preserved c =
     let grown = rw c.if-is_err.ensures.negation at c.push.ensures.items in
     record {
-      read = elements_read-more _ c.loop-i.i _ _ _ _ (omega arith) c.element-item.is grown c.loop-i.invariant.read c.in-Ok.ensures.ok;
-      owned = all_triples-more (λ triple. OwnsCustomString triple.vendor) _ _ _ grown c.loop-i.invariant.owned c.in-Ok.ensures.owned;
-      plain = all_triples-more (λ triple. is_plain (vendor_value triple.vendor) ≡ true) _ _ _ grown c.loop-i.invariant.plain c.in-Ok.ensures.plain;
+      read =
+          elements_read-more _ c.loop-i.i _ _ _ _ (omega arith) c.element-item.is grown c.loop-i.invariant.read
+          c.in-Ok.ensures.ok;
+      owned =
+          all_triples-more (λ triple. OwnsCustomString triple.vendor) _ _ _ grown c.loop-i.invariant.owned
+          c.in-Ok.ensures.owned;
+      plain =
+          all_triples-more (λ triple. is_plain (vendor_value triple.vendor) ≡ true) _ _ _ grown c.loop-i.invariant.plain
+          c.in-Ok.ensures.plain;
     }
 
 pub returns : goal.returns
 returns c = record {
-  ok = at_array (λ elements. ElementsParseAs elements (map values_of c.loop-i.triples.items)) _ _ _ c.in-Some.ensures c.deref-element-items.ensures.value
+  ok =
+      at_array (λ elements. ElementsParseAs elements (map values_of c.loop-i.triples.items)) _ _ _ c.in-Some.ensures
+      c.deref-element-items.ensures.value
       (elements_read _ c.loop-i.i _ c.loop-i-test.false c.loop-i.invariant.read);
   owned = c.loop-i.invariant.owned;
   plain = c.loop-i.invariant.plain;

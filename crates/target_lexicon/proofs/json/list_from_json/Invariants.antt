@@ -1,8 +1,7 @@
 -- The elements so far parse as the triples so far.
-use Rattle.std.proofs.Common.{◌≡◌, true, map, take, All}
+use Rattle.target_lexicon.proofs.Common.{◌≡◌, All, map, take, true, is_plain, ElementsParseAs, values_of}
 use Rattle.serde_json.specs.View.{items_view}
-use Rattle.lexicon_fields.specs.Vendor.{OwnsCustomString, is_plain, vendor_value}
-use Rattle.target_lexicon.specs.{Json.ElementsParseAs, Values.values_of}
+use Rattle.lexicon_fields.specs.Vendor.{OwnsCustomString, vendor_value}
 use Rattle.target_lexicon.proofs.json.list_from_json.Given as goal
 
 abbrev pub invariant-loop-i : goal.invariant-loop-i

@@ -1,8 +1,8 @@
-use Rattle.std.proofs.Common.{arith}
+use Rattle.target_lexicon.proofs.Common.{arith}
+use Rattle.target_lexicon.proofs.VariantHashes.{variants_hash_apart}
 use Rattle.target_lexicon.specs.contracts.data_model.Size as size
 use Rattle.target_lexicon.specs.contracts.data_model.CDataModel as data_model
 use Rattle.target_lexicon.specs.contracts.calling_convention.CallingConvention as calling_convention
-use Rattle.target_lexicon.proofs.VariantHashes.{variants_hash_apart}
 use Rattle.target_lexicon.proofs.laws.answers_hash_by_variant.Goals as goal
 
 pub returns-clause-size : goal.returns-clause-size

@@ -1,8 +1,10 @@
-use Rattle.std.proofs.Common.{ap, sym, subst, ℕ, List}
-use Rattle.target_lexicon.specs.{Parsing.ParsesAs, Printing.string_of}
+use Rattle.target_lexicon.proofs.Common.{List, ap, subst, sym, ℕ, ParsesAs, string_of}
 use Rattle.target_lexicon.proofs.UniqueReading.{values_unique}
 use Rattle.target_lexicon.proofs.laws.equal_texts_equal_triples.Goals as goal
 
 pub returns : goal.returns
-returns c = λ t u t_back u_back.
-    (ap string_of, λ same. values_unique (string_of t) t u t_back (subst (λ (text : List ℕ). ParsesAs text u) (sym same) u_back))
+returns c = λ t u t_back u_back. (
+  ap string_of,
+  λ same. values_unique (string_of t) t u t_back
+      (subst (λ (text : List ℕ). ParsesAs text u) (sym same) u_back),
+)

@@ -1,9 +1,8 @@
 -- Two errors are equal if both expected the same field and have the same part, or if both are out of memory.
-use Rattle.std.proofs.Common.{◌≡◌, ℕ, List, [], Option, Some, None, refl, ap}
-use Rattle.std.specs.{Prelude.string_bytes, Prelude.option_map, Bool.Decides, Str.bytes_eq, Option.option_map_or}
-use Rattle.std.proofs.{lemmas.Bool.false≢true, lemmas.Bool.Decides.Decides-like, lemmas.Slice.Eq.bytes_eq-Decides}
-use Rattle.target_lexicon.specs.Refusal.{Refusal, refusal_with}
-use Rattle.target_lexicon.specs.Field.{Field}
+use Rattle.target_lexicon.proofs.Common.{◌≡◌, List, None, Option, Some, [], ap, refl, ℕ, false≢true, Decides-like}
+use Rattle.target_lexicon.proofs.Common.{bytes_eq-Decides, option_map_or, option_map, string_bytes, bytes_eq, Field}
+use Rattle.target_lexicon.proofs.Common.{Refusal, refusal_with}
+use Rattle.std.specs.Bool.{Decides}
 use Rattle.target_lexicon.specs.Field as field
 use Rattle.target_lexicon.specs.declared.parse_error.ParseError.TheVariants as error
 use Rattle.target_lexicon.proofs.laws.errors_are_equal_by_value.Goals as goal
@@ -14,15 +13,22 @@ part_of refusal = option_map_or (λ r. r.part) refusal []
 abbrev expected_of : Option Refusal → Option (Option Field)
 expected_of refusal = option_map (λ r. r.expected) refusal
 
-same_part : (expected : Option Field) (p q : List ℕ) → Decides (bytes_eq p q) (Some (refusal_with expected p) ≡ Some (refusal_with expected q))
-same_part expected p q = Decides-like _ (ap (λ part. Some (refusal_with expected part))) (ap part_of) (bytes_eq-Decides p q)
+same_part : (expected : Option Field) (p q : List ℕ)
+    → Decides (bytes_eq p q) (Some (refusal_with expected p) ≡ Some (refusal_with expected q))
+same_part expected p q =
+    Decides-like _ (ap (λ part. Some (refusal_with expected part))) (ap part_of) (bytes_eq-Decides p q)
 
 pub returns : goal.returns
-returns c (error.UnrecognizedArchitecture p) (error.UnrecognizedArchitecture q) = same_part (Some field.Architecture) (string_bytes p) (string_bytes q)
-returns c (error.UnrecognizedVendor p) (error.UnrecognizedVendor q) = same_part (Some field.Vendor) (string_bytes p) (string_bytes q)
-returns c (error.UnrecognizedOperatingSystem p) (error.UnrecognizedOperatingSystem q) = same_part (Some field.OperatingSystem) (string_bytes p) (string_bytes q)
-returns c (error.UnrecognizedEnvironment p) (error.UnrecognizedEnvironment q) = same_part (Some field.Environment) (string_bytes p) (string_bytes q)
-returns c (error.UnrecognizedBinaryFormat p) (error.UnrecognizedBinaryFormat q) = same_part (Some field.BinaryFormat) (string_bytes p) (string_bytes q)
+returns c (error.UnrecognizedArchitecture p) (error.UnrecognizedArchitecture q) =
+    same_part (Some field.Architecture) (string_bytes p) (string_bytes q)
+returns c (error.UnrecognizedVendor p) (error.UnrecognizedVendor q) =
+    same_part (Some field.Vendor) (string_bytes p) (string_bytes q)
+returns c (error.UnrecognizedOperatingSystem p) (error.UnrecognizedOperatingSystem q) =
+    same_part (Some field.OperatingSystem) (string_bytes p) (string_bytes q)
+returns c (error.UnrecognizedEnvironment p) (error.UnrecognizedEnvironment q) =
+    same_part (Some field.Environment) (string_bytes p) (string_bytes q)
+returns c (error.UnrecognizedBinaryFormat p) (error.UnrecognizedBinaryFormat q) =
+    same_part (Some field.BinaryFormat) (string_bytes p) (string_bytes q)
 returns c (error.UnrecognizedField p) (error.UnrecognizedField q) = same_part None (string_bytes p) (string_bytes q)
 returns c error.OutOfMemory error.OutOfMemory = (λ _. refl, λ _. refl)
 returns c _ _ = (λ same. absurd (false≢true same), λ same. absurd (let same_field = ap expected_of same in cc))

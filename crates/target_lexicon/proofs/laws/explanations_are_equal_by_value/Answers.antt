@@ -1,15 +1,14 @@
 -- Two explanations are equal if their outcomes and all five sources are, and each of these comparisons decides
 -- equality.
-use Rattle.std.proofs.Common.{rules, ◌≡◌, ◌↔◌, Bool, Result, Ok, Err, ap}
-use Rattle.std.specs.Prelude.{IsTrue}
+use Rattle.target_lexicon.proofs.Common.{◌↔◌, ◌≡◌, Bool, Err, Ok, Result, ap, rules, Decides-and, Decides-like, IsTrue}
+use Rattle.target_lexicon.proofs.Common.{SourceValues, sources_of, Values, values_of_ref, TripleRef}
 use Rattle.std.specs.Result.{result_eq}
-use Rattle.std.proofs.lemmas.Bool.Decides.{Decides-like, Decides-and}
-use Rattle.target_lexicon.specs.{declared.refusal.Refusal.Refusal, declared.triple_ref.TripleRef.TripleRef, Values.Values}
-use Rattle.target_lexicon.specs.ValuesRef.{PlacedRefusal, placed_outcome, placed_refusal, values_of_ref}
-use Rattle.target_lexicon.specs.Explanation.{SourceValues, source_values, sources_of}
+use Rattle.target_lexicon.specs.ValuesRef.{PlacedRefusal, placed_outcome, placed_refusal}
+use Rattle.target_lexicon.specs.{declared.refusal.Refusal.Refusal, Explanation.source_values}
 use Rattle.target_lexicon.proofs.laws.explanations_are_equal_by_value.Goals as goal
 
-same_sources : (s t : SourceValues) → s.architecture ≡ t.architecture → s.vendor ≡ t.vendor → s.operating_system ≡ t.operating_system
+same_sources : (s t : SourceValues) → s.architecture ≡ t.architecture → s.vendor ≡ t.vendor
+    → s.operating_system ≡ t.operating_system
     → s.environment ≡ t.environment → s.binary_format ≡ t.binary_format → s ≡ t
 same_sources s t a v o e f = λ i. source_values (a i) (v i) (o i) (e i) (f i)
 
@@ -24,7 +23,13 @@ returns-clause-sources c x y =
     let source = returns-clause-source c in
     Decides-like _
     (λ same. same_sources (sources_of x) (sources_of y) same.0 same.1.0 same.1.1.0 same.1.1.1.0 same.1.1.1.1)
-    (λ same. (ap (λ s. s.architecture) same, (ap (λ s. s.vendor) same, (ap (λ s. s.operating_system) same, (ap (λ s. s.environment) same, ap (λ s. s.binary_format) same)))))
+    (λ same. (
+      ap (λ s. s.architecture) same,
+      (
+        ap (λ s. s.vendor) same,
+        (ap (λ s. s.operating_system) same, (ap (λ s. s.environment) same, ap (λ s. s.binary_format) same)),
+      ),
+    ))
     (Decides-and _ _ (source x.architecture y.architecture)
     (Decides-and _ _ (source x.vendor y.vendor)
     (Decides-and _ _ (source x.operating_system y.operating_system)
@@ -42,13 +47,17 @@ err_value v (Err w) = w
 module _ (eq_triple : TripleRef → TripleRef → Bool) (eq_refusal : Refusal → Refusal → Bool)
     (triples : (x y : TripleRef) → IsTrue (eq_triple x y) ↔ (values_of_ref x ≡ values_of_ref y))
     (refusals : (x y : Refusal) → IsTrue (eq_refusal x y) ↔ (placed_refusal x ≡ placed_refusal y)) where
-  outcomes : (x y : Result TripleRef Refusal) → IsTrue (result_eq eq_triple eq_refusal x y) ↔ (placed_outcome x ≡ placed_outcome y)
-  outcomes (Ok x) (Ok y) = Decides-like _ (λ same. ap Ok same) (λ same. ap (ok_value (values_of_ref x)) same) (triples x y)
-  outcomes (Err x) (Err y) = Decides-like _ (λ same. ap Err same) (λ same. ap (err_value (placed_refusal x)) same) (refusals x y)
+  outcomes : (x y : Result TripleRef Refusal) → IsTrue (result_eq eq_triple eq_refusal x y)
+      ↔ (placed_outcome x ≡ placed_outcome y)
+  outcomes (Ok x) (Ok y) =
+      Decides-like _ (λ same. ap Ok same) (λ same. ap (ok_value (values_of_ref x)) same) (triples x y)
+  outcomes (Err x) (Err y) =
+      Decides-like _ (λ same. ap Err same) (λ same. ap (err_value (placed_refusal x)) same) (refusals x y)
   outcomes (Ok x) (Err y) = ((λ same. cc), (λ same. cc))
   outcomes (Err x) (Ok y) = ((λ same. cc), (λ same. cc))
 
 pub returns-clause-explanation : goal.returns-clause-explanation
 returns-clause-explanation c x y =
-    Decides-and _ _ (outcomes _ _ c.triple_refs_are_equal_by_value.ensures c.refusals_are_equal_by_value.ensures x.triple y.triple)
+    Decides-and _ _ (outcomes _ _ c.triple_refs_are_equal_by_value.ensures c.refusals_are_equal_by_value.ensures
+    x.triple y.triple)
     (returns-clause-sources c x.sources y.sources)

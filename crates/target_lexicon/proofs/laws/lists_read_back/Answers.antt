@@ -1,13 +1,15 @@
-use Rattle.std.proofs.Common.{◌≡◌, ◌∙◌, zero, suc, List, [], ◌∷◌, map, All, refl, ap, subst, sym, arith}
+use Rattle.target_lexicon.proofs.Common.{◌∙◌, ◌∷◌, ◌≡◌, All, List, [], ap, arith, map, refl, subst, suc, sym, zero}
+use Rattle.target_lexicon.proofs.Common.{ElementsParseAs, ComesBack, EveryStringHasOneOutcome, string_of, Values}
 use Rattle.serde_json.specs.View.{items_of}
-use Rattle.target_lexicon.specs.{Json.ElementsParseAs, Json.json_of, Laws.ComesBack, Laws.EveryStringHasOneOutcome, Printing.string_of, Values.Values}
+use Rattle.target_lexicon.specs.Json.{json_of}
 use Rattle.target_lexicon.proofs.laws.lists_read_back.Goals as goal
 
 list-reads : (ts : List Values) → All ComesBack ts → ElementsParseAs (items_of (map json_of ts)) ts
 list-reads [] back = tt
 list-reads (t ∷ ts) back = (back zero t (omega arith), list-reads ts (λ k d within. back (suc k) d (omega arith)))
 
-list-only : EveryStringHasOneOutcome → (ts us : List Values) → All ComesBack ts → ElementsParseAs (items_of (map json_of ts)) us → us ≡ ts
+list-only : EveryStringHasOneOutcome → (ts us : List Values) → All ComesBack ts
+    → ElementsParseAs (items_of (map json_of ts)) us → us ≡ ts
 list-only one [] [] back read = refl
 list-only one (t ∷ ts) (u ∷ us) back read =
     let first : u ≡ t = (one (string_of t)).values u t read.0 (back zero t (omega arith)) in

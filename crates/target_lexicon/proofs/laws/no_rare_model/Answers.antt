@@ -1,4 +1,4 @@
-use Rattle.std.proofs.Common.{arith}
+use Rattle.target_lexicon.proofs.Common.{arith}
 use Rattle.target_lexicon.proofs.ModelsKnown.{one_of_three}
 use Rattle.target_lexicon.proofs.laws.no_rare_model.Goals as goal
 

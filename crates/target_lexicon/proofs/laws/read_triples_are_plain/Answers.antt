@@ -1,4 +1,4 @@
-use Rattle.std.proofs.Common.{arith}
+use Rattle.target_lexicon.proofs.Common.{arith}
 use Rattle.target_lexicon.proofs.ReadValues.{read_plain, read_in_range}
 use Rattle.target_lexicon.proofs.laws.read_triples_are_plain.Goals as goal
 

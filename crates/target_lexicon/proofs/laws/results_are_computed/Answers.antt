@@ -1,6 +1,6 @@
-use Rattle.std.proofs.Common.{◌≡◌, ℕ, List, Option, Some, None, Ok, Err, inl, inr, refl}
-use Rattle.std.specs.Prelude.{MatchOption}
-use Rattle.target_lexicon.specs.{declared.parse_error.ParseError.ParseError, GreedyReading.ResultsAreComputed, GreedyReading.IsResultOf, GreedyReading.reading, Values.values_of, Parsing.IsRefusedAs, Parsing.MayAllocate, Refusal.Refusal, Refusal.refusal_of}
+use Rattle.target_lexicon.proofs.Common.{◌≡◌, Err, List, None, Ok, Option, Some, inl, inr, refl, ℕ, MatchOption}
+use Rattle.target_lexicon.proofs.Common.{reading, IsRefusedAs, Refusal, refusal_of, values_of, ParseError}
+use Rattle.target_lexicon.specs.{GreedyReading.ResultsAreComputed, GreedyReading.IsResultOf, Parsing.MayAllocate}
 use Rattle.target_lexicon.proofs.ComputedReading.{reading_computed}
 use Rattle.target_lexicon.proofs.laws.results_are_computed.Goals as goal
 

@@ -1,6 +1,4 @@
-use Rattle.std.proofs.Common.{ap}
-use Rattle.std.proofs.lemmas.Bool.Decides.{Decides-like, Decides-and}
-use Rattle.target_lexicon.specs.ValuesRef.{values_of_ref}
+use Rattle.target_lexicon.proofs.Common.{ap, Decides-and, Decides-like, values_of_ref}
 use Rattle.target_lexicon.proofs.SameValues.{same_values}
 use Rattle.target_lexicon.proofs.laws.triple_refs_are_equal_by_value.Goals as goal
 
@@ -9,7 +7,13 @@ returns c x y =
     let field = c.values_are_equal_by_variant_and_fields.ensures in
     Decides-like _
     (λ same. same_values (values_of_ref x) (values_of_ref y) same.0 same.1.0 same.1.1.0 same.1.1.1.0 same.1.1.1.1)
-    (λ same. (ap (λ t. t.architecture) same, (ap (λ t. t.vendor) same, (ap (λ t. t.operating_system) same, (ap (λ t. t.environment) same, ap (λ t. t.binary_format) same)))))
+    (λ same. (
+      ap (λ t. t.architecture) same,
+      (
+        ap (λ t. t.vendor) same,
+        (ap (λ t. t.operating_system) same, (ap (λ t. t.environment) same, ap (λ t. t.binary_format) same)),
+      ),
+    ))
     (Decides-and _ _ (field.architecture x.architecture y.architecture)
     (Decides-and _ _ (c.vendor_refs_are_equal_by_value.ensures x.vendor y.vendor)
     (Decides-and _ _ (field.operating_system x.operating_system y.operating_system)

@@ -1,6 +1,6 @@
-use Rattle.std.proofs.Common.{◌≤◌, length}
+use Rattle.target_lexicon.proofs.Common.{◌≤◌, length, placed_from, parts_of}
 use Rattle.std.specs.Option.{ForSome}
-use Rattle.target_lexicon.specs.{Explanation.placed_from, Parsing.parts_of, Private.rest_parts}
+use Rattle.target_lexicon.specs.Private.{rest_parts}
 use Rattle.target_lexicon.proofs.ReadParts.{AllGoesOn}
 use Rattle.target_lexicon.proofs.parse.explain.Given as goal
 

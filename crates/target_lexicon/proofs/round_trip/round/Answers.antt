@@ -1,35 +1,44 @@
 -- The printed string is that of the triple, so each clause follows from `from_str` and a clause of
 -- `round_trips_are_known`.
-use Rattle.std.proofs.Common.{◌≡◌, ◌∙◌, ℕ, List, subst, refl}
+use Rattle.target_lexicon.proofs.Common.{◌∙◌, ◌≡◌, List, refl, subst, ℕ, ParsesAs, string_of, refusal_of, values_of}
 use Rattle.std.proofs.lemmas.Result.{IfOk-weaker, IfErr-weaker}
-use Rattle.target_lexicon.specs.{Printing.string_of, Parsing.ParsesAs, Refusal.refusal_of, Values.values_of}
-use Rattle.target_lexicon.proofs.RoundCall.{read-step, step-queries, step-back, read-fixed, refused-vendor, error-refusal}
+use Rattle.target_lexicon.proofs.RoundCall.{read-step, step-queries, step-back, read-fixed, refused-vendor}
+use Rattle.target_lexicon.proofs.RoundCall.{error-refusal}
 use Rattle.target_lexicon.proofs.round_trip.round.Goals as goal
 
 printed : (c : goal.After-drop-text) → c.deref.result.now ≡ string_of (values_of c.args.triple.now)
 printed c = c.deref.ensures ∙ c.in_ok-text.ensures
 
 pub returns-clause-read : goal.returns-clause-read
-returns-clause-read c = IfOk-weaker c.from_str.result _ _ (λ it reads. subst (λ (text : List ℕ). ParsesAs text (values_of it)) (printed c) reads) c.from_str.ensures.ok
+returns-clause-read c =
+    IfOk-weaker c.from_str.result _ _ (λ it reads. subst (λ (text : List ℕ). ParsesAs text (values_of it)) (printed c)
+    reads) c.from_str.ensures.ok
 
 pub returns-clause-step : goal.returns-clause-step
 returns-clause-step c plain = IfOk-weaker c.from_str.result _ _
-    (λ it reads. read-step c.round_trips_are_known.ensures.texts c.round_trips_are_known.ensures.round _ _ plain c.versions_are_in_range.ensures reads) (returns-clause-read c)
+    (λ it reads. read-step c.round_trips_are_known.ensures.texts c.round_trips_are_known.ensures.round _ _ plain
+    c.versions_are_in_range.ensures reads) (returns-clause-read c)
 
 pub returns-clause-queries : goal.returns-clause-queries
-returns-clause-queries c plain = IfOk-weaker c.from_str.result _ _ (λ it step. step-queries c.round_trips_are_known.ensures.queries _ _ step) (returns-clause-step c plain)
+returns-clause-queries c plain =
+    IfOk-weaker c.from_str.result _ _ (λ it step. step-queries c.round_trips_are_known.ensures.queries _ _ step)
+    (returns-clause-step c plain)
 
 pub returns-clause-back : goal.returns-clause-back
 returns-clause-back c plain = IfOk-weaker c.from_str.result _ _
-    (λ it step. step-back c.round_trips_are_known.ensures.steps c.round_trips_are_known.ensures.keys _ _ plain c.versions_are_in_range.ensures step) (returns-clause-step c plain)
+    (λ it step. step-back c.round_trips_are_known.ensures.steps c.round_trips_are_known.ensures.keys _ _ plain
+    c.versions_are_in_range.ensures step) (returns-clause-step c plain)
 
 pub returns-clause-fixed : goal.returns-clause-fixed
 returns-clause-fixed c = IfOk-weaker c.from_str.result _ _
-    (λ it reads. read-fixed c.round_trips_are_known.ensures.texts c.round_trips_are_known.ensures.fixed _ _ c.versions_are_in_range.ensures reads) (returns-clause-read c)
+    (λ it reads. read-fixed c.round_trips_are_known.ensures.texts c.round_trips_are_known.ensures.fixed
+    _ _ c.versions_are_in_range.ensures reads) (returns-clause-read c)
 
 pub returns-clause-err : goal.returns-clause-err
-returns-clause-err c = IfErr-weaker c.from_str.result _ _ (λ error is. error-refusal _ _ error (printed c) is) c.from_str.ensures.err
+returns-clause-err c =
+    IfErr-weaker c.from_str.result _ _ (λ error is. error-refusal _ _ error (printed c) is) c.from_str.ensures.err
 
 pub returns-clause-refused : goal.returns-clause-refused
 returns-clause-refused c = IfErr-weaker c.from_str.result _ _
-    (λ error is. refused-vendor c.round_trips_are_known.ensures.texts c.round_trips_are_known.ensures.round _ _ refl c.versions_are_in_range.ensures (refusal_of error) is) (returns-clause-err c)
+    (λ error is. refused-vendor c.round_trips_are_known.ensures.texts c.round_trips_are_known.ensures.round _ _ refl
+    c.versions_are_in_range.ensures (refusal_of error) is) (returns-clause-err c)

@@ -1,7 +1,7 @@
-use Rattle.std.proofs.Common.{◌≡◌, ◌+◌, ◌++◌, ◌≤◌, ◌∙◌, List, ℕ, length, arith, refl, sym, ap, subst}
-use Rattle.std.proofs.lemmas.List.{length-append}
+use Rattle.target_lexicon.proofs.Common.{◌++◌, ◌+◌, ◌∙◌, ◌≡◌, ◌≤◌, List, ap, arith, length, refl, subst, sym, ℕ}
+use Rattle.target_lexicon.proofs.Common.{length-append, refusal_value}
 use Rattle.lexicon_fields.specs.Put.{IsPut}
-use Rattle.target_lexicon.specs.{Refusal.refusal_line, ValuesRef.refusal_value}
+use Rattle.target_lexicon.specs.Refusal.{refusal_line}
 use Rattle.target_lexicon.proofs.refusal.Refusal.write_to.Goals as goal
 
 pub returns-then-length-out : goal.returns-then-length-out
@@ -13,7 +13,9 @@ returns-then-length-out c =
     let pieces : c.refusal_prefix-prefix.result.now ++ part ≡ line = rw c.refusal_prefix-prefix.ensures.words refl in
     let size : length c.refusal_prefix-prefix.result.now + length part ≡ length line =
     sym (length-append c.refusal_prefix-prefix.result.now part) ∙ ap length pieces in
-    let bytes : c.as_bytes.result.now ++ c.as_bytes-then-length-out.result.now ≡ line = rw (c.as_bytes.ensures.value, c.as_bytes-then-length-out.ensures.value) pieces in
-    let put = subst (λ (text : List ℕ). IsPut text out c.put.new.out c.put.result) bytes (law.first _ _ _ _ (law.next _ _ _ _ _ _ _ _ c.put-at.ensures c.put.ensures)) in
+    let bytes : c.as_bytes.result.now ++ c.as_bytes-then-length-out.result.now ≡ line =
+    rw (c.as_bytes.ensures.value, c.as_bytes-then-length-out.ensures.value) pieces in
+    let put = subst (λ (text : List ℕ). IsPut text out c.put.new.out c.put.result) bytes
+    (law.first _ _ _ _ (law.next _ _ _ _ _ _ _ _ c.put-at.ensures c.put.ensures)) in
     let room : length line ≤ length out = omega (arith, size, c.if-length-out.true) in
     record { counted = size; fits = λ _. put.bytes; overflows = λ less. absurd (omega (arith, room, less)) }

@@ -1,6 +1,5 @@
-use Rattle.std.proofs.Common.{rules, refl}
+use Rattle.target_lexicon.proofs.Common.{refl, rules, has_written_styled_append, has_written_styled_of_eq}
 use Rattle.std.proofs.lemmas.Grind.{put_two}
-use Rattle.std.proofs.Output.{has_written_styled_append, has_written_styled_of_eq}
 use Rattle.target_lexicon.proofs.refusal.RefusalDisplay.fmt.Goals as goal
 
 pub returns-clause-styled : goal.returns-clause-styled

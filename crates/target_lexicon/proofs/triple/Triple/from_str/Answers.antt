@@ -1,19 +1,20 @@
-use Rattle.std.proofs.Common.{◌≡◌, ℕ, List, Result, Ok, Err, inl}
-use Rattle.std.specs.Prelude.{IfErr}
+use Rattle.target_lexicon.proofs.Common.{◌≡◌, Err, List, Ok, Result, inl, ℕ, IfErr, IsRefusedAs, Refusal, values_of}
+use Rattle.target_lexicon.proofs.Common.{ParseError, Triple}
 use Rattle.std.specs.Result.{IsErrAnd}
-use Rattle.target_lexicon.specs.{declared.parse_error.ParseError.ParseError, declared.triple.Triple.Triple, Parsing.IsErrorOf, Parsing.IsRefusedAs, Refusal.Refusal, Values.values_of}
-use Rattle.target_lexicon.specs.declared.parse_error.ParseError.TheVariants.{OutOfMemory}
+use Rattle.target_lexicon.specs.{Parsing.IsErrorOf, declared.parse_error.ParseError.TheVariants.OutOfMemory}
 use Rattle.target_lexicon.proofs.ReadValues.{read_plain}
 use Rattle.target_lexicon.proofs.triple.Triple.from_str.Goals as goal
 
 -- parsing a refused string may run out of memory
-refused-error : (text : List ℕ) (x : Refusal) → IsRefusedAs text x → (found : Result Triple ParseError) → IsErrAnd found (λ error. error ≡ OutOfMemory)
+refused-error : (text : List ℕ) (x : Refusal) → IsRefusedAs text x → (found : Result Triple ParseError)
+    → IsErrAnd found (λ error. error ≡ OutOfMemory)
     → IfErr found (λ error. IsErrorOf text error)
 refused-error text x h (Err error) same = rw same (inl (x, h))
 refused-error text x h (Ok triple) same = absurd same
 
 pub returns-in_err-to_error-in-Err-clause-err : goal.returns-in_err-to_error-in-Err-clause-err
-returns-in_err-to_error-in-Err-clause-err c = refused-error c.args.text.now _ c.in-Err.ensures.err _ c.from_residual-in_err-to_error-in-Err.ensures.1
+returns-in_err-to_error-in-Err-clause-err c =
+    refused-error c.args.text.now _ c.in-Err.ensures.err _ c.from_residual-in_err-to_error-in-Err.ensures.1
 
 pub returns-in_ok-to_triple-in-Ok-clause-plain : goal.returns-in_ok-to_triple-in-Ok-clause-plain
 returns-in_ok-to_triple-in-Ok-clause-plain c =

@@ -1,4 +1,4 @@
-use Rattle.std.proofs.Common.{arith}
+use Rattle.target_lexicon.proofs.Common.{arith}
 use Rattle.target_lexicon.proofs.TextRoundTrips.{round_by_step}
 use Rattle.target_lexicon.proofs.triple.Triple.normal.Goals as goal
 

@@ -1,5 +1,4 @@
-use Rattle.std.proofs.Common.{rules}
-use Rattle.target_lexicon.specs.Queries.{data_model}
+use Rattle.target_lexicon.proofs.Common.{rules, data_model}
 use Rattle.target_lexicon.proofs.triple_ref.TripleRef.data_model.Goals as goal
 
 pub returns-in_err-pointer_width : goal.returns-in_err-pointer_width

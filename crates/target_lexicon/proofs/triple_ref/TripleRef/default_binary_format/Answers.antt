@@ -1,6 +1,5 @@
 -- The arms of the `match` are the lines of `implied_format`: each case computes.
-use Rattle.std.proofs.Common.{rules}
-use Rattle.target_lexicon.specs.ImpliedFormat.{implied_format}
+use Rattle.target_lexicon.proofs.Common.{rules, implied_format}
 use Rattle.target_lexicon.proofs.triple_ref.TripleRef.default_binary_format.Goals as goal
 
 pub returns-in-Wasm32 : goal.returns-in-Wasm32

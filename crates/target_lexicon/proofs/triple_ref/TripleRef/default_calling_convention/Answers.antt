@@ -1,6 +1,5 @@
 -- The arms of the `match` are the lines of `convention_on`: each case computes.
-use Rattle.std.proofs.Common.{rules}
-use Rattle.target_lexicon.specs.Queries.{convention_on}
+use Rattle.target_lexicon.proofs.Common.{rules, convention_on}
 use Rattle.target_lexicon.proofs.triple_ref.TripleRef.default_calling_convention.Goals as goal
 
 pub returns-in-Aarch64 : goal.returns-in-Aarch64

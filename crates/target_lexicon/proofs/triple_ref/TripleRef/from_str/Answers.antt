@@ -1,17 +1,18 @@
-use Rattle.std.proofs.Common.{◌≡◌, List, ℕ, Result, Ok, Err, true}
-use Rattle.std.specs.Prelude.{IfOk, IfErr}
-use Rattle.lexicon_fields.specs.{Vendor.is_plain, VendorRef.ref_value}
-use Rattle.target_lexicon.specs.{declared.refusal.Refusal.Refusal, declared.triple_ref.TripleRef.TripleRef, Parsing.ParsesAs, ValuesRef.refusal_value, ValuesRef.values_of_ref}
-use Rattle.target_lexicon.specs.Explanation.{SourceValues, IsRefusedAfter, IsRefusedAt, part_value}
+use Rattle.target_lexicon.proofs.Common.{◌≡◌, Err, List, Ok, Result, true, ℕ, IfErr, IfOk, is_plain, IsRefusedAfter}
+use Rattle.target_lexicon.proofs.Common.{SourceValues, ParsesAs, refusal_value, values_of_ref, TripleRef}
+use Rattle.lexicon_fields.specs.VendorRef.{ref_value}
+use Rattle.target_lexicon.specs.{declared.refusal.Refusal.Refusal, Explanation.IsRefusedAt, Explanation.part_value}
 use Rattle.target_lexicon.proofs.ReadValues.{read_plain}
 use Rattle.target_lexicon.proofs.triple_ref.TripleRef.from_str.Goals as goal
 
-plain-if_read : (text : List ℕ) (result : Result TripleRef Refusal) → IfOk result (λ triple. ParsesAs text (values_of_ref triple))
+plain-if_read : (text : List ℕ) (result : Result TripleRef Refusal)
+    → IfOk result (λ triple. ParsesAs text (values_of_ref triple))
     → IfOk result (λ triple. is_plain (ref_value triple.vendor) ≡ true)
 plain-if_read text (Ok triple) reads = read_plain text _ reads
 plain-if_read text (Err refusal) reads = tt
 
-refused-with_sources : (text : List ℕ) (s : SourceValues) (result : Result TripleRef Refusal) → IfErr result (λ it. IsRefusedAfter text (refusal_value it) s (part_value it.part))
+refused-with_sources : (text : List ℕ) (s : SourceValues) (result : Result TripleRef Refusal)
+    → IfErr result (λ it. IsRefusedAfter text (refusal_value it) s (part_value it.part))
     → IfErr result (λ it. IsRefusedAt text (refusal_value it) (part_value it.part))
 refused-with_sources text s (Ok triple) refused = tt
 refused-with_sources text s (Err refusal) refused = (s, refused)

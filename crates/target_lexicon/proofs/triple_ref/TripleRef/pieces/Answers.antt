@@ -1,5 +1,4 @@
-use Rattle.std.proofs.Common.{◌≡◌, ◌||◌, ◌∙◌, ap, not, rules}
-use Rattle.target_lexicon.specs.{Printing.shows_operating_system, ValuesRef.values_of_ref}
+use Rattle.target_lexicon.proofs.Common.{◌||◌, ◌∙◌, ◌≡◌, ap, not, rules, shows_operating_system, values_of_ref}
 use Rattle.target_lexicon.proofs.PrintingLemmas.{string_of_pieces}
 use Rattle.target_lexicon.proofs.triple_ref.TripleRef.pieces.Goals as goal
 
@@ -8,7 +7,8 @@ unfolding shows_operating_system
 returns-clause-text c =
     let t = values_of_ref c.args.self.now in
     let system : not c.match-matches.matches ≡ shows_operating_system t = search rules in
-    string_of_pieces c.args.shows_last_three t c.name.result c.as_str.result c.prefix.result c.name-2.result c.name-3.result _ _ _ _ _ _ _ _ _ c.in_default.ensures c.name.ensures
+    string_of_pieces c.args.shows_last_three t c.name.result c.as_str.result c.prefix.result c.name-2.result
+    c.name-3.result _ _ _ _ _ _ _ _ _ c.in_default.ensures c.name.ensures
     c.then_some.ensures c.shows_vendor.ensures c.as_str.ensures
     c.then_some-2.ensures (ap (λ b. c.args.shows_last_three || b) system) c.prefix.ensures c.version.ensures
     c.then_some-3.ensures (ap (λ b. c.args.shows_last_three || b) c.shows_environment.ensures) c.name-2.ensures

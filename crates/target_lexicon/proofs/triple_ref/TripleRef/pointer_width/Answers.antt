@@ -1,5 +1,4 @@
-use Rattle.std.proofs.Common.{rules}
-use Rattle.target_lexicon.specs.Queries.{pointer_width}
+use Rattle.target_lexicon.proofs.Common.{rules, pointer_width}
 use Rattle.target_lexicon.proofs.triple_ref.TripleRef.pointer_width.Goals as goal
 
 pub returns-in-Gnux32-clause-answer : goal.returns-in-Gnux32-clause-answer

@@ -1,5 +1,4 @@
-use Rattle.std.proofs.Common.{sym, subst, ◌∙◌}
-use Rattle.target_lexicon.specs.Laws.{ComesBack}
+use Rattle.target_lexicon.proofs.Common.{◌∙◌, subst, sym, ComesBack}
 use Rattle.target_lexicon.proofs.{SettleLemmas.second_changes_none, UniqueReading.values_unique}
 use Rattle.target_lexicon.proofs.triple_ref.TripleRef.settle.Goals as goal
 
@@ -9,7 +8,8 @@ returns-clause-steps c = c.normal.ensures.step ∙ sym (second_changes_none _)
 pub returns-clause-back : goal.returns-clause-back
 returns-clause-back c =
     subst ComesBack (sym (returns-clause-steps c))
-    (c.canonical_strings_are_keys.ensures.comes_back _ (record { vendor = c.requires; version = c.versions_are_in_range.ensures }))
+    (c.canonical_strings_are_keys.ensures.comes_back
+    _ (record { vendor = c.requires; version = c.versions_are_in_range.ensures }))
 
 pub returns-clause-stays : goal.returns-clause-stays
 returns-clause-stays c = values_unique _ _ _ c.normal.ensures.round

@@ -1,5 +1,4 @@
-use Rattle.std.proofs.Common.{rules}
-use Rattle.target_lexicon.specs.{ImpliedFormat.implied_format, Printing.shows_binary_format}
+use Rattle.target_lexicon.proofs.Common.{rules, implied_format, shows_binary_format}
 use Rattle.target_lexicon.proofs.triple_ref.TripleRef.shows_binary_format.Goals as goal
 
 pub returns-then-ne : goal.returns-then-ne

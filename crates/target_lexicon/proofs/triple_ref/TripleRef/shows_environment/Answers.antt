@@ -1,6 +1,5 @@
+use Rattle.target_lexicon.proofs.Common.{rules, shows_environment}
 use Rattle.target_lexicon.proofs.PrintingLemmas.{other_environment_shown}
-use Rattle.std.proofs.Common.{rules}
-use Rattle.target_lexicon.specs.Printing.{shows_environment}
 use Rattle.target_lexicon.proofs.triple_ref.TripleRef.shows_environment.Goals as goal
 
 pub returns-in_default : goal.returns-in_default

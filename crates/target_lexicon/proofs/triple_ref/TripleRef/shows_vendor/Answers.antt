@@ -1,5 +1,4 @@
-use Rattle.std.proofs.Common.{rules}
-use Rattle.target_lexicon.specs.Printing.{shows_vendor}
+use Rattle.target_lexicon.proofs.Common.{rules, shows_vendor}
 use Rattle.target_lexicon.proofs.triple_ref.TripleRef.shows_vendor.Goals as goal
 
 pub returns-then-not-matches : goal.returns-then-not-matches
