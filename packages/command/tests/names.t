@@ -356,6 +356,7 @@ Names that no tool has, and what their words say:
   > foo_linux_amd64v3.zip
   > go1.22.1.darwin-arm64.pkg
   > arm64-osx
+  > x64-osx
   > turbo-darwin-64
   > Linux-AMD65
   > linux/amr64
@@ -379,6 +380,9 @@ Names that no tool has, and what their words say:
   arm64-osx
     is aarch64-osx-unknown-elf, as triple
     is aarch64-apple-darwin, by its words
+    is a name of gnu without a triple: triples have no system osx
+  x64-osx
+    is x86_64-apple-darwin, by its words
     is a name of gnu without a triple: triples have no system osx
   turbo-darwin-64
     is x86_64-apple-darwin, as node

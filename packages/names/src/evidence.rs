@@ -109,6 +109,8 @@ pub struct Evidence<'a> {
     pub(crate) unknown: Option<&'a str>,
     /// Before that, a word isn't understood, as in the name of a program.
     has_title: bool,
+    /// Before that, and not just before it, a word says a C library, which may be another target's: `sdk_musl.Linux-x86_64`.
+    has_library_apart: bool,
 }
 
 /// The library of words for one that no triple states, and the system of words for one that no triple has.
@@ -150,8 +152,9 @@ impl<'a> Evidence<'a> {
             self.width.add(if text == "32" { PointerWidth::U32 } else { PointerWidth::U64 });
             return None;
         }
-        // The ABI of x86-64 has levels such as `x86-64-v3`.
-        let is_level = joint == Some(b'_') || self.text[..word.start].ends_with("x86-64-");
+        // With a dash the ABI of x86-64 and Go have levels, such as `x86-64-v3`; after other words it is a version.
+        let has_levels = |it: &&str| self.text[..word.start].ends_with(*it);
+        let is_level = joint == Some(b'_') || ["x86-64-", "x86_64-", "amd64-", "arm64-"].iter().any(has_levels);
         if before == Some(Kind::Machine) && is_level {
             if let Some(level) = self.level_at(word.start) {
                 self.level.add(level);
@@ -174,7 +177,7 @@ impl<'a> Evidence<'a> {
             }
             self.order = order_of(text).map_or(self.order, Said::One);
             self.has_title |= !has_begun && !is_version;
-            return None;
+            return before.filter(|it| *it == Kind::Library && is_version);
         };
         // In a program's name `gnu`, `soft` and the like say nothing.
         let says = |kind: Kind| said.split(' ').any(|it| kind_of(it) == kind);
@@ -185,14 +188,23 @@ impl<'a> Evidence<'a> {
         if self.system == Said::One("none") && before.is_none() && says(Kind::System) {
             self.system = Said::Contradicted;
         }
+        let is_next = self.library == Said::Unsaid || matches!(before, Some(Kind::Gnu | Kind::Library));
+        self.has_library_apart |= !has_begun && !is_title && !is_next;
         if !(is_title && may_be_title) {
             said.split(' ').for_each(|it| self.say(it));
         }
-        let kinds = [Kind::Machine, Kind::System, Kind::Gnu];
-        // After `glibc2` comes the rest of its version.
-        let is_whole = !text.starts_with("glibc") || !text.ends_with(|it: char| it.is_ascii_digit());
+        let kinds = [Kind::Machine, Kind::System, Kind::Gnu, Kind::Library];
+        // After `glibc2` comes the rest of its version, and so it may after `musl1`.
+        let after = &self.text[word.end..];
+        let goes_on = |it: char| it.is_ascii_digit();
+        let is_parted = after.strip_prefix('.').map_or(false, |it| !it.starts_with(goes_on));
+        let is_whole = !text.starts_with("glibc") || !text.ends_with(goes_on);
         let kind = kinds.into_iter().find(|it| says(*it));
-        kind.filter(|it| *it != Kind::Gnu || is_whole)
+        kind.filter(|it| match it {
+            Kind::Gnu => is_whole,
+            Kind::Library => !is_parted,
+            _ => true,
+        })
     }
 
     /// The level of a machine that begins here in the text: `v3` of `amd64_v3`, and no version such as `v3.2.1`.
@@ -339,7 +351,7 @@ impl<'a> Evidence<'a> {
         };
         let (machine, system) = (self.machine().one()?, self.system.one()?);
         let is_its_level = level.is_empty() || !is_at_most((machine, level), (machine, ""));
-        let is_whole = self.unknown.is_none() && !self.is_other_machine && is_its_level;
+        let is_whole = self.unknown.is_none() && !self.is_other_machine && !self.has_library_apart && is_its_level;
         let operating_system: OperatingSystem = system.parse().ok()?;
         let usual = VendorRef::Known(usual_vendor(operating_system));
         let vendor = self.vendor.one().and_then(|it| VendorRef::from_str(it).ok());
@@ -510,6 +522,7 @@ impl fmt::Display for Evidence<'_> {
             _ if is_other => return f.write_str("it names a machine, and a system that no triple has"),
             (_, Said::Unsaid) => return f.write_str("it names a machine, and no system known here"),
             _ if self.unknown.is_some() => "its words say",
+            _ if self.has_library_apart => "its words may be of two targets:",
             _ => "no triple says all that its words say:",
         };
         f.write_str(begin)?;
@@ -557,6 +570,8 @@ enum Kind {
     System,
     /// `gnu`, after which a number may be one of an ABI, as in `gnux32`, unless it is that of glibc.
     Gnu,
+    /// Another C library.
+    Library,
     Other,
 }
 
@@ -565,6 +580,7 @@ fn kind_of(said: &str) -> Kind {
         "arm32|64" | "several" | "other-machine" => Kind::Machine,
         "other-system" => Kind::System,
         "gnu" => Kind::Gnu,
+        "musl" | "uclibc" | "msvc" | "gnullvm" | "newlib" | "other-abi" => Kind::Library,
         _ if said.parse::<Architecture>().is_ok() => Kind::Machine,
         _ if said.parse::<OperatingSystem>().is_ok() => Kind::System,
         _ => Kind::Other,

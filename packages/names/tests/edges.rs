@@ -160,7 +160,13 @@ GNULinux-x64=its words name x86_64-unknown-linux
 linux-x64-FOOBar=its words say x86_64, linux; here nobody knows `FOO`
 linux-x64-FOO=its words say x86_64, linux; here nobody knows `FOO`
 armv7-ohos=its words name armv7-unknown-linux-ohos
-armhf-linux-uclibc-foo=its words say arm, hard-float, linux, uclibc; here nobody knows `foo`";
+armhf-linux-uclibc-foo=its words say arm, hard-float, linux, uclibc; here nobody knows `foo`
+sdk_musl.Linux-x86_64=its words may be of two targets: x86_64, linux, musl
+musl-builder-linux-x64=its words may be of two targets: x86_64, linux, musl
+fd-musl_1.2.0_linux-x64=its words name x86_64-unknown-linux-musl
+openwrt-sdk-23.05_musl.Linux-x86_64=it names several machines
+x86_64-v3-linux=its words name x86_64-unknown-linux of the level v3
+linux-x64-v3=its words name x86_64-unknown-linux";
 
 #[test]
 fn evidence_is_said_in_a_sentence() {

@@ -69,12 +69,14 @@ impl<'a> Meanings<'a> {
     }
 
     /// Whether some tool means a target of a known vendor and a system, or a target of rustc, which is meant as it is; or
-    /// why it has none is known.
+    /// why it has none is known, except by the spelling of GNU's: it has no system `osx`.
     fn is_certain(&self) -> bool {
         let is_target = |it: &TripleRef<'_>| !it.vendor.is_custom() && has_system(it);
         let is_rustc = |tools: &[&str]| tools.contains(&Dialect::Rust.name());
         let is_meant = |(it, tools): &(Sense<'_>, Vec<_>)| is_target(&it.triple) || is_rustc(tools);
-        self.meanings.iter().any(is_meant) || self.meanings.is_empty() && !self.without_triple.is_empty()
+        let is_by_spelling = |(tool, _): &(&str, _)| *tool == Dialect::Gnu.name();
+        self.meanings.iter().any(is_meant)
+            || self.meanings.is_empty() && !self.without_triple.iter().all(is_by_spelling)
     }
 
     fn add(&mut self, sense: Sense<'a>, tool: &'static str) {
