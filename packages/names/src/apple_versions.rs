@@ -3,7 +3,6 @@ use crate::shape::version;
 use target_lexicon::{DeploymentTarget, OperatingSystem, TripleRef};
 
 /// The answer of [`TargetInfo::macos_version`].
-#[inline]
 pub(crate) const fn macos_version(triple: &TripleRef<'_>) -> Option<DeploymentTarget> {
     let kernel = match triple.operating_system {
         OperatingSystem::MacOSX(version) => return version,

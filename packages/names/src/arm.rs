@@ -4,7 +4,6 @@ use target_lexicon::{Architecture, ArmArchitecture, TripleRef};
 
 impl ArmProfile {
     /// The answer of [`TargetInfo::arm_profile`].
-    #[inline]
     pub(crate) const fn of(triple: &TripleRef<'_>) -> Option<ArmProfile> {
         use ArmArchitecture::*;
         let Architecture::Arm(sub) = triple.architecture else {
@@ -23,7 +22,6 @@ impl ArmProfile {
 }
 
 /// The answer of [`TargetInfo::arm_version`].
-#[inline]
 pub(crate) const fn arm_version(triple: &TripleRef<'_>) -> Option<u8> {
     use ArmArchitecture::*;
     let Architecture::Arm(sub) = triple.architecture else {

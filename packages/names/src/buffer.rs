@@ -9,24 +9,20 @@ pub(super) struct Buffer<const SIZE: usize> {
 }
 
 impl<const SIZE: usize> Buffer<SIZE> {
-    #[inline]
     pub(super) fn new() -> Self {
         Buffer { bytes: [0; SIZE], length: 0 }
     }
 
-    #[inline]
     pub(super) fn as_str(&self) -> &str {
         core::str::from_utf8(&self.bytes[..self.length]).unwrap_or("")
     }
 
-    #[inline]
     pub(super) fn make_lowercase(&mut self) {
         self.bytes.make_ascii_lowercase();
     }
 }
 
 impl<const SIZE: usize> Write for Buffer<SIZE> {
-    #[inline]
     fn write_str(&mut self, text: &str) -> fmt::Result {
         let end = self.length + text.len();
         let room = self.bytes.get_mut(self.length..end).ok_or(fmt::Error)?;

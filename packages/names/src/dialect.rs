@@ -97,19 +97,16 @@ impl Dialect {
         DIALECT_NAMES[self as usize]
     }
 
-    #[inline]
     pub(super) fn table(self) -> &'static Table {
         &TABLES[self as usize]
     }
 
     /// The rows of all names.
-    #[inline]
     pub(crate) fn rows(self) -> &'static [Row] {
         self.table().rows
     }
 
     /// The rows of names without a version that are read: first those that are written, too.
-    #[inline]
     pub(crate) fn rows_read(self) -> impl Iterator<Item = &'static Row> + Clone {
         let has = |row: &Row, way| row.2 == way && star_count(row.0) == 0;
         let of = move |way| self.rows().iter().filter(move |row| has(row, way));
@@ -159,7 +156,6 @@ impl Dialect {
     }
 
     /// The row that has a name, or its tag or platform, and the numbers of the name.
-    #[inline]
     fn row_of(self, name: &str) -> Option<(&'static Row, Numbers)> {
         let table = self.table();
         let found = table.row_named(name);
@@ -336,7 +332,6 @@ impl Table {
 }
 
 /// The byte by which a name is looked up: in a tag `_` for each separator.
-#[inline]
 fn key(byte: u8, tags: bool) -> u8 {
     if tags && matches!(byte, b'-' | b'.') {
         b'_'
@@ -373,7 +368,6 @@ fn version_in(system: &mut OperatingSystem) -> Option<&mut Option<DeploymentTarg
 }
 
 /// The numbers that a name, or its tag, has where a pattern has stars. `None` if it doesn't have the pattern.
-#[inline]
 pub(super) fn numbers_of(pattern: &str, name: &str, tags: bool) -> Option<Numbers> {
     let mut rest = name.as_bytes();
     let mut numbers = None;
@@ -404,7 +398,6 @@ fn number<N: FromStr>(digits: &[u8]) -> Option<N> {
 }
 
 /// The text of a triple, as far as a row may have it.
-#[inline]
 pub(super) fn text_in<'a>(buffer: &'a mut [u8; MAX_LENGTH], triple: &TripleRef<'_>) -> &'a [u8] {
     let length = triple.write_to(buffer).min(MAX_LENGTH);
     &buffer[..length]

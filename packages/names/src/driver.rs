@@ -33,7 +33,6 @@ pub struct TypeSizes {
 
 impl CLibrary {
     /// The answer of [`TargetInfo::c_library`].
-    #[inline]
     pub(crate) fn of(triple: &TripleRef<'_>) -> Option<CLibrary> {
         use OperatingSystem::*;
         match (library_and_abi(triple.environment).0, triple.operating_system) {
@@ -50,7 +49,6 @@ impl CLibrary {
 }
 
 /// The library of a system that has only one.
-#[inline]
 fn library_of_system(triple: &TripleRef<'_>) -> Option<CLibrary> {
     use OperatingSystem::*;
     Some(match (unlisted_system(triple), triple.operating_system) {
@@ -66,7 +64,6 @@ fn library_of_system(triple: &TripleRef<'_>) -> Option<CLibrary> {
 
 impl FloatAbi {
     /// The answer of [`TargetInfo::float_abi`].
-    #[inline]
     pub(crate) fn of(triple: &TripleRef<'_>) -> Option<FloatAbi> {
         use OperatingSystem::*;
         let is_arm = matches!(triple.architecture, Architecture::Arm(_));
@@ -83,7 +80,6 @@ impl FloatAbi {
 
 impl Signedness {
     /// The answer of [`TargetInfo::char_signedness`].
-    #[inline]
     pub(crate) const fn of_char(triple: &TripleRef<'_>) -> Option<Signedness> {
         use {Architecture::*, OperatingSystem::*};
         match (triple.architecture, triple.operating_system) {
@@ -102,7 +98,6 @@ impl Signedness {
 }
 
 /// The answer of [`TargetInfo::has_emulated_tls`].
-#[inline]
 pub(crate) fn has_emulated_tls(triple: &TripleRef<'_>) -> bool {
     use OperatingSystem::*;
     let library = library_and_abi(triple.environment).0;
@@ -110,7 +105,6 @@ pub(crate) fn has_emulated_tls(triple: &TripleRef<'_>) -> bool {
 }
 
 /// The answer of [`TargetInfo::program_suffix`].
-#[inline]
 pub(crate) const fn program_suffix(triple: &TripleRef<'_>) -> &'static str {
     use OperatingSystem::*;
     match (triple.operating_system, triple.architecture) {
@@ -127,7 +121,6 @@ pub(crate) const fn program_suffix(triple: &TripleRef<'_>) -> &'static str {
 
 impl TypeLayout {
     /// The answer of [`TargetInfo::long_double_layout`].
-    #[inline]
     pub(crate) const fn of_long_double(triple: &TripleRef<'_>) -> Option<TypeLayout> {
         use {Architecture::*, Environment as With, OperatingSystem::*};
         let system = triple.operating_system;
@@ -161,7 +154,6 @@ impl TypeLayout {
     }
 
     /// The answer of [`TargetInfo::wchar_layout`].
-    #[inline]
     pub(crate) const fn of_wchar(triple: &TripleRef<'_>) -> Option<TypeLayout> {
         use {Architecture::*, OperatingSystem::*};
         let size = match (triple.architecture, triple.operating_system) {
@@ -179,7 +171,6 @@ impl TypeLayout {
 
 impl TypeSizes {
     /// The answer of [`TargetInfo::type_sizes`].
-    #[inline]
     pub(crate) const fn of(triple: &TripleRef<'_>) -> Option<TypeSizes> {
         match triple.data_model() {
             Ok(model) => Some(TypeSizes::in_model(model)),
@@ -198,7 +189,6 @@ impl TypeSizes {
     /// assert_eq!(TypeSizes::in_model(CDataModel::LLP64).long, 4);
     /// ```
     #[must_use]
-    #[inline]
     pub const fn in_model(model: CDataModel) -> TypeSizes {
         TypeSizes {
             short: model.short_size().bytes(),

@@ -35,7 +35,6 @@ pub enum Mistake<'a> {
 }
 
 impl fmt::Display for Mistake<'_> {
-    #[inline]
     fn fmt(&self, f: &mut fmt::Formatter<'_>) -> fmt::Result {
         match self {
             Mistake::Capitals(_) => f.write_str("capital letters matter"),
@@ -69,7 +68,6 @@ impl Dialect {
     ///
     /// assert!(Dialect::all_with("linux/arm64").eq([Dialect::Go, Dialect::Oci]));
     /// ```
-    #[inline]
     pub fn all_with(name: &str) -> impl Iterator<Item = Dialect> + Clone + '_ {
         let all = Dialect::ALL.iter().copied();
         all.filter(|dialect| dialect.read_loosely(name).is_ok())
@@ -94,7 +92,6 @@ impl Dialect {
     /// assert_eq!(mistake(Dialect::Go, "plan10"), None);
     /// ```
     #[must_use]
-    #[inline]
     pub fn mistake(self, name: &str) -> Option<Mistake<'_>> {
         let has_path = || {
             let has_slashes = self.has_slashes() || name.starts_with('@');
@@ -134,7 +131,6 @@ impl Dialect {
     /// # use target_names::Dialect;
     /// assert!(Dialect::Debian.names().any(|name| name == "arm64"));
     /// ```
-    #[inline]
     pub fn names(self) -> impl Iterator<Item = &'static str> {
         self.rows_read().map(|row| row.0)
     }
@@ -180,7 +176,6 @@ impl Dialect {
     /// assert_eq!(Dialect::Node.suggestion("linux0-armhf"), None); // `linux-arm` would leave out the ABI
     /// ```
     #[must_use]
-    #[inline]
     pub fn suggestion(self, name: &str) -> Option<&'static str> {
         Hints::of(name)?.name_of(self)
     }

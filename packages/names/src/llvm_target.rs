@@ -13,7 +13,6 @@ use target_lexicon::{
 pub struct LlvmTarget<'a>(pub(crate) TripleRef<'a>);
 
 impl fmt::Display for LlvmTarget<'_> {
-    #[inline]
     fn fmt(&self, f: &mut fmt::Formatter<'_>) -> fmt::Result {
         let triple = &self.0;
         let machine = machine(triple.architecture);
@@ -34,7 +33,6 @@ impl fmt::Display for LlvmTarget<'_> {
 }
 
 /// The machine without the extensions that LLVM gets as features.
-#[inline]
 fn machine(architecture: Architecture) -> Architecture {
     match architecture {
         Architecture::Riscv32(_) => Architecture::Riscv32(Riscv32Architecture::Riscv32),
@@ -45,7 +43,6 @@ fn machine(architecture: Architecture) -> Architecture {
 }
 
 /// The vendor, unless it says what LLVM isn't told.
-#[inline]
 fn vendor<'a>(triple: &TripleRef<'a>) -> VendorRef<'a> {
     use {OperatingSystem::*, VendorRef::*};
     match (triple.operating_system, triple.vendor) {
@@ -56,7 +53,6 @@ fn vendor<'a>(triple: &TripleRef<'a>) -> VendorRef<'a> {
 }
 
 /// The environment of LLVM with the same ABI.
-#[inline]
 fn environment(environment: Environment) -> Environment {
     use Environment::*;
     match environment {
@@ -70,7 +66,6 @@ fn environment(environment: Environment) -> Environment {
 }
 
 /// What follows the machine, where rustc has a string of its own.
-#[inline]
 fn rest(triple: &TripleRef<'_>) -> Option<&'static str> {
     use {Architecture::*, Environment::*, Mips32Architecture::*, OperatingSystem as System};
     match (unlisted_system(triple), triple.environment) {
@@ -116,7 +111,6 @@ fn rest(triple: &TripleRef<'_>) -> Option<&'static str> {
 }
 
 /// A triple of a system of Apple's. The version of Darwin is the kernel's: that of macOS is written.
-#[inline]
 fn write_apple(f: &mut fmt::Formatter<'_>, triple: &TripleRef<'_>) -> fmt::Result {
     use OperatingSystem::*;
     match triple.architecture {

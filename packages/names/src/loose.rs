@@ -49,7 +49,6 @@ impl Dialect {
     /// assert_eq!(Dialect::Oci.read_loosely("linux/riscv64/rva22u64").unwrap().level, "rva22u64");
     /// assert_eq!(Dialect::Rpm.read_loosely("foo-1-1.x86_64_v4.rpm").unwrap().level, "v4");
     /// ```
-    #[inline]
     pub fn read_loosely(self, text: &str) -> Result<Sense<'static>, NameError> {
         let in_file = self.read_file(text);
         let found = in_file.or_else(|| self.read_version_of_glibc(text));
@@ -63,7 +62,6 @@ impl Dialect {
     }
 
     /// What the name within a text means, if the text has the form of one that has a name within.
-    #[inline]
     fn read_within(self, text: &str) -> Option<Found> {
         match self {
             Dialect::Node => self.read_package(text),
@@ -79,7 +77,6 @@ impl Dialect {
     }
 
     /// Of the file of a package or an archive: the longest end before its suffix that is a name. No name has such a suffix.
-    #[inline]
     fn read_file(self, text: &str) -> Option<Found> {
         let file = match self {
             Dialect::Debian => text.strip_suffix(".deb")?,
@@ -99,7 +96,6 @@ impl Dialect {
 
     /// Of a package, without its scope and version: the longest end that is a platform, after a dash or whole. Without a scope the words
     /// before it say nothing of a target.
-    #[inline]
     fn read_package(self, text: &str) -> Option<Found> {
         let scoped = text.split_once('@').and_then(|it| it.1.split_once('/'));
         let name = scoped.map_or(text, |it| it.1).split(['@', '/']).next()?;
@@ -109,7 +105,6 @@ impl Dialect {
     }
 
     /// Where the longest end of a text begins that is a name, after one of these signs or whole, and what it means.
-    #[inline]
     fn read_end(self, text: &str, signs: [char; 3]) -> Option<(usize, Found)> {
         let places = text.match_indices(signs).map(|(at, _)| at + 1);
         let starts = core::iter::once(0).chain(places);
@@ -130,7 +125,6 @@ impl Dialect {
 
     /// A port with `_` or a dash instead of the slash. GoReleaser's folders say after it which machine it is, as container images do, and
     /// what it writes with capitals has container images' other words.
-    #[inline]
     fn read_port(self, text: &str) -> Option<Found> {
         let (system, machine) = text.split_once(['_', '-'])?;
         let machine = match machine.rsplit_once('_') {
@@ -164,7 +158,6 @@ impl Dialect {
     }
 
     /// The architecture after the name of a package and a colon.
-    #[inline]
     fn read_architecture(self, text: &str) -> Option<Found> {
         let (package, architecture) = text.split_once(':')?;
         let is_name = |it: u8| matches!(it, b'a'..=b'z' | b'0'..=b'9' | b'+' | b'-' | b'.');
@@ -174,7 +167,6 @@ impl Dialect {
     }
 
     /// The prefix of a cross compiler, before the name of one of its tools or nothing.
-    #[inline]
     fn read_compiler(self, text: &str) -> Option<Found> {
         let file = text.rsplit(['/', '\\']).next()?;
         let file = file.strip_suffix(".exe").unwrap_or(file);
@@ -190,7 +182,6 @@ impl Dialect {
     }
 
     /// A target of rustc with the version of glibc, as cargo-zigbuild takes it.
-    #[inline]
     fn read_version_of_glibc(self, text: &str) -> Option<Found> {
         if self != Dialect::Rust {
             return None;
@@ -202,7 +193,6 @@ impl Dialect {
     }
 
     /// A target whose system has versions, without those after the least, or without any; or the machine that asks.
-    #[inline]
     fn read_versions(self, text: &str) -> Option<Found> {
         let (machine, rest) = text.split_once('-')?;
         if machine == "native" {
@@ -222,7 +212,6 @@ impl Dialect {
     }
 
     /// Of a wheel, or of its tags, the last: all platforms in it mean the same, or one means no triple.
-    #[inline]
     fn read_tags(self, text: &str) -> Option<Found> {
         let platforms = last_tag(text);
         let found = || platforms.split('.').map(|platform| self.sense(platform));
@@ -233,7 +222,6 @@ impl Dialect {
 
     /// The words of `uname -s` and `uname -m`, with one space between them, and any version of Windows as Windows 10. Of more words the
     /// machine is the last one that isn't a system's or `unknown`: where the last one is `illumos` or `Android`, it is the system.
-    #[inline]
     fn read_words(self, text: &str) -> Option<Found> {
         let is_space = |it: char| it.is_whitespace() || it == ',';
         let text = text.trim_matches(is_space);
@@ -255,7 +243,6 @@ impl Dialect {
         }
     }
 
-    #[inline]
     fn read_system_and_machine<'w>(self, system: &str, mut machine: impl Iterator<Item = &'w str>) -> Option<Found> {
         let mut name = Text::new();
         match system.split_once("_NT-") {
@@ -267,7 +254,6 @@ impl Dialect {
     }
 
     /// A platform of Windows without the version in parentheses.
-    #[inline]
     fn read_version_of_windows(self, text: &str) -> Option<Found> {
         let (system, rest) = text.split_once('(')?;
         let (version, machine) = rest.split_once(')')?;
@@ -285,7 +271,6 @@ impl Dialect {
     }
 
     /// What the same name with musl means, with uClibc.
-    #[inline]
     fn read_uclibc(self, text: &str) -> Option<Found> {
         let found = self.read_written(format_args!("musl-{}", text.strip_prefix("uclibc-")?))?;
         Some(found.map(|it| {
@@ -351,7 +336,6 @@ fn may_be_package(before: &str, triple: &TripleRef<'_>) -> bool {
 }
 
 /// Whether a text is numbers with dots between them.
-#[inline]
 fn is_version(text: &str) -> bool {
     let is_number = |it: &str| !it.is_empty() && it.bytes().all(|it| it.is_ascii_digit());
     text.split('.').all(is_number)
@@ -368,7 +352,6 @@ pub(crate) fn last_tag(text: &str) -> &str {
 }
 
 /// Whether a text begins with the tag of a version of Python, such as `cp311` or `py3`.
-#[inline]
 fn is_python(text: &str) -> bool {
     let mut words = ["cp", "py", "pp"].iter();
     let version = words.find_map(|word| text.strip_prefix(word));

@@ -26,7 +26,6 @@ impl NameOf {
     /// assert_eq!(NameOf::Spelling.name(), "spelling");
     /// ```
     #[must_use]
-    #[inline]
     pub fn name(self) -> &'static str {
         match self {
             NameOf::Dialect(dialect) => dialect.name(),
@@ -64,7 +63,6 @@ pub struct Meaning<'a> {
 /// assert_eq!(meanings("x86_64-unknown-none").next().unwrap().of, NameOf::Triple);
 /// assert_eq!(meanings("foo/bar").next(), None);
 /// ```
-#[inline]
 pub fn meanings(text: &str) -> impl Iterator<Item = Meaning<'_>> + Clone {
     // A file of pacman's may be MSYS2's too, if that has the machine, of which it has no levels.
     let has_system = move || Evidence::of(text).system() != Said::Unsaid;
@@ -135,7 +133,6 @@ pub fn readers(text: &str) -> impl Iterator<Item = Meaning<'_>> + Clone {
 }
 
 /// What a string means that is a triple, or is spelled like one. A vendor that is a word of a machine says that it isn't.
-#[inline]
 fn as_triple(text: &str) -> Option<Meaning<'_>> {
     let (of, triple) = match TripleRef::from_str(text) {
         Ok(triple) => (NameOf::Triple, triple),

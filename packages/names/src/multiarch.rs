@@ -12,7 +12,6 @@ pub struct MultiarchTuple {
 
 impl MultiarchTuple {
     /// The answer of [`TargetInfo::multiarch_tuple`].
-    #[inline]
     pub(crate) fn of(triple: &TripleRef<'_>) -> Option<MultiarchTuple> {
         Dialect::Debian.write(triple)?;
         let prefix = Dialect::Gnu.write(triple)?;
@@ -21,7 +20,6 @@ impl MultiarchTuple {
 }
 
 impl fmt::Display for MultiarchTuple {
-    #[inline]
     fn fmt(&self, f: &mut fmt::Formatter<'_>) -> fmt::Result {
         let prefix = self.prefix.as_str();
         match prefix.strip_prefix("i686") {

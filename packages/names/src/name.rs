@@ -48,21 +48,18 @@ impl Name {
 }
 
 impl AsRef<str> for Name {
-    #[inline]
     fn as_ref(&self) -> &str {
         self.as_str()
     }
 }
 
 impl PartialEq<str> for Name {
-    #[inline]
     fn eq(&self, text: &str) -> bool {
         self.as_str() == text
     }
 }
 
 impl PartialEq<&str> for Name {
-    #[inline]
     fn eq(&self, text: &&str) -> bool {
         self == *text
     }

@@ -6,7 +6,6 @@ use core::fmt;
 macro_rules! named {
     ($($type:ty, $name:ident;)*) => {$(
         impl fmt::Display for $type {
-            #[inline]
             fn fmt(&self, f: &mut fmt::Formatter<'_>) -> fmt::Result {
                 f.pad(self.$name())
             }
@@ -17,14 +16,12 @@ macro_rules! named {
 macro_rules! ordered {
     ($($type:ty, $name:ident;)*) => {$(
         impl Ord for $type {
-            #[inline]
             fn cmp(&self, other: &Self) -> Ordering {
                 self.$name().cmp(other.$name())
             }
         }
 
         impl PartialOrd for $type {
-            #[inline]
             fn partial_cmp(&self, other: &Self) -> Option<Ordering> {
                 Some(self.cmp(other))
             }

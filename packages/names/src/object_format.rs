@@ -2,7 +2,6 @@
 use target_lexicon::{Architecture, BinaryFormat, OperatingSystem, TripleRef};
 
 /// The answer of [`TargetInfo::object_format`].
-#[inline]
 pub(crate) const fn object_format(triple: &TripleRef<'_>) -> BinaryFormat {
     use OperatingSystem::{Cygwin, Uefi};
     let implied = triple.default_binary_format();

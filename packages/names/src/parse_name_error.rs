@@ -28,7 +28,6 @@ pub struct UnknownWord {
 impl UnknownWord {
     /// The word.
     #[must_use]
-    #[inline]
     pub fn word(&self) -> &str {
         &self.word
     }
@@ -36,7 +35,6 @@ impl UnknownWord {
     /// The dialect that was perhaps meant: one that the word begins with, or else one in other letters or with two of its letters
     /// swapped: `rust` by `rustc`, `dotnet` by `dotent`.
     #[must_use]
-    #[inline]
     pub fn suggestion(&self) -> Option<&'static str> {
         if !self.is_dialect {
             return None;
@@ -54,7 +52,6 @@ impl UnknownWord {
 }
 
 impl fmt::Display for UnknownWord {
-    #[inline]
     fn fmt(&self, f: &mut fmt::Formatter<'_>) -> fmt::Result {
         let word = visible(&self.word);
         if !self.is_dialect {
@@ -74,7 +71,6 @@ impl FromStr for Dialect {
     type Err = UnknownWord;
 
     /// The dialect of a name, such as `debian`; `docker` is [`Dialect::Oci`], and `npm` is [`Dialect::Node`].
-    #[inline]
     fn from_str(word: &str) -> Result<Self, UnknownWord> {
         let names = Dialect::ALL.iter().map(|it| (it.name(), *it));
         let found = names.chain(OTHER_NAMES).find(|it| it.0 == word);
@@ -86,7 +82,6 @@ impl FromStr for ChosenLibc {
     type Err = UnknownWord;
 
     /// The C library of a name: `glibc` or `musl`.
-    #[inline]
     fn from_str(word: &str) -> Result<Self, UnknownWord> {
         use ChosenLibc::*;
         let mut all = [Glibc, Musl, Msvc, Mingw, Gnullvm].into_iter();

@@ -98,7 +98,6 @@ pub struct ChangedParts<'a>(SpelledParts<'a>);
 /// assert!(shown("x86_64-unknown-freebsd").is_empty());
 /// ```
 #[must_use]
-#[inline]
 pub fn changes(text: &str) -> ChangedParts<'_> {
     ChangedParts(SpelledParts::of(text))
 }
@@ -106,7 +105,6 @@ pub fn changes(text: &str) -> ChangedParts<'_> {
 impl<'a> Iterator for ChangedParts<'a> {
     type Item = Change<'a>;
 
-    #[inline]
     fn next(&mut self) -> Option<Change<'a>> {
         let (part, names) = self.0.find(|(part, names)| !names.is_only(part.text))?;
         Some(Change { part, names })

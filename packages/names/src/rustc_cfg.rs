@@ -34,7 +34,6 @@ pub struct RustcCfg<'a> {
 
 impl<'a> RustcCfg<'a> {
     /// The answer of [`TargetInfo::rustc_cfg`].
-    #[inline]
     pub(crate) fn of(triple: &TripleRef<'a>) -> RustcCfg<'a> {
         let is_unix = is_unix(triple);
         RustcCfg {
@@ -68,7 +67,6 @@ impl<'a> RustcCfg<'a> {
     /// assert!(cfg.options().any(|it| it == ("target_os", Some("macos"))));
     /// assert!(cfg.options().any(|it| it == ("unix", None)));
     /// ```
-    #[inline]
     pub fn options(&self) -> impl Iterator<Item = (&'static str, Option<&'a str>)> {
         let families = self.target_family.iter().copied();
         let order = self.target_endian.map(|it| it.name());
@@ -93,7 +91,6 @@ impl<'a> RustcCfg<'a> {
 }
 
 impl fmt::Display for RustcCfg<'_> {
-    #[inline]
     fn fmt(&self, f: &mut fmt::Formatter<'_>) -> fmt::Result {
         self.options().try_for_each(|option| match option {
             (name, Some(value)) => writeln!(f, "{name}=\"{value}\""),
@@ -103,7 +100,6 @@ impl fmt::Display for RustcCfg<'_> {
 }
 
 /// A system of rustc that is no known name, so that a triple has it as a custom vendor.
-#[inline]
 pub(super) fn unlisted_system<'a>(triple: &TripleRef<'a>) -> Option<&'a str> {
     match (triple.vendor, triple.operating_system) {
         (VendorRef::Custom(system), OperatingSystem::Unknown) => {
@@ -113,7 +109,6 @@ pub(super) fn unlisted_system<'a>(triple: &TripleRef<'a>) -> Option<&'a str> {
     }
 }
 
-#[inline]
 fn target_arch(architecture: Architecture) -> &'static str {
     use {Mips32Architecture::*, Mips64Architecture::*};
     match architecture {
@@ -135,7 +130,6 @@ fn target_arch(architecture: Architecture) -> &'static str {
     }
 }
 
-#[inline]
 fn target_os(triple: &TripleRef<'_>) -> &'static str {
     use OperatingSystem::*;
     let system = triple.operating_system;
@@ -150,7 +144,6 @@ fn target_os(triple: &TripleRef<'_>) -> &'static str {
     }
 }
 
-#[inline]
 fn target_env(triple: &TripleRef<'_>) -> &'static str {
     match library_and_abi(triple.environment) {
         (_, abi @ ("macabi" | "sim")) => abi,
@@ -161,7 +154,6 @@ fn target_env(triple: &TripleRef<'_>) -> &'static str {
 }
 
 /// The value of a system where the environment states none.
-#[inline]
 fn env_of_system(triple: &TripleRef<'_>) -> &'static str {
     use OperatingSystem::*;
     match (unlisted_system(triple), triple.operating_system) {
@@ -177,14 +169,12 @@ fn env_of_system(triple: &TripleRef<'_>) -> &'static str {
 }
 
 /// Whether this is a system of Apple's devices on x86, which only simulators have.
-#[inline]
 pub(super) fn is_simulator(triple: &TripleRef<'_>) -> bool {
     use {Architecture::*, OperatingSystem::*};
     matches!(triple.architecture, X86_32(_) | X86_64 | X86_64h)
         && matches!(triple.operating_system, IOS(_) | TvOS(_) | VisionOS(_) | WatchOS(_) | XROS(_))
 }
 
-#[inline]
 fn target_abi(triple: &TripleRef<'_>) -> &'static str {
     match (triple.vendor, triple.operating_system, library_and_abi(triple.environment)) {
         (VendorRef::Known(KnownVendor::Uwp), OperatingSystem::Windows, _) => "uwp",
@@ -195,7 +185,6 @@ fn target_abi(triple: &TripleRef<'_>) -> &'static str {
 }
 
 /// The ABI where neither vendor nor environment states one.
-#[inline]
 fn abi_of_system(triple: &TripleRef<'_>) -> &'static str {
     use OperatingSystem::*;
     let is_musl = matches!(triple.environment, Environment::Musl); // the others state their ABI
@@ -214,7 +203,6 @@ fn abi_of_system(triple: &TripleRef<'_>) -> &'static str {
 }
 
 /// The answer of [`TargetInfo::is_unix`].
-#[inline]
 pub(crate) fn is_unix(triple: &TripleRef<'_>) -> bool {
     use OperatingSystem::*;
     match (unlisted_system(triple), triple.operating_system) {
@@ -226,7 +214,6 @@ pub(crate) fn is_unix(triple: &TripleRef<'_>) -> bool {
     }
 }
 
-#[inline]
 fn target_vendor<'a>(triple: &TripleRef<'a>) -> &'a str {
     match triple.vendor {
         _ if unlisted_system(triple).is_some() => "unknown",

@@ -17,7 +17,6 @@ pub(crate) struct SpelledParts<'a> {
 }
 
 impl<'a> SpelledParts<'a> {
-    #[inline]
     pub(crate) fn of(text: &'a str) -> Self {
         SpelledParts { text, rest: Some(text), place: Place::First, hard_floats: false, name: None }
     }
@@ -85,7 +84,6 @@ impl<'a> Spelling<'a> {
     }
 
     /// Whether a part spells only itself.
-    #[inline]
     pub(crate) fn is_only(&self, part: &str) -> bool {
         self.system.is_none() && part.strip_prefix(self.names) == Some(self.version)
     }

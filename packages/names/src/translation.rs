@@ -31,7 +31,6 @@ impl WriteError {
 }
 
 impl fmt::Display for WriteError {
-    #[inline]
     fn fmt(&self, f: &mut fmt::Formatter<'_>) -> fmt::Result {
         let mut letters = self.reason().chars();
         let first = letters.next().map_or(' ', |it| it.to_ascii_uppercase());
@@ -49,7 +48,6 @@ pub enum TranslateError {
 }
 
 impl fmt::Display for TranslateError {
-    #[inline]
     fn fmt(&self, f: &mut fmt::Formatter<'_>) -> fmt::Result {
         match self {
             TranslateError::Read(error) => error.fmt(f),
@@ -96,7 +94,6 @@ impl Dialect {
     }
 
     /// Whether names would state the C library of an Arm on Linux, which gets none without a version.
-    #[inline]
     fn would_state_c_library(self, triple: &TripleRef<'_>) -> bool {
         let completed = TripleRef { environment: Environment::Gnu, ..*triple };
         triple.architecture == ARM
@@ -177,7 +174,6 @@ impl Dialect {
     /// let error = Dialect::Oci.translate("linux/amd64", None, Dialect::Debian).unwrap_err();
     /// assert_eq!(error, TranslateError::Write(WriteError::NeedsCLibrary));
     /// ```
-    #[inline]
     pub fn translate(self, name: &str, c_library: Option<ChosenLibc>, to: Dialect) -> Result<Name, TranslateError> {
         self.translate_with(name, c_library, &Versions::none(), to)
     }
@@ -197,7 +193,6 @@ impl Dialect {
     /// let tag = Dialect::Oci.translate_with("linux/amd64", Some(ChosenLibc::Glibc), &versions, Dialect::Python);
     /// assert_eq!(tag.unwrap().as_str(), "manylinux_2_17_x86_64");
     /// ```
-    #[inline]
     pub fn translate_with(
         self,
         name: &str,
@@ -218,7 +213,6 @@ impl Dialect {
     }
 
     /// Why a triple without a name has none.
-    #[inline]
     fn why_unnamed(self, triple: &TripleRef<'_>) -> WriteError {
         if !self.rows().iter().any(is_written) {
             return WriteError::OnlyRead;
@@ -245,7 +239,6 @@ impl Dialect {
     }
 
     /// The reason, if with a C library the triple has a name. It is given why without one it has none.
-    #[inline]
     fn why_c_library(self, triple: &TripleRef<'_>, why: WriteError) -> Option<WriteError> {
         use ChosenLibc::*;
         let (c_libraries, reason) = match triple.operating_system {
@@ -260,7 +253,6 @@ impl Dialect {
     }
 
     /// The reason, if another version of the machine has a name.
-    #[inline]
     fn why_machine(self, triple: &TripleRef<'_>) -> Option<WriteError> {
         let libraries = [None, Some(ChosenLibc::Glibc), Some(ChosenLibc::Musl)];
         let has = |architecture| {
@@ -285,7 +277,6 @@ impl Dialect {
     }
 
     /// The reason, if a version of the system, or another name of it, has a name.
-    #[inline]
     fn why_system(self, triple: &TripleRef<'_>) -> Option<WriteError> {
         use OperatingSystem::{Darwin, MacOSX, Wasi};
         let has = |system| self.has_name_with(triple, |it| it.operating_system = system);
@@ -304,7 +295,6 @@ impl Dialect {
 
     /// The reason, by the machines and systems of the dialect's rows. Of the rows that are written one that begins as the
     /// triple does says more than one that only has its system, and that more than one that only has its machine.
-    #[inline]
     fn why_rows(self, triple: &TripleRef<'_>) -> WriteError {
         let shape = self.shape(triple);
         let (mut whole, mut bare) = ([0; MAX_LENGTH], [0; MAX_LENGTH]);
@@ -336,7 +326,6 @@ impl Dialect {
     }
 
     /// Whether names of what is meant state a version.
-    #[inline]
     fn states_version(self, meant: Sense<'_>) -> bool {
         let has_versions = VersionOf::of(meant.triple).is_some();
         has_versions && FIRST_NUMBERS.iter().any(|it| self.name_of(meant, Some((*it, 0))).is_some())
@@ -363,28 +352,24 @@ const ARMV7: Architecture = Architecture::Arm(ArmArchitecture::Armv7);
 const FIRST_NUMBERS: [u16; 4] = [1, 2, 11, 10240];
 
 /// The system of a triple's text, and what follows it, or the text if it is only a machine.
-#[inline]
 fn after_machine(text: &[u8]) -> &[u8] {
     let at = text.iter().position(|it| *it == b'-').unwrap_or(0);
     &text[at..]
 }
 
 /// Whether a triple's text begins with this machine, or with another Arm of 32 bits.
-#[inline]
 fn has_machine(text: &[u8], machine: &[u8]) -> bool {
     let is_arm = |it: &[u8]| it.starts_with(b"arm") || it.starts_with(b"thumb");
     begins(text, machine) || is_arm(text) && is_arm(machine)
 }
 
 /// Whether a triple's text has this system after its machine. Of most texts the last byte says that it hasn't.
-#[inline]
 fn has_system(text: &[u8], system: &[u8]) -> bool {
     let own = after_machine(text).get(..system.len());
     own.map_or(false, |own| own.last() == system.last() && own == system)
 }
 
 /// Whether a triple's text begins with whole parts of another.
-#[inline]
 fn begins(text: &[u8], parts: &[u8]) -> bool {
     matches!(text.get(parts.len()), None | Some(b'-')) && text.starts_with(parts)
 }

@@ -253,58 +253,42 @@ fn names_are_suggested() {
     }
 }
 
+/// Environments, or `-` for none, and after `=` the triples for which they should be suggested.
+const ENVIRONMENTS_OF_MACHINES: &str = "\
+gnueabihf=armv7-unknown-linux-gnueabihff armv7-unknown-linux-gnueabihf2.31 armv7-unknown-linux-gnueabihf2
+-=armv7-unknown-linux-gnueabii x86_64-linux-gnueabihff riscv64-linux-gnueabii x86_64-unknown-linux-gnueabihf2.31
+-=x86_64-unknown-none-eaib x86_64-unknown-linux-gnu_ipl32 aarch64-unknown-linux-gnxu32
+-=x86_64-unknown-linux-muslabii64 x86_64-unknown-linux-gnuabii64 x86_64-linux-androideab
+-=armv7-unknown-linux-musleabii x86_64-unknown-linux-musleab x86_64-unknown-linux-uclibceab
+-=powerpc-unknown-none-eabihff x86_64-unknown-linux-musleabihff x86_64-unknown-linux-uclibceabihff
+-=x86_64-unknown-none-spee x86_64-unknown-linux-gnux powerpc-unknown-linux-gnus armv7-unknown-linux-gnueabi1
+-=armv7-unknown-linux-ocos armv7-unknown-feebsd
+gnuabi64=mips64el-unknown-linux-gnuabii64
+gnu=arm64-unknown-linux-gnuu armv7-unknown-linux-gnux
+softfloat=aarch64-unknown-none-softfloa
+gnuspe=powerpc-unknown-linux-gnuspee
+eabi=powerpc-unknown-none-eaib mips-unknown-none-eaib hexagon-unknown-none-eaib
+gnu_ilp32=aarch64-unknown-linux-gnu_ipl32
+gnux32=x86_64-unknown-linux-gnxu32
+muslabi64=mips64-unknown-linux-muslabii64
+androideabi=armv7-linux-androideab
+musleabi=armv7-unknown-linux-musleab
+uclibceabi=armv7-unknown-linux-uclibceab
+eabihf=armv7-unknown-none-eabihff
+musleabihf=armv7-unknown-linux-musleabihff
+uclibceabihf=armv7-unknown-linux-uclibceabihff
+spe=powerpc-unknown-none-spee
+gnueabi=armv7-unknown-linux-gnueabi2.17
+ohos=x86_64-unknown-linux-ocos
+freebsd=x86_64-unknown-feebsd";
+
 #[test]
 fn an_environment_is_suggested_for_its_machines() {
-    for (text, name) in [
-        ("armv7-unknown-linux-gnueabihff", Some("gnueabihf")),
-        ("armv7-unknown-linux-gnueabii", None),
-        ("x86_64-linux-gnueabihff", None),
-        ("riscv64-linux-gnueabii", None),
-        ("mips64el-unknown-linux-gnuabii64", Some("gnuabi64")),
-        ("arm64-unknown-linux-gnuu", Some("gnu")),
-        ("armv7-unknown-linux-gnueabihf2.31", Some("gnueabihf")),
-        ("x86_64-unknown-linux-gnueabihf2.31", None),
-        ("aarch64-unknown-none-softfloa", Some("softfloat")),
-        ("powerpc-unknown-linux-gnuspee", Some("gnuspe")),
-        ("powerpc-unknown-none-eaib", Some("eabi")),
-        ("mips-unknown-none-eaib", Some("eabi")),
-        ("hexagon-unknown-none-eaib", Some("eabi")),
-        ("x86_64-unknown-none-eaib", None),
-        ("aarch64-unknown-linux-gnu_ipl32", Some("gnu_ilp32")),
-        ("x86_64-unknown-linux-gnu_ipl32", None),
-        ("x86_64-unknown-linux-gnxu32", Some("gnux32")),
-        ("aarch64-unknown-linux-gnxu32", None),
-        ("mips64-unknown-linux-muslabii64", Some("muslabi64")),
-        ("x86_64-unknown-linux-muslabii64", None),
-        ("x86_64-unknown-linux-gnuabii64", None),
-        ("armv7-linux-androideab", Some("androideabi")),
-        ("x86_64-linux-androideab", None),
-        ("armv7-unknown-linux-musleabii", None),
-        ("armv7-unknown-linux-musleab", Some("musleabi")),
-        ("x86_64-unknown-linux-musleab", None),
-        ("armv7-unknown-linux-uclibceab", Some("uclibceabi")),
-        ("x86_64-unknown-linux-uclibceab", None),
-        ("armv7-unknown-none-eabihff", Some("eabihf")),
-        ("powerpc-unknown-none-eabihff", None),
-        ("armv7-unknown-linux-musleabihff", Some("musleabihf")),
-        ("x86_64-unknown-linux-musleabihff", None),
-        ("armv7-unknown-linux-uclibceabihff", Some("uclibceabihf")),
-        ("x86_64-unknown-linux-uclibceabihff", None),
-        ("powerpc-unknown-none-spee", Some("spe")),
-        ("x86_64-unknown-none-spee", None),
-        ("armv7-unknown-linux-gnux", Some("gnu")),
-        ("x86_64-unknown-linux-gnux", None),
-        ("powerpc-unknown-linux-gnus", None),
-        ("armv7-unknown-linux-gnueabi1", None),
-        ("armv7-unknown-linux-gnueabi2.17", Some("gnueabi")),
-        ("armv7-unknown-linux-gnueabihf2", Some("gnueabihf")),
-        ("armv7-unknown-linux-ocos", None),
-        ("x86_64-unknown-linux-ocos", Some("ohos")),
-        ("armv7-unknown-feebsd", None),
-        ("x86_64-unknown-feebsd", Some("freebsd")),
-    ] {
-        let error = TripleRef::parse(text).unwrap_err();
-        assert_eq!(error.suggestion().map(|it| it.names), name, "{text}");
+    for (name, texts) in ENVIRONMENTS_OF_MACHINES.lines().map(|row| row.split_once('=').unwrap()) {
+        for text in texts.split(' ') {
+            let error = TripleRef::parse(text).unwrap_err();
+            assert_eq!(shown(error.suggestion().map(|it| it.names)), name, "{text}");
+        }
     }
 }
 

@@ -3,7 +3,6 @@
 use target_lexicon::{Field, Refusal, TextPart, TripleRef, VendorRef};
 
 /// The first part of a string, and what follows its dash, if it has one.
-#[inline]
 pub(crate) fn first_part(text: &str) -> (&str, Option<&str>) {
     match text.split_once('-') {
         Some((part, rest)) => (part, Some(rest)),

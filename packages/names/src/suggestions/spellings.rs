@@ -48,7 +48,6 @@ pub struct Fit<'a> {
 
 impl<'a> Fit<'a> {
     /// The version that stays.
-    #[inline]
     pub fn kept_version(&self) -> &'a str {
         if self.form == Form::MacOs {
             self.version
@@ -100,18 +99,15 @@ pub fn fit<'a>(place: Place, has_hard_floats: bool, part: &'a str, rest: Option<
 }
 
 /// What the first rule that fits a part by itself makes of it.
-#[inline]
 pub fn fit_alone(place: Place, part: &str) -> Option<Fit<'_>> {
     fit(place, false, part, None)
 }
 
 /// Whether a string is digits and dots, at least one.
-#[inline]
 pub fn is_dropped_version(text: &[u8]) -> bool {
     !text.is_empty() && text.iter().copied().all(is_digit_or_dot)
 }
 
-#[inline]
 pub fn is_digit_or_dot(byte: u8) -> bool {
     byte.is_ascii_digit() || byte == b'.'
 }

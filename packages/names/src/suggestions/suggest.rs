@@ -34,7 +34,6 @@ pub trait Suggest<'a>: Copy {
     /// The name that was perhaps meant. A `ParseTripleError` has the whole string, so it may be an environment of the string's
     /// architecture too. For the others [`suggestion_in`](Suggest::suggestion_in) suggests it.
     #[must_use]
-    #[inline]
     fn suggestion(self) -> Option<Suggestion<'a>> {
         let (expected, part) = self.refused();
         suggestion(expected?, part)
@@ -57,7 +56,6 @@ pub trait Suggest<'a>: Copy {
     /// assert_eq!(suggested("x86_64-unknown-linux-gnueabihff"), None);
     /// ```
     #[must_use]
-    #[inline]
     fn suggestion_in(self, text: &str) -> Option<Suggestion<'a>> {
         let (expected, part) = self.refused();
         suggestion_in(text, expected?, part)
@@ -65,7 +63,6 @@ pub trait Suggest<'a>: Copy {
 }
 
 impl<'a> Suggest<'a> for Refusal<'a> {
-    #[inline]
     fn refused(self) -> (Option<Field>, &'a str) {
         (self.expected, self.part.text)
     }
@@ -73,7 +70,6 @@ impl<'a> Suggest<'a> for Refusal<'a> {
 
 #[cfg(feature = "alloc")]
 impl<'a> Suggest<'a> for &'a ParseError {
-    #[inline]
     fn refused(self) -> (Option<Field>, &'a str) {
         (self.expected(), self.part())
     }
@@ -81,12 +77,10 @@ impl<'a> Suggest<'a> for &'a ParseError {
 
 #[cfg(feature = "alloc")]
 impl<'a> Suggest<'a> for &'a ParseTripleError {
-    #[inline]
     fn refused(self) -> (Option<Field>, &'a str) {
         (self.expected(), self.part())
     }
 
-    #[inline]
     fn suggestion(self) -> Option<Suggestion<'a>> {
         self.suggestion_in(self.text())
     }
@@ -109,7 +103,6 @@ impl<'a> Suggest<'a> for &'a ParseTripleError {
 /// assert_eq!(vendor_suggestion(&triple!("x86_64-linx")).unwrap(), "linux");
 /// ```
 #[must_use]
-#[inline]
 pub fn vendor_suggestion<'a>(triple: impl Into<TripleRef<'a>>) -> Option<Suggestion<'a>> {
     let triple = triple.into();
     let machine = Some(triple.architecture).filter(|it| *it != Architecture::Unknown);
@@ -121,7 +114,6 @@ pub fn vendor_suggestion<'a>(triple: impl Into<TripleRef<'a>>) -> Option<Suggest
 
 impl PartialEq<str> for Suggestion<'_> {
     /// Whether the suggestion is displayed as this string.
-    #[inline]
     fn eq(&self, text: &str) -> bool {
         text.strip_prefix(self.names) == Some(self.version)
     }
@@ -129,7 +121,6 @@ impl PartialEq<str> for Suggestion<'_> {
 
 impl PartialEq<&str> for Suggestion<'_> {
     /// Whether the suggestion is displayed as this string.
-    #[inline]
     fn eq(&self, text: &&str) -> bool {
         *self == **text
     }

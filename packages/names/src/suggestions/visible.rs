@@ -6,7 +6,6 @@ pub const SHOWN: usize = 200;
 
 /// Whether a character is shown as it is: those of ASCII that are printed. Each other one may control a terminal, turn the direction of
 /// text, combine with its neighbour, be invisible or look like another letter, and is escaped: `\u{1b}`.
-#[inline]
 pub fn is_visible(c: char) -> bool {
     matches!(c, ' '..='~')
 }
@@ -19,7 +18,6 @@ pub struct Visible<T> {
 }
 
 /// A value of which each character is escaped that [isn't visible](is_visible).
-#[inline]
 pub fn visible<T: fmt::Display>(value: T) -> Visible<T> {
     Visible { value, most: usize::MAX }
 }
@@ -27,14 +25,12 @@ pub fn visible<T: fmt::Display>(value: T) -> Visible<T> {
 impl<T> Visible<T> {
     /// Only the beginning of a long value, and `...`.
     #[must_use]
-    #[inline]
     pub fn shortened(self) -> Self {
         Visible { most: SHOWN, ..self }
     }
 }
 
 impl<T: fmt::Display> fmt::Display for Visible<T> {
-    #[inline]
     fn fmt(&self, f: &mut fmt::Formatter<'_>) -> fmt::Result {
         let mut shown = Shown { to: f, left: self.most, is_cut: false };
         match write!(shown, "{}", self.value) {
@@ -51,7 +47,6 @@ struct Shown<'f, 'g> {
 }
 
 impl Write for Shown<'_, '_> {
-    #[inline]
     fn write_str(&mut self, text: &str) -> fmt::Result {
         text.chars().try_for_each(|c| {
             let size = match is_visible(c) {
