@@ -204,24 +204,19 @@ fn compare(found: Vec<String>) {
 
 /// A line in pieces of at most 120 columns.
 fn wrapped(line: &str) -> String {
-    let mut width = 0;
-    let word = |word: &str| {
-        let is_first = width == 0;
-        width += 1 + word.chars().count();
-        let is_long = width > 121 && !is_first;
-        width = if is_long { 3 + word.chars().count() } else { width };
-        format!(
-            "{}{word}",
-            if is_first {
-                ""
-            } else if is_long {
-                "\n  "
-            } else {
-                " "
-            }
-        )
-    };
-    line.split(' ').map(word).collect()
+    let (mut text, mut width) = (String::new(), 0);
+    for word in line.split(' ') {
+        let length = 1 + word.chars().count();
+        let sign = match width {
+            0 => "",
+            _ if width + length > 121 => "\n  ",
+            _ => " ",
+        };
+        width = length + if sign == "\n  " { 2 } else { width };
+        text += sign;
+        text += word;
+    }
+    text
 }
 
 #[test]

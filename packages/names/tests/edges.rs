@@ -2,8 +2,8 @@
 use std::fmt::{self, Display, Write};
 use target_lexicon::{Field, TripleRef};
 use target_names::{
-    changes, meanings, read, targets_in, vendor_suggestion, visible, ChosenLibc, Dialect, Evidence, Meaning, Mistake,
-    NameError, NameOf, Suggest as _, TargetInfo, VersionOf, Versions, WordIs, SHOWN,
+    changes, meanings, read, targets_in, vendor_suggestion, visible, ChosenLibc, Dialect, Evidence, Mistake, NameError,
+    NameOf, Suggest as _, TargetInfo, VersionOf, Versions, WordIs, SHOWN,
 };
 
 /// A writer with room for so many bytes.
@@ -65,16 +65,6 @@ fn an_unknown_name_has_no_note_and_no_level() {
     for dialect in Dialect::ALL {
         assert_eq!((dialect.note("nothing"), dialect.read_loosely("nothing")), (None, Err(NameError::Unknown)));
     }
-}
-
-#[test]
-fn the_file_of_a_wheel_means_several_triples() {
-    let each =
-        |name| meanings(name).filter_map(|it| Some(it.sense.ok()?.triple.to_string())).collect::<Vec<_>>().join(" ");
-    let wheel = "a-1.0-cp311-cp311-macosx_11_0_universal2.whl";
-    assert_eq!(each(wheel), "x86_64-apple-macosx11.0.0 aarch64-apple-macosx11.0.0");
-    // Only names of Python have tags.
-    assert_eq!(each("py3-darwin_all"), "");
 }
 
 #[test]
@@ -433,25 +423,6 @@ fn a_mistake_names_all_tools() {
     let long = format!("{}-linux-gnu", "q".repeat(SHOWN + 1));
     let mistake = Dialect::Gnu.mistake(&long).unwrap().to_string();
     assert!(mistake.starts_with("as a triple: Unrecognized architecture: qqq") && mistake.ends_with("qqq..."));
-}
-
-#[test]
-fn meanings_are_those_of_each_tool() {
-    let meant = |text| {
-        let shown = |it: Meaning| {
-            format!("{} {}", it.of, it.sense.map_or_else(|why| format!("!{why}"), |it| it.triple.to_string()))
-        };
-        meanings(text).map(shown).collect::<Vec<_>>().join(", ")
-    };
-    let horizon = meanings("armv7-nintendo-horizon-newlib").next().unwrap();
-    assert_eq!(horizon.sense, Ok(triple("armv7-nintendo-horizon").into()));
-    assert_eq!(meant("darwin_all"), "go x86_64-apple-darwin, go aarch64-apple-darwin");
-    assert_eq!(meant("plan9/amd64"), "go !Plan 9 is no known name");
-    // A file of pacman's may be MSYS2's too, unless it names a system, or a machine that MSYS2 doesn't have.
-    assert_eq!(meant("linux-6.1-1-x86_64.pkg.tar.zst"), "pacman x86_64-unknown-linux-gnu");
-    assert_eq!(meant("zlib-1-1-armv7h.pkg.tar.xz"), "pacman armv7-unknown-linux-gnueabihf");
-    assert_eq!(meant("zlib-1-1-any.pkg.tar.xz"), "pacman !no machine");
-    assert_eq!(meant("zlib-1-1-x86_64.pkg.tar.zst"), "");
 }
 
 #[test]

@@ -141,25 +141,6 @@ fn rustc_targets() -> impl Iterator<Item = &'static str> {
     names.into_iter()
 }
 
-#[test]
-fn meanings_are_those_of_tools_and_then_the_triple() {
-    let shown = |it: Meaning<'static>| {
-        let triple = it.sense.map_or_else(str::to_string, |it| it.triple.to_string());
-        format!("{} {triple}", it.of)
-    };
-    let meant = |text| meanings(text).map(shown).collect::<Vec<_>>();
-    // A single word that a tool has isn't taken for a triple.
-    assert!(!meant("riscv64").concat().contains("triple "));
-    assert_eq!(meant("clever"), ["triple clever-unknown-elf"]);
-    // The triple is canonical.
-    let horizon = meant("armv7-nintendo-horizon-newlib").pop().unwrap();
-    assert!(horizon.ends_with(" armv7-nintendo-horizon"), "{horizon}");
-    let mingw = "spelling x86_64-pc-windows-gnu";
-    assert_eq!(meant("x86_64-w64-mingw32").last().unwrap(), mingw);
-    let half = "oci half of a platform: containerd adds that of the host";
-    assert!(meant("amd64").iter().any(|it| it == half));
-}
-
 /// What the command shows of a name: the triples that it means, or why it has none, or what its words say.
 fn answer(name: &str) -> String {
     let (mut triples, mut whys) = (Vec::new(), Vec::new());
