@@ -87,8 +87,6 @@ pub enum NameError {
 impl Dialect {
     /// The name of the dialect.
     ///
-    /// # Examples
-    ///
     /// ```
     /// assert_eq!(target_names::Dialect::Go.name(), "go");
     /// ```
@@ -168,8 +166,6 @@ impl Dialect {
     /// What a name of this dialect says that its triple doesn't: that `linux/amd64/v3` of OCI is for a level of x86-64, or what the
     /// vendor of a target of rustc says. `None` if there is no more, or no such name.
     ///
-    /// # Examples
-    ///
     /// ```
     /// use target_names::Dialect;
     ///
@@ -203,8 +199,6 @@ impl Dialect {
     /// There is none either if the machine of the triple can more than those for which the tool builds, so that the name would mean machines that
     /// don't run the program: no `armel` of Debian, which is Armv5, for an Armv7. In GNU, whose compilers build for all levels of a machine,
     /// a triple that has no name of a cross compiler is its own name where config.sub takes it. Nothing is allocated.
-    ///
-    /// # Examples
     ///
     /// ```
     /// use target_lexicon::TripleRef;
@@ -297,8 +291,6 @@ impl Dialect {
     /// of the system, and how much of that of the architecture isn't stated; where names don't state them, also the C
     /// library and the floating-point ABI, as in Go, OCI and Python, and in Node except on Linux. Python keeps versions of
     /// macOS and iOS, with two numbers. The binary format stays.
-    ///
-    /// # Examples
     ///
     /// ```
     /// use target_lexicon::TripleRef;

@@ -180,8 +180,6 @@ impl TypeSizes {
 
     /// The sizes in a data model.
     ///
-    /// # Examples
-    ///
     /// ```
     /// use target_lexicon::CDataModel;
     /// use target_names::TypeSizes;

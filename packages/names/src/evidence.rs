@@ -61,8 +61,6 @@ impl<T: Copy + PartialEq> Said<T> {
 
 /// What the words of a text say of a target. `Display` says it in a sentence.
 ///
-/// # Examples
-///
 /// ```
 /// use target_names::Evidence;
 ///

@@ -61,8 +61,6 @@ impl Dialect {
     /// The dialects that have a name, with what files and commands have around it: those in which
     /// [`read_loosely`](Dialect::read_loosely) gives a triple.
     ///
-    /// # Examples
-    ///
     /// ```
     /// use target_names::Dialect;
     ///
@@ -75,8 +73,6 @@ impl Dialect {
 
     /// What is wrong with a name that this dialect doesn't have, if it is one of a few mistakes. [`suggestion`](Dialect::suggestion)
     /// says which name was perhaps meant. Nothing is allocated.
-    ///
-    /// # Examples
     ///
     /// ```
     /// use target_names::{Dialect, Mistake};
@@ -163,8 +159,6 @@ impl Dialect {
     /// one may be a misspelling of it, and its triple says all that the words say which are understood. Where two edits give
     /// names of another machine too, or of another width, byte order or way to pass floating-point arguments, nothing is suggested, and neither where
     /// the nearest names of other tools are of another machine.
-    ///
-    /// # Examples
     ///
     /// ```
     /// use target_names::Dialect;

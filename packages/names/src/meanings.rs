@@ -18,8 +18,6 @@ pub enum NameOf {
 impl NameOf {
     /// The name of the dialect, or `triple` or `spelling`.
     ///
-    /// # Examples
-    ///
     /// ```
     /// use target_names::NameOf;
     ///
@@ -48,8 +46,6 @@ pub struct Meaning<'a> {
 /// files and commands have [around it](Dialect::read_loosely); and last as what is spelled like a triple. A name such as `universal2` has a
 /// meaning for each of its machines. A single word isn't taken for a triple if some tool has the name. Nobody means anything by a name of
 /// which there is no meaning: [`Evidence`] says what its words may mean. Nothing is allocated.
-///
-/// # Examples
 ///
 /// ```
 /// use target_names::{meanings, Dialect, NameOf};
@@ -98,8 +94,6 @@ pub fn meanings(text: &str) -> impl Iterator<Item = Meaning<'_>> + Clone {
 /// By whom a string is read that is no triple, or one with a custom vendor: by [`read`], if it gives a known vendor and
 /// a system; else, if it is no triple, by each dialect that means one triple by it, except GNU's, whose names are
 /// spelled like triples. If nobody reads it, the first that has it as a name says why no triple means the same.
-///
-/// # Examples
 ///
 /// ```
 /// use target_names::{readers, Dialect, NameOf};

@@ -13,8 +13,6 @@ impl Name {
 
     /// The name. It has at most 36 bytes.
     ///
-    /// # Examples
-    ///
     /// ```
     /// use target_lexicon::TripleRef;
     /// use target_names::Dialect;

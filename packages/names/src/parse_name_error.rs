@@ -8,8 +8,6 @@ use core::str::FromStr;
 
 /// Why a word is no [`Dialect`], or no [`ChosenLibc`]: there is none of that name.
 ///
-/// # Examples
-///
 /// ```
 /// use target_names::{ChosenLibc, Dialect};
 ///

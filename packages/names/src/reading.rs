@@ -86,8 +86,6 @@ pub struct ChangedParts<'a>(SpelledParts<'a>);
 /// A string that parses without a custom vendor has no changes. A string that is refused has its changes too, since
 /// what a part spells doesn't depend on that.
 ///
-/// # Examples
-///
 /// ```
 /// use target_names::changes;
 ///

@@ -56,8 +56,6 @@ impl<'a> RustcCfg<'a> {
 
     /// Each option that is set, in the order of `rustc --print cfg`: its name, and its value if it has one.
     ///
-    /// # Examples
-    ///
     /// ```
     /// use target_lexicon::triple;
     /// use target_names::TargetInfo;
@@ -225,8 +223,6 @@ fn target_vendor<'a>(triple: &TripleRef<'a>) -> &'a str {
 }
 
 /// Whether a target of rustc has this custom vendor, such as `win7` or `openwrt`.
-///
-/// # Examples
 ///
 /// ```
 /// use target_names::is_vendor_of_rustc;

@@ -11,8 +11,6 @@ pub trait TargetInfo<'a>: Copy + Into<TripleRef<'a>> {
     /// The values of rustc's cfg options. They are rustc's for each of its targets that parses; the targets whose triples the
     /// library can't represent have none. What rustc has no target of keeps its name, such as the architecture `pulley64`.
     ///
-    /// # Examples
-    ///
     /// ```
     /// use target_lexicon::triple;
     /// use target_names::TargetInfo;
@@ -32,8 +30,6 @@ pub trait TargetInfo<'a>: Copy + Into<TripleRef<'a>> {
     /// The string that LLVM and clang take for the target, which is displayed: rustc's `llvm-target` for each of its targets that
     /// parses. It states no extension of RISC-V and no C library that LLVM doesn't know: those are options. It keeps the version of a
     /// system of Apple's; that of `darwin` is the kernel's, so macOS's is written, which `macos_version` says.
-    ///
-    /// # Examples
     ///
     /// ```
     /// use target_lexicon::triple;
@@ -56,8 +52,6 @@ pub trait TargetInfo<'a>: Copy + Into<TripleRef<'a>> {
 
     /// Debian's multiarch tuple. `None` if Debian has no architecture for the triple, or it depends on a C library that the triple doesn't
     /// state.
-    ///
-    /// # Examples
     ///
     /// ```
     /// use target_lexicon::triple;
@@ -82,8 +76,6 @@ pub trait TargetInfo<'a>: Copy + Into<TripleRef<'a>> {
     /// `arm`, which stays as it is: its version says how floating-point arguments are passed. With musl it is `musleabihf`, `musleabi`, `muslabi64` or `musl`. A name of one Arm that stands for a version, such as
     /// `armv7a`, counts as that version. On Windows it is `msvc`, with MinGW `gnu`, and with that of LLVM's tools `gnullvm`.
     ///
-    /// # Examples
-    ///
     /// ```
     /// use target_names::{ChosenLibc, Dialect, TargetInfo};
     ///
@@ -99,8 +91,6 @@ pub trait TargetInfo<'a>: Copy + Into<TripleRef<'a>> {
     }
 
     /// The C library that the triple states: by its environment, or by a system that has only one.
-    ///
-    /// # Examples
     ///
     /// ```
     /// use target_lexicon::triple;
@@ -121,8 +111,6 @@ pub trait TargetInfo<'a>: Copy + Into<TripleRef<'a>> {
     }
 
     /// Whether rustc counts the system to the family `unix`.
-    ///
-    /// # Examples
     ///
     /// ```
     /// use target_lexicon::triple;
@@ -145,8 +133,6 @@ pub trait TargetInfo<'a>: Copy + Into<TripleRef<'a>> {
     /// - An unknown format is the one that the other fields give.
     ///
     /// A given format that isn't the implied one is kept. The answer is `Unknown` only for the architecture `Unknown`.
-    ///
-    /// # Examples
     ///
     /// ```
     /// use target_lexicon::{triple, BinaryFormat};
@@ -171,8 +157,6 @@ pub trait TargetInfo<'a>: Copy + Into<TripleRef<'a>> {
     /// The way to pass floating-point arguments that the triple states: on Arm by the environment, or by a system that has
     /// only one; elsewhere only by the environment `softfloat`.
     ///
-    /// # Examples
-    ///
     /// ```
     /// use target_lexicon::triple;
     /// use target_names::{FloatAbi, TargetInfo};
@@ -194,8 +178,6 @@ pub trait TargetInfo<'a>: Copy + Into<TripleRef<'a>> {
 
     /// Whether C's `char` has a sign, as clang has it. `None` where clang doesn't know the architecture, and on UEFI and VxWorks.
     ///
-    /// # Examples
-    ///
     /// ```
     /// use target_lexicon::triple;
     /// use target_names::{Signedness, TargetInfo};
@@ -213,8 +195,6 @@ pub trait TargetInfo<'a>: Copy + Into<TripleRef<'a>> {
     /// Whether LLVM emulates thread-local storage, by calls of its library: on OpenBSD, Cygwin, OpenHarmony, and Android before API
     /// level 29, which a triple doesn't state.
     ///
-    /// # Examples
-    ///
     /// ```
     /// use target_lexicon::triple;
     /// use target_names::TargetInfo;
@@ -228,8 +208,6 @@ pub trait TargetInfo<'a>: Copy + Into<TripleRef<'a>> {
     }
 
     /// Whether the object format has COMDAT sections, of which the linker keeps one: ELF, COFF and WebAssembly.
-    ///
-    /// # Examples
     ///
     /// ```
     /// use target_lexicon::triple;
@@ -246,8 +224,6 @@ pub trait TargetInfo<'a>: Copy + Into<TripleRef<'a>> {
 
     /// What ends the name of a program, as rustc names it for each of its targets that parses.
     ///
-    /// # Examples
-    ///
     /// ```
     /// use target_lexicon::triple;
     /// use target_names::TargetInfo;
@@ -263,8 +239,6 @@ pub trait TargetInfo<'a>: Copy + Into<TripleRef<'a>> {
 
     /// The version of a 32-bit Arm architecture. `None` where its name states none, and for any other architecture.
     ///
-    /// # Examples
-    ///
     /// ```
     /// use target_lexicon::triple;
     /// use target_names::TargetInfo;
@@ -278,8 +252,6 @@ pub trait TargetInfo<'a>: Copy + Into<TripleRef<'a>> {
     }
 
     /// The profile of a 32-bit Arm architecture. `None` where its name states none, such as `armv7`, which LLVM takes for `armv7-a`.
-    ///
-    /// # Examples
     ///
     /// ```
     /// use target_lexicon::triple;
@@ -296,8 +268,6 @@ pub trait TargetInfo<'a>: Copy + Into<TripleRef<'a>> {
 
     /// The version of macOS that the triple states: that of `macosx`, or of `darwin` the one that has this version of the kernel,
     /// with the number 0 after the first ones. `None` without a version, before Darwin 4, and for any other system.
-    ///
-    /// # Examples
     ///
     /// ```
     /// use target_lexicon::{triple, DeploymentTarget, OperatingSystemExt};
@@ -321,8 +291,6 @@ pub trait TargetInfo<'a>: Copy + Into<TripleRef<'a>> {
     /// The sizes of C's arithmetic types: those of the data model. A triple without one, such as of bare metal and Cygwin, has those of
     /// its compilers; `None` where no source is sure, such as on UEFI and VxWorks.
     ///
-    /// # Examples
-    ///
     /// ```
     /// use target_lexicon::triple;
     /// use target_names::TargetInfo;
@@ -340,8 +308,6 @@ pub trait TargetInfo<'a>: Copy + Into<TripleRef<'a>> {
 
     /// The layout of C's `long double`. `None` where no source is sure, such as on UEFI, VxWorks and AIX.
     ///
-    /// # Examples
-    ///
     /// ```
     /// use target_lexicon::triple;
     /// use target_names::TargetInfo;
@@ -358,8 +324,6 @@ pub trait TargetInfo<'a>: Copy + Into<TripleRef<'a>> {
     }
 
     /// The layout of C's `wchar_t`. `None` where no source is sure, such as on VxWorks and AIX.
-    ///
-    /// # Examples
     ///
     /// ```
     /// use target_lexicon::triple;

@@ -33,8 +33,6 @@ use target_lexicon::{Architecture, Field, OperatingSystem, TextPart, TripleRef, 
 ///
 /// Nothing is allocated, and the time is linear.
 ///
-/// # Examples
-///
 /// ```
 /// use target_names::targets_in;
 ///
@@ -53,8 +51,6 @@ pub fn targets_in(text: &str) -> TargetsIn<'_> {
 /// The words of a text that a check looks at, as of running text whatever its lines are: the names that [`targets_in`]
 /// gives, what is [near one](is_near_name), and misspelled triples. Of other triples with a known vendor, and of other
 /// values of the fourth rule's keys that say a machine, or before a slash a system, [`Word::is_unclear`] is true.
-///
-/// # Examples
 ///
 /// ```
 /// use target_names::words_in;

@@ -13,8 +13,6 @@ use target_lexicon::{
 impl WriteError {
     /// The reason, and what would help, as the start of a sentence in lower case.
     ///
-    /// # Examples
-    ///
     /// ```
     /// use target_lexicon::TripleRef;
     /// use target_names::{Dialect, WriteError};

@@ -333,20 +333,3 @@ fn an_error_shows_printable_ascii() {
         shows(format!("{c}").parse::<ChosenLibc>().unwrap_err().to_string());
     }
 }
-
-#[test]
-fn a_second_part_that_is_an_unknown_system_is_no_vendor() {
-    for part in "macos.11.0 linux5.10 nuttx rtems6 wasip3 windows.win10".split(' ') {
-        let text = format!("x86_64-{part}");
-        let refusal = target_names::read(&text).unwrap_err();
-        let expected = Some(Field::OperatingSystem);
-        assert_eq!((refusal.part.text, refusal.expected), (part, expected));
-    }
-}
-
-#[test]
-fn unknown_is_no_vendor_before_a_binary_format() {
-    let count = |text| target_names::changes(text).count();
-    assert_eq!(count("x86_64-none-unknown-elf"), 0);
-    assert_eq!(count("x86_64-none-unknown-eabi"), 2);
-}

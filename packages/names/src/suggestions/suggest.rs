@@ -11,8 +11,6 @@ use target_lexicon::{ParseError, ParseErrorExt as _, ParseTripleError};
 /// of a later one, if the part may be a misspelling of it. It never changes the machine, its width and byte order, how
 /// floating-point arguments are passed, or a digit; a version stays where the system may have it. [`suggestion`] says more.
 ///
-/// # Examples
-///
 /// ```
 /// use target_lexicon::{Triple, TripleExt};
 /// use target_names::Suggest;
@@ -41,8 +39,6 @@ pub trait Suggest<'a>: Copy {
 
     /// The name that was perhaps meant in this string, which has the refused part. It may be an environment of the string's
     /// architecture too.
-    ///
-    /// # Examples
     ///
     /// ```
     /// use target_lexicon::TripleRef;
@@ -88,8 +84,6 @@ impl<'a> Suggest<'a> for &'a ParseTripleError {
 
 /// The name that was perhaps meant by a custom vendor: a vendor, or a name of a later field. It may be an environment of the
 /// triple's architecture. For a known vendor it is `None`. Nothing is allocated.
-///
-/// # Examples
 ///
 /// ```
 /// use target_lexicon::{triple, TripleRef};
