@@ -501,7 +501,20 @@ go linux/amr64=-
 node linux-adm64=-
 gnu linux-ppc64--gnu=-
 debian powerpcel=-
-debian armv7-hardfloat-linux-gnueabi.2.17=armhf";
+debian armv7-hardfloat-linux-gnueabi.2.17=armhf
+debian mmusl-linux-amd64=musl-linux-amd64
+zig x86-lynx=-
+apk arm-vx7=-
+debian arm-elf=-
+node x86-64=-
+gnu x86-64=-
+debian x86-64=amd64
+rust mipsel-sony-psx=-
+debian powerpcle=-
+gnu arceb-linux-gnu=-
+node linux-x32=-
+debian armv6=-
+oci wasi-wasm=wasi/wasm";
 
 /// A dialect, a name, and after `=` the level that it says.
 const LEVELS: &str = "\
@@ -575,6 +588,8 @@ fn names_are_suggested_for_unknown_ones() {
         let found = dialect.parse::<Dialect>().unwrap().suggestion(name);
         assert_eq!(found.unwrap_or("-"), expected, "{row}");
     }
+    // A misspelling is no name after another one.
+    assert_eq!(Dialect::Debian.mistake("mmusl-linux-amd64"), None);
     // A longer string gets none.
     let path = |length: usize| format!("{}/linux/amd64", "a".repeat(length - 12));
     assert_eq!(Dialect::Go.suggestion(&path(256)), Some("linux/amd64"));

@@ -1,6 +1,6 @@
 //! Names made of a system's, a machine's and an ABI's word in the usual ways: no answer, hint or suggestion has a machine, width, byte order,
 //! way to pass floating-point arguments or system that the words don't say.
-use target_lexicon::{Architecture, Environment, Named, OperatingSystem, PointerWidth, TripleRef};
+use target_lexicon::{Architecture, Environment, OperatingSystem, PointerWidth, TripleRef};
 use target_names::{meanings, Dialect, Evidence, FloatAbi, NameOf, TargetInfo};
 
 /// Architectures, and words for machines of the same family, width and byte order.
@@ -74,13 +74,7 @@ struct Said<'a> {
 }
 
 fn family(architecture: Architecture) -> &'static str {
-    match architecture {
-        Architecture::Arm(_) => "arm",
-        Architecture::X86_32(_) => "x86",
-        Architecture::Riscv64(_) => "riscv64",
-        Architecture::Sparcv9 => "sparc64",
-        other => other.name(),
-    }
+    TripleRef { architecture, ..TripleRef::unknown() }.rustc_cfg().target_arch
 }
 
 impl Said<'_> {

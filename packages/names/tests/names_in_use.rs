@@ -185,55 +185,21 @@ fn names_of_releases_mean_what_their_words_say() {
     assert!(count >= 360, "{count}");
 }
 
-#[test]
-fn what_is_known_is_no_misspelling() {
-    assert!(Evidence::of(&"x".repeat(1000)).is_empty());
-    // A misspelling is no name after another one.
-    assert_eq!(Dialect::Debian.suggestion("mmusl-linux-amd64"), Some("musl-linux-amd64"));
-    assert_eq!(Dialect::Debian.mistake("mmusl-linux-amd64"), None);
-    for (dialect, name) in [
-        (Dialect::Zig, "x86-lynx"),
-        (Dialect::Apk, "arm-vx7"),
-        (Dialect::Debian, "arm-elf"),
-        (Dialect::Node, "x86-64"),
-        (Dialect::Gnu, "x86-64"),
-        (Dialect::Rust, "mipsel-sony-psx"),
-        (Dialect::Debian, "powerpcle"),
-        (Dialect::Gnu, "arceb-linux-gnu"),
-        (Dialect::Node, "linux-x32"),
-        (Dialect::Debian, "armv6"),
-    ] {
-        assert_eq!(dialect.suggestion(name), None, "{dialect} {name}");
-    }
-    assert_eq!(Dialect::Debian.suggestion("x86-64"), Some("amd64"));
-    assert_eq!(Dialect::Oci.suggestion("wasi-wasm"), Some("wasi/wasm"));
-}
-
 /// What a line of fresh_names.tsv says: a machine, a system, and words for the C library and floating-point arguments.
 fn contradicts(truth: &str, triple: &TripleRef<'_>) -> bool {
     let mut words = truth.split(' ');
     let machine: Architecture = words.next().unwrap().parse().unwrap();
     let system = words.next().unwrap();
-    let family = |it: Architecture| match it {
-        Architecture::Arm(_) => "arm".to_string(),
-        Architecture::X86_32(_) => "x86".to_string(),
-        Architecture::Riscv32(_) => "riscv32".to_string(),
-        Architecture::Riscv64(_) => "riscv64".to_string(),
-        other => other.to_string(),
-    };
     let level = |it: &TripleRef<'_>| it.arm_version();
     let of_truth = TripleRef { architecture: machine, ..*triple };
-    let is_machine = family(machine) == family(triple.architecture)
+    let is_machine = of_truth.rustc_cfg().target_arch == triple.rustc_cfg().target_arch
         && machine.endianness().ok() == triple.endianness().ok()
         && of_truth.pointer_width() == triple.pointer_width()
         && (level(&of_truth).is_none() || level(triple).is_none() || level(&of_truth) == level(triple));
     let has_system = match system {
         "darwin" => triple.operating_system.is_like_darwin(),
         // A version of WASI, or of iOS, may be missing.
-        _ => {
-            let own = triple.operating_system.to_string();
-            own.starts_with(system.trim_end_matches("p1"))
-        }
+        _ => triple.operating_system.to_string().starts_with(system.trim_end_matches("p1")),
     };
     let is_of = |library: CLibrary| triple.c_library().map_or(true, |it| it == library);
     let is_right = |word: &str| match word {
