@@ -18,11 +18,15 @@ use Rattle.triples.specs.Private.{Seen, HasOneMore, is_repeated, refused_answer,
 pub record AreAnswersSoFar (shown : Values → List ℕ) (lines rest : List (List ℕ)) (before : List Answer) : Type 0 where
   pub whole : (more : List Answer) → AreAnswers shown rest more → AreAnswers shown lines (before ++ more)
 
-so-far-next : {shown : Values → List ℕ} {lines rest others : List (List ℕ)} {line : List ℕ} (before : List Answer) (answer : Answer)
-    → rest ≡ line ∷ others → IsAnswer shown line answer → AreAnswersSoFar shown lines rest before → AreAnswersSoFar shown lines others (before ++ answer ∷ [])
-so-far-next before answer cut is far = record { whole = λ more are. rw append_assoc (far.whole (answer ∷ more) (rw cut (is, are))) }
+so-far-next : {shown : Values → List ℕ} {lines rest others : List (List ℕ)} {line : List ℕ} (before : List Answer)
+    (answer : Answer)
+    → rest ≡ line ∷ others → IsAnswer shown line answer → AreAnswersSoFar shown lines rest before
+    → AreAnswersSoFar shown lines others (before ++ answer ∷ [])
+so-far-next before answer cut is far =
+    record { whole = λ more are. rw append_assoc (far.whole (answer ∷ more) (rw cut (is, are))) }
 
-so-far-end : {shown : Values → List ℕ} {lines rest : List (List ℕ)} {before : List Answer} → rest ≡ [] → AreAnswersSoFar shown lines rest before → AreAnswers shown lines before
+so-far-end : {shown : Values → List ℕ} {lines rest : List (List ℕ)} {before : List Answer} → rest ≡ []
+    → AreAnswersSoFar shown lines rest before → AreAnswers shown lines before
 so-far-end none far = rw append-nil at (far.whole [] (rw none tt))
 
 -- the lines so far precede the rest, and their answers were written
@@ -31,7 +35,8 @@ pub record IsSoFar (shown : Values → List ℕ) (lines rest : List (List ℕ)) 
   pub answers : AreAnswersSoFar shown lines rest before
   pub written_lines : output ≡ written_lines before
 
-pub so-far-none : {shown : Values → List ℕ} {lines : List (List ℕ)} {output : List ℕ} → output ≡ [] → IsSoFar shown lines lines output
+pub so-far-none : {shown : Values → List ℕ} {lines : List (List ℕ)} {output : List ℕ} → output ≡ []
+    → IsSoFar shown lines lines output
 so-far-none empty = record { before = []; answers = record { whole = λ more are. are }; written_lines = empty }
 
 -- the same for a matrix: the answers that stay were written, and what they show was seen
@@ -41,38 +46,53 @@ pub record IsMatrixSoFar (lines rest : List (List ℕ)) (output : List ℕ) (see
   pub written_lines : output ≡ written_lines (matrix_of before)
   pub agree : (text : List ℕ) → contains_text seen text ≡ list_any (shows text) before
 
-pub matrix-none : {lines : List (List ℕ)} {output : List ℕ} {seen : Seen} → output ≡ [] → ((text : List ℕ) → contains_text seen text ≡ false)
+pub matrix-none : {lines : List (List ℕ)} {output : List ℕ} {seen : Seen} → output ≡ []
+    → ((text : List ℕ) → contains_text seen text ≡ false)
     → IsMatrixSoFar lines lines output seen
-matrix-none empty none = record { before = []; answers = record { whole = λ more are. are }; written_lines = empty; agree = none }
+matrix-none empty none =
+    record { before = []; answers = record { whole = λ more are. are }; written_lines = empty; agree = none }
 
 -- an answer that is written if it stays after others
 abbrev pub if_stays : Bool → Answer → List Answer
 if_stays stays line = if stays then line ∷ [] else []
 
 pub staying-push : (before lines : List Answer) (line : Answer)
-    → kept_answers before (lines ++ line ∷ []) ≡ kept_answers before lines ++ if_stays (is_kept_after (before ++ lines) line) line
-staying-push before [] line = append-nil (if_stays (is_kept_after before line) line) ∙ ap (λ (t : List Answer). if_stays (is_kept_after t line) line) (sym (append-nil before))
+    → kept_answers before (lines ++ line ∷ []) ≡ kept_answers before lines ++ if_stays
+    (is_kept_after (before ++ lines) line) line
+staying-push before [] line =
+    append-nil (if_stays (is_kept_after before line) line)
+    ∙ ap (λ (t : List Answer). if_stays (is_kept_after t line) line) (sym (append-nil before))
 staying-push before (first ∷ lines) line =
     ap (λ (t : List Answer). if_stays (is_kept_after before first) first ++ t)
-    (staying-push (before ++ first ∷ []) lines line ∙ ap (λ (t : List Answer). kept_answers (before ++ first ∷ []) lines ++ if_stays (is_kept_after t line) line) (append_assoc before (first ∷ []) lines))
+    (staying-push (before ++ first ∷ []) lines line
+    ∙ ap (λ (t : List Answer). kept_answers (before ++ first ∷ []) lines ++ if_stays (is_kept_after t line) line)
+    (append_assoc before (first ∷ []) lines))
     ∙ sym (append_assoc (if_stays (is_kept_after before first) first) _ _)
 
 pub written_lines-append : (xs ys : List Answer) → written_lines (xs ++ ys) ≡ written_lines xs ++ written_lines ys
 written_lines-append [] ys = refl
-written_lines-append (x ∷ xs) ys = ap (λ (t : List ℕ). answer_bytes x ++ (line_feed ∷ t)) (written_lines-append xs ys) ∙ sym (append_assoc (answer_bytes x) (line_feed ∷ written_lines xs) (written_lines ys))
+written_lines-append (x ∷ xs) ys =
+    ap (λ (t : List ℕ). answer_bytes x ++ (line_feed ∷ t)) (written_lines-append xs ys)
+    ∙ sym (append_assoc (answer_bytes x) (line_feed ∷ written_lines xs) (written_lines ys))
 
 repeated-stays : (before : List Answer) (seen : Seen) (answer : Answer)
     → ((text : List ℕ) → contains_text seen text ≡ list_any (shows text) before)
     → (if is_repeated seen answer then [] else answer ∷ []) ≡ if_stays (is_kept_after before answer) answer
 repeated-stays before seen (Shown text) agree =
-    rw (agree text) (elim (list_any (shows text) before) as (λ b. (if b then [] else Shown text ∷ []) ≡ if_stays (not b) (Shown text)) [ true ↦ refl | false ↦ refl ])
+    rw (agree text)
+    (elim (list_any (shows text) before) as (λ b. (if b then [] else Shown text ∷ []) ≡ if_stays (not b) (Shown text))
+    [ true ↦ refl | false ↦ refl ])
 repeated-stays before seen (Refused message) agree = refl
 
-pub push-any : (text : List ℕ) (xs : List Answer) (line : Answer) → list_any (shows text) (xs ++ line ∷ []) ≡ (list_any (shows text) xs || shows text line)
-push-any text xs line = list_any-append (shows text) xs (line ∷ []) ∙ ap (λ (b : Bool). list_any (shows text) xs || b) (or-false (shows text line))
+pub push-any : (text : List ℕ) (xs : List Answer) (line : Answer)
+    → list_any (shows text) (xs ++ line ∷ []) ≡ (list_any (shows text) xs || shows text line)
+push-any text xs line =
+    list_any-append (shows text) xs (line ∷ [])
+    ∙ ap (λ (b : Bool). list_any (shows text) xs || b) (or-false (shows text line))
 
 pub so-far-more : {shown : Values → List ℕ} {lines rest others : List (List ℕ)} {line old new : List ℕ}
-    → rest ≡ line ∷ others → AddsAnswer shown line old new → IsSoFar shown lines rest old → IsSoFar shown lines others new
+    → rest ≡ line ∷ others → AddsAnswer shown line old new → IsSoFar shown lines rest old
+    → IsSoFar shown lines others new
 so-far-more cut adds far = record {
   before = far.before ++ adds.answer ∷ [];
   answers = so-far-next far.before adds.answer cut adds.is far.answers;
@@ -82,27 +102,34 @@ so-far-more cut adds far = record {
       ∙ sym (written_lines-append far.before (adds.answer ∷ []));
 }
 
-pub so-far-whole : {shown : Values → List ℕ} {lines rest : List (List ℕ)} {output : List ℕ} → rest ≡ [] → IsSoFar shown lines rest output → IsLineOutput shown lines output
+pub so-far-whole : {shown : Values → List ℕ} {lines rest : List (List ℕ)} {output : List ℕ} → rest ≡ []
+    → IsSoFar shown lines rest output → IsLineOutput shown lines output
 so-far-whole none far = (far.before, so-far-end none far.answers, far.written_lines)
 
 -- one more answer, which the matrix may keep
 pub matrix-more : {lines rest others : List (List ℕ)} {line old new : List ℕ} {seen_old seen_new : Seen}
-    → rest ≡ line ∷ others → AddsEntry line old new seen_old seen_new → IsMatrixSoFar lines rest old seen_old → IsMatrixSoFar lines others new seen_new
+    → rest ≡ line ∷ others → AddsEntry line old new seen_old seen_new → IsMatrixSoFar lines rest old seen_old
+    → IsMatrixSoFar lines others new seen_new
 matrix-more {seen_old} cut adds far = record {
   before = far.before ++ adds.answer ∷ [];
   answers = so-far-next far.before adds.answer cut adds.is far.answers;
   written_lines =
       adds.grown
-      ∙ ap (λ (t : List ℕ). t ++ written_lines (if is_repeated seen_old adds.answer then [] else adds.answer ∷ [])) far.written_lines
-      ∙ sym (written_lines-append (matrix_of far.before) (if is_repeated seen_old adds.answer then [] else adds.answer ∷ []))
-      ∙ ap written_lines (ap (λ (t : List Answer). matrix_of far.before ++ t) (repeated-stays far.before seen_old adds.answer far.agree) ∙ sym (staying-push [] far.before adds.answer));
+      ∙ ap (λ (t : List ℕ). t ++ written_lines (if is_repeated seen_old adds.answer then [] else adds.answer ∷ []))
+      far.written_lines
+      ∙ sym
+      (written_lines-append (matrix_of far.before) (if is_repeated seen_old adds.answer then [] else adds.answer ∷ []))
+      ∙ ap written_lines
+      (ap (λ (t : List Answer). matrix_of far.before ++ t) (repeated-stays far.before seen_old adds.answer far.agree)
+      ∙ sym (staying-push [] far.before adds.answer));
   agree = λ text.
       adds.seen text
       ∙ ap (λ (b : Bool). b || shows text adds.answer) (far.agree text)
       ∙ sym (push-any text far.before adds.answer);
 }
 
-pub matrix-whole : {lines rest : List (List ℕ)} {output : List ℕ} {seen : Seen} → rest ≡ [] → IsMatrixSoFar lines rest output seen → IsMatrix lines output
+pub matrix-whole : {lines rest : List (List ℕ)} {output : List ℕ} {seen : Seen} → rest ≡ []
+    → IsMatrixSoFar lines rest output seen → IsMatrix lines output
 matrix-whole none far = (far.before, so-far-end none far.answers, far.written_lines)
 
 -- what a line that parses adds, and what a refused line adds
@@ -112,11 +139,13 @@ error-refuses : (line old new : List ℕ) (error : ParseError) → IsErrorOf lin
     → (refusal : Refusal) × IsRefusedAs line refusal × (new ≡ old ++ written_lines (refused_answer refusal ∷ []))
 error-refuses line old new error is adds =
     elim (refusal_of error) as
-    (λ (r : Option Refusal). MatchOption r (MayAllocate line) (λ refusal. IsRefusedAs line refusal) → MatchOption r ⊥ (λ refusal. new ≡ old ++ written_lines (refused_answer refusal ∷ []))
+    (λ (r : Option Refusal). MatchOption r (MayAllocate line) (λ refusal. IsRefusedAs line refusal)
+    → MatchOption r ⊥ (λ refusal. new ≡ old ++ written_lines (refused_answer refusal ∷ []))
     → (refusal : Refusal) × IsRefusedAs line refusal × (new ≡ old ++ written_lines (refused_answer refusal ∷ [])))
     [ Some refusal ↦ λ refused grown. (refusal, refused, grown) | None ↦ λ _ bad. absurd bad ] is adds
 
-pub refusal-adds : {T E : Type 0} (done : Result T E) (shown : Values → List ℕ) (line old new : List ℕ) (error : ParseError) → IsErrorOf line error
+pub refusal-adds : {T E : Type 0} (done : Result T E) (shown : Values → List ℕ) (line old new : List ℕ)
+    (error : ParseError) → IsErrorOf line error
     → OnOk done (AddsRefusal error old new) → OnOk done (AddsAnswer shown line old new)
 refusal-adds (Ok _) shown line old new error is adds =
     let refused = error-refuses line old new error is adds in
@@ -124,7 +153,8 @@ refusal-adds (Ok _) shown line old new error is adds =
 refusal-adds (Err _) shown line old new error is adds = tt
 
 -- what is shown of a triple, and then a line feed
-pub shown-adds : {T E : Type 0} (done : Result T E) (shown : Values → List ℕ) (line old unended new : List ℕ) (t : Values) → ParsesAs line t
+pub shown-adds : {T E : Type 0} (done : Result T E) (shown : Values → List ℕ) (line old unended new : List ℕ)
+    (t : Values) → ParsesAs line t
     → unended ≡ old ++ shown t → OnOk done (new ≡ unended ++ line_feed ∷ []) → OnOk done (AddsAnswer shown line old new)
 shown-adds (Ok _) shown line old unended new t reads grown ended = record {
   answer = Shown (shown t);
@@ -134,11 +164,13 @@ shown-adds (Ok _) shown line old unended new t reads grown ended = record {
 shown-adds (Err _) shown line old unended new t reads grown ended = tt
 
 module _ (line old new : List ℕ) (seen_old seen_new : Seen) where
-  unless-seen : (b : Bool) (text : List ℕ) → (if b then [] else text ++ line_feed ∷ []) ≡ written_lines (if b then [] else Shown text ∷ [])
+  unless-seen : (b : Bool) (text : List ℕ)
+      → (if b then [] else text ++ line_feed ∷ []) ≡ written_lines (if b then [] else Shown text ∷ [])
   unless-seen true text = refl
   unless-seen false text = refl
 
-  pub read-enters : {T E : Type 0} (done : Result T E) (t : Values) (text : List ℕ) → ParsesAs line t → text ≡ canonical_string t
+  pub read-enters : {T E : Type 0} (done : Result T E) (t : Values) (text : List ℕ) → ParsesAs line t
+      → text ≡ canonical_string t
       → OnOk done (new ≡ old ++ (if contains_text seen_old text then [] else text ++ line_feed ∷ []))
       → OnOk done (HasOneMore seen_old seen_new text)
       → OnOk done (AddsEntry line old new seen_old seen_new)
@@ -150,17 +182,25 @@ module _ (line old new : List ℕ) (seen_old seen_new : Seen) where
   }
   read-enters (Err _) t text reads is grown seen = tt
 
-  pub refusal-enters : {T E : Type 0} (done : Result T E) (error : ParseError) → IsErrorOf line error → OnOk done (AddsRefusal error old new)
+  pub refusal-enters : {T E : Type 0} (done : Result T E) (error : ParseError) → IsErrorOf line error
+      → OnOk done (AddsRefusal error old new)
       → OnOk done (AddsEntry line old new seen_old seen_old)
   refusal-enters (Ok _) error is adds =
       let refused = error-refuses line old new error is adds in
-      record { answer = refused_answer refused.0; is = (refused.0, refused.1, refl); grown = refused.2; seen = λ text. sym (or-false (contains_text seen_old text)) }
+      record {
+        answer = refused_answer refused.0;
+        is = (refused.0, refused.1, refl);
+        grown = refused.2;
+        seen = λ text. sym
+            (or-false (contains_text seen_old text));
+      }
   refusal-enters (Err _) error is adds = tt
 
 bytes_eq-comm : (a b : List ℕ) → bytes_eq a b ≡ bytes_eq b a
 bytes_eq-comm a b =
     let back = bytes_eq-Decides b a in
-    same_from_decides (bytes_eq a b) (bytes_eq b a) (bytes_eq-Decides a b) (λ is. sym (back.0 is), λ is. back.1 (sym is))
+    same_from_decides (bytes_eq a b) (bytes_eq b a) (bytes_eq-Decides a b)
+    (λ is. sym (back.0 is), λ is. back.1 (sym is))
 
 or-if : (a b : Bool) → (if a then true else b) ≡ (b || a)
 or-if true true = refl
@@ -169,7 +209,8 @@ or-if false true = refl
 or-if false false = refl
 
 -- a set into which a string is inserted has it and its earlier ones
-pub inserted : (text : List ℕ) (old new : Seen) → UpdatesBy string_eq (λ other. bytes_eq text (string_bytes other)) old new true → HasOneMore old new text
+pub inserted : (text : List ℕ) (old new : Seen)
+    → UpdatesBy string_eq (λ other. bytes_eq text (string_bytes other)) old new true → HasOneMore old new text
 inserted text old new updates = λ other.
     hash_set_updates_text text old new true updates other
     ∙ or-if (bytes_eq text other) (contains_text old other)
@@ -177,4 +218,5 @@ inserted text old new updates = λ other.
 
 -- an empty set has no string
 pub none-seen : (seen : Seen) → IsEmpty seen → (text : List ℕ) → contains_text seen text ≡ false
-none-seen seen empty text = ap (λ (keys : List (String Global)). list_any (λ other. bytes_eq text (string_bytes other)) keys) empty
+none-seen seen empty text =
+    ap (λ (keys : List (String Global)). list_any (λ other. bytes_eq text (string_bytes other)) keys) empty

@@ -22,11 +22,12 @@ use Rattle.triples.specs.Output.{Answer, Shown, Refused, shown_by, written_lines
 use Rattle.triples.specs.declared.line_mode.LineMode.{LineMode}
 use Rattle.triples.specs.declared.line_mode.LineMode.TheVariants.{Print, Show, Settle}
 use Rattle.triples.proofs.AnswerLemmas.{written_lines-append}
-use Rattle.triples.proofs.FilterLawLemmas.{every_input_is_filtered}
+use Rattle.triples.proofs.FilterAnswers.{every_input_is_filtered}
 use Rattle.triples.proofs.LineLemmas.{stays-first}
 
 -- a text after another in a buffer
-pub pushes-then : (a b old mid new : List ℕ) (at m end : ℕ) → Pushes a old at mid m → Pushes b mid m new end → Pushes (a ++ b) old at new end
+pub pushes-then : (a b old mid new : List ℕ) (at m end : ℕ) → Pushes a old at mid m → Pushes b mid m new end
+    → Pushes (a ++ b) old at new end
 pushes-then a b old mid new at m end first next = record {
   grown = next.grown ∙ ap (λ (t : List ℕ). t ++ b) first.grown ∙ append_assoc (take at old) a b;
   end_is = omega (arith, first.end_is, next.end_is, length-append a b);
@@ -34,25 +35,32 @@ pushes-then a b old mid new at m end first next = record {
 }
 
 -- what is shown of a triple, or the words of a refusal, and then a line feed
-pub shown-pushes : (mode : LineMode) (line : List ℕ) (t : Values) (text old mid new : List ℕ) (at m end : ℕ) → IsUtf8 line → ParsesAs line t → text ≡ shown_by mode t
-    → Pushes text old at mid m → Pushes (line_feed ∷ []) mid m new end → PushesAnswer (IsShortAnswer mode line) old at new end
+pub shown-pushes : (mode : LineMode) (line : List ℕ) (t : Values) (text old mid new : List ℕ) (at m end : ℕ)
+    → IsUtf8 line → ParsesAs line t → text ≡ shown_by mode t
+    → Pushes text old at mid m → Pushes (line_feed ∷ []) mid m new end
+    → PushesAnswer (IsShortAnswer mode line) old at new end
 shown-pushes mode line t text old mid new at m end utf8 reads is first next = record {
   answer = Shown text;
   is = record { text = λ _. (t, reads, is); other = λ other. absurd (other utf8) };
   pushed = pushes-then text (line_feed ∷ []) old mid new at m end first next;
 }
 
-pub refused-pushes : (mode : LineMode) (line : List ℕ) (refusal : Refusal) (old one mid new : List ℕ) (at a m end : ℕ) → IsUtf8 line → IsRefusedAs line refusal
-    → Pushes (codes "error: ") old at one a → Pushes (refusal_line refusal) one a mid m → Pushes (line_feed ∷ []) mid m new end
+pub refused-pushes : (mode : LineMode) (line : List ℕ) (refusal : Refusal) (old one mid new : List ℕ) (at a m end : ℕ)
+    → IsUtf8 line → IsRefusedAs line refusal
+    → Pushes (codes "error: ") old at one a → Pushes (refusal_line refusal) one a mid m
+    → Pushes (line_feed ∷ []) mid m new end
     → PushesAnswer (IsShortAnswer mode line) old at new end
 refused-pushes mode line refusal old one mid new at a m end utf8 refused words first next = record {
   answer = Refused (codes "error: " ++ refusal_line refusal);
   is = record { text = λ _. (refusal, refused, refl); other = λ other. absurd (other utf8) };
-  pushed = pushes-then (codes "error: " ++ refusal_line refusal) (line_feed ∷ []) old mid new at m end (pushes-then (codes "error: ") (refusal_line refusal) old one mid at a m words first) next;
+  pushed =
+      pushes-then (codes "error: " ++ refusal_line refusal) (line_feed ∷ []) old mid new at m end
+      (pushes-then (codes "error: ") (refusal_line refusal) old one mid at a m words first) next;
 }
 
 -- four words are short
-short-word : {A : Type 0} (name : A → List ℕ) (most : ℕ) → 1 ≤ most → ((a : A) → length (name a) ≤ most) → (o : Option A) → length (spaced_word (option_map name o)) ≤ most + 1
+short-word : {A : Type 0} (name : A → List ℕ) (most : ℕ) → 1 ≤ most → ((a : A) → length (name a) ≤ most)
+    → (o : Option A) → length (spaced_word (option_map name o)) ≤ most + 1
 short-word name most some short None = omega (arith, some)
 short-word name most some short (Some a) = omega (arith, short a)
 
@@ -74,9 +82,11 @@ facts-short t =
     )
 
 -- what a mode shows is not much longer than the line
-pub shown-short : PrintedStringsGrowAtMost → CanonicalStringsGrowAtMost → (mode : LineMode) (line : List ℕ) (t : Values) → ParsesAs line t → length (shown_by mode t) ≤ length line + 54
+pub shown-short : PrintedStringsGrowAtMost → CanonicalStringsGrowAtMost → (mode : LineMode) (line : List ℕ) (t : Values)
+    → ParsesAs line t → length (shown_by mode t) ≤ length line + 54
 shown-short printed canonical Print line t reads = omega (arith, printed line t reads)
-shown-short printed canonical Show line t reads = omega (arith, printed line t reads, facts-short t, length-append (string_of t) (facts_of t))
+shown-short printed canonical Show line t reads =
+    omega (arith, printed line t reads, facts-short t, length-append (string_of t) (facts_of t))
 shown-short printed canonical Settle line t reads = omega (arith, canonical line t reads)
 
 -- no byte is no line feed
@@ -84,38 +94,50 @@ pub no-bytes : HasNoFeed []
 no-bytes k d below = absurd (omega (arith, below))
 
 -- lists of lines
-zip-append : {A B : Type 0} (R : A → B → Type 0) (xs us : List A) (ys vs : List B) → AllZip R xs ys → AllZip R us vs → AllZip R (xs ++ us) (ys ++ vs)
+zip-append : {A B : Type 0} (R : A → B → Type 0) (xs us : List A) (ys vs : List B) → AllZip R xs ys → AllZip R us vs
+    → AllZip R (xs ++ us) (ys ++ vs)
 zip-append R [] us [] vs all is = is
 zip-append R [] us (b ∷ ys) vs all is = absurd all
 zip-append R (a ∷ xs) us [] vs all is = absurd all
 zip-append R (a ∷ xs) us (b ∷ ys) vs all is = (all.0, zip-append R xs us ys vs all.1 is)
 
-each-append : {A : Type 0} (P : A → Type 0) (xs ys : List A) → AllByRecursion P xs → AllByRecursion P ys → AllByRecursion P (xs ++ ys)
+each-append : {A : Type 0} (P : A → Type 0) (xs ys : List A) → AllByRecursion P xs → AllByRecursion P ys
+    → AllByRecursion P (xs ++ ys)
 each-append P [] ys all is = is
 each-append P (x ∷ xs) ys all is = (all.0, each-append P xs ys all.1 is)
 
 feeds-append : (xs ys : List (List ℕ)) → with_feeds (xs ++ ys) ≡ with_feeds xs ++ with_feeds ys
 feeds-append [] ys = refl
-feeds-append (x ∷ xs) ys = ap (λ (t : List ℕ). x ++ (line_feed ∷ t)) (feeds-append xs ys) ∙ sym (append_assoc x (line_feed ∷ with_feeds xs) (with_feeds ys))
+feeds-append (x ∷ xs) ys =
+    ap (λ (t : List ℕ). x ++ (line_feed ∷ t)) (feeds-append xs ys)
+    ∙ sym (append_assoc x (line_feed ∷ with_feeds xs) (with_feeds ys))
 
 module _ (mode : LineMode) (size : ℕ) where
+  answers-then : (xs ys : List (List ℕ)) (first next : List ℕ) → AreFilterAnswers mode size xs first
+      → AreFilterAnswers mode size ys next
+      → AreFilterAnswers mode size (xs ++ ys) (first ++ next)
+  answers-then xs ys first next a b = (
+    a.0 ++ b.0,
+    zip-append (IsFilterAnswer mode size) xs ys a.0 b.0 a.1 b.1,
+    ap (λ (t : List ℕ). t ++ next) a.2 ∙ ap (λ (t : List ℕ). written_lines a.0 ++ t) b.2
+        ∙ sym (written_lines-append a.0 b.0),
+  )
+
   pub filtered-none : (bytes : List ℕ) → IsFilteredTo mode size bytes bytes []
   filtered-none bytes = record { lines = []; whole = refl; each = tt; answered = ([], tt, refl) }
 
   -- one after the other
-  pub filtered-then : (bytes mid rest first next : List ℕ) → IsFilteredTo mode size bytes mid first → IsFilteredTo mode size mid rest next
+  pub filtered-then : (bytes mid rest first next : List ℕ) → IsFilteredTo mode size bytes mid first
+      → IsFilteredTo mode size mid rest next
       → IsFilteredTo mode size bytes rest (first ++ next)
   filtered-then bytes mid rest first next a b = record {
     lines = a.lines ++ b.lines;
     whole =
-        a.whole ∙ ap (λ (t : List ℕ). with_feeds a.lines ++ t) b.whole ∙ sym (append_assoc (with_feeds a.lines) (with_feeds b.lines) rest)
+        a.whole ∙ ap (λ (t : List ℕ). with_feeds a.lines ++ t) b.whole
+        ∙ sym (append_assoc (with_feeds a.lines) (with_feeds b.lines) rest)
         ∙ ap (λ (t : List ℕ). t ++ rest) (sym (feeds-append a.lines b.lines));
     each = each-append HasNoFeed a.lines b.lines a.each b.each;
-    answered = (
-      a.answered.0 ++ b.answered.0,
-      zip-append (IsFilterAnswer mode size) a.lines b.lines a.answered.0 b.answered.0 a.answered.1 b.answered.1,
-      ap (λ (t : List ℕ). t ++ next) a.answered.2 ∙ ap (λ (t : List ℕ). written_lines a.answered.0 ++ t) b.answered.2 ∙ sym (written_lines-append a.answered.0 b.answered.0),
-    );
+    answered = answers-then a.lines b.lines first next a.answered b.answered;
   }
 
   -- one line
@@ -129,7 +151,8 @@ module _ (mode : LineMode) (size : ℕ) where
   }
 
   -- more bytes came
-  pub filtered-more : (bytes rest output more : List ℕ) → IsFilteredTo mode size bytes rest output → IsFilteredTo mode size (bytes ++ more) (rest ++ more) output
+  pub filtered-more : (bytes rest output more : List ℕ) → IsFilteredTo mode size bytes rest output
+      → IsFilteredTo mode size (bytes ++ more) (rest ++ more) output
   filtered-more bytes rest output more far = record {
     lines = far.lines;
     whole = ap (λ (t : List ℕ). t ++ more) far.whole ∙ append_assoc (with_feeds far.lines) rest more;
@@ -138,15 +161,18 @@ module _ (mode : LineMode) (size : ℕ) where
   }
 
 -- the lines of bytes, one taken off after the other
-split-first : (line rest : List ℕ) → HasNoFeed line → slice_split (λ b. b == line_feed) (line ++ (line_feed ∷ rest)) ≡ line ∷ slice_split (λ b. b == line_feed) rest
+split-first : (line rest : List ℕ) → HasNoFeed line
+    → slice_split (λ b. b == line_feed) (line ++ (line_feed ∷ rest)) ≡ line ∷ slice_split (λ b. b == line_feed) rest
 split-first line rest none = slice_split_at (λ b. b == line_feed) line line_feed rest none refl
 
 lines-first : (line rest : List ℕ) → HasNoFeed line → lines_of (line ++ (line_feed ∷ rest)) ≡ line ∷ lines_of rest
 lines-first line rest none =
     ap parts_without_empty_last (split-first line rest none)
-    ∙ stays-first line (slice_split (λ b. b == line_feed) rest) (omega (arith, length-slice_split (λ b. b == line_feed) rest))
+    ∙ stays-first line (slice_split (λ b. b == line_feed) rest)
+    (omega (arith, length-slice_split (λ b. b == line_feed) rest))
 
-lines-ended : (lines : List (List ℕ)) (rest : List ℕ) → AllByRecursion HasNoFeed lines → lines_of (with_feeds lines ++ rest) ≡ lines ++ lines_of rest
+lines-ended : (lines : List (List ℕ)) (rest : List ℕ) → AllByRecursion HasNoFeed lines
+    → lines_of (with_feeds lines ++ rest) ≡ lines ++ lines_of rest
 lines-ended [] rest each = refl
 lines-ended (line ∷ lines) rest each =
     ap lines_of (append_assoc line (line_feed ∷ with_feeds lines) rest)
@@ -157,16 +183,20 @@ lines-last : (rest : List ℕ) → HasNoFeed rest → 0 < length rest → lines_
 lines-last [] none some = absurd (omega arith)
 lines-last (b ∷ bs) none some = ap parts_without_empty_last (slice_split_none (λ b. b == line_feed) (b ∷ bs) none)
 
-without-last-first : (part : List ℕ) (parts : List (List ℕ)) → 0 < length parts → parts_without_last (part ∷ parts) ≡ part ∷ parts_without_last parts
+without-last-first : (part : List ℕ) (parts : List (List ℕ)) → 0 < length parts
+    → parts_without_last (part ∷ parts) ≡ part ∷ parts_without_last parts
 without-last-first part [] some = absurd (omega arith)
 without-last-first part (next ∷ parts) some = refl
 
-ended-first : (line rest : List ℕ) → HasNoFeed line → ended_lines_of (line ++ (line_feed ∷ rest)) ≡ line ∷ ended_lines_of rest
+ended-first : (line rest : List ℕ) → HasNoFeed line
+    → ended_lines_of (line ++ (line_feed ∷ rest)) ≡ line ∷ ended_lines_of rest
 ended-first line rest none =
     ap parts_without_last (split-first line rest none)
-    ∙ without-last-first line (slice_split (λ b. b == line_feed) rest) (omega (arith, length-slice_split (λ b. b == line_feed) rest))
+    ∙ without-last-first line (slice_split (λ b. b == line_feed) rest)
+    (omega (arith, length-slice_split (λ b. b == line_feed) rest))
 
-ended-lines : (lines : List (List ℕ)) (rest : List ℕ) → AllByRecursion HasNoFeed lines → ended_lines_of (with_feeds lines ++ rest) ≡ lines ++ ended_lines_of rest
+ended-lines : (lines : List (List ℕ)) (rest : List ℕ) → AllByRecursion HasNoFeed lines
+    → ended_lines_of (with_feeds lines ++ rest) ≡ lines ++ ended_lines_of rest
 ended-lines [] rest each = refl
 ended-lines (line ∷ lines) rest each =
     ap ended_lines_of (append_assoc line (line_feed ∷ with_feeds lines) rest)
@@ -178,48 +208,50 @@ ended-none rest none = ap parts_without_last (slice_split_none (λ b. b == line_
 
 module _ (mode : LineMode) (size : ℕ) where
   -- the lines that have ended were answered
-  pub filtered-so-far : (bytes rest output : List ℕ) → IsFilteredTo mode size bytes rest output → HasNoFeed rest → AreFilterAnswers mode size (ended_lines_of bytes) output
+  pub filtered-so-far : (bytes rest output : List ℕ) → IsFilteredTo mode size bytes rest output → HasNoFeed rest
+      → AreFilterAnswers mode size (ended_lines_of bytes) output
   filtered-so-far bytes rest output far none =
       let lines : ended_lines_of bytes ≡ far.lines =
-      ap ended_lines_of far.whole ∙ ended-lines far.lines rest far.each ∙ ap (λ (t : List (List ℕ)). far.lines ++ t) (ended-none rest none) ∙ append-nil far.lines in
+      ap ended_lines_of far.whole ∙ ended-lines far.lines rest far.each
+      ∙ ap (λ (t : List (List ℕ)). far.lines ++ t) (ended-none rest none) ∙ append-nil far.lines in
       subst (λ (t : List (List ℕ)). AreFilterAnswers mode size t output) (sym lines) far.answered
 
   -- what was answered is a beginning of the answers to all lines that have ended
   pub filtered-part : EveryStringHasOneOutcome → (bytes rest output : List ℕ) → IsFilteredTo mode size bytes rest output
-      → (answers : List ℕ) × AreFilterAnswers mode size (ended_lines_of bytes) answers × (more : List ℕ) × (answers ≡ output ++ more)
+      → (answers : List ℕ) × AreFilterAnswers mode size (ended_lines_of bytes) answers × (more : List ℕ)
+      × (answers ≡ output ++ more)
   filtered-part one bytes rest output far =
       let others = every_input_is_filtered one mode size (ended_lines_of rest) in
-      let lines : ended_lines_of bytes ≡ far.lines ++ ended_lines_of rest = ap ended_lines_of far.whole ∙ ended-lines far.lines rest far.each in (
+      let lines : ended_lines_of bytes ≡ far.lines ++ ended_lines_of rest = ap ended_lines_of far.whole
+      ∙ ended-lines far.lines rest far.each in (
         output ++ others.output,
-        subst (λ (t : List (List ℕ)). AreFilterAnswers mode size t (output ++ others.output)) (sym lines) (
-          far.answered.0 ++ others.is.0,
-          zip-append (IsFilterAnswer mode size) far.lines (ended_lines_of rest) far.answered.0 others.is.0 far.answered.1 others.is.1,
-          ap (λ (t : List ℕ). t ++ others.output) far.answered.2 ∙ ap (λ (t : List ℕ). written_lines far.answered.0 ++ t) others.is.2
-              ∙ sym (written_lines-append far.answered.0 others.is.0),
-        ),
+        subst (λ (t : List (List ℕ)). AreFilterAnswers mode size t (output ++ others.output)) (sym lines)
+            (answers-then mode size far.lines (ended_lines_of rest) output others.output far.answered others.is),
         others.output,
         refl,
       )
 
   -- all lines were answered: there is no rest, or its answer is written too
   pub filtered-end : (bytes rest output last : List ℕ) → IsFilteredTo mode size bytes rest output → HasNoFeed rest
-      → ((rest ≡ []) × (last ≡ [])) ⊎ ((0 < length rest) × (answer : Answer) × IsFilterAnswer mode size rest answer × (last ≡ written_lines (answer ∷ [])))
+      → ((rest ≡ []) × (last ≡ []))
+      ⊎ ((0 < length rest) × (answer : Answer) × IsFilterAnswer mode size rest answer
+      × (last ≡ written_lines (answer ∷ [])))
       → AreFilterAnswers mode size (lines_of bytes) (output ++ last)
   filtered-end bytes rest output last far none (inl end) =
-      let lines : lines_of bytes ≡ far.lines = ap lines_of far.whole ∙ lines-ended far.lines rest far.each ∙ ap (λ (t : List ℕ). far.lines ++ lines_of t) end.0 ∙ append-nil far.lines in
+      let lines : lines_of bytes ≡ far.lines ++ [] =
+      ap lines_of far.whole ∙ lines-ended far.lines rest far.each ∙ ap (λ (t : List ℕ). far.lines ++ lines_of t) end.0 in
       subst (λ (t : List (List ℕ)). AreFilterAnswers mode size t (output ++ last)) (sym lines)
-      (subst (λ (t : List ℕ). AreFilterAnswers mode size far.lines t) (sym (ap (λ (t : List ℕ). output ++ t) end.1 ∙ append-nil output)) far.answered)
+      (answers-then mode size far.lines [] output last far.answered ([], tt, end.1))
   filtered-end bytes rest output last far none (inr end) =
       let lines : lines_of bytes ≡ far.lines ++ rest ∷ [] =
-      ap lines_of far.whole ∙ lines-ended far.lines rest far.each ∙ ap (λ (t : List (List ℕ)). far.lines ++ t) (lines-last rest none end.0) in
-      subst (λ (t : List (List ℕ)). AreFilterAnswers mode size t (output ++ last)) (sym lines) (
-        far.answered.0 ++ end.1 ∷ [],
-        zip-append (IsFilterAnswer mode size) far.lines (rest ∷ []) far.answered.0 (end.1 ∷ []) far.answered.1 (end.2, tt),
-        ap (λ (t : List ℕ). t ++ last) far.answered.2 ∙ ap (λ (t : List ℕ). written_lines far.answered.0 ++ t) end.3 ∙ sym (written_lines-append far.answered.0 (end.1 ∷ [])),
-      )
+      ap lines_of far.whole ∙ lines-ended far.lines rest far.each
+      ∙ ap (λ (t : List (List ℕ)). far.lines ++ t) (lines-last rest none end.0) in
+      subst (λ (t : List (List ℕ)). AreFilterAnswers mode size t (output ++ last)) (sym lines)
+      (answers-then mode size far.lines (rest ∷ []) output last far.answered (end.1 ∷ [], (end.2, tt), end.3))
 
 -- the answer to a line of which a part came before
-line-answer : (mode : LineMode) (late : Bool) (size : ℕ) (before line : List ℕ) (answer : Answer) → IsLate late size before → length line < size
+line-answer : (mode : LineMode) (late : Bool) (size : ℕ) (before line : List ℕ) (answer : Answer)
+    → IsLate late size before → length line < size
     → IsLineAnswer mode late line answer → IsFilterAnswer mode size (before ++ line) answer
 line-answer mode true size before line answer fits less is = record {
   long = λ _. is;
@@ -228,9 +260,14 @@ line-answer mode true size before line answer fits less is = record {
 }
 line-answer mode false size before line answer fits less is =
     subst (λ (t : List ℕ). IsFilterAnswer mode size (t ++ line) answer) (sym fits)
-    (record { long = λ bad. absurd (omega (arith, bad, less)); other = λ _ other. is.other other; text = λ _ utf8. is.text utf8 })
+    (record {
+      long = λ bad. absurd (omega (arith, bad, less));
+      other = λ _ other. is.other other;
+      text = λ _ utf8. is.text utf8;
+    })
 
-pub late-no-feed : (late : Bool) (size : ℕ) (before line : List ℕ) → IsLate late size before → HasNoFeed line → HasNoFeed (before ++ line)
+pub late-no-feed : (late : Bool) (size : ℕ) (before line : List ℕ) → IsLate late size before → HasNoFeed line
+    → HasNoFeed (before ++ line)
 late-no-feed true size before line fits none = All-append (λ b. (b == line_feed) ≡ false) before line fits.1 none
 late-no-feed false size before line fits none = subst (λ (t : List ℕ). HasNoFeed (t ++ line)) (sym fits) none
 
@@ -239,7 +276,8 @@ module _ (mode : LineMode) (late : Bool) (bytes : List ℕ) where
   answers-none size before within fits = (before, filtered-none mode size (before ++ bytes), fits)
 
   -- one more line
-  pub answers-line : (late_then : Bool) (rest output : List ℕ) (at : ℕ) (answer : Answer) → AnswersLines mode late bytes late_then rest output
+  pub answers-line : (late_then : Bool) (rest output : List ℕ) (at : ℕ) (answer : Answer)
+      → AnswersLines mode late bytes late_then rest output
       → length rest ≤ length bytes → IsLineEnd rest (Some at) → IsLineAnswer mode late_then (take at rest) answer
       → AnswersLines mode late bytes false (drop (at + 1) rest) (output ++ written_lines (answer ∷ []))
   answers-line late_then rest output at answer far shorter ends is size before within fits =
@@ -247,28 +285,42 @@ module _ (mode : LineMode) (late : Bool) (bytes : List ℕ) where
       let line = take at rest in
       let others = drop (at + 1) rest in
       let less : length line < size = omega (arith, length-take at rest, ends.0, shorter, within) in
-      let one = filtered-line mode size (now.0 ++ line) others answer (late-no-feed late_then size now.0 line now.2 ends.1) (line-answer mode late_then size now.0 line answer now.2 less is) in
-      let cut : now.0 ++ rest ≡ (now.0 ++ line) ++ (line_feed ∷ others) = ap (λ (t : List ℕ). now.0 ++ t) ends.2 ∙ sym (append_assoc now.0 line (line_feed ∷ others)) in
+      let one = filtered-line mode size (now.0 ++ line) others answer
+      (late-no-feed late_then size now.0 line now.2 ends.1)
+      (line-answer mode late_then size now.0 line answer now.2 less is) in
+      let cut : now.0 ++ rest ≡ (now.0 ++ line) ++ (line_feed ∷ others) = ap (λ (t : List ℕ). now.0 ++ t) ends.2
+      ∙ sym (append_assoc now.0 line (line_feed ∷ others)) in
       let mid = subst (λ (t : List ℕ). IsFilteredTo mode size (before ++ bytes) t output) cut now.1 in
       ([], filtered-then mode size (before ++ bytes) _ others output (written_lines (answer ∷ [])) mid one, refl)
 
 -- the last line
-pub rest-answered : (mode : LineMode) (late : Bool) (bytes : List ℕ) (answer : Answer) → (late ≡ false → 0 < length bytes) → IsLineAnswer mode late bytes answer
+some-left : (late : Bool) (size : ℕ) (before bytes : List ℕ) → (late ≡ false → 0 < length bytes)
+    → length bytes < size → IsLate late size before → 0 < length (before ++ bytes)
+some-left true size before bytes some less fits = omega (arith, less, fits.0, length-append before bytes)
+some-left false size before bytes some less fits = omega (arith, some refl, length-append before bytes)
+
+pub rest-answered : (mode : LineMode) (late : Bool) (bytes : List ℕ) (answer : Answer)
+    → (late ≡ false → 0 < length bytes) → IsLineAnswer mode late bytes answer
     → AnswersRest mode late bytes (written_lines (answer ∷ []))
-rest-answered mode true bytes answer some is = record {
-  rest = λ size before less fits. inr (omega (arith, less, fits.0, length-append before bytes), answer, line-answer mode true size before bytes answer fits less is, refl);
-}
-rest-answered mode false bytes answer some is = record {
-  rest = λ size before less fits. inr (omega (arith, some refl, length-append before bytes), answer, line-answer mode false size before bytes answer fits less is, refl);
+rest-answered mode late bytes answer some is = record {
+  rest =
+      λ size before less fits. inr (
+        some-left late size before bytes some less fits,
+        answer,
+        line-answer mode late size before bytes answer fits less is,
+        refl,
+      );
 }
 
 -- an answer was put after what is used of the buffer, of which a part may have gone to the writer first
-pub used-more : (gone more written old new : List ℕ) (used now end : ℕ) → more ++ take now old ≡ take used old → take end new ≡ take now old ++ written
+pub used-more : (gone more written old new : List ℕ) (used now end : ℕ) → more ++ take now old ≡ take used old
+    → take end new ≡ take now old ++ written
     → (gone ++ more) ++ take end new ≡ (gone ++ take used old) ++ written
 used-more gone more written old new used now end room pushed =
     ap (λ (t : List ℕ). (gone ++ more) ++ t) pushed
     ∙ append_assoc gone more (take now old ++ written)
-    ∙ ap (λ (t : List ℕ). gone ++ t) (sym (append_assoc more (take now old) written) ∙ ap (λ (t : List ℕ). t ++ written) room)
+    ∙ ap (λ (t : List ℕ). gone ++ t)
+    (sym (append_assoc more (take now old) written) ∙ ap (λ (t : List ℕ). t ++ written) room)
     ∙ sym (append_assoc gone (take used old) written)
 
 -- a slice from an index to the end
@@ -276,7 +328,8 @@ pub rest-of : (bytes : List ℕ) (start : ℕ) → take (length bytes - start) (
 rest-of bytes start = take_all (length bytes - start) (drop start bytes) (omega (arith, length-drop start bytes))
 
 -- one more line was answered
-pub line-step : (mode : LineMode) (late late_then : Bool) (bytes : List ℕ) (start at : ℕ) (gone more old new : List ℕ) (used free end : ℕ)
+pub line-step : (mode : LineMode) (late late_then : Bool) (bytes : List ℕ) (start at : ℕ) (gone more old new : List ℕ)
+    (used free end : ℕ)
     → AnswersLines mode late bytes late_then (drop start bytes) (gone ++ take used old) → start ≤ length bytes
     → IsLineEnd (take (length bytes - start) (drop start bytes)) (Some at)
     → PushesAnswer (IsLineAnswer mode late_then (take (start + at - start) (drop start bytes))) old free new end
@@ -285,17 +338,23 @@ pub line-step : (mode : LineMode) (late late_then : Bool) (bytes : List ℕ) (st
 line-step mode late late_then bytes start at gone more old new used free end far within ends pushed room =
     let rest = drop start bytes in
     let found = subst (λ (t : List ℕ). IsLineEnd t (Some at)) (rest-of bytes start) ends in
-    let is = subst (λ (n : ℕ). IsLineAnswer mode late_then (take n rest) pushed.answer) (let same : start + at - start ≡ at = omega arith in same) pushed.is in
+    let is = subst (λ (n : ℕ). IsLineAnswer mode late_then (take n rest) pushed.answer)
+    (let same : start + at - start ≡ at = omega arith in same) pushed.is in
     let shorter : length rest ≤ length bytes = omega (arith, length-drop start bytes) in
-    let next = answers-line mode late bytes late_then rest (gone ++ take used old) at pushed.answer far shorter found is in
+    let next = answers-line mode late bytes late_then rest (gone ++ take used old) at pushed.answer far shorter found
+    is in
     let where_next : drop (at + 1) rest ≡ drop (start + at + 1) bytes =
-    drop-drop (at + 1) start bytes ∙ ap (λ (n : ℕ). drop n bytes) (let same : start + (at + 1) ≡ start + at + 1 = omega arith in same) in
-    let written = used-more gone more (written_lines (pushed.answer ∷ [])) old new used free end room pushed.pushed.grown in
+    drop-drop (at + 1) start bytes
+    ∙ ap (λ (n : ℕ). drop n bytes) (let same : start + (at + 1) ≡ start + at + 1 = omega arith in same) in
+    let written = used-more gone more (written_lines (pushed.answer ∷ [])) old new used free end room
+    pushed.pushed.grown in
     subst (λ (t : List ℕ). AnswersLines mode late bytes false t ((gone ++ more) ++ take end new)) where_next
     (subst (λ (t : List ℕ). AnswersLines mode late bytes false (drop (at + 1) rest) t) (sym written) next)
 
 -- what was put is within the buffer
-pub pushed-within : (text old new : List ℕ) (at end : ℕ) → at ≤ length old → Pushes text old at new end → end ≤ length new
+pub pushed-within : (text old new : List ℕ) (at end : ℕ) → at ≤ length old → Pushes text old at new end
+    → end ≤ length new
 pushed-within text old new at end within pushed =
-    let size : length (take end new) ≡ length (take at old) + length text = ap (λ (t : List ℕ). length t) pushed.grown ∙ length-append (take at old) text in
+    let size : length (take end new) ≡ length (take at old) + length text = ap (λ (t : List ℕ). length t) pushed.grown
+    ∙ length-append (take at old) text in
     omega (arith, within, pushed.end_is, size, length-take end new, length-take at old)

@@ -20,7 +20,8 @@ read-some [] value found = absurd (let same : None ≡ Some value = found in cc)
 read-some (b ∷ bs) value found = omega arith
 
 -- the reason why a value has no answer is the reason why the input has no output
-pub input_error : (input : List ℕ) (value : Data) (e : RunError) → read input ≡ Some value → IsJsonAnswerErrorOf value e → IsJsonInputErrorOf input e
+pub input_error : (input : List ℕ) (value : Data) (e : RunError) → read input ≡ Some value → IsJsonAnswerErrorOf value e
+    → IsJsonInputErrorOf input e
 input_error input value run_error.NotList found error =
     subst (λ (o : Option Data). MatchOption o ⊥ (λ d. as_array d ≡ None)) (sym found) error
 input_error input value run_error.OutOfMemory found error = read-some input value found

@@ -25,16 +25,29 @@ loop-at-preserved g c =
     let pushed = c.push_line-used.ensures in
     let rest = drop c.loop-at.start c.args.bytes.now in
     record {
-      start = omega (arith, found.0, inv.start, length-drop c.loop-at.start c.args.bytes.now, rest-of c.args.bytes.now c.loop-at.start, ap (λ (t : List ℕ). length t) (rest-of c.args.bytes.now c.loop-at.start));
+      start =
+          omega (
+            arith,
+            found.0,
+            inv.start,
+            length-drop c.loop-at.start c.args.bytes.now,
+            rest-of c.args.bytes.now c.loop-at.start,
+            ap (λ (t : List ℕ). length t)
+                (rest-of c.args.bytes.now c.loop-at.start),
+          );
       from = omega arith;
       searched = no-bytes;
-      used = pushed-within _ c.loop-at.output c.push_line-used.new.out c.in-Ok.free c.push_line-used.result (omega (arith, room.1)) pushed.pushed;
+      used =
+          pushed-within _ c.loop-at.output c.push_line-used.new.out c.in-Ok.free c.push_line-used.result
+          (omega (arith, room.1)) pushed.pushed;
       unfailed = room.0 ∙ inv.unfailed;
       moves = room.5 ∙ inv.moves;
       written = (
         inv.written.0 ++ room.2,
-        takes-then g.W.Write.contents c.args.w.now c.loop-at.w c.make_room.new.w inv.written.0 room.2 inv.written.1 room.3,
-        line-step c.args.mode c.args.is_late c.loop-at.late c.args.bytes.now c.loop-at.start c.in-Some.at inv.written.0 room.2 c.loop-at.output c.push_line-used.new.out
+        takes-then g.W.Write.contents c.args.w.now c.loop-at.w c.make_room.new.w inv.written.0 room.2 inv.written.1
+            room.3,
+        line-step c.args.mode c.args.is_late c.loop-at.late c.args.bytes.now c.loop-at.start c.in-Some.at inv.written.0
+            room.2 c.loop-at.output c.push_line-used.new.out
             c.loop-at.used c.in-Ok.free c.push_line-used.result inv.written.2 inv.start found pushed room.4,
       );
     }
@@ -47,14 +60,25 @@ line_end-requires-clause-within g c =
 pub line_end-requires-clause-searched : goal.line_end-requires-clause-searched
 line_end-requires-clause-searched g c =
     let inv = c.loop-at.invariant in
-    subst (λ (t : List ℕ). HasNoFeed (take c.loop-at.from t)) (sym (rest-of c.args.bytes.now c.loop-at.start)) inv.searched
+    subst (λ (t : List ℕ). HasNoFeed (take c.loop-at.from t)) (sym (rest-of c.args.bytes.now c.loop-at.start))
+    inv.searched
 
 pub returns-in_default-make_room-clause-lines : goal.returns-in_default-make_room-clause-lines
 returns-in_default-make_room-clause-lines g c =
     let inv = c.loop-at.invariant in
     let failed = c.in_default-make_room.ensures in
-    let part = takes-part g.W.Write.contents c.args.w.now c.loop-at.w c.make_room.new.w inv.written.0 (take c.loop-at.used c.loop-at.output) inv.written.1 (failed.2, failed.3) in
-    (refl, omega (arith, failed.1, inv.unfailed), inv.written.0 ++ take c.loop-at.used c.loop-at.output, c.loop-at.late, drop c.loop-at.start c.args.bytes.now, inv.written.2, part.0, part.1, (omega (arith, failed.4.0, inv.moves), failed.4.1))
+    let part = takes-part g.W.Write.contents c.args.w.now c.loop-at.w c.make_room.new.w inv.written.0
+    (take c.loop-at.used c.loop-at.output) inv.written.1 (failed.2, failed.3) in (
+      refl,
+      omega (arith, failed.1, inv.unfailed),
+      inv.written.0 ++ take c.loop-at.used c.loop-at.output,
+      c.loop-at.late,
+      drop c.loop-at.start c.args.bytes.now,
+      inv.written.2,
+      part.0,
+      part.1,
+      (omega (arith, failed.4.0, inv.moves), failed.4.1),
+    )
 
 pub returns-in-Ok-write_all-clause-lines : goal.returns-in-Ok-write_all-clause-lines
 returns-in-Ok-write_all-clause-lines g c =
@@ -65,7 +89,8 @@ returns-in-Ok-write_all-clause-lines g c =
       inv.start,
       none,
       inv.written.0 ++ take c.loop-at.used c.loop-at.output,
-      takes-then g.W.Write.contents c.args.w.now c.loop-at.w c.write_all.new.writer inv.written.0 (take c.loop-at.used c.loop-at.output) inv.written.1 wrote.whole,
+      takes-then g.W.Write.contents c.args.w.now c.loop-at.w c.write_all.new.writer inv.written.0
+          (take c.loop-at.used c.loop-at.output) inv.written.1 wrote.whole,
       inv.written.2,
       wrote.moves ∙ inv.moves,
     )
@@ -74,5 +99,15 @@ pub returns-in-Err-clause-lines : goal.returns-in-Err-clause-lines
 returns-in-Err-clause-lines g c =
     let inv = c.loop-at.invariant in
     let failed = c.in-Err.ensures in
-    let part = takes-part g.W.Write.contents c.args.w.now c.loop-at.w c.write_all.new.writer inv.written.0 (take c.loop-at.used c.loop-at.output) inv.written.1 failed.begun in
-    (refl, omega (arith, failed.failed.1, inv.unfailed), inv.written.0 ++ take c.loop-at.used c.loop-at.output, c.loop-at.late, drop c.loop-at.start c.args.bytes.now, inv.written.2, part.0, part.1, (omega (arith, failed.failed.2.0, inv.moves), failed.failed.2.1))
+    let part = takes-part g.W.Write.contents c.args.w.now c.loop-at.w c.write_all.new.writer inv.written.0
+    (take c.loop-at.used c.loop-at.output) inv.written.1 failed.begun in (
+      refl,
+      omega (arith, failed.failed.1, inv.unfailed),
+      inv.written.0 ++ take c.loop-at.used c.loop-at.output,
+      c.loop-at.late,
+      drop c.loop-at.start c.args.bytes.now,
+      inv.written.2,
+      part.0,
+      part.1,
+      (omega (arith, failed.failed.2.0, inv.moves), failed.failed.2.1),
+    )

@@ -4,7 +4,8 @@ use lib.Seq.{take-paste, paste}
 use Rattle.triples.proofs.filter.keep_rest.Goals as goal
 
 -- the bytes that are copied to the front are those from `start` on
-kept : (old : List ℕ) (start end : ℕ) → start ≤ end → end ≤ length old → take (end - start) (paste old 0 (drop start old) (end - start)) ≡ drop start (take end old)
+kept : (old : List ℕ) (start end : ℕ) → start ≤ end → end ≤ length old
+    → take (end - start) (paste old 0 (drop start old) (end - start)) ≡ drop start (take end old)
 kept old start end order within =
     let n = end - start in
     let same : n ≡ 0 + n = omega arith in
@@ -14,7 +15,8 @@ kept old start end order within =
     ∙ sym (drop-take start n old) ∙ ap (λ (m : ℕ). drop start (take m old)) whole
 
 pub returns-then-start-eq0-clause-kept : goal.returns-then-start-eq0-clause-kept
-returns-then-start-eq0-clause-kept c = inr (refl, c.if-is_late.false, ap (λ (n : ℕ). drop n (take c.args.end c.args.buffer.now)) (sym c.if-start-eq0.true))
+returns-then-start-eq0-clause-kept c =
+    inr (refl, c.if-is_late.false, ap (λ (n : ℕ). drop n (take c.args.end c.args.buffer.now)) (sym c.if-start-eq0.true))
 
 pub returns-clause-kept : goal.returns-clause-kept
 returns-clause-kept c =

@@ -28,18 +28,26 @@ put-requires-in-Ok-from_str c =
     let t = values_of_ref c.in-Ok-from_str.triple in
     let reads = subst (λ (text : List ℕ). ParsesAs text t) line.0 c.in-Ok-from_str.ensures.ok in
     let shown = c.put_shown-end.ensures in
-    omega (arith, shown-short grown.printed grown.settled c.args.mode c.args.line.now t reads, c.requires, shown.end_is, shown.same_length)
+    omega (
+      arith,
+      shown-short grown.printed grown.settled c.args.mode c.args.line.now t reads,
+      c.requires,
+      shown.end_is,
+      shown.same_length,
+    )
 
 pub returns-in-Ok-from_str : goal.returns-in-Ok-from_str
 returns-in-Ok-from_str c =
     let line = c.in-Ok.ensures.cases in
     let t = values_of_ref c.in-Ok-from_str.triple in
     let reads = subst (λ (text : List ℕ). ParsesAs text t) line.0 c.in-Ok-from_str.ensures.ok in
-    shown-pushes c.args.mode c.args.line.now t (shown_by c.args.mode t) _ _ _ _ _ _ line.1 reads refl c.put_shown-end.ensures c.put-in-Ok-from_str.ensures
+    shown-pushes c.args.mode c.args.line.now t (shown_by c.args.mode t) _ _ _ _ _ _ line.1 reads refl
+    c.put_shown-end.ensures c.put-in-Ok-from_str.ensures
 
 pub returns-in-Err : goal.returns-in-Err
 returns-in-Err c =
     let line = c.in-Ok.ensures.cases in
     let refusal = refusal_value c.in-Err.refusal in
     let refused = subst (λ (text : List ℕ). IsRefusedAs text refusal) line.0 c.in-Err.ensures.err in
-    refused-pushes c.args.mode c.args.line.now refusal _ _ _ _ _ _ _ _ line.1 refused c.put-start.ensures c.put_refusal-end.ensures c.put-in-Err.ensures
+    refused-pushes c.args.mode c.args.line.now refusal _ _ _ _ _ _ _ _ line.1 refused c.put-start.ensures
+    c.put_refusal-end.ensures c.put-in-Err.ensures

@@ -14,7 +14,10 @@ returns-clause-answer c =
     let pushed = c.push_line.ensures in
     let some : c.args.is_late ≡ false → 0 < length c.args.rest.now =
     elim c.else-not-is_late.branch as (λ _. c.args.is_late ≡ false → 0 < length c.args.rest.now) [
-      | else-not-is_late-via-then-not-is_late+else-is_empty w ↦ (λ _. not-empty (length c.args.rest.now) (sym w.is_empty.ensures ∙ w.if-is_empty.false))
-      | else-not-is_late-via-else-not-is_late w ↦ (λ early. let bad : false ≡ true = sym early ∙ w.if-not-is_late.false in absurd cc)
+      | else-not-is_late-via-then-not-is_late+else-is_empty w ↦
+          (λ _. not-empty (length c.args.rest.now) (sym w.is_empty.ensures ∙ w.if-is_empty.false))
+      | else-not-is_late-via-else-not-is_late w ↦
+          (λ early. let bad : false ≡ true = sym early ∙ w.if-not-is_late.false in absurd cc)
     ] in
-    subst (λ (t : List ℕ). AnswersRest c.args.mode c.args.is_late c.args.rest.now t) (sym pushed.pushed.grown) (rest-answered c.args.mode c.args.is_late c.args.rest.now pushed.answer some pushed.is)
+    subst (λ (t : List ℕ). AnswersRest c.args.mode c.args.is_late c.args.rest.now t) (sym pushed.pushed.grown)
+    (rest-answered c.args.mode c.args.is_late c.args.rest.now pushed.answer some pushed.is)

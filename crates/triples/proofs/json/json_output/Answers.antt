@@ -5,7 +5,11 @@ use Rattle.triples.proofs.json.json_output.Goals as goal
 
 pub returns-in_err-output-clause-err : goal.returns-in_err-output-clause-err
 returns-in_err-output-clause-err c =
-    search (rules, input_error c.args.input.now (view c.in-Ok.value) c.in_err-output.field-0.0 c.in-Ok.ensures.ok c.in_err-output.ensures.err)
+    search (
+      rules,
+      input_error c.args.input.now (view c.in-Ok.value) c.in_err-output.field-0.0 c.in-Ok.ensures.ok
+          c.in_err-output.ensures.err,
+    )
 
 pub returns-in_err-push-clause-err : goal.returns-in_err-push-clause-err
 returns-in_err-push-clause-err c =

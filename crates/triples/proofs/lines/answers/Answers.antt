@@ -22,10 +22,13 @@ loop-line-preserved c =
     record {
       pattern = steps.1 ∙ inv.pattern;
       shorter = omega (arith, steps.2.0, inv.shorter);
-      so_far = so-far-more (lines_left-some c.loop-line.line-iterator c.next.new.self c.in-Some.line inv.pattern steps) c.in_ok-push_answer.ensures inv.so_far;
+      so_far =
+          so-far-more (lines_left-some c.loop-line.line-iterator c.next.new.self c.in-Some.line inv.pattern steps)
+          c.in_ok-push_answer.ensures inv.so_far;
     }
 
 pub returns-clause-output : goal.returns-clause-output
 returns-clause-output c =
     let inv = c.loop-line.invariant in
-    so-far-whole (lines_left-none c.loop-line.line-iterator c.next.new.self inv.pattern c.in-None.ensures.steps) inv.so_far
+    so-far-whole (lines_left-none c.loop-line.line-iterator c.next.new.self inv.pattern c.in-None.ensures.steps)
+    inv.so_far

@@ -19,14 +19,17 @@ returns-after-mode-2 c =
       | in-Show+in_ok-push_facts-in-Show v ↦
           let facts = facts_of (values_of c.match-mode.shown) in
           let grown : string_bytes c.match-mode-2.output ≡ old ++ (string_of (values_of c.match-mode.shown) ++ facts) =
-          ap string_bytes v.output-is ∙ v.in_ok-push_facts-in-Show.ensures ∙ ap (λ (x : List ℕ). x ++ facts) printed ∙ append_assoc old _ facts in
+          ap string_bytes v.output-is ∙ v.in_ok-push_facts-in-Show.ensures ∙ ap (λ (x : List ℕ). x ++ facts) printed
+          ∙ append_assoc old _ facts in
           search rules
       | in-Print-mode v ↦ search rules
     ] in
-    shown-adds c.push.result (shown_by c.args.mode) c.args.line.now old (string_bytes c.match-mode-2.output) (string_bytes c.push.new.self)
+    shown-adds c.push.result (shown_by c.args.mode) c.args.line.now old (string_bytes c.match-mode-2.output)
+    (string_bytes c.push.new.self)
     t c.in-Ok.ensures.ok grown (search rules)
 
 pub returns-in-Err : goal.returns-in-Err
 returns-in-Err c =
-    refusal-adds c.push_refusal.result (shown_by c.args.mode) c.args.line.now (string_bytes c.args.output.now) (string_bytes c.push_refusal.new.output)
+    refusal-adds c.push_refusal.result (shown_by c.args.mode) c.args.line.now (string_bytes c.args.output.now)
+    (string_bytes c.push_refusal.new.output)
     c.in-Err.error c.in-Err.ensures.err c.push_refusal.ensures

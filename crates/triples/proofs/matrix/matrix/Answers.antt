@@ -12,7 +12,9 @@ loop-line-init c =
     record {
       pattern = made.pattern;
       shorter = rw made.text (omega arith);
-      so_far = rw (made.has_more, made.text) (matrix-none (grind (arith, common_steps)) (none-seen c.new-seen.result c.new-seen.ensures.empty));
+      so_far =
+          rw (made.has_more, made.text)
+          (matrix-none (grind (arith, common_steps)) (none-seen c.new-seen.result c.new-seen.ensures.empty));
     }
 
 pub loop-line-preserved : goal.loop-line-preserved
@@ -22,10 +24,13 @@ loop-line-preserved c =
     record {
       pattern = steps.1 ∙ inv.pattern;
       shorter = omega (arith, steps.2.0, inv.shorter);
-      so_far = matrix-more (lines_left-some c.loop-line.line-iterator c.next.new.self c.in-Some.line inv.pattern steps) c.in_ok-push_entry.ensures inv.so_far;
+      so_far =
+          matrix-more (lines_left-some c.loop-line.line-iterator c.next.new.self c.in-Some.line inv.pattern steps)
+          c.in_ok-push_entry.ensures inv.so_far;
     }
 
 pub returns-clause-output : goal.returns-clause-output
 returns-clause-output c =
     let inv = c.loop-line.invariant in
-    matrix-whole (lines_left-none c.loop-line.line-iterator c.next.new.self inv.pattern c.in-None.ensures.steps) inv.so_far
+    matrix-whole (lines_left-none c.loop-line.line-iterator c.next.new.self inv.pattern c.in-None.ensures.steps)
+    inv.so_far

@@ -4,7 +4,8 @@ use Rattle.triples.specs.{declared.mode.Mode.Mode}
 use Rattle.triples.proofs.request.request_named.Goals as goal
 
 pub returns-in-Some : goal.returns-in-Some
-returns-in-Some c = ap (λ (mode : Option LineMode). request_among mode (mode_from_word c.args.word.now)) c.in-Some.ensures
+returns-in-Some c =
+    ap (λ (mode : Option LineMode). request_among mode (mode_from_word c.args.word.now)) c.in-Some.ensures
 
 pub returns-in-Some-from_word : goal.returns-in-Some-from_word
 returns-in-Some-from_word c =

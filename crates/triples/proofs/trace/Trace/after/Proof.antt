@@ -30,14 +30,19 @@ stayed = (stay_none_ref (0 ∷ []) tt (plain (λ _. R)) yes, (stay_none_ref (1 �
 pub after_spec : {M : Type 1} → statement M
 after_spec 𝓤 𝓛 𝓜 𝓡 wired =
     let c = f.clauses 𝓛 𝓜.mem 𝓡.returns in let W = walk_of 𝓛 f.ended stayed c in let 𝓣 = tables 𝓤 𝓛.H 𝓜 𝓡 𝓡.env in
-    proved 𝓛 f.ended stayed c 𝓜 𝓡 (Goes-none_ref 𝓛 2 (0 ∷ []) tt (plain (λ _. R)) yes, (Goes-none_ref 𝓛 2 (1 ∷ []) tt (plain (λ _. R)) yes, tt))
+    proved 𝓛 f.ended stayed c 𝓜 𝓡
+    (Goes-none_ref 𝓛 2 (0 ∷ []) tt (plain (λ _. R)) yes, (Goes-none_ref 𝓛 2 (1 ∷ []) tt (plain (λ _. R)) yes, tt))
     f.Key.name code.function (code.unfolded 𝓤 𝓛.H 𝓜 𝓡 wired)
-    (λ κs. (shr_vals, (shr_vals, tt))) (λ κs. (shr_Tells (named 0) κs.0 R, (shr_Tells (named 1) κs.1.0 R, tt))) (λ κs qs bounds a n are.
+    (λ κs. (shr_vals, (shr_vals, tt))) (λ κs. (shr_Tells (named 0) κs.0 R, (shr_Tells (named 1) κs.1.0 R, tt)))
+    (λ κs qs bounds a n are.
     let vs : List Val × (List Val × Unit {0}) = (shr_vals a.0, (shr_vals a.1.0, tt)) in
     let made : Trace = record { calls = After (bytes_of a.1.0.now.calls) ∷ a.0.now.calls } in
     let bound : W.Ghost = ((κs, qs, bounds, a, vs), n) in via 𝓤 _ (fst∗ 𝓤 _ (emp 𝓤)) (
-    qed 𝓛 (raw (alive 𝓛 f.signature κs qs) ∷ ‵ (owns (types_at f.signature.params κs) a vs) ∷ []) ∵ enter ! 𝓣.C 𝓣.Λ code.function _ _ $
-    alloc_all ! (λ l. pass_all ! refl ((tt, tt), ((tt, tt), tt)) $ sets ! (agg ! (no_more !)) refl (tt, tt) $ returns ! (look_at ! 0 refl) $ free_all ! refl $
+    qed 𝓛 (raw (alive 𝓛 f.signature κs qs) ∷ ‵ (owns (types_at f.signature.params κs) a vs) ∷ []) ∵ enter ! 𝓣.C 𝓣.Λ
+    code.function _ _ $
+    alloc_all !
+    (λ l. pass_all ! refl ((tt, tt), ((tt, tt), tt)) $ sets ! (agg ! (no_more !)) refl (tt, tt) $
+    returns ! (look_at ! 0 refl) $ free_all ! refl $
     suffices ! _ (ends_at 𝓛 f.ended stayed c bound (vstruct vnil) made (tt, (tt, tt)) (tt, (tt, tt))) $
     says ! refl $ pure_i ! (R.own_val made (vstruct vnil ∷ [])) ((λ vss. (tt, tt)), tt) ((tt, (refl, tt)), tt) $
     move ! (1 ∷ 2 ∷ 0 ∷ []) $ done !)))

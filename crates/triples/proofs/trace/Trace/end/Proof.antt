@@ -32,8 +32,11 @@ end_spec 𝓤 𝓛 𝓜 𝓡 wired =
     qed 𝓛 (((‵ (flft κs.0 qs.0) ⊛ ‵ ftrue) ⊛ ‵ ((MutRef (named 0) κs.0 R).own_val a.0 vs) ⊛ ‵ ftrue) ∷ ‵ ftrue ∷ []) ∵
     split ! $ split ! $ move ! (2 ∷ []) $ split ! $ keep ! (0 ∷ 2 ∷ []) $
     enter ! _ _ _ _ _ $ alloc_all ! (λ l. pass_all ! refl ((tt, tt), tt) $
-    fsplit3 ! $ move ! (1 ∷ 2 ∷ 3 ∷ []) $ opens ! tt R b o (λ us. closes ! tt R (record { calls = Ended ∷ a.0.now.calls }) us b o $
+    fsplit3 ! $ move ! (1 ∷ 2 ∷ 3 ∷ []) $
+    opens ! tt R b o (λ us. closes ! tt R (record { calls = Ended ∷ a.0.now.calls }) us b o $
     sets ! (of_opd ! (unit_lit !)) refl (tt, tt) $ returns ! (look_at ! 0 refl) $ free_all ! refl $ move ! (3 ∷ []) $
-    suffices ! _ (ends_at 𝓛 f.ended stayed c y vunit tt (record { calls = Ended ∷ a.0.now.calls }, tt) (tt, tt)) $ says ! refl $
-    group ! 3 $ nothing ! $ move ! (1 ∷ 0 ∷ []) $ join ! $ nothing ! $ move ! (2 ∷ 0 ∷ []) $ join ! $ frame ! $ frame ! $
+    suffices ! _ (ends_at 𝓛 f.ended stayed c y vunit tt (record { calls = Ended ∷ a.0.now.calls }, tt) (tt, tt)) $
+    says ! refl $
+    group ! 3 $ nothing ! $ move ! (1 ∷ 0 ∷ []) $ join ! $ nothing ! $ move ! (2 ∷ 0 ∷ []) $ join ! $ frame ! $
+    frame ! $
     feq_i ! _ (vunit ∷ []) _ refl $ done !)))
