@@ -602,13 +602,15 @@ class Body:
     def block(self, b, env, joins):
         if b in self.heads and b not in joins:
             return self.loop(b, env, joins)
-        outer, self.before, env = self.before, [], dict(env)
+        return self.aside(lambda: self.inside(b, dict(env), joins))
+
+    def inside(self, b, env, joins):
         statements, end = self.blocks[b]
         for to, value in statements:
             if value[0] == "aggregate" and "::" not in value[1] and value[1] != self.type_of(("copy", to)):
                 raise Unknown(f"the operator {value[1]}")  # whose value has no type of the crate
             self.assign(to, self.rvalue(value, env), env)
-        mine, joined = self.before, []
+        joined = []
         children = [it for it in self.merges if self.parent[it] == b and it not in self.heads]
         for it in sorted(children, key=self.rank.get, reverse=True):  # the last one is outermost
             among = {y for y in self.rank if b in self.dominators[y] and it not in self.dominators[y]}
@@ -621,12 +623,8 @@ class Body:
             as_let = f"let {title} := {code} in\n", ""
             joined.append((f"local ({code}) (λ {title},\n", ")") if self.crate.local else as_let)
             joins = {**joins, it: (title, names, len(self.loops))}
-        self.before = mine + joined
-        code = self.end(end, env, joins)
-        for pre, post in reversed(self.before):
-            code = pre + code + post
-        self.before = outer
-        return code
+        self.before += joined
+        return self.end(end, env, joins)
 
     def loop(self, b, env, joins):
         self.none()
