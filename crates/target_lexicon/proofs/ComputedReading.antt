@@ -1,6 +1,6 @@
 -- Parsing as a function gives the triple that a string reads as by placements, and how it is refused.
 use Rattle.target_lexicon.proofs.Common
-use Common.{◌↔◌, ◌∙◌, ◌∷◌, ◌≡◌, ◌⊎◌, Err, List, None, Ok, Option, Result, Some, [], ap, false, inl, inr, is_some, refl}
+use Common.{◌↔◌, ◌∙◌, ◌∷◌, ◌≡◌, ◌⊎◌, Err, List, None, Ok, Option, Result, Some, [], ap, inl, inr, is_some, refl}
 use Common.{subst, sym, true, ℕ, cases_Bool, false≢true, option_map_or, MatchResult, unwrap_or, architecture_of}
 use Common.{binary_format_of, environment_of, operating_system_of, vendor_of, Field, Vendor, parses_as, field_for}
 use Common.{reading, reading_from, reading_of_parts, with_value, default_binary_format, EveryStringHasOneOutcome}
@@ -30,8 +30,7 @@ read-filled expected t (p ∷ ps) done =
 
 -- or the refusal of the first part that is left
 read-left : (l : Field) (t : Values) (ps : List (List ℕ)) (q : List ℕ) (rest : List (List ℕ))
-    → left_from (expected_after l) ps ≡ q ∷ rest
-    → reading_from (expected_after l) t ps
+    → left_from (expected_after l) ps ≡ q ∷ rest → reading_from (expected_after l) t ps
     ≡ Err (refusal_with (expected_after (last_field l (fields_from (expected_after l) ps))) q)
 read-left l t [] q rest left = cc
 read-left l t (p ∷ ps) q rest left =
@@ -44,20 +43,18 @@ read-left l t (p ∷ ps) q rest left =
     ]
 
 -- each field has the value of its part, or without one the value before; while the format is open, the implied one
-record Fills (expected : Option Field) (t u : Values) (ps : List (List ℕ)) (fs : List Field) : Type 0 where
-  architecture : IsValueOf architecture_of t.architecture (part_at Architecture ps fs) u.architecture
-  vendor : IsValueOf vendor_of t.vendor (part_at Vendor ps fs) u.vendor
-  operating_system : IsValueOf operating_system_of t.operating_system (part_at OperatingSystem ps fs) u.operating_system
-  environment : IsValueOf environment_of t.environment (part_at Environment ps fs) u.environment
-  binary_format : IsValueOf binary_format_of
-      (option_map_or (λ (x : Field). default_binary_format u) expected t.binary_format) (part_at BinaryFormat ps fs)
-      u.binary_format
+abbrev Fills : Option Field → Values → Values → List (List ℕ) → List Field → Type 0
+Fills expected t u ps fs =
+    IsValueOf architecture_of t.architecture (part_at Architecture ps fs) u.architecture
+    × IsValueOf vendor_of t.vendor (part_at Vendor ps fs) u.vendor
+    × IsValueOf operating_system_of t.operating_system (part_at OperatingSystem ps fs) u.operating_system
+    × IsValueOf environment_of t.environment (part_at Environment ps fs) u.environment
+    × IsValueOf binary_format_of (option_map_or (λ (x : Field). default_binary_format u) expected t.binary_format)
+    (part_at BinaryFormat ps fs) u.binary_format
 
 fills-end : (expected : Option Field) (t : Values) → Fills expected t (finished expected t) [] []
-fills-end None t =
-    record { architecture = refl; vendor = refl; operating_system = refl; environment = refl; binary_format = refl }
-fills-end (Some x) t =
-    record { architecture = refl; vendor = refl; operating_system = refl; environment = refl; binary_format = refl }
+fills-end None t = (refl, refl, refl, refl, refl)
+fills-end (Some x) t = (refl, refl, refl, refl, refl)
 
 value-taken : {A : Type 0} (find : List ℕ → Option A) (p : List ℕ) (d u : A) → is_some (find p) ≡ true
     → u ≡ unwrap_or (find p) d → find p ≡ Some u
@@ -73,48 +70,20 @@ fills-next : (p : List ℕ) (ps : List (List ℕ)) (t u : Values) (expected : Op
     → Fills expected t u (p ∷ ps) (f ∷ fields_from (expected_after f) ps)
 unfolding parses_as
 fills-next p ps t u None f found takes h = absurd cc
-fills-next p ps t u (Some x) Architecture found takes h = record {
-  architecture =
-      value-taken architecture_of p t.architecture u.architecture takes
-      (rw (absent Architecture ps ps) at h.architecture);
-  vendor = h.vendor;
-  operating_system = h.operating_system;
-  environment = h.environment;
-  binary_format = h.binary_format;
-}
-fills-next p ps t u (Some x) Vendor found takes h = record {
-  architecture = h.architecture;
-  vendor = value-taken vendor_of p t.vendor u.vendor takes (rw (absent Vendor ps ps) at h.vendor);
-  operating_system = h.operating_system;
-  environment = h.environment;
-  binary_format = h.binary_format;
-}
-fills-next p ps t u (Some x) OperatingSystem found takes h = record {
-  architecture = h.architecture;
-  vendor = h.vendor;
-  operating_system =
-      value-taken operating_system_of p t.operating_system u.operating_system takes
-      (rw (absent OperatingSystem ps ps) at h.operating_system);
-  environment = h.environment;
-  binary_format = h.binary_format;
-}
-fills-next p ps t u (Some x) Environment found takes h = record {
-  architecture = h.architecture;
-  vendor = h.vendor;
-  operating_system = h.operating_system;
-  environment =
-      value-taken environment_of p t.environment u.environment takes (rw (absent Environment ps ps) at h.environment);
-  binary_format = h.binary_format;
-}
-fills-next p ps t u (Some x) BinaryFormat found takes h = record {
-  architecture = h.architecture;
-  vendor = h.vendor;
-  operating_system = h.operating_system;
-  environment = h.environment;
-  binary_format =
-      value-taken binary_format_of p t.binary_format u.binary_format takes
-      (rw (absent BinaryFormat ps ps) at h.binary_format);
-}
+fills-next p ps t u (Some x) Architecture found takes (a, v, s, e, f) =
+    let read = value-taken architecture_of p t.architecture u.architecture takes
+    (rw (absent Architecture ps ps) at a) in
+    (read, v, s, e, f)
+fills-next p ps t u (Some x) Vendor found takes (a, v, s, e, f) =
+    (a, value-taken vendor_of p t.vendor u.vendor takes (rw (absent Vendor ps ps) at v), s, e, f)
+fills-next p ps t u (Some x) OperatingSystem found takes (a, v, s, e, f) =
+    let is = rw (absent OperatingSystem ps ps) at s in
+    (a, v, value-taken operating_system_of p t.operating_system u.operating_system takes is, e, f)
+fills-next p ps t u (Some x) Environment found takes (a, v, s, e, f) =
+    (a, v, s, value-taken environment_of p t.environment u.environment takes (rw (absent Environment ps ps) at e), f)
+fills-next p ps t u (Some x) BinaryFormat found takes (a, v, s, e, f) =
+    let is = rw (absent BinaryFormat ps ps) at f in
+    (a, v, s, e, value-taken binary_format_of p t.binary_format u.binary_format takes is)
 
 fills : (l : Field) (t : Values) (ps : List (List ℕ)) → left_from (expected_after l) ps ≡ []
     → Fills (expected_after l) t (fill (expected_after l) t ps) ps (fields_from (expected_after l) ps)
@@ -145,13 +114,7 @@ module _ (text p : List ℕ) (ps : List (List ℕ)) (ordinary : special_values t
       let h = fills-next p ps unknown_values u (Some Architecture) Architecture found takes
       (fills Architecture t ps done) in
       let holds : HoldsParts (p ∷ ps) (Architecture ∷ fields_from (Some Vendor) ps) u =
-      record {
-        architecture = h.architecture;
-        vendor = h.vendor;
-        operating_system = h.operating_system;
-        environment = h.environment;
-        binary_format = h.binary_format;
-      } in
+      record { architecture = h.0; vendor = h.1; operating_system = h.2; environment = h.3; binary_format = h.4 } in
       rw (read-filled (Some Vendor) t ps done)
       (rw ordinary (
         parts_of text,

@@ -5,14 +5,14 @@ use Common.{◌&&◌, ◌+◌, ◌<◌, ◌^◌, ◌||◌, ◌∙◌, ◌∷◌,
 use Common.{inl, inr, is_some, length, nat_le, not, refl, subst, suc, sym, true, true≢false, zero, ℕ, and-false}
 use Common.{and_parts, not-true, length-append, join_with_byte, MatchOption, slice_get, unwrap_or, architecture_name}
 use Common.{architecture_of, is_clever, binary_format_name, binary_format_of, environment_name, environment_of, dash}
-use Common.{operating_system_name, operating_system_of, vendor_name, vendor_of, Espressif, Unknown, HasFieldsOf}
-use Common.{HasSpecialFields, HasSystemOf, HidesNewlib, PrintsTheEspIdfString, ShowsOnlyNone, Field, field_number}
-use Common.{parses_as, field_for, open_fields, default_binary_format, implied_format, elf_if_unknown, normal_step}
-use Common.{ArePartsOf, HoldsParts, IsLeastPlacement, IsValueOf, PartsParseAs, expected_after, part_at, cons_if}
-use Common.{shown_names, shows_binary_format, shows_environment, shows_operating_system, shows_unknowns, shows_vendor}
-use Common.{string_of, SpecialRow, implies_newlib, special_string, special_triple, special_values, Architecture}
-use Common.{BinaryFormat, Environment, Known, OperatingSystem, Values, VendorValue, is_clever_without_system}
-use Common.{is_same_format, is_unknown_vendor, values}
+use Common.{operating_system_name, operating_system_of, vendor_name, vendor_of, Unknown, HasFieldsOf, HasSpecialFields}
+use Common.{HasSystemOf, HidesNewlib, PrintsTheEspIdfString, ShowsOnlyNone, Field, field_number, parses_as, field_for}
+use Common.{open_fields, default_binary_format, implied_format, elf_if_unknown, normal_step, step_of, ArePartsOf}
+use Common.{HoldsParts, IsLeastPlacement, IsValueOf, PartsParseAs, expected_after, part_at, cons_if, shown_names}
+use Common.{shows_binary_format, shows_environment, shows_operating_system, shows_unknowns, shows_vendor, string_of}
+use Common.{SpecialRow, implies_newlib, special_string, special_triple, special_values, Architecture, BinaryFormat}
+use Common.{Environment, Known, OperatingSystem, Values, VendorValue, is_clever_without_system, is_same_format}
+use Common.{is_unknown_vendor, values}
 use Rattle.std.proofs.{lemmas.Bool.leb-true, Math.Bool.or-true}
 use Rattle.target_lexicon.specs.{ImpliedFormat.wasm_or_elf, FixedPoints.PrintedStringsGrowAtMost}
 use Rattle.target_lexicon.specs.{FixedPoints.CanonicalStringsGrowAtMost, FixedPoints.RefusedPartsDoNotGrow}
@@ -22,12 +22,14 @@ use Rattle.target_lexicon.proofs.GreedyPlacement.{cases_Option, fields_from, fir
 use Rattle.target_lexicon.proofs.GreedyPlacement.{least-unique, left_from, open-follows}
 use Rattle.target_lexicon.proofs.SpecialRows.{RowFacts, row_of_fields, row_of_system, row_of_text, fields_of_special}
 use Rattle.target_lexicon.proofs.SpecialRows.{prints_row}
-use Rattle.target_lexicon.proofs.{NamesAcross.environment_of-format, PrintingLemmas.printed_names, ReadParts.absent}
+use Rattle.target_lexicon.proofs.PrintingLemmas.{names_after_system, printed_names}
+use Rattle.target_lexicon.proofs.{NamesAcross.environment_of-format, ReadParts.absent}
 use Rattle.target_lexicon.proofs.{RoundTrips.is_same_format-is, RoundTrips.without_system, StepCases.step_cases}
 use Rattle.lexicon_fields.specs.Laws.{TextsAreNames, NamesGrowAtMost, NamesAreShort, max_name_length}
 use Rattle.lexicon_fields.specs.{declared.architecture.families.CleverArchitecture.CleverArchitecture}
 use Rattle.lexicon_fields.specs.{Architecture.architecture_texts, Vendor.known_vendor_name}
 use Rattle.lexicon_fields.proofs.LookUpLemmas.{value_named-all}
+use Rattle.target_lexicon.specs.declared.exception.RoundTripException.TheVariants as exceptions
 use Rattle.target_lexicon.specs.Values.architecture
 use Rattle.target_lexicon.specs.Values.operating_system
 use Rattle.target_lexicon.specs.Values.environment
@@ -54,24 +56,19 @@ weight-hidden : (b : Bool) (part : List ℕ) (parts : List (List ℕ))
     → weight (cons_if (b && false) part parts) ≡ weight parts
 weight-hidden b part parts = rw and-false refl
 
--- the parts that are shown after the system
-abbrev after_system : Bool → Values → List (List ℕ)
-after_system b t =
-    cons_if (b || shows_environment t) (environment_name t.environment)
-    (cons_if (b || shows_binary_format t) (binary_format_name t.binary_format) [])
-
 weight-parts : (t : Values) (b : Bool) → weight (shown_names b t)
     ≤ suc (length (architecture_name t.architecture))
     + (suc (length (vendor_name t.vendor))
-    + (suc (length (operating_system_name t.operating_system)) + weight (after_system b t)))
+    + (suc (length (operating_system_name t.operating_system)) + weight (names_after_system b t)))
 unfolding shown_names
 weight-parts t b =
     let system = cons_if (b || shows_operating_system t) (operating_system_name t.operating_system)
-    (after_system b t) in
+    (names_after_system b t) in
     omega (
       arith,
       weight-cons_if (shows_vendor t) (vendor_name t.vendor) system,
-      weight-cons_if (b || shows_operating_system t) (operating_system_name t.operating_system) (after_system b t),
+      weight-cons_if (b || shows_operating_system t) (operating_system_name t.operating_system)
+          (names_after_system b t),
     )
 
 weight-shown : (t : Values) (b : Bool) → weight (shown_names b t) ≡ suc (length (join_with_byte dash (shown_names b t)))
@@ -273,11 +270,10 @@ module _ (formats : TextsAreNames binary_format_name binary_format_of)
 
   -- the architecture, and the parts that are shown after the system
   after_system-growth : (t : Values) (e f : Option (List ℕ)) (b : Bool) → shows_unknowns t ≡ b
-      → architecture_of machine ≡ Some t.architecture
-      → IsValueOf environment_of environment.Unknown e t.environment
+      → architecture_of machine ≡ Some t.architecture → IsValueOf environment_of environment.Unknown e t.environment
       → IsValueOf binary_format_of (default_binary_format t) f t.binary_format
       → (f ≡ Some (binary_format_name binary_format.Unknown) → e ≢ None)
-      → length (architecture_name t.architecture) + (weight (after_system b t) + system_growth t.operating_system)
+      → length (architecture_name t.architecture) + (weight (names_after_system b t) + system_growth t.operating_system)
       ≤ length machine + (size_of e + (size_of f + 14))
   after_system-growth t e f false shown found is_e is_f last =
       omega (
@@ -381,29 +377,27 @@ by_weight : (u t : Values) → special_string u ≡ special_string t → weight 
 unfolding string_of
 by_weight u t special lighter = rw special (by_option (special_string t))
   where
-    by_option : (o : Option (List ℕ))
-        → length (unwrap_or o (join_with_byte dash (printed_names u)))
+    by_option : (o : Option (List ℕ)) → length (unwrap_or o (join_with_byte dash (printed_names u)))
         ≤ length (unwrap_or o (join_with_byte dash (printed_names t)))
     by_option (Some text) = omega arith
     by_option None = omega (arith, weight-shown u (shows_unknowns u), weight-shown t (shows_unknowns t))
 
 row-does_not_grow : (t : Values) (row : SpecialRow) → HasFieldsOf row t → RowFacts row
-    → DoesNotGrow (values t.architecture t.vendor t.operating_system environment.Newlib binary_format.Elf) t
+    → DoesNotGrow (step_of (Some exceptions.PrintsAsSpecial) t) t
 unfolding string_of
 row-does_not_grow t row is facts =
-    let u = values t.architecture t.vendor t.operating_system environment.Newlib binary_format.Elf in
+    let u = step_of (Some exceptions.PrintsAsSpecial) t in
     let of_u : HasFieldsOf row u = record {
       architecture = is.architecture;
       system = record { vendor = is.system.vendor; operating_system = is.system.operating_system };
     } in
     rw (prints_row u row of_u facts, prints_row t row is facts) (omega arith)
 
-special-does_not_grow : (t : Values) → HasSpecialFields t
-    → DoesNotGrow (values t.architecture t.vendor t.operating_system environment.Newlib binary_format.Elf) t
+special-does_not_grow : (t : Values) → HasSpecialFields t → DoesNotGrow (step_of (Some exceptions.PrintsAsSpecial) t) t
 special-does_not_grow t has = let at = row_of_fields t has in row-does_not_grow t at.0 at.1 at.2
 
 esp-does_not_grow : (t : Values) → PrintsTheEspIdfString t
-    → DoesNotGrow (values t.architecture (Known Espressif) t.operating_system environment.Newlib binary_format.Elf) t
+    → DoesNotGrow (step_of (Some exceptions.PrintsTheEspIdfString) t) t
 unfolding string_of shown_names shows_vendor shows_operating_system shows_environment shows_binary_format implied_format
     special_string implies_newlib
 esp-does_not_grow t is = rw is (omega arith)
@@ -443,14 +437,12 @@ row-lighter a row facts _ =
 
 lighter-by : (t : Values) (f : BinaryFormat) (row : SpecialRow) → HasSystemOf row t → RowFacts row → t.binary_format ≡ f
     → t.environment ≡ environment.Newlib
-    → weight (printed_names (values t.architecture t.vendor t.operating_system environment.Unknown
-    (elf_if_unknown t.binary_format))) ≤ weight (printed_names t)
+    → weight (printed_names (step_of (Some exceptions.HidesNewlib) t)) ≤ weight (printed_names t)
 lighter-by t f row is facts format newlib =
     rw (format, newlib, is.vendor, is.operating_system) (row-lighter t.architecture row facts f)
 
 newlib-lighter : (t : Values) (f : BinaryFormat) → t.binary_format ≡ f → HidesNewlib t
-    → weight (printed_names (values t.architecture t.vendor t.operating_system environment.Unknown
-    (elf_if_unknown t.binary_format))) ≤ weight (printed_names t)
+    → weight (printed_names (step_of (Some exceptions.HidesNewlib) t)) ≤ weight (printed_names t)
 newlib-lighter t f format is =
     let at = row_of_system t is.system in lighter-by t f at.0 at.1 at.2 format is.environment
 
@@ -469,8 +461,7 @@ unfolding special_string
 clever-does_not_grow (architecture.Clever c) v f is = by_weight _ _ refl (clever-lighter c v f)
 clever-does_not_grow _ v f is = absurd (true≢false (sym is))
 
-none-does_not_grow : (t : Values) → ShowsOnlyNone t
-    → DoesNotGrow (values t.architecture t.vendor operating_system.None_ environment.Unknown t.binary_format) t
+none-does_not_grow : (t : Values) → ShowsOnlyNone t → DoesNotGrow (step_of (Some exceptions.ShowsOnlyNone) t) t
 none-does_not_grow t is =
     rw (is.operating_system, is.environment)
     (clever-does_not_grow t.architecture t.vendor t.binary_format is.architecture)
@@ -479,8 +470,8 @@ step-does_not_grow : (t : Values) → DoesNotGrow (normal_step t) t
 unfolding special_string
 step-does_not_grow t = step_cases (λ u. DoesNotGrow u t) t
     (λ is. special-does_not_grow t is.fields)
-    (λ is. by_weight (values t.architecture t.vendor t.operating_system environment.Unknown
-    (elf_if_unknown t.binary_format)) t refl (newlib-lighter t t.binary_format refl is)) (esp-does_not_grow t)
+    (λ is. by_weight (step_of (Some exceptions.HidesNewlib) t) t refl (newlib-lighter t t.binary_format refl is))
+    (esp-does_not_grow t)
     (none-does_not_grow t) (λ _. omega arith)
 
 pub canonical_max_growth : PrintedStringsGrowAtMost → CanonicalStringsGrowAtMost
@@ -489,10 +480,8 @@ canonical_max_growth printed text t reads =
 
 -- a string with a vendor that fits into memory fits into memory
 pub text_with-short : (b : Bool) (t : Values) → NamesAreShort architecture_name → NamesAreShort environment_name
-    → NamesAreShort binary_format_name
-    → length (operating_system_name t.operating_system) ≤ max_name_length
-    → (special_string t ≡ None → length (vendor_name t.vendor) < 2 ^ 63)
-    → length (text_with b t) < 2 ^ 64
+    → NamesAreShort binary_format_name → length (operating_system_name t.operating_system) ≤ max_name_length
+    → (special_string t ≡ None → length (vendor_name t.vendor) < 2 ^ 63) → length (text_with b t) < 2 ^ 64
 text_with-short b t architecture environment binary_format system vendor = by_special (special_string t) refl
   where
     names : List ℕ

@@ -70,26 +70,17 @@ one_of_three t m h = (chosen (pointer_width t) t.architecture t.operating_system
 
 -- the model on another system is that of the convention, except on WebAssembly
 
-off_llp64-is : (a : Architecture) (s : OperatingSystem) → has_llp64 s ≡ false
-    → model_64 a s ≡ other_model_64 a (convention_on a s)
-off_llp64-is a s n = rw n refl
-
 off_wasm_64-is : (a : Architecture) (c : Option CallingConvention) → (a ≡ Wasm64 → ⊥)
     → other_model_64 a c ≡ convention_model_64 c
 off_wasm_64-is Wasm64 c n = absurd (n refl)
 off_wasm_64-is _ c n = refl
 
 pub wasm_64-is : (a : Architecture) (s : OperatingSystem) → has_llp64 s ≡ false → a ≡ Wasm64 → model_64 a s ≡ Some LP64
-wasm_64-is a s n is = off_llp64-is a s n ∙ ap (λ architecture. other_model_64 architecture (convention_on a s)) is
+wasm_64-is a s n is = rw n (ap (λ architecture. other_model_64 architecture (convention_on a s)) is)
 
 pub convention_64-is : (a : Architecture) (s : OperatingSystem) (c : Option CallingConvention) → has_llp64 s ≡ false
-    → (a ≡ Wasm64 → ⊥) → convention_on a s ≡ c
-    → model_64 a s ≡ convention_model_64 c
-convention_64-is a s c n p is = off_llp64-is a s n ∙ off_wasm_64-is a (convention_on a s) p ∙ ap convention_model_64 is
-
-off_ilp32-is : (a : Architecture) (s : OperatingSystem) → has_ilp32 s ≡ false
-    → model_32 a s ≡ other_model_32 a (convention_on a s)
-off_ilp32-is a s n = rw n refl
+    → (a ≡ Wasm64 → ⊥) → convention_on a s ≡ c → model_64 a s ≡ convention_model_64 c
+convention_64-is a s c n p is = rw n (off_wasm_64-is a (convention_on a s) p ∙ ap convention_model_64 is)
 
 off_wasm_32-is : (a : Architecture) (c : Option CallingConvention) → (a ≡ Wasm32 → ⊥)
     → other_model_32 a c ≡ convention_model_32 c
@@ -97,12 +88,11 @@ off_wasm_32-is Wasm32 c n = absurd (n refl)
 off_wasm_32-is _ c n = refl
 
 pub wasm_32-is : (a : Architecture) (s : OperatingSystem) → has_ilp32 s ≡ false → a ≡ Wasm32 → model_32 a s ≡ Some ILP32
-wasm_32-is a s n is = off_ilp32-is a s n ∙ ap (λ architecture. other_model_32 architecture (convention_on a s)) is
+wasm_32-is a s n is = rw n (ap (λ architecture. other_model_32 architecture (convention_on a s)) is)
 
 pub convention_32-is : (a : Architecture) (s : OperatingSystem) (c : Option CallingConvention) → has_ilp32 s ≡ false
-    → (a ≡ Wasm32 → ⊥) → convention_on a s ≡ c
-    → model_32 a s ≡ convention_model_32 c
-convention_32-is a s c n p is = off_ilp32-is a s n ∙ off_wasm_32-is a (convention_on a s) p ∙ ap convention_model_32 is
+    → (a ≡ Wasm32 → ⊥) → convention_on a s ≡ c → model_32 a s ≡ convention_model_32 c
+convention_32-is a s c n p is = rw n (off_wasm_32-is a (convention_on a s) p ∙ ap convention_model_32 is)
 
 -- and other conventions have no model
 pub no_convention_64 : (c : CallingConvention) → (c ≡ SystemV → ⊥) → (c ≡ AppleAarch64 → ⊥)

@@ -19,6 +19,12 @@ use Rattle.target_lexicon.specs.Values.environment
 abbrev pub printed_names : Values → List (List ℕ)
 printed_names t = shown_names (shows_unknowns t) t
 
+-- those of them after the system, where the last three or these are shown
+abbrev pub names_after_system : Bool → Values → List (List ℕ)
+names_after_system b t =
+    cons_if (b || shows_environment t) (environment_name t.environment)
+    (cons_if (b || shows_binary_format t) (binary_format_name t.binary_format) [])
+
 -- a dash and the name, if it is shown
 abbrev pub dashed_if : Bool → List ℕ → List ℕ
 dashed_if is_shown name = if is_shown then dash ∷ name else []

@@ -1,12 +1,12 @@
 -- What is left of the parts of a string goes on as all of them began.
 use Rattle.target_lexicon.proofs.Common
 use Common.{◌++◌, ◌+◌, ◌∙◌, ◌∷◌, ◌≡◌, ◌≢◌, ◌≤◌, List, None, Option, Some, [], ap, append_assoc, arith, false, inl, inr}
-use Common.{length, map, nat_eq, refl, sym, true, ℕ, option_map_or, IfSome, MatchOption, Implied, NotGiven, PlacedPart}
-use Common.{SourceValues, placed_from, sources_at, sources_of, Field, field_number, parses_as, field_for, open_fields}
+use Common.{length, map, nat_eq, refl, sym, true, ℕ, IfSome, MatchOption, Implied, NotGiven, PlacedPart}
+use Common.{SourceValues, placed_from, sources_at, sources_of, Field, field_number, parses_as, field_for}
 use Common.{reading_from, reading_of_parts, with_value, expected_after, part_at, Values, unknown_values, values_of_ref}
 use Rattle.target_lexicon.specs.declared.reading.Reading.{Reading}
 use Rattle.target_lexicon.specs.Explanation.{SourceValue, FromPart, same_sources, source_at, source_values, with_source}
-use Rattle.target_lexicon.specs.GreedyReading.{HasFilled, IsTaken, finished_sources, first_field}
+use Rattle.target_lexicon.specs.GreedyReading.{HasFilled, IsTaken, finished_sources}
 use Rattle.target_lexicon.proofs.GreedyPlacement.{cases_Option, field-after, fields_from, left_from}
 use Rattle.target_lexicon.specs.Field as field
 
@@ -71,10 +71,7 @@ sources-next : (unfilled : SourceValue) (x f : Field) (s : SourceValues) (p : Pl
     (fields_from (expected_after f) (strings_of ps))
     ≡ merged_sources (with_format unfilled (Some x) s) (p ∷ ps) (f ∷ fields_from (expected_after f) (strings_of ps))
 sources-next unfilled x field.Architecture s p ps = rw (absent field.Architecture ps (strings_of ps)) refl
-sources-next unfilled x field.Vendor s p ps = rw (absent field.Vendor ps (strings_of ps)) refl
-sources-next unfilled x field.OperatingSystem s p ps = rw (absent field.OperatingSystem ps (strings_of ps)) refl
-sources-next unfilled x field.Environment s p ps = rw (absent field.Environment ps (strings_of ps)) refl
-sources-next unfilled x field.BinaryFormat s p ps = rw (absent field.BinaryFormat ps (strings_of ps)) refl
+sources-next unfilled x f s p ps = rw (absent f ps (strings_of ps)) refl
 
 -- while a field is open, the format has no source yet
 abbrev pub HasOpenFormat : Option Field → SourceValues → Type 0
@@ -83,10 +80,7 @@ HasOpenFormat expected s = IfSome expected (λ _. s.binary_format ≡ NotGiven)
 format-next : (x f : Field) (s : SourceValues) (p : PlacedPart) → HasOpenFormat (Some x) s
     → HasOpenFormat (expected_after f) (with_source f (FromPart p) s)
 format-next x field.BinaryFormat s p is = tt
-format-next x field.Architecture s p is = is
-format-next x field.Vendor s p is = is
-format-next x field.OperatingSystem s p is = is
-format-next x field.Environment s p is = is
+format-next x f s p is = is
 
 -- what is left of the parts of a string goes on as all of them began
 pub record GoesOn (expected : Option Field) (t : Values) (s : SourceValues) (left parts : List PlacedPart) : Type 0

@@ -5,20 +5,21 @@ use Common.{is_some, not, refl, subst, sym, true, true≢false, ℕ, and-false, 
 use Common.{architecture_name, is_clever, binary_format_name, environment_name, HasVersionInRange}
 use Common.{operating_system_name, is_plain, vendor_name, vendor_of, Unknown, HasSystemOf, HidesNewlib, PrintsAsSpecial}
 use Common.{PrintsTheEspIdfString, ShowsOnlyNone, parses_as, reading_from, reading_of_parts, with_value}
-use Common.{default_binary_format, implied_format, elf_if_unknown, normal_step, cons_if, shown_names}
+use Common.{default_binary_format, implied_format, elf_if_unknown, normal_step, step_of, cons_if, shown_names}
 use Common.{shows_binary_format, shows_environment, shows_operating_system, shows_unknowns, shows_vendor, Refusal}
 use Common.{SpecialRow, implies_newlib, special_string, Architecture, BinaryFormat, Environment, Known, OperatingSystem}
 use Common.{Values, VendorValue, is_clever_without_system, is_same_format, is_unknown_vendor, unknown_values, values}
 use Rattle.target_lexicon.specs.Printing.{omits_unknown_vendor}
 use Rattle.lexicon_fields.specs.declared.architecture.families.CleverArchitecture.{CleverArchitecture}
 use Rattle.std.proofs.lemmas.Bool.{or_parts, not-false}
-use Rattle.target_lexicon.proofs.PrintingLemmas.{printed_names}
+use Rattle.target_lexicon.proofs.PrintingLemmas.{names_after_system, printed_names}
 use Rattle.target_lexicon.proofs.NamesAcross.{NamesAreRead, environment_of-format, operating_system_of-format}
 use Rattle.target_lexicon.proofs.NamesAcross.{operating_system_of-environment, vendor_of-operating_system}
 use Rattle.target_lexicon.proofs.NamesAcross.{system_as_vendor}
 use Rattle.target_lexicon.proofs.SpecialRows.{RowFacts, special_of_fields, system_of_newlib, row_of_system}
 use Rattle.target_lexicon.proofs.SpecialRows.{special_system, newlib_system, no_newlib}
 use Rattle.target_lexicon.proofs.StepCases.{step_cases, outside-fixed, only_none-step}
+use Rattle.target_lexicon.specs.declared.exception.RoundTripException.TheVariants as exceptions
 use Rattle.target_lexicon.specs.Values.architecture
 use Rattle.target_lexicon.specs.Values.operating_system
 use Rattle.target_lexicon.specs.Values.environment
@@ -54,8 +55,7 @@ shown_or_implied t =
 
 -- the fields that are unknown if both are shown as unknown
 pub are_unknown : (a : Architecture) (v : VendorValue) (s : OperatingSystem) (e : Environment) (f : BinaryFormat)
-    → shows_unknowns (values a v s e f) ≡ true
-    → (e ≡ environment.Unknown) × (f ≡ binary_format.Unknown)
+    → shows_unknowns (values a v s e f) ≡ true → (e ≡ environment.Unknown) × (f ≡ binary_format.Unknown)
 are_unknown a v s environment.Unknown binary_format.Unknown shown = (refl, refl)
 are_unknown a v s _ _ shown = absurd (false≢true shown)
 
@@ -137,12 +137,19 @@ without_system v = no_newlib v operating_system.Unknown refl
 abbrev unread : Architecture → VendorValue → OperatingSystem → Values
 unread a v s = values a v s environment.Unknown binary_format.Unknown
 
+-- `Clever` without a system
+abbrev on_clever : CleverArchitecture → VendorValue → Environment → BinaryFormat → Values
+on_clever c v e f = values (architecture.Clever c) v operating_system.Unknown e f
+
+-- the parts parse as the normal step
+abbrev Rounds : Bool → Values → Type 0
+Rounds b t = reading_of_parts (shown_names b t) ≡ Ok (normal_step t)
+
 module _ (names : NamesAreRead) where
   -- the format, parsed back after an environment that is shown or not
 
   format-read : (a : Architecture) (v : VendorValue) (s : OperatingSystem) (e : Environment)
-      (f : BinaryFormat) (b : Bool)
-      → reading_from (Some field.BinaryFormat) (values a v s e binary_format.Unknown)
+      (f : BinaryFormat) (b : Bool) → reading_from (Some field.BinaryFormat) (values a v s e binary_format.Unknown)
       (cons_if b (binary_format_name f) []) ≡ Ok (values a v s e (cond b f (implied_format a s e)))
   unfolding parses_as
   format-read a v s e f true = rw (names.binary_format.reads_back f tt, names.binary_format.reads_back f tt) refl
@@ -174,8 +181,7 @@ module _ (names : NamesAreRead) where
   -- the same without a system
   alone-read : (a : Architecture) (v : VendorValue) (f : BinaryFormat) (b : Bool)
       → reading_from (Some field.OperatingSystem) (unread a v operating_system.Unknown)
-      (cons_if b (binary_format_name f) [])
-      ≡ Ok (values a v operating_system.Unknown environment.Unknown
+      (cons_if b (binary_format_name f) []) ≡ Ok (values a v operating_system.Unknown environment.Unknown
       (cond (known_format f && b) f (implied_format a operating_system.Unknown environment.Unknown)))
   unfolding parses_as
   alone-read a v binary_format.Unknown false = refl
@@ -193,12 +199,10 @@ module _ (names : NamesAreRead) where
   -- the parts that upstream shows after the system, parsed back
   abbrev ReadsAfter : Values → Values → Type 0
   ReadsAfter t u = reading_from (Some field.Environment) (unread t.architecture t.vendor t.operating_system)
-      (cons_if (shows_environment t) (environment_name t.environment)
-      (cons_if (shows_binary_format t) (binary_format_name t.binary_format) [])) ≡ Ok u
+      (names_after_system false t) ≡ Ok u
 
   row-read : (t : Values) (row : SpecialRow) → HasSystemOf row t → RowFacts row → t.environment ≡ environment.Newlib
-      → ReadsAfter t (values t.architecture t.vendor t.operating_system environment.Unknown
-      (elf_if_unknown t.binary_format))
+      → ReadsAfter t (step_of (Some exceptions.HidesNewlib) t)
   unfolding shows_environment shows_binary_format
   row-read t row is facts newlib =
       rw (
@@ -210,24 +214,19 @@ module _ (names : NamesAreRead) where
         facts.operating_system,
         and-false,
       )
-      (hidden-read t.architecture _ _ t.binary_format _
-      ∙ rw (facts.implied t.architecture environment.Unknown)
+      (hidden-read t.architecture _ _ t.binary_format _ ∙ rw (facts.implied t.architecture environment.Unknown)
       (ap (λ f. Ok (values t.architecture (Known row.vendor) row.operating_system environment.Unknown f))
       (shown_unless_elf t.binary_format)))
 
-  newlib-read : (t : Values) → HidesNewlib t
-      → ReadsAfter t (values t.architecture t.vendor t.operating_system environment.Unknown
-      (elf_if_unknown t.binary_format))
+  newlib-read : (t : Values) → HidesNewlib t → ReadsAfter t (step_of (Some exceptions.HidesNewlib) t)
   newlib-read t is = let at = row_of_system t is.system in row-read t at.0 at.1 at.2 is.environment
 
   module _ (a : Architecture) (v : VendorValue) (s : OperatingSystem) (e : Environment) (f : BinaryFormat)
       (none : special_string (values a v s e f) ≡ None)
       (hidden : shows_unknowns (values a v s e f) ≡ false) where
-    unknown-read : e ≡ environment.Unknown
-        → reading_from (Some field.Environment) (unread a v s)
+    unknown-read : e ≡ environment.Unknown → reading_from (Some field.Environment) (unread a v s)
         (cons_if (shows_binary_format (values a v s e f)) (binary_format_name f) []) ≡ Ok (values a v s e f)
-    unknown-read is = rw is (hidden-read a v s f _
-        ∙ ap (λ x. Ok (values a v s environment.Unknown x))
+    unknown-read is = rw is (hidden-read a v s f _ ∙ ap (λ x. Ok (values a v s environment.Unknown x))
         (shown_unless_unknown f _ _ (rw is at hidden) (shown_or_implied (values a v s environment.Unknown f))))
 
     outside-read : ¬ HidesNewlib (values a v s e f) → (b : Bool) → shows_environment (values a v s e f) ≡ b
@@ -252,6 +251,10 @@ module _ (names : NamesAreRead) where
 
   -- architecture, vendor and system, parsed back
 
+  first-read : (a : Architecture) → with_value field.Architecture (architecture_name a) unknown_values
+      ≡ unread a (Known Unknown) operating_system.Unknown
+  first-read a = rw (names.architecture.reads_back a tt) refl
+
   prefix : (a : Architecture) (v : VendorValue) (b : Bool) (rest : List (List ℕ)) (result : Result Values Refusal)
       → is_plain v ≡ true
       → (b ≡ false → reading_from (Some field.Vendor) (unread a (Known Unknown) operating_system.Unknown) rest ≡ result)
@@ -259,18 +262,14 @@ module _ (names : NamesAreRead) where
       → reading_of_parts (architecture_name a ∷ cons_if b (vendor_name v) rest) ≡ result
   unfolding parses_as
   prefix a v true rest result plain hidden reads =
-      let first : with_value field.Architecture (architecture_name a) unknown_values
-      ≡ unread a (Known Unknown) operating_system.Unknown = rw (names.architecture.reads_back a tt) refl in
       let read : with_value field.Vendor (vendor_name v) (unread a (Known Unknown) operating_system.Unknown)
       ≡ unread a v operating_system.Unknown = rw (names.vendor.reads_back v plain) refl in
       rw (names.architecture.reads_back a tt, names.vendor.reads_back v plain)
       (ap (λ (t : Values). reading_from (Some field.OperatingSystem) t rest)
-      (ap (with_value field.Vendor (vendor_name v)) first ∙ read) ∙ reads)
+      (ap (with_value field.Vendor (vendor_name v)) (first-read a) ∙ read) ∙ reads)
   prefix a v false rest result plain hidden reads =
-      let first : with_value field.Architecture (architecture_name a) unknown_values
-      ≡ unread a (Known Unknown) operating_system.Unknown = rw (names.architecture.reads_back a tt) refl in
-      rw (names.architecture.reads_back a tt) (ap (λ (t : Values). reading_from (Some field.Vendor) t rest) first
-      ∙ hidden refl)
+      rw (names.architecture.reads_back a tt)
+      (ap (λ (t : Values). reading_from (Some field.Vendor) t rest) (first-read a) ∙ hidden refl)
 
   -- if the system is shown, with these parts after it
   after_system : (a : Architecture) (v : VendorValue) (s : OperatingSystem) (e : Environment) (f : BinaryFormat)
@@ -296,9 +295,8 @@ module _ (names : NamesAreRead) where
 
   -- if it isn't: Clever without a system
   clever-fixed : (c : CleverArchitecture) (v : VendorValue) (e : Environment) (f : BinaryFormat) → e ≢ environment.None
-      → normal_step (values (architecture.Clever c) v operating_system.Unknown e f) ≡ values (architecture.Clever c) v
-      operating_system.Unknown e f
-  clever-fixed c v e f other = outside-fixed (values (architecture.Clever c) v operating_system.Unknown e f) (record {
+      → normal_step (on_clever c v e f) ≡ on_clever c v e f
+  clever-fixed c v e f other = outside-fixed (on_clever c v e f) (record {
     special = λ is. true≢false (special_system _ is.fields);
     newlib = λ is. true≢false (newlib_system _ is.system);
     esp = λ is. let bad = ap (λ x. x.operating_system) is in cc;
@@ -306,32 +304,29 @@ module _ (names : NamesAreRead) where
   })
 
   clever-step : (c : CleverArchitecture) (v : VendorValue) (f : BinaryFormat)
-      → normal_step (values (architecture.Clever c) v operating_system.Unknown environment.None f)
+      → normal_step (on_clever c v environment.None f)
       ≡ values (architecture.Clever c) v operating_system.None_ environment.Unknown f
-  clever-step c v f = only_none-step (values (architecture.Clever c) v operating_system.Unknown environment.None f)
+  clever-step c v f = only_none-step (on_clever c v environment.None f)
       (record { architecture = refl; operating_system = refl; environment = refl })
 
   -- after an environment `none` the format is shown, unless it is unknown
   none-shown : (c : CleverArchitecture) (v : VendorValue) (f : BinaryFormat)
       → cond (known_format f && shows_binary_format
-      (values (architecture.Clever c) v operating_system.Unknown environment.None f)) f binary_format.Unknown ≡ f
+      (on_clever c v environment.None f)) f binary_format.Unknown ≡ f
   unfolding shows_binary_format implied_format
   none-shown c v binary_format.Unknown = refl
   none-shown c v _ = refl
 
   clever-read : (c : CleverArchitecture) (v : VendorValue) (e : Environment) (f : BinaryFormat)
-      → shows_unknowns (values (architecture.Clever c) v operating_system.Unknown e f) ≡ false
+      → shows_unknowns (on_clever c v e f) ≡ false
       → reading_from (Some field.OperatingSystem) (unread (architecture.Clever c) v operating_system.Unknown)
-      (cons_if (shows_environment (values (architecture.Clever c) v operating_system.Unknown e f)) (environment_name e)
-      (cons_if (shows_binary_format (values (architecture.Clever c) v operating_system.Unknown e f))
-      (binary_format_name f) []))
-      ≡ Ok (normal_step (values (architecture.Clever c) v operating_system.Unknown e f))
+      (names_after_system false (on_clever c v e f)) ≡ Ok (normal_step (on_clever c v e f))
   unfolding parses_as shows_environment shows_binary_format implied_format
   clever-read c v environment.Unknown f hidden = rw (clever-fixed c v environment.Unknown f (λ is. cc))
       (alone-read (architecture.Clever c) v f _
       ∙ ap (λ x. Ok (values (architecture.Clever c) v operating_system.Unknown environment.Unknown x))
       (shown_unless_unknown f _ _ hidden
-      (shown_or_implied (values (architecture.Clever c) v operating_system.Unknown environment.Unknown f))))
+      (shown_or_implied (on_clever c v environment.Unknown f))))
   clever-read c v environment.None f hidden = rw (clever-step c v f, without_system v)
       (simp (operating_system_of-environment environment.None)
       (hidden-read (architecture.Clever c) v operating_system.None_ f _
@@ -340,31 +335,27 @@ module _ (names : NamesAreRead) where
   clever-read c v e f hidden = rw (clever-fixed c v e f (λ is. cc), without_system v, operating_system_of-environment e)
       (simp (names.environment.reads_back e tt)
       (format-read (architecture.Clever c) v operating_system.Unknown e f
-      (shows_binary_format (values (architecture.Clever c) v operating_system.Unknown e f))
+      (shows_binary_format (on_clever c v e f))
       ∙ ap (λ x. Ok (values (architecture.Clever c) v operating_system.Unknown e x))
-      (shown_or_implied (values (architecture.Clever c) v operating_system.Unknown e f))))
+      (shown_or_implied (on_clever c v e f))))
 
   clever-round : (c : CleverArchitecture) (v : VendorValue) (e : Environment) (f : BinaryFormat) → is_plain v ≡ true
-      → shows_unknowns (values (architecture.Clever c) v operating_system.Unknown e f) ≡ false
-      → reading_of_parts (shown_names false (values (architecture.Clever c) v operating_system.Unknown e f))
-      ≡ Ok (normal_step (values (architecture.Clever c) v operating_system.Unknown e f))
+      → shows_unknowns (on_clever c v e f) ≡ false → Rounds false (on_clever c v e f)
   unfolding shown_names shows_operating_system
   clever-round c v e f plain hidden =
       prefix (architecture.Clever c) v _ _ _ plain
-      (λ h. absurd (let is = (hidden_vendor (values (architecture.Clever c) v operating_system.Unknown e f) h).1 in cc))
+      (λ h. absurd (let is = (hidden_vendor (on_clever c v e f) h).1 in cc))
       (clever-read c v e f hidden)
 
   module _ (a : Architecture) (v : VendorValue) (s : OperatingSystem) (e : Environment) (f : BinaryFormat)
       (plain : is_plain v ≡ true) (range : HasVersionInRange s)
       (none : special_string (values a v s e f) ≡ None) (apart : ¬ PrintsTheEspIdfString (values a v s e f)) where
     clever_by : (c : CleverArchitecture) → a ≡ architecture.Clever c → s ≡ operating_system.Unknown
-        → shows_unknowns (values a v s e f) ≡ false
-        → reading_of_parts (shown_names false (values a v s e f)) ≡ Ok (normal_step (values a v s e f))
+        → shows_unknowns (values a v s e f) ≡ false → Rounds false (values a v s e f)
     clever_by c is_a is_s hidden = rw (is_a, is_s) (clever-round c v e f plain (rw (is_a, is_s) at hidden))
 
     upstream-round : (b : Bool) → shows_operating_system (values a v s e f) ≡ b
-        → shows_unknowns (values a v s e f) ≡ false
-        → reading_of_parts (shown_names false (values a v s e f)) ≡ Ok (normal_step (values a v s e f))
+        → shows_unknowns (values a v s e f) ≡ false → Rounds false (values a v s e f)
     unfolding shown_names
     upstream-round true shown hidden = rw shown (after_system a v s e f _ _ plain range
         (tail-round a v s e f none hidden apart (shown_system (values a v s e f) shown)))
@@ -379,14 +370,12 @@ module _ (names : NamesAreRead) where
         (λ is. absurd (apart is))
         (λ is. absurd (let only_none = is.environment in cc)) (λ outside. refl)
 
-    unknowns-round : (e ≡ environment.Unknown) × (f ≡ binary_format.Unknown)
-        → reading_of_parts (shown_names true (values a v s e f)) ≡ Ok (normal_step (values a v s e f))
+    unknowns-round : (e ≡ environment.Unknown) × (f ≡ binary_format.Unknown) → Rounds true (values a v s e f)
     unfolding shown_names
     unknowns-round is =
         after_system a v s e f _ _ plain range (shown-read a v s e f true ∙ ap Ok (sym (unknowns-step is)))
 
-    parts_by : (b : Bool) → shows_unknowns (values a v s e f) ≡ b → reading_of_parts (shown_names b (values a v s e f))
-        ≡ Ok (normal_step (values a v s e f))
+    parts_by : (b : Bool) → shows_unknowns (values a v s e f) ≡ b → Rounds b (values a v s e f)
     parts_by true shown = unknowns-round (are_unknown a v s e f shown)
     parts_by false hidden = upstream-round _ refl hidden
 

@@ -1,13 +1,14 @@
 -- A second step changes no triple.
-use Rattle.target_lexicon.proofs.Common.{◌≡◌, List, Option, ap, refl, subst, sym, true, true≢false, ℕ}
+use Rattle.target_lexicon.proofs.Common.{◌≡◌, List, Option, Some, ap, refl, subst, sym, true, true≢false, ℕ}
 use Rattle.target_lexicon.proofs.Common.{HasVersionInRange, is_plain, Espressif, HasSpecialFields, HidesNewlib}
 use Rattle.target_lexicon.proofs.Common.{PrintsTheEspIdfString, RoundTripException, exception, RoundIsNormalStep}
-use Rattle.target_lexicon.proofs.Common.{ComesBack, elf_if_unknown, normal_step, step_of, ParsesAs, string_of}
-use Rattle.target_lexicon.proofs.Common.{special_string, Architecture, BinaryFormat, Known, Values, VendorValue, values}
+use Rattle.target_lexicon.proofs.Common.{ComesBack, normal_step, step_of, ParsesAs, string_of, special_string}
+use Rattle.target_lexicon.proofs.Common.{Architecture, BinaryFormat, Known, Values, VendorValue, values}
 use Rattle.target_lexicon.specs.FixedPoints.{IsPlainTriple, canonical_values, OneStepSettles, CanonicalStringsAreKeys}
 use Rattle.target_lexicon.proofs.SpecialRows.{fields_of_special, special_of_fields, row_of_system, special_system}
 use Rattle.target_lexicon.proofs.StepCases.{outside-fixed, special-own, step_cases}
 use Rattle.target_lexicon.proofs.UniqueReading.{values_unique}
+use Rattle.target_lexicon.specs.declared.exception.RoundTripException.TheVariants as exceptions
 use Rattle.target_lexicon.specs.Values.architecture
 use Rattle.target_lexicon.specs.Values.riscv32
 use Rattle.target_lexicon.specs.Values.operating_system
@@ -15,12 +16,11 @@ use Rattle.target_lexicon.specs.Values.environment
 use Rattle.target_lexicon.specs.Values.binary_format
 
 -- with the environment and the format of special strings
-special-stays : (t : Values) → HasSpecialFields t
-    → normal_step (values t.architecture t.vendor t.operating_system environment.Newlib binary_format.Elf)
-    ≡ values t.architecture t.vendor t.operating_system environment.Newlib binary_format.Elf
+special-stays : (t : Values) → HasSpecialFields t → normal_step (step_of (Some exceptions.PrintsAsSpecial) t)
+    ≡ step_of (Some exceptions.PrintsAsSpecial) t
 unfolding normal_step special_string
 special-stays t has =
-    let u = values t.architecture t.vendor t.operating_system environment.Newlib binary_format.Elf in
+    let u = step_of (Some exceptions.PrintsAsSpecial) t in
     ap (λ (found : Option RoundTripException). step_of found u)
     (special-own u (fields_of_special u (special_of_fields t has)) (refl, refl))
 
@@ -40,12 +40,11 @@ unknown-stays t unknown special esp = outside-fixed t (record {
   none = λ is. let none = is.environment in cc;
 })
 
-newlib-stays : (t : Values) → HidesNewlib t
-    → let u = values t.architecture t.vendor t.operating_system environment.Unknown (elf_if_unknown t.binary_format) in
+newlib-stays : (t : Values) → HidesNewlib t → let u = step_of (Some exceptions.HidesNewlib) t in
     normal_step u ≡ u
 unfolding special_string
 newlib-stays t is =
-    let u = values t.architecture t.vendor t.operating_system environment.Unknown (elf_if_unknown t.binary_format) in
+    let u = step_of (Some exceptions.HidesNewlib) t in
     unknown-stays u refl (λ special. is.others (fields_of_special t (special_of_fields u special)))
     (λ esp. let of = ap (λ x. x.vendor) esp in let known = (row_of_system t is.system).1.vendor in cc)
 

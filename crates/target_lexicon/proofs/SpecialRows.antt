@@ -1,7 +1,7 @@
 -- Facts of the special strings, one after the other. All that other lemmas know of these strings is here, so that they
 -- say "each row".
 use Rattle.target_lexicon.proofs.Common
-use Common.{◌+◌, ◌<◌, ◌^◌, ◌∙◌, ◌∷◌, ◌≡◌, ◌≤◌, ◌⊎◌, Bool, Err, List, None, Ok, Option, Result, Some, [], ap, arith}
+use Common.{◌+◌, ◌<◌, ◌^◌, ◌∙◌, ◌∷◌, ◌≡◌, ◌≤◌, Bool, Err, List, Ok, Option, Result, Some, [], ap, arith}
 use Common.{cond, false, inl, inr, is_some, length, map, refl, sym, true, ℕ, cases_Bool, false≢true, bytes_eq-Decides}
 use Common.{bytes_eq, architecture_name, architecture_of, binary_format_of, environment_of, HasVersionInRange}
 use Common.{fixed_operating_system_of, operating_system_name, operating_system_of, is_admitted, known_vendor_of}

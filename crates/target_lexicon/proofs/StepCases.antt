@@ -2,12 +2,12 @@
 -- exception, and outside them, holds for the step.
 use Rattle.target_lexicon.proofs.Common
 use Common.{◌&&◌, ◌∙◌, ◌≡◌, ◌⊎◌, Bool, List, None, Option, Some, ap, codes, cond, false, inl, inr, is_some, refl, subst}
-use Common.{sym, true, ℕ, and-false, and_parts, cases_Bool, false≢true, bytes_eq-Decides, bytes_eq, architecture_of}
-use Common.{is_clever, binary_format_of, environment_of, fixed_operating_system_of, operating_system_of, is_admitted}
-use Common.{is_plain, known_vendor_of, Espressif, HasSpecialFields, HidesNewlib, PrintsAsSpecial, PrintsTheEspIdfString}
-use Common.{ShowsOnlyNone, RoundTripException, exception, is_custom_esp, elf_if_unknown, normal_step, step_of}
-use Common.{implies_newlib, special_string, Architecture, BinaryFormat, Custom, Environment, Known, OperatingSystem}
-use Common.{Values, VendorValue, is_clever_without_system, is_same_format, values}
+use Common.{sym, true, ℕ, and-false, and_parts, cases_Bool, false≢true, bytes_eq-Decides, architecture_of, is_clever}
+use Common.{binary_format_of, environment_of, fixed_operating_system_of, operating_system_of, is_admitted, is_plain}
+use Common.{known_vendor_of, HasSpecialFields, HidesNewlib, PrintsAsSpecial, PrintsTheEspIdfString, ShowsOnlyNone}
+use Common.{RoundTripException, exception, is_custom_esp, normal_step, step_of, implies_newlib, special_string}
+use Common.{Architecture, BinaryFormat, Custom, Environment, OperatingSystem, Values, VendorValue}
+use Common.{is_clever_without_system, is_same_format, values}
 use Rattle.target_lexicon.specs.ExceptionFacts.{HasNewlibAndElf, VendorIsNotPlain, ExceptionsAreFactsOfFields}
 use Rattle.target_lexicon.specs.{Values.is_newlib, Values.is_none_environment, Exceptions.has_newlib_and_elf}
 use Rattle.target_lexicon.proofs.SpecialRows.{row_of_fields, row_of_system, fields_of_special, special_of_fields}
@@ -214,12 +214,10 @@ none-plain_outside t found = (facts_if t None found, none-outside t found)
 -- the step, by the exception
 
 pub step_cases : (P : Values → Type 0) (t : Values)
-    → (PrintsAsSpecial t → P (values t.architecture t.vendor t.operating_system environment.Newlib binary_format.Elf))
-    → (HidesNewlib t
-    → P (values t.architecture t.vendor t.operating_system environment.Unknown (elf_if_unknown t.binary_format)))
-    → (PrintsTheEspIdfString t
-    → P (values t.architecture (Known Espressif) t.operating_system environment.Newlib binary_format.Elf))
-    → (ShowsOnlyNone t → P (values t.architecture t.vendor operating_system.None_ environment.Unknown t.binary_format))
+    → (PrintsAsSpecial t → P (step_of (Some exceptions.PrintsAsSpecial) t))
+    → (HidesNewlib t → P (step_of (Some exceptions.HidesNewlib) t))
+    → (PrintsTheEspIdfString t → P (step_of (Some exceptions.PrintsTheEspIdfString) t))
+    → (ShowsOnlyNone t → P (step_of (Some exceptions.ShowsOnlyNone) t))
     → (IsOutside t → P t)
     → P (normal_step t)
 unfolding normal_step
@@ -235,8 +233,7 @@ step_cases P t special newlib esp none outside = by_exception (exception t) refl
 
 -- the step of one exception, and outside
 
-pub only_none-step : (t : Values) → ShowsOnlyNone t
-    → normal_step t ≡ values t.architecture t.vendor operating_system.None_ environment.Unknown t.binary_format
+pub only_none-step : (t : Values) → ShowsOnlyNone t → normal_step t ≡ step_of (Some exceptions.ShowsOnlyNone) t
 unfolding normal_step
 only_none-step t is = ap (λ (o : Option RoundTripException). step_of o t) (only_none-exception t is)
 

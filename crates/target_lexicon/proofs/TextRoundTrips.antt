@@ -2,13 +2,13 @@
 use Rattle.target_lexicon.proofs.Common
 use Common.{◌∙◌, ◌∷◌, ◌≡◌, ◌⊎◌, Bool, List, None, Ok, Option, Some, [], ap, codes, false, inl, inr, is_some, refl}
 use Common.{subst, sym, true, true≢false, ℕ, cases_Bool, false≢true, join_with_byte, architecture_name}
-use Common.{binary_format_name, environment_name, HasVersionInRange, dash, operating_system_name, is_plain, vendor_name}
-use Common.{HasFieldsOf, HasSpecialFields, PrintsTheEspIdfString, RoundTripException, exception, is_custom_esp}
-use Common.{parses_as, RoundIsNormalStep, reading, reading_of_parts, implied_format, elf_if_unknown, normal_step}
-use Common.{step_of, ParsesAs, parts_of, cons_if, shown_names, shows_binary_format, shows_environment}
-use Common.{shows_operating_system, shows_unknowns, shows_vendor, string_of, SpecialRow, implies_newlib, special_string}
-use Common.{special_triple, special_values, Architecture, BinaryFormat, Custom, Environment, Known, OperatingSystem}
-use Common.{Values, VendorValue, values}
+use Common.{binary_format_name, environment_name, HasVersionInRange, dash, operating_system_name, is_plain, HasFieldsOf}
+use Common.{HasSpecialFields, PrintsTheEspIdfString, RoundTripException, exception, is_custom_esp, parses_as}
+use Common.{RoundIsNormalStep, reading, reading_of_parts, implied_format, elf_if_unknown, normal_step, step_of}
+use Common.{ParsesAs, parts_of, cons_if, shown_names, shows_binary_format, shows_environment, shows_operating_system}
+use Common.{shows_unknowns, shows_vendor, string_of, SpecialRow, implies_newlib, special_string, special_triple}
+use Common.{special_values, Architecture, BinaryFormat, Custom, Environment, OperatingSystem, Values, VendorValue}
+use Common.{values}
 use Rattle.std.specs.List.{list_all}
 use Rattle.target_lexicon.specs.{Exceptions.has_newlib_and_elf, GreedyReading.reading_unless_special}
 use Rattle.lexicon_fields.specs.{Names.is_dash_free, Vendor.is_custom}
@@ -19,6 +19,7 @@ use Rattle.target_lexicon.proofs.StepCases.{both-is, esp-is, special-own, specia
 use Rattle.target_lexicon.proofs.{ComputedReading.reading_computed, NamesAcross.NamesAreRead}
 use Rattle.target_lexicon.proofs.{PartLemmas.parts_of-joined, PrintingLemmas.printed_names, RoundTrips.parts-round}
 use Rattle.target_lexicon.proofs.{SameValues.same_values}
+use Rattle.target_lexicon.specs.declared.exception.RoundTripException.TheVariants as exceptions
 use Rattle.target_lexicon.specs.Values.architecture
 use Rattle.target_lexicon.specs.Values.riscv32
 use Rattle.target_lexicon.specs.Values.operating_system
@@ -39,25 +40,22 @@ cons_if-free false p ps free others = others
 -- the special strings, and the triples that print them
 
 -- the normal step of a triple that prints a special string is the triple of that string
-special-step : (t : Values) → HasSpecialFields t
-    → normal_step t ≡ values t.architecture t.vendor t.operating_system environment.Newlib binary_format.Elf
+special-step : (t : Values) → HasSpecialFields t → normal_step t ≡ step_of (Some exceptions.PrintsAsSpecial) t
 unfolding normal_step
 special-step t has = elim (cases_Bool (has_newlib_and_elf t)) [
   | inl is ↦ let both = both-is t is in
       ap (λ (found : Option RoundTripException). step_of found t) (special-own t has both)
-      ∙ same_values t (values t.architecture t.vendor t.operating_system environment.Newlib binary_format.Elf) refl refl
+      ∙ same_values t (step_of (Some exceptions.PrintsAsSpecial) t) refl refl
       refl both.0 both.1
   | inr other ↦ ap (λ (found : Option RoundTripException). step_of found t)
       (special-exception t (record { fields = has; others = λ is. false≢true (sym other ∙ rw (is.0, is.1) refl) }))
 ]
 
 row-round : (t : Values) (row : SpecialRow) → HasFieldsOf row t → RowFacts row
-    → normal_step t ≡ values t.architecture t.vendor t.operating_system environment.Newlib binary_format.Elf
-    → reading (string_of t) ≡ Ok (normal_step t)
+    → normal_step t ≡ step_of (Some exceptions.PrintsAsSpecial) t → reading (string_of t) ≡ Ok (normal_step t)
 unfolding reading string_of
 row-round t row is facts step =
-    let of : special_triple row ≡ values t.architecture t.vendor t.operating_system environment.Newlib
-    binary_format.Elf =
+    let of : special_triple row ≡ step_of (Some exceptions.PrintsAsSpecial) t =
     same_values _ _ (sym is.architecture) (sym is.system.vendor) (sym is.system.operating_system) refl refl in
     rw (prints_row t row is facts, facts.parses) (ap Ok (of ∙ sym step))
 

@@ -1,5 +1,5 @@
 -- The words for byte order, pointer width, calling convention and data model are short.
-use Rattle.target_lexicon.proofs.Common.{◌≤◌, length, lit≤, ℕ}
+use Rattle.target_lexicon.proofs.Common.{◌≤◌, length, lit≤}
 use Rattle.lexicon_fields.specs.declared.endianness.Endianness.{Endianness}
 use Rattle.lexicon_fields.specs.declared.pointer_width.PointerWidth.{PointerWidth}
 use Rattle.lexicon_fields.specs.declared.endianness.Endianness.TheVariants.{Little}
