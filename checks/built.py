@@ -10,7 +10,9 @@ BUILT = os.environ.get("BUILT", "")
 WITHOUT = os.environ.get("WITHOUT", "").split()
 # cargo takes crates from Debian's packages where these are installed, and then needs no network.
 DEBIAN_CRATES = f"{ROOT}/tools/debian.toml"
-CARGO = [f"{ROOT}/tools/cargo", *(["--config", DEBIAN_CRATES, "--offline"] if os.path.isdir("/usr/share/cargo/registry") else [])]
+CARGO = [f"{ROOT}/tools/cargo"]
+if os.path.isdir("/usr/share/cargo/registry"):
+    CARGO += ["--config", DEBIAN_CRATES, "--offline"]
 COMMANDS = f"{ROOT}/packages/command"
 COMMANDS_TARGET = f"{ROOT}/packages/target"
 

@@ -46,7 +46,8 @@ def table_names():
     fields["architecture"] += fields.pop("alias")
     versioned = [row.name for row in table if row.family == "Darwin"]
     each = [name for names in fields.values() for name in names]
-    return Names(*fields.values(), versioned, each, ["zilog", "bar", "gnux"], read("checks/upstream/known_triples.txt").split())
+    known = read("checks/upstream/known_triples.txt").split()
+    return Names(*fields.values(), versioned, each, ["zilog", "bar", "gnux"], known)
 
 
 def changed_text(rng, text):

@@ -19,13 +19,15 @@ MACHINES = ("x86_64 i686 aarch64 armv7",
             "i386 aarch64_be armv6 armeb thumbv7a mips mipsel mips64 mips64el powerpc powerpc64 powerpc64le riscv32 "
             "riscv64 s390x sparc sparc64 m68k")
 SYSTEMS = (
-    "windows windows-macho unknown-uefi pc-windows-msvc pc-windows-msvc19.33.31629 w64-mingw32 apple-darwin22.6 apple-macos13.1 apple-ios16.2",
-           "linux-gnu none-linux-musl linux-android21 unknown-freebsd14.0 unknown-netbsd9.3 unknown-netbsd-eabihf unknown-openbsd7.3 "
-           "unknown-elf")
+    "windows windows-macho unknown-uefi pc-windows-msvc pc-windows-msvc19.33.31629 w64-mingw32 apple-darwin22.6 "
+    "apple-macos13.1 apple-ios16.2",
+    "linux-gnu none-linux-musl linux-android21 unknown-freebsd14.0 unknown-netbsd9.3 unknown-netbsd-eabihf "
+    "unknown-openbsd7.3 unknown-elf")
 # Where clang 14 knows less: that ILP32 has narrow pointers, and visionOS. With Mach-O on Windows it has a Mac's types,
 # and links as MSVC does. It takes other processors of Arm for the two names of macOS, needs a system to say how frames
 # are unwound, and is given Windows for UEFI.
-ILP32, SIGNS, LINKED, MACROS = "gnu_ilp32|x86_64-windows-macho", "xros", "windows-macho", "(aarch64|armv7)-apple-darwin|unknown-unknown|-unknown-elf|-unknown-uefi"
+ILP32, SIGNS, LINKED = "gnu_ilp32|x86_64-windows-macho", "xros", "windows-macho"
+MACROS = "(aarch64|armv7)-apple-darwin|unknown-unknown|-unknown-elf|-unknown-uefi"
 SOURCE = """
 int long_double_size = sizeof(long double), long_double_alignment = _Alignof(long double);
 int wchar_size = sizeof(__WCHAR_TYPE__), wchar_alignment = _Alignof(__WCHAR_TYPE__);

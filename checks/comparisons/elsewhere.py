@@ -98,7 +98,8 @@ SPELLINGS = {"amd64": "x86_64", "armel": "arm", "i486": "i386", "bpf_be": "bpfeb
              "sun4v": "sparc64", "mingw32ucrt": "windows-gnu", "gnu.*": "gnu", "gnu2.*": "gnu",
              "none-unknown-": "unknown-none", "windows-cygnus": "cygwin-unknown"}
 # The machines and ends of strings that config.sub is asked for, and the words of systems in its own text.
-MACHINES = "x86_64 i686 aarch64 arm armv7l armv6l armeb powerpc powerpc64le ppc64le mips mips64el riscv64 riscv32 s390x sparc64 loongarch64 m68k avr".split()
+MACHINES = """x86_64 i686 aarch64 arm armv7l armv6l armeb powerpc powerpc64le ppc64le mips mips64el riscv64 riscv32
+    s390x sparc64 loongarch64 m68k avr""".split()
 ENDS = ("", "linux", "unknown-linux", "redhat-linux", "suse-linux", "poky-linux", "buildroot-linux-gnu", "linux-gnu",
         "alpine-linux-musl", "linux-musl",
         "linux-uclibc", "linux-gnueabihf", "gnu", "elf", "unknown-elf", "none-elf", "none-eabi", "unknown-freebsd13.2",
@@ -303,7 +304,8 @@ class Comparison(Report):
         # Of the systems of BSD it asks `uname -p` and `arch`, and not `uname -m`; a compiler tells it what Mac it is;
         # it doesn't know busybox.
         self.fact("config.guess means the same machine and system as the words of uname", rows,
-                  "BSD|Power Macintosh|Darwin i386|Darwin x86_64|DragonFly|Windows_NT|MINGW32_NT-\\S* x86_64|GNU|UCRT64|CLANG64|CLANGARM64")
+                  "BSD|Power Macintosh|Darwin i386|Darwin x86_64|DragonFly|Windows_NT|MINGW32_NT-\\S* x86_64|GNU|"
+                  "UCRT64|CLANG64|CLANGARM64")
 
         if not self.has("meson", shutil.which("meson")):
             return
@@ -444,9 +446,8 @@ class Comparison(Report):
         self.fact("config.sub, run many times in one shell, says what it says alone", (
             (it, forms[it], output("sh", sub, it).strip()) for it in sample))
         ours = {it: self.read(it, "gnu") for it in texts}
-        self.fact(
-            f"of each of {len(machines)} machines with each of {len(words)} words in each place, what config.sub refuses is refused", (
-            (it, ours[it], None) for it in texts if not forms[it]))
+        self.fact(f"of each of {len(machines)} machines with each of {len(words)} words in each place, what config.sub "
+                  "refuses is refused", ((it, ours[it], None) for it in texts if not forms[it]))
         # A machine alone may be a program's name: that of Debian's `mingw32` is a row.
         self.fact("and what it takes has its system, or is refused", (
             (it, forms[it], str(ours[it]), system_of(ours[it]), system_of_form(forms[it])) for it in texts if forms[it]
@@ -522,7 +523,8 @@ def forms_of_config_sub(text, strings):
     """What config.sub prints for each string, or nothing: its own text as a function, in a few shells."""
     body = text[text.index("# Split fields of configuration type"):text.index("# Local variables:")]
     body = re.sub(r"^([ \t]*)exit( 1)?[ \t]*$", r"\1return", body, flags=re.M)
-    script = f'sub() {{\ncase $1 in *local*) echo "$1"; return;; esac\n{body}}}\nwhile IFS= read -r line; do sub "$line" 2>&1; done\n'
+    script = (f'sub() {{\ncase $1 in *local*) echo "$1"; return;; esac\n{body}}}\n'
+              'while IFS= read -r line; do sub "$line" 2>&1; done\n')
     parts = [strings[i::SHELLS] for i in range(SHELLS)]
     with concurrent.futures.ThreadPoolExecutor(SHELLS) as shells:
         answers = shells.map(lambda part: output("sh", "-c", script,
@@ -590,14 +592,15 @@ def words_of(dialect, name):
     elif dialect == "python":
         # Tags with dots between them are those of one file.
         found = re.fullmatch(
-            r"(?P<system>win|linux|mingw|manylinux|musllinux|macosx|ios|android|freebsd|openbsd|netbsd|dragonfly|haiku|cygwin|emscripten|pyodide|wasi)"
-                             r"[0-9_*]*_?(?:RELEASE_|release_)?(?P<machine>\D.*?)??(?:_iphone\w+|_(?:ucrt|msvcrt|clang)(?:_\w+)?)?",
-                             re.sub(r"^manylinux.*_(?=manylinux)", "", name))
+            r"(?P<system>win|linux|mingw|manylinux|musllinux|macosx|ios|android|freebsd|openbsd|netbsd|dragonfly|haiku|"
+            r"cygwin|emscripten|pyodide|wasi)[0-9_*]*_?(?:RELEASE_|release_)?(?P<machine>\D.*?)??"
+            r"(?:_iphone\w+|_(?:ucrt|msvcrt|clang)(?:_\w+)?)?", re.sub(r"^manylinux.*_(?=manylinux)", "", name))
     else:
         found = re.fullmatch(r"(?P<system>[a-z0-9]+)(?:\(.*\))?[/_-](?P<machine>.+)", name)
     if not found:
         raise RuntimeError(
-            f"which words of {dialect}'s name {name} are the system's and the machine's? words_of in checks/comparisons/elsewhere.py doesn't know")
+            f"which words of {dialect}'s name {name} are the system's and the machine's? words_of in "
+            "checks/comparisons/elsewhere.py doesn't know")
     system, machine = found["system"], name if name == "win32" else found["machine"]
     if (system, machine) == ("wasm32", "wasi"):
         return machine, system
@@ -606,8 +609,10 @@ def words_of(dialect, name):
 
 def platforms():
     """Names of platforms: words that containerd knows, in any case, with variants."""
-    systems = "linux Linux WINDOWS windows darwin macos MacOS freebsd netbsd openbsd dragonfly android ios solaris illumos aix".split()
-    machines = "386 i386 amd64 AMD64 x86_64 x86-64 X86_64 arm arm64 ARM64 aarch64 armhf armel ppc64le riscv64 s390x mips".split()
+    systems = """linux Linux WINDOWS windows darwin macos MacOS freebsd netbsd openbsd dragonfly android ios solaris
+        illumos aix""".split()
+    machines = """386 i386 amd64 AMD64 x86_64 x86-64 X86_64 arm arm64 ARM64 aarch64 armhf armel ppc64le riscv64 s390x
+        mips""".split()
     return [f"{system}/{machine}{variant}" for system in systems for machine in machines
             for variant in ("", "/v1", "/v5", "/v6", "/v7", "/v8", "/V8", "/5", "/6", "/7", "/8")]
 

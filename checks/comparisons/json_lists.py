@@ -91,6 +91,6 @@ def main(options, folder):
     except WrongAnswer as error:
         print(error)
         return 1
-    print(
-        f"json: {sum(kinds.values()):,} inputs ({', '.join(f'{count:,} {kind}' for kind, count in kinds.most_common())}), none differ")
+    counts = ", ".join(f"{count:,} {kind}" for kind, count in kinds.most_common())
+    print(f"json: {sum(kinds.values()):,} inputs ({counts}), none differ")
     return 0

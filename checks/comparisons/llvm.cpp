@@ -1,6 +1,6 @@
-// Writes what LLVM says of the triple on each line: byte order, pointer width, object format, the version and the profile of 32-bit
-// Arm, whether TLS is emulated, whether there is COMDAT, the architecture, and the versions of macOS, of the system and of the
-// environment; or `-` for each that LLVM doesn't know.
+// Writes what LLVM says of the triple on each line: byte order, pointer width, object format, the version and the
+// profile of 32-bit Arm, whether TLS is emulated, whether there is COMDAT, the architecture, and the versions of macOS,
+// of the system and of the environment; or `-` for each that LLVM doesn't know.
 #if __has_include("llvm/TargetParser/Triple.h")
 #include "llvm/TargetParser/ARMTargetParser.h"
 #include "llvm/TargetParser/Triple.h"
@@ -15,11 +15,12 @@
 using llvm::Triple;
 
 static std::map<Triple::ObjectFormatType, std::string> formats = {
-    {Triple::UnknownObjectFormat, "-"}, {Triple::COFF, "coff"}, {Triple::ELF, "elf"}, {Triple::MachO, "macho"}, {Triple::Wasm, "wasm"},
-    {Triple::XCOFF, "xcoff"}};
+    {Triple::UnknownObjectFormat, "-"}, {Triple::COFF, "coff"}, {Triple::ELF, "elf"}, {Triple::MachO, "macho"},
+    {Triple::Wasm, "wasm"}, {Triple::XCOFF, "xcoff"}};
 
 static std::map<llvm::ARM::ProfileKind, std::string> profiles = {
-    {llvm::ARM::ProfileKind::INVALID, "-"}, {llvm::ARM::ProfileKind::A, "A"}, {llvm::ARM::ProfileKind::R, "R"}, {llvm::ARM::ProfileKind::M, "M"}};
+    {llvm::ARM::ProfileKind::INVALID, "-"}, {llvm::ARM::ProfileKind::A, "A"}, {llvm::ARM::ProfileKind::R, "R"},
+    {llvm::ARM::ProfileKind::M, "M"}};
 
 static std::string armOf(const Triple &triple) {
   if (!triple.isARM() && !triple.isThumb()) return "- -";
@@ -42,7 +43,8 @@ static std::string macOsOf(const Triple &triple) {
 }
 
 static std::string stated(const llvm::VersionTuple &version) {
-  return version.getMajor() ? shown(version) + "." + std::to_string(version.getSubminor() ? *version.getSubminor() : 0) : "-";
+  if (!version.getMajor()) return "-";
+  return shown(version) + "." + std::to_string(version.getSubminor() ? *version.getSubminor() : 0);
 }
 
 static const char *shown(bool it) { return it ? "True" : "False"; }
@@ -55,8 +57,9 @@ int main() {
     else
       std::cout << (triple.isLittleEndian() ? "little " : "big ")
                 << (triple.isArch64Bit() ? "64 " : triple.isArch32Bit() ? "32 " : triple.isArch16Bit() ? "16 " : "- ")
-                << formats[triple.getObjectFormat()] << ' ' << armOf(triple) << ' ' << shown(triple.hasDefaultEmulatedTLS()) << ' '
-                << shown(triple.supportsCOMDAT()) << ' ' << nameOf(triple) << ' '
-                << macOsOf(triple) << ' ' << stated(triple.getOSVersion()) << ' ' << stated(triple.getEnvironmentVersion()) << '\n';
+                << formats[triple.getObjectFormat()] << ' ' << armOf(triple) << ' '
+                << shown(triple.hasDefaultEmulatedTLS()) << ' ' << shown(triple.supportsCOMDAT()) << ' '
+                << nameOf(triple) << ' ' << macOsOf(triple) << ' ' << stated(triple.getOSVersion()) << ' '
+                << stated(triple.getEnvironmentVersion()) << '\n';
   }
 }

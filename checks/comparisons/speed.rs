@@ -1,13 +1,13 @@
-//! The calls that `checks/compare speed` counts and times, of upstream's crate, of the Rust crate and of the library for
-//! C.
+//! The calls that `checks/compare speed` counts and times, of upstream's crate, of the Rust crate and of the library
+//! for C.
 //!
-//! usage: speed WHO WHAT < LINES      calls WHAT 200 times with each line, or with the triple that it parses as, and prints
-//!                                    how many calls that were; WHO is `upstream`, `ours` or `c`
+//! usage: speed WHO WHAT < LINES      calls WHAT 200 times with each line, or with the triple that it parses as, and
+//!                                    prints how many calls that were; WHO is `upstream`, `ours` or `c`
 //!        speed times WHO WHAT < LINES  prints the nanoseconds of such a call, WHO's and upstream's: medians of 1,000
 //!                                    rounds, in each of which both are timed, without what the loop itself takes
 //!
-//! `none` calls what does nothing: it shows what the program itself takes. With `, refused` after it a string has an `X`
-//! at its end.
+//! `none` calls what does nothing: it shows what the program itself takes. With `, refused` after it a string has an
+//! `X` at its end.
 use std::hint::black_box;
 use std::time::Instant;
 
@@ -54,7 +54,14 @@ macro_rules! calls {
             fn ask(triple: &Triple) {
                 let _ = black_box((triple.endianness(), triple.pointer_width(), triple.default_calling_convention()));
                 if let Ok(it) = triple.data_model() {
-                    black_box([it.short_size(), it.int_size(), it.long_size(), it.long_long_size(), it.float_size(), it.double_size()]);
+                    black_box([
+                        it.short_size(),
+                        it.int_size(),
+                        it.long_size(),
+                        it.long_long_size(),
+                        it.float_size(),
+                        it.double_size(),
+                    ]);
                 }
                 black_box(triple.operating_system.is_like_darwin());
                 black_box(matches!(triple.architecture, Architecture::Arm(it) if it.is_thumb()));
@@ -95,7 +102,8 @@ macro_rules! calls {
                         _ => None,
                     }) => as_str;
                     PointerWidth of triples.iter().filter_map(|it| it.pointer_width().ok()) => bits bytes;
-                    CDataModel of models() => pointer_width short_size int_size long_size long_long_size float_size double_size;
+                    CDataModel of models() => pointer_width short_size int_size long_size long_long_size float_size
+                        double_size;
                     Size of models().map(|it| it.long_size()) => bits bytes;
                 }
                 match what {
@@ -131,7 +139,9 @@ macro_rules! calls {
                     }),
                     "endianness" => each(triples, |it| drop(black_box(it.endianness()))),
                     "pointer_width" => each(triples, |it| drop(black_box(it.pointer_width()))),
-                    "default_calling_convention" => each(triples, |it| drop(black_box(it.default_calling_convention()))),
+                    "default_calling_convention" => {
+                        each(triples, |it| drop(black_box(it.default_calling_convention())))
+                    }
                     "data_model" => each(triples, |it| drop(black_box(it.data_model()))),
                     "is_like_darwin" => each(triples, |it| drop(black_box(it.operating_system.is_like_darwin()))),
                     "architecture.into_str" => each(triples, |it| drop(black_box(it.architecture.into_str()))),
@@ -151,13 +161,27 @@ macro_rules! calls {
                         each(shown(|it| it.binary_format.to_string()), |it| drop(black_box(it.parse::<BinaryFormat>())))
                     }
                     "ArmArchitecture" => each(architecture(), |it| drop(black_box(it.parse::<ArmArchitecture>()))),
-                    "Aarch64Architecture" => each(architecture(), |it| drop(black_box(it.parse::<Aarch64Architecture>()))),
-                    "X86_32Architecture" => each(architecture(), |it| drop(black_box(it.parse::<X86_32Architecture>()))),
-                    "Mips32Architecture" => each(architecture(), |it| drop(black_box(it.parse::<Mips32Architecture>()))),
-                    "Mips64Architecture" => each(architecture(), |it| drop(black_box(it.parse::<Mips64Architecture>()))),
-                    "Riscv32Architecture" => each(architecture(), |it| drop(black_box(it.parse::<Riscv32Architecture>()))),
-                    "Riscv64Architecture" => each(architecture(), |it| drop(black_box(it.parse::<Riscv64Architecture>()))),
-                    "CleverArchitecture" => each(architecture(), |it| drop(black_box(it.parse::<CleverArchitecture>()))),
+                    "Aarch64Architecture" => {
+                        each(architecture(), |it| drop(black_box(it.parse::<Aarch64Architecture>())))
+                    }
+                    "X86_32Architecture" => {
+                        each(architecture(), |it| drop(black_box(it.parse::<X86_32Architecture>())))
+                    }
+                    "Mips32Architecture" => {
+                        each(architecture(), |it| drop(black_box(it.parse::<Mips32Architecture>())))
+                    }
+                    "Mips64Architecture" => {
+                        each(architecture(), |it| drop(black_box(it.parse::<Mips64Architecture>())))
+                    }
+                    "Riscv32Architecture" => {
+                        each(architecture(), |it| drop(black_box(it.parse::<Riscv32Architecture>())))
+                    }
+                    "Riscv64Architecture" => {
+                        each(architecture(), |it| drop(black_box(it.parse::<Riscv64Architecture>())))
+                    }
+                    "CleverArchitecture" => {
+                        each(architecture(), |it| drop(black_box(it.parse::<CleverArchitecture>())))
+                    }
                     "lexicon_parse, lexicon_print" => each(read, |it| print(it.parse::<Triple>().expect("a triple"))),
                     "lexicon_parse, lexicon_facts" => each(read, |it| ask(&it.parse().expect("a triple"))),
                     "lexicon_facts" => each(triples, ask),

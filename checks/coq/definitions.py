@@ -21,8 +21,9 @@ CONSTRUCTORS = {"Bool__true": "true", "Bool__false": "false", "Option__Some": "S
 # The functions of library.txt that Kit.v has instead of their clauses, of which the patterns are numbers.
 BY_HAND = {"slice_get", "without_leading_plus"}
 # Words of Coq, and names of its library and of Kit.v that definitions use.
-TAKEN = set("""fun let in if then else match with end forall exists return as fix cofix for where Type Prop Set list option bool string
-    map length fst snd codes at using struct mod values prod sum pair nil cons inl inr left right true false tt""".split())
+TAKEN = set("""fun let in if then else match with end forall exists return as fix cofix for where Type Prop Set list
+    option bool string map length fst snd codes at using struct mod values prod sum pair nil cons inl inr left right
+    true false tt""".split())
 WIDTH = 120
 
 
@@ -89,7 +90,8 @@ class Coq:
                 raise Untranslated(f"no law has the name {name}")
             else:
                 self.need(self.laws[name])
-        text, last = "(* Written by checks/theorem from the definitions of crates/*/specs. *)\nRequire Import Kit.\n", None
+        text = "(* Written by checks/theorem from the definitions of crates/*/specs. *)\nRequire Import Kit.\n"
+        last = None
         for file, part in self.out:
             text += (f"\n(* {file} *)\n" if file != last else "") + f"\n{part}"
             last = file
@@ -164,7 +166,8 @@ class Coq:
         scope, binders, outer = set(), "", self.types_of
         self.types_of = {name: of for _, name, of in found.parameters}
         for bracket, name, of in found.parameters:
-            binders += f" ({self.local(name)} : {self.type(module, of, scope)})" if bracket == "(" else f" {{{name} : Type}}"
+            is_value = bracket == "("
+            binders += f" ({self.local(name)} : {self.type(module, of, scope)})" if is_value else f" {{{name} : Type}}"
             scope.add(name)
         fields = []
         for name, of in found.items:
@@ -319,7 +322,7 @@ class Coq:
             with at(f"{d.place(i)}: {d.name}"):
                 arms.append(self.arm(d, patterns, body, heads, columns, scope))
         matched = f"match {', '.join(names[i] for i in columns)} with"
-        if len(columns) > 3:  # one after the other: a `match` of all would have a branch for each way to combine the cases
+        if len(columns) > 3:  # in turn: a `match` of all would have a branch for each way to combine the cases
             no = ", ".join("_" for _ in columns)
             code = "\n  ".join([*(f"({matched} {left} => Some {body} | {no} => None end) ??"
                                   for left, body in arms[:-1]),
@@ -381,12 +384,14 @@ LEFT_OUT = {
 }
 # What other parts need of the definitions.
 NEEDED = [f"lexicon_fields/{it}" for it in (
-    "ArchitectureQueries.is_thumb ArchitectureQueries.is_clever OperatingSystem.is_like_darwin Vendor.is_custom PointerWidth.width_bits PointerWidth.width_name "
-    "Endianness.endianness_name Architecture.sub_architecture_of").split()] + [
+    "ArchitectureQueries.is_thumb ArchitectureQueries.is_clever OperatingSystem.is_like_darwin Vendor.is_custom "
+    "PointerWidth.width_bits PointerWidth.width_name Endianness.endianness_name "
+    "Architecture.sub_architecture_of").split()] + [
     f"lexicon_fields/SubArchitecture.as_{it.lower()}" for it in families()] + [
     f"target_lexicon/{it}" for it in (
-        "GreedyReading.reading GreedyReading.finished_sources Explanation.AreSourcesOf Explanation.whole_text_sources Explanation.placed_from Explanation.with_source Refusal.refusal_line "
-        "Printing.upstream_string_of DataModel.sizes_of DataModel.size_bits DataModel.model_name CallingConvention.convention_name").split()]
+        "GreedyReading.reading GreedyReading.finished_sources Explanation.AreSourcesOf Explanation.whole_text_sources "
+        "Explanation.placed_from Explanation.with_source Refusal.refusal_line Printing.upstream_string_of "
+        "DataModel.sizes_of DataModel.size_bits DataModel.model_name CallingConvention.convention_name").split()]
 # What is proved and isn't a law of laws.rt: it is of no code.
 PROPOSITIONS = {"upstream_round_trips_are_known": "target_lexicon/UpstreamRounds.UpstreamRoundTripsAreKnown"}
 

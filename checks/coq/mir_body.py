@@ -414,7 +414,8 @@ class Body:
             return it
         if form := GENERIC.get(plain) or STD.get(re.sub(r"^<\[u8; \d+\]", "<[u8]", path)):
             code = form.format(*[self.code(self.read(it, env)) for it in values])
-            if plain.endswith(("::split_once", "::split")) and operands[1][0] != "number":  # which is an ASCII character
+            # A number is an ASCII character.
+            if plain.endswith(("::split_once", "::split")) and operands[1][0] != "number":
                 raise Unknown("a split at a character that isn't known")
             return self.emit(code[2:]) if code[0] == "?" else code
         if plain in ITERATORS:

@@ -1,5 +1,6 @@
-/* An allocator that fails, for LD_PRELOAD. Of the calls for memory or for more memory, counted from 1, the one with the number
-   FAIL_AT fails, and writes `!` to standard output. A program may also choose the number itself, by `fail_allocation`. */
+/* An allocator that fails, for LD_PRELOAD. Of the calls for memory or for more memory, counted from 1, the one with the
+   number FAIL_AT fails, and writes `!` to standard output. A program may also choose the number itself, by
+   `fail_allocation`. */
 #include <errno.h>
 #include <stddef.h>
 #include <stdlib.h>
@@ -18,7 +19,8 @@ __attribute__((constructor)) static void begin(void) {
     allocations = 0;
 }
 
-/* Counts from 1 again; the call with this number fails, or none for 0. Returns how many calls there were since it last counted. */
+/* Counts from 1 again; the call with this number fails, or none for 0. Returns how many calls there were since it last
+   counted. */
 unsigned long fail_allocation(unsigned long number) {
     unsigned long before = allocations;
     fail_at = number;

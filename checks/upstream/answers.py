@@ -1,12 +1,13 @@
-"""Compares with upstream's answers, which checks/upstream/answers.tsv keeps. Upstream's crate is needed only to write that file
-and known_triples.txt, the list of upstream's own test, with --write.
+"""Compares with upstream's answers, which checks/upstream/answers.tsv keeps. Upstream's crate is needed only to write
+that file and known_triples.txt, the list of upstream's own test, with --write.
 
-checks/upstream/extracted/main.ml says what a row of each kind has: `word`, for the words of upstream's sources and a few more,
-and `all`, for each architecture; `string`, for known triples, those that tell the rules of a name, and a few other
-strings; `model`. A row `order` has the names of a field in the order of their declarations. program.rs there answers
-over upstream's crate, and over the Rust crate of this repository under upstream's name; `checks/specification upstream`
-compares the definitions with the same rows. The proved program is asked for the strings, in each mode, if it is there:
-nothing is proved for that. A name of the table that upstream doesn't have differs.
+checks/upstream/extracted/main.ml says what a row of each kind has: `word`, for the words of upstream's sources and a
+few more, and `all`, for each architecture; `string`, for known triples, those that tell the rules of a name, and a few
+other strings; `model`. A row `order` has the names of a field in the order of their declarations. program.rs there
+answers over upstream's crate, and over the Rust crate of this repository under upstream's name;
+`checks/specification upstream` compares the definitions with the same rows. The proved program is asked for the
+strings, in each mode, if it is there: nothing is proved for that. A name of the table that upstream doesn't have
+differs.
 """
 import re
 import sys

@@ -29,7 +29,8 @@ def cargo(crate, command, *words, package=SOURCES, flags="", given=None):
     the output."""
     patch = [*built.CARGO, *["--offline"] * ("--offline" not in built.CARGO), "--config",
              f'patch.crates-io.target-lexicon.path="{os.path.realpath(crate or "")}"']
-    words = [*(patch if crate else built.CARGO[:1]), command, "--quiet", f"--manifest-path={package}/Cargo.toml", *words]
+    words = [*(patch if crate else built.CARGO[:1]), command, "--quiet", f"--manifest-path={package}/Cargo.toml",
+             *words]
     ran = subprocess.run(words, env={**os.environ, "RUSTFLAGS": f"--cap-lints allow {flags}"}, input=given,
                          stdout=subprocess.PIPE, text=True)
     if ran.returncode:
@@ -73,8 +74,8 @@ def programs_there():
     none."""
     path = built.program_there("triples")
     if not path:
-        print(
-            "the proved program isn't built, or is older than its sources, so it isn't compared; `rt run` in crates/triples proves and builds it", flush=True)
+        print("the proved program isn't built, or is older than its sources, so it isn't compared; `rt run` in "
+              "crates/triples proves and builds it", flush=True)
     return {"the proved program": path} if path else {}
 
 

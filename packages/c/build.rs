@@ -18,7 +18,8 @@ fn git(words: &[&str]) -> Option<String> {
 /// The commit of the sources, if they are in their own repository: a copy in another one isn't of its commit. What is
 /// compiled may have changed since.
 fn own_commit() -> Option<String> {
-    const SOURCES: [&str; 7] = ["src", "build.rs", "Cargo.toml", "../names", "../rust", "../../Cargo.toml", "../../Cargo.lock"];
+    const SOURCES: [&str; 7] =
+        ["src", "build.rs", "Cargo.toml", "../names", "../rust", "../../Cargo.toml", "../../Cargo.lock"];
     let top = git(&["rev-parse", "--show-toplevel"])?;
     if Path::new(&top).canonicalize().ok()? != Path::new("../..").canonicalize().ok()? {
         return None;

@@ -57,8 +57,8 @@ def add_answer(found, line):
                                                  4)
     answers = found.setdefault(kind, [])
     if kind not in ENUMS and kind != "status":
-        raise Mistake(
-            f"`{kind}` is no kind: {', '.join(ENUMS)}, status, fact or none. A new one is a line of ENUMS and JAVASCRIPT in tools/names/answers.py too")
+        raise Mistake(f"`{kind}` is no kind: {', '.join(ENUMS)}, status, fact or none. A new one is a line of ENUMS "
+                      "and JAVASCRIPT in tools/names/answers.py too")
     if value != str(len(answers) + 1):
         raise Mistake(f"the next number of {kind} is {len(answers) + 1}, not `{value}`")
     answers.append(Answer(variant, int(value), name, *about or [""]))

@@ -87,7 +87,8 @@ def code(table):
              "ghost use Rattle.std.specs.Prelude.{◌≡◌, Some};",
              "ghost use Rattle.std.specs.Cow.{cow_str_bytes, IsBorrowedStr};",
              f"ghost use {SPECS}.Names.{{MatchesLookup}};",
-             f"ghost use {SPECS}.Architecture.{{sub_architecture_of}};", f"ghost use {SPECS}.SubArchitecture as spec;", "",
+             f"ghost use {SPECS}.Architecture.{{sub_architecture_of}};",
+             f"ghost use {SPECS}.SubArchitecture as spec;", "",
              "use crate::architecture::Architecture;", "use std::borrow::CowStr;", "use std::fmt;",
              "use std::str::FromStr;"]
     for of, members in table.members.items():
@@ -198,19 +199,23 @@ def module(it):
 
 
 def antt_lists(table):
-    first = [f"(architecture.{of.variant} spec.{of.word}.{members[0].variant})" for of, members in table.members.items()]
+    first = [f"(architecture.{of.variant} spec.{of.word}.{members[0].variant})"
+             for of, members in table.members.items()]
     contracts = {it.word: f"contracts.{module(it)}.{it.variant}Architecture" for it in table.families}
     answers = lambda value: [line for word, of in contracts.items() for line in (
-        f"pub returns-clause-{word} : goal.returns-clause-{word}", f"returns-clause-{word} c = {value.format(of)}", "")][:-1]
+        f"pub returns-clause-{word} : goal.returns-clause-{word}",
+        f"returns-clause-{word} c = {value.format(of)}", "")][:-1]
     return {
         "families of triples": map(variants, table.families),
         "each family reads back": [f"architecture_of-name {it} = refl" for it in first],
         "each family is short": [f"architecture-is_short {it} = refl" for it in first],
         "the law of names of each family": [
-            f"{it.word} = part-read_back architecture.{it.variant} spec.as_{it.word} (λ _. refl);" for it in table.families],
+            f"{it.word} = part-read_back architecture.{it.variant} spec.as_{it.word} (λ _. refl);"
+            for it in table.families],
         "equality of each family": [f"bare_field-Decides {it}.the_type tt," for it in contracts.values()],
         "answers about the equality of families": answers("bare-Decides {}.the_type tt"),
-        "hashes of each family": [f"one_field variants.{it.variant} (returns-clause-{it.word} c)," for it in table.families],
+        "hashes of each family": [f"one_field variants.{it.variant} (returns-clause-{it.word} c),"
+                                  for it in table.families],
         "answers about the hashes of families": answers("bare_hash_injective {}.enum tt (omega arith)"),
     }
 
@@ -228,7 +233,8 @@ def coq_lists(table):
 
     found = "rs_{type}_{call} text = ok_or (sub_architecture_of as_{word} text) tt"
     return {
-        "the names of families in Coq": theorem("Theorem", "sub_architecture_names", "(∀ x, rs_{type}_name x = {word}_name x)"),
+        "the names of families in Coq": theorem("Theorem", "sub_architecture_names",
+                                                "(∀ x, rs_{type}_name x = {word}_name x)"),
         "families by their names": theorem("Lemma", "sub_architectures_found", found.replace("{call}", "from_str")),
         "families from strings": theorem("Theorem", "sub_architectures_from_str",
                                          found.replace("{call}", "FromStr_from_str")),
@@ -236,7 +242,8 @@ def coq_lists(table):
                                       "(∀ x f, rs_{type}_fmt x f = write_str f ({word}_name x))"),
         "equality of families in Coq": [
             *each("Lemma {word}_eqb : ∀ x y, rs_{type}_eqb x y = true <-> x = y. Proof. enumerated. Qed."),
-            "Ltac family_eqb := first", *(f"  {'[|'[i > 0]}apply {it.word}_eqb" for i, it in enumerate(table.families)), "  ]."],
+            "Ltac family_eqb := first",
+            *(f"  {'[|'[i > 0]}apply {it.word}_eqb" for i, it in enumerate(table.families)), "  ]."],
         "the equalities of families": each("  (∀ x y, rs_{type}_eqb x y = true <-> x = y) ∧"),
         "families by a row": [line for it in each(
             "  Lemma {type}_by_a_row :\n    rt_{type}_from_str text = Some (rs_{type}_from_str text).\n"

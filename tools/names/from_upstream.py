@@ -1,6 +1,7 @@
 """What upstream's answers say that the table of names has: its values and their rules, read from the answers to words,
 and to strings with a name in each place that tells a rule. So no cell is both the source of the definitions and their
-only witness: tools/names/write takes no table that checks/upstream/answers.tsv contradicts, and tools/port asks another crate.
+only witness: tools/names/write takes no table that checks/upstream/answers.tsv contradicts, and tools/port asks another
+crate.
 """
 import functools
 import re
@@ -123,7 +124,8 @@ def wanted_lines(answers, values, specials):
                 yield f"# nothing is answered to `{missing}`: `checks/compare answers --write` asks it"
             elif field == "architecture" and own != word:
                 if word not in ours:
-                    yield from lines_of("alias", variant, word, "", family, f"Parsed as `{own}`, and never printed.", {})
+                    about = f"Parsed as `{own}`, and never printed."
+                    yield from lines_of("alias", variant, word, "", family, about, {})
                 elif ours[word].field != "alias":
                     yield f"# `{word}` is an alias of `{own}` there"
             elif word not in ours:

@@ -70,8 +70,8 @@ def of_c(lists):
     for name, of in LISTS.items():
         members = [*[FIRST.get(name)] * (name in FIRST), *lists.pop(of), *[LAST.get(name)] * (name in LAST)]
         lines += block(comment(ABOUT.get(name)), f"enum lexicon_{name} {{", members, "};")
-    lines += block("/* What a compiler asks about a triple. 0 is no answer. A later version adds members at the end. */",
-                   "struct lexicon_triple_facts {", lists.pop("the facts for C"), "};")
+    about = "What a compiler asks about a triple. 0 is no answer. A later version adds members at the end."
+    lines += block(comment(about), "struct lexicon_triple_facts {", lists.pop("the facts for C"), "};")
     lines += macro("The names of families, by their numbers.", "LEXICON_FAMILY_NAMES",
                    lists.pop("the names of families for C"))
     lines += macro("Those of dialects, from 1 on.", "LEXICON_DIALECT_NAMES", lists.pop("the dialects' names for C"))

@@ -66,8 +66,8 @@ def columns(line, names, least=0, more=False):
     must be there, or all; `more` may follow."""
     found = line if isinstance(line, list) else line.split("\t")
     if not (least or len(names)) <= len(found) or len(found) > len(names) and not more or "" in found[:1]:
-        raise Mistake(
-            f"a line has {', '.join(names)}, with tabs between them: this one has {len(found)} column{'s' * (len(found) != 1)}")
+        raise Mistake(f"a line has {', '.join(names)}, with tabs between them: this one has {len(found)} "
+                      f"column{'s' * (len(found) != 1)}")
     return found
 
 
@@ -118,8 +118,8 @@ def special_of(values, earlier, line):
     known = [{it.name: it for it in values if it.field == field} for field in fields]
     for field, name, of in zip(fields, names, known):
         if name not in of or name in ("unknown", "none") or of[name].family == "Darwin":
-            raise Mistake(
-                f"`{name}` is no {field.replace('_', ' ')} of an earlier line, or it is `unknown`, `none` or has a version")
+            raise Mistake(f"`{name}` is no {field.replace('_', ' ')} of an earlier line, or it is `unknown`, `none` or "
+                          "has a version")
     row = Special(text, *(of[name] for name, of in zip(names, known)))
     if not SPECIAL.fullmatch(text):
         raise Mistake(f"the string `{text}` isn't made of names and dashes")
@@ -158,8 +158,8 @@ def add_value(earlier, families, line):
     if value.field not in (*FIELDS, "alias"):
         raise Mistake(f"`{value.field}` is no field: {', '.join(FIELDS)} or alias")
     if not NAME.fullmatch(value.name):
-        raise Mistake(
-            f"the name `{value.name}` has a character that no name may have: it begins with a-z, and has a-z, 0-9, `_` and `.`")
+        raise Mistake(f"the name `{value.name}` has a character that no name may have: it begins with a-z, and has "
+                      "a-z, 0-9, `_` and `.`")
     if not VARIANT.fullmatch(value.variant):
         raise Mistake(
             f"`{value.variant}` is no variant: it begins with a capital letter, and has letters, digits and `_`")
@@ -180,9 +180,8 @@ def rules_of(value):
     for word in value.rules.split():
         rule, _, answer = word.partition("=")
         if rule in found or answer not in known.get(rule, ())[1:]:
-            raise Mistake(
-                f"`{word}` is there twice, or is no rule of the field with an answer other than the default: RULES in "
-                          "names_table.py has them; a system like Darwin has none")
+            raise Mistake(f"`{word}` is there twice, or is no rule of the field with an answer other than the default: "
+                          "RULES in names_table.py has them; a system like Darwin has none")
         found[rule] = answer
     return {rule: found.get(rule, answers[0]) for rule, answers in known.items()}
 
@@ -194,7 +193,8 @@ def number_faults(values):
         wanted = [str(it) for it in range(sum(it.field == field for it in values))]
         if of_field.keys() != set(wanted):
             free = ", ".join(it for it in wanted if it not in of_field)
-            yield f"the numbers of the field `{field}` are 0 to {wanted[-1]}, each once, and none has {free}: a new value has the last of these"
+            yield (f"the numbers of the field `{field}` are 0 to {wanted[-1]}, each once, and none has {free}: a new "
+                   "value has the last of these")
             continue
         count, checksum = UPSTREAM[field]
         if hashlib.sha256(" ".join(map(of_field.get, wanted[:count])).encode()).hexdigest()[:16] != checksum:

@@ -26,7 +26,8 @@ ANSWERS = {
     "signedness": "Whether C's `char` has a sign.",
 }
 # The file of the lists that the others need.
-NAMES = '''"""The statuses of the library for C, the names of its facts, and the tools and C libraries that callers name."""
+NAMES = '''\
+"""The statuses of the library for C, the names of its facts, and the tools and C libraries that callers name."""
 from typing import List, Literal, Optional
 
 from ._named import NamedValue

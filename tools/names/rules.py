@@ -109,7 +109,8 @@ class Code:
 
     def __init__(self, table, text):
         self.field, self.text = table.field, text
-        self.darwin = [Pattern(f"OperatingSystem::{it.variant}(_)") for it in self.field["operating_system"] if it.family]
+        self.darwin = [Pattern(f"OperatingSystem::{it.variant}(_)")
+                       for it in self.field["operating_system"] if it.family]
         self.plain = [it for it in table.field["architecture"] if it.family not in WITH_QUERIES]
 
     def machines(self, rule, answer, values=None):
@@ -177,7 +178,8 @@ def system_conventions(of):
     by_machine = block("match self.architecture {", *of.conventions(of.machines, 16), "_ => Err(()),")
     on_darwin = block("match self.architecture {", "Architecture::Aarch64(_) => Ok(CallingConvention::AppleAarch64),",
                       "_ => Ok(CallingConvention::SystemV),")
-    return [*arm(of.darwin, on_darwin), *of.conventions(of.systems, 12), *arm(of.systems("convention", "by_architecture"), by_machine),
+    return [*arm(of.darwin, on_darwin), *of.conventions(of.systems, 12),
+            *arm(of.systems("convention", "by_architecture"), by_machine),
             *arm(of.systems("convention", "none"), "Err(())")]
 
 

@@ -31,7 +31,8 @@ COLUMNS = {"why": ["the name of a reason", "the reason"], "note": ["the name of 
 @dataclass
 class Source:
     """Where names can be seen: its name, its version, Debian's package of it, a file, a command in backquotes or a
-    page's address, and the day on which that was asked, or on which its rows were written from knowledge of the page."""
+    page's address, and the day on which that was asked, or on which its rows were written from knowledge of the
+    page."""
     name: str
     version: str
     package: str
@@ -285,8 +286,8 @@ def check_row(lines, name, triple, ways):
             "a triple of macOS or iOS has a star if and only if its name has one, and no other triple has one")
     same = [it for it in lines if it[0] == name]
     if same and (ways != "w" or same[0][2] not in ("-", "r")):
-        raise Mistake(
-            f"`{name}` means {same[0][1]} already: only rows `w` share a name, after a row `r` or `-` that says what it means or why it isn't read")
+        raise Mistake(f"`{name}` means {same[0][1]} already: only rows `w` share a name, after a row `r` or `-` that "
+                      "says what it means or why it isn't read")
     written = [it[0] for it in lines if it[1] == triple and "w" in it[2]]
     if written and "w" in ways:
         raise Mistake(f"{triple} has the name `{written[0]}` already: one of the two is only read, `r`")
@@ -330,42 +331,49 @@ def lists(tables):
     names = ", ".join(f'"{it.name}"' for it in dialects)
     words = [it.name for it in dialects]
     written = ", ".join(f'"{it.name}"' for it in dialects if it.is_written)
+    only_read = [it for it in dialects if not it.is_written]
+    only_written = [it for it in dialects if not it.is_read]
+    python_names = ", ".join(f'"{name}": "{it.name}"' for name, it in others)
     return {
         "the dialects for C": [
-        f"LEXICON_DIALECT_{it.constant} = {number}, /* {it.about.rstrip('.').replace('`', '')} */"
-        for number, it in enumerate(dialects, 1)],
+            f"LEXICON_DIALECT_{it.constant} = {number}, /* {it.about.rstrip('.').replace('`', '')} */"
+            for number, it in enumerate(dialects, 1)],
         "the dialects for C++": filled([f"{it.variant} = {number}," for number, it in enumerate(dialects, 1)], " "),
         "the dialects' names for C": filled([f'"{it}",' for it in words], " ", "  "),
         "the other names of dialects for C": [f'  {{"{name}", LEXICON_DIALECT_{it.constant}}},' for name, it in others],
-        "the dialects that are only read": ["fn is_only_read(dialect: Dialect) -> bool {",
-                                            f"    matches!(dialect, {' | '.join(f'Dialect::{it.variant}' for it in dialects if not it.is_written)})", "}"],
-        "the other names of dialects for the command": [f"const OTHER_NAMES: [(&str, Dialect); {len(others)}] = "
-                                                        f"[{', '.join(f'({chr(34)}{name}{chr(34)}, Dialect::{it.variant})' for name, it in others)}];"],
+        "the dialects that are only read": [
+            "fn is_only_read(dialect: Dialect) -> bool {",
+            f"    matches!(dialect, {' | '.join(f'Dialect::{it.variant}' for it in only_read)})", "}"],
+        "the other names of dialects for the command": [
+            f"const OTHER_NAMES: [(&str, Dialect); {len(others)}] = [{rust_pairs(others)}];"],
         "the dialects for the manual": [
-        f"the tool whose names are read or written: {', '.join(words[:-1])} or {words[-1]}.",
-                                        f"{' and '.join(f'{name} is {it.name}' for name, it in others)}.",
-                                        f"Names of {' and '.join(it.name for it in dialects if not it.is_written)} are only read."],
-        "the dialects' names for Python": [f"DialectName = {literal([*words, *(name for name, _ in others)])}",
-                                           f"OTHER_NAMES = {{{', '.join(f'{chr(34)}{name}{chr(34)}: {chr(34)}{it.name}{chr(34)}' for name, it in others)}}}",
-                                           f"ONLY_READ = [{', '.join(f'Dialect.{it.constant}' for it in dialects if not it.is_written)}]",
-                                           f"ONLY_WRITTEN: List[Dialect] = [{', '.join(f'Dialect.{it.constant}' for it in dialects if not it.is_read)}]"],
+            f"the tool whose names are read or written: {', '.join(words[:-1])} or {words[-1]}.",
+            f"{' and '.join(f'{name} is {it.name}' for name, it in others)}.",
+            f"Names of {' and '.join(it.name for it in only_read)} are only read."],
+        "the dialects' names for Python": [
+            f"DialectName = {literal([*words, *(name for name, _ in others)])}", f"OTHER_NAMES = {{{python_names}}}",
+            f"ONLY_READ = [{', '.join(f'Dialect.{it.constant}' for it in only_read)}]",
+            f"ONLY_WRITTEN: List[Dialect] = [{', '.join(f'Dialect.{it.constant}' for it in only_written)}]"],
         "the other names of dialects for JavaScript": [
-        f"const OTHER_NAMES = {{ {', '.join(f'{name}: {chr(34)}{it.name}{chr(34)}' for name, it in others)} }};"],
-        "the dialects for the documentation": ["", "| Dialect | Its names |", "|---|---|",
-                                               *(
-        f"| {', '.join(f'`{name}`' for name in [it.name, *it.other_names])} | {it.about} |" for it in dialects)],
+            "const OTHER_NAMES = { " + ", ".join(f'{name}: "{it.name}"' for name, it in others) + " };"],
+        "the dialects for the documentation": [
+            "", "| Dialect | Its names |", "|---|---|",
+            *(f"| {', '.join(f'`{name}`' for name in [it.name, *it.other_names])} | {it.about} |" for it in dialects)],
         "the dialects for JavaScript": [
-        "/** The tools whose names of targets are known, by their numbers, which begin with 1; and those whose names are written. */",
-                                        f"export const DIALECTS = Object.freeze([{names}]);",
-        f"const WRITTEN = [{written}];"],
+            "/** The tools whose names of targets are known, by their numbers, which begin with 1; and those whose "
+            "names are written. */",
+            f"export const DIALECTS = Object.freeze([{names}]);", f"const WRITTEN = [{written}];"],
         "the dialects for TypeScript": [
-        "/** The dialects, in the order of their numbers in target_lexicon.h, which begin with 1. */",
-        f"export const DIALECTS: readonly [{names}];",
-                                        "", "/**", " * A tool, or a group of tools, that names targets in its own way.",
-        *(f" * - `{it.name}`: {it.about}" for it in dialects), " */",
-                                        "export type Dialect = (typeof DIALECTS)[number] | "
-        + " | ".join(f'"{name}"' for name, _ in others) + ";"],
+            "/** The dialects, in the order of their numbers in target_lexicon.h, which begin with 1. */",
+            f"export const DIALECTS: readonly [{names}];",
+            "", "/**", " * A tool, or a group of tools, that names targets in its own way.",
+            *(f" * - `{it.name}`: {it.about}" for it in dialects), " */",
+            "export type Dialect = (typeof DIALECTS)[number] | " + " | ".join(f'"{name}"' for name, _ in others) + ";"],
     }
+
+
+def rust_pairs(others):
+    return ", ".join(f'("{name}", Dialect::{it.variant})' for name, it in others)
 
 
 def literal(names):
@@ -416,7 +424,7 @@ def files(tables, types):
         "}", "",
         f"pub(crate) const DIALECT_NAMES: [&str; {len(dialects)}] = [",
         *filled([f'"{it.name}",' for it in dialects], " ", "    "), "];",
-        f"pub(crate) const OTHER_NAMES: [(&str, Dialect); {len(others)}] = [{', '.join(f'({chr(34)}{name}{chr(34)}, Dialect::{it.variant})' for name, it in others)}];", "",
+        f"pub(crate) const OTHER_NAMES: [(&str, Dialect); {len(others)}] = [{rust_pairs(others)}];", "",
         f'pub(crate) const ONLY_WRITTEN: &str = "{tables.only_written}";', "",
         "/// Why a triple has no name in a dialect. `Display` says it, and what would help.",
         "#[derive(Clone, Copy, Debug, PartialEq, Eq, Hash)]", "#[non_exhaustive]", "pub enum WriteError {",

@@ -1,7 +1,7 @@
-"""Upstream's answers that checks/upstream/answers.tsv keeps. Each row has a kind, what was asked, and what program.rs answers,
-with tabs between them. Of the kind `all` what was asked is the architecture: with all systems, environments and formats
-that are words of the file. Of the kind `order` it is a field: in which order the names that are words are declared,
-which no definition says."""
+"""Upstream's answers that checks/upstream/answers.tsv keeps. Each row has a kind, what was asked, and what program.rs
+answers, with tabs between them. Of the kind `all` what was asked is the architecture: with all systems, environments
+and formats that are words of the file. Of the kind `order` it is a field: in which order the names that are words are
+declared, which no definition says."""
 import re
 from collections import namedtuple
 from pathlib import Path

@@ -1,7 +1,9 @@
 //! Why a string is refused, as numbers.
 use crate::names::c_reason;
 use crate::values::field_at;
-use crate::{Status, NAME_WITHOUT_TRIPLE, NEEDS_C_LIBRARY, NO_SUCH_VALUE, NO_SUCH_VENDOR, TRIPLE_WITHOUT_NAME, UNKNOWN_NAME};
+use crate::{
+    Status, NAME_WITHOUT_TRIPLE, NEEDS_C_LIBRARY, NO_SUCH_VALUE, NO_SUCH_VENDOR, TRIPLE_WITHOUT_NAME, UNKNOWN_NAME,
+};
 use core::ptr::null;
 use target_lexicon::{Field, Refusal};
 use target_names::{NameError, TranslateError, WriteError};
@@ -33,7 +35,9 @@ impl TextError {
         let (status, reason) = match error {
             TranslateError::Read(NameError::Unknown) => (UNKNOWN_NAME, null()),
             TranslateError::Read(NameError::WithoutTriple(why)) => (NAME_WITHOUT_TRIPLE, c_reason(why)),
-            TranslateError::Write(why @ (WriteError::NeedsCLibrary | WriteError::NeedsWindowsAbi)) => (NEEDS_C_LIBRARY, c_reason(why.reason())),
+            TranslateError::Write(why @ (WriteError::NeedsCLibrary | WriteError::NeedsWindowsAbi)) => {
+                (NEEDS_C_LIBRARY, c_reason(why.reason()))
+            }
             TranslateError::Write(why) => (TRIPLE_WITHOUT_NAME, c_reason(why.reason())),
         };
         TextError { status, start: 0, end: name.len(), reason }

@@ -51,7 +51,8 @@ impl<First: AsMut<QueryFacts>, Next> AsMut<QueryFacts> for Both<First, Next> {
 
 impl From<Option<TypeLayout>> for LayoutNumbers {
     fn from(layout: Option<TypeLayout>) -> LayoutNumbers {
-        layout.map_or(LayoutNumbers { size: 0, alignment: 0 }, |it| LayoutNumbers { size: it.size, alignment: it.alignment })
+        let (size, alignment) = layout.map_or((0, 0), |it| (it.size, it.alignment));
+        LayoutNumbers { size, alignment }
     }
 }
 
@@ -67,6 +68,7 @@ pub(crate) static TYPE_SIZES: [TypeSizes; 6] = [
 
 impl TypeSizes {
     pub(crate) const fn new(of: target_names::TypeSizes) -> TypeSizes {
-        TypeSizes { short: of.short, int: of.int, long: of.long, long_long: of.long_long, float: of.float, double: of.double }
+        let target_names::TypeSizes { short, int, long, long_long, float, double, .. } = of;
+        TypeSizes { short, int, long, long_long, float, double }
     }
 }

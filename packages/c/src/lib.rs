@@ -206,7 +206,9 @@ unsafe fn text_at<'a>(text: *const u8, size: usize) -> Result<&'a str, TextError
 
 /// The caller's bytes and error, if there is one, for a call that says why a text is refused. A size that is too large
 /// comes first, also that of the buffer.
-unsafe fn refused_at<'a>(text: *const u8, size: usize, error: *const TextError, out_size: usize) -> Result<(&'a [u8], TextError), Status> {
+unsafe fn refused_at<'a>(
+    text: *const u8, size: usize, error: *const TextError, out_size: usize,
+) -> Result<(&'a [u8], TextError), Status> {
     // SAFETY: the arguments of the caller.
     let bytes = unsafe { bytes_at(text, size) }?;
     if out_size > MAX_SIZE {
@@ -257,7 +259,9 @@ fn not_utf8(bytes: &[u8], error: str::Utf8Error) -> TextError {
 // SAFETY, of each `unsafe` below: the arguments are the caller's, as target_lexicon.h asks for them.
 
 #[no_mangle]
-pub unsafe extern "C" fn lexicon_parse(text: *const u8, text_size: usize, triple: *mut Triple, error: *mut TextError) -> Status {
+pub unsafe extern "C" fn lexicon_parse(
+    text: *const u8, text_size: usize, triple: *mut Triple, error: *mut TextError,
+) -> Status {
     unsafe { answer_or_error(triple, text_at(text, text_size).and_then(|text| Ok(TripleRef::from_str(text)?)), error) }
 }
 
@@ -273,31 +277,41 @@ pub unsafe extern "C" fn lexicon_explain(
 }
 
 #[no_mangle]
-pub unsafe extern "C" fn lexicon_print(triple: *const Triple, out: *mut u8, out_size: usize, length: *mut usize) -> Status {
+pub unsafe extern "C" fn lexicon_print(
+    triple: *const Triple, out: *mut u8, out_size: usize, length: *mut usize,
+) -> Status {
     let triple = unsafe { Triple::read(triple) };
     unsafe { write_text(out, out_size, length, |out| Ok(triple?.write_to(out))) }
 }
 
 #[no_mangle]
-pub unsafe extern "C" fn lexicon_rustc_cfg(triple: *const Triple, out: *mut u8, out_size: usize, length: *mut usize) -> Status {
+pub unsafe extern "C" fn lexicon_rustc_cfg(
+    triple: *const Triple, out: *mut u8, out_size: usize, length: *mut usize,
+) -> Status {
     let triple = unsafe { Triple::read(triple) };
     unsafe { write_text(out, out_size, length, |out| Ok(shown(&triple?.rustc_cfg(), out))) }
 }
 
 #[no_mangle]
-pub unsafe extern "C" fn lexicon_llvm_target(triple: *const Triple, out: *mut u8, out_size: usize, length: *mut usize) -> Status {
+pub unsafe extern "C" fn lexicon_llvm_target(
+    triple: *const Triple, out: *mut u8, out_size: usize, length: *mut usize,
+) -> Status {
     let triple = unsafe { Triple::read(triple) };
     unsafe { write_text(out, out_size, length, |out| Ok(shown(&triple?.llvm_target(), out))) }
 }
 
 #[no_mangle]
-pub unsafe extern "C" fn lexicon_multiarch_tuple(triple: *const Triple, out: *mut u8, out_size: usize, length: *mut usize) -> Status {
+pub unsafe extern "C" fn lexicon_multiarch_tuple(
+    triple: *const Triple, out: *mut u8, out_size: usize, length: *mut usize,
+) -> Status {
     let tuple = unsafe { Triple::read(triple) }.map(|triple| triple.multiarch_tuple());
     unsafe { write_text(out, out_size, length, |out| Ok(shown(&tuple?.ok_or(TRIPLE_WITHOUT_NAME)?, out))) }
 }
 
 #[no_mangle]
-pub unsafe extern "C" fn lexicon_program_suffix(triple: *const Triple, out: *mut u8, out_size: usize, length: *mut usize) -> Status {
+pub unsafe extern "C" fn lexicon_program_suffix(
+    triple: *const Triple, out: *mut u8, out_size: usize, length: *mut usize,
+) -> Status {
     let triple = unsafe { Triple::read(triple) };
     unsafe { write_text(out, out_size, length, |out| Ok(written(triple?.program_suffix(), out))) }
 }
@@ -348,7 +362,9 @@ pub unsafe extern "C" fn lexicon_facts(triple: *const Triple, facts: *mut u8, fa
 /// Writes so many bytes of facts of a triple. Each kind is compiled by itself: together, each would save the registers
 /// that all need.
 #[inline(never)]
-unsafe fn write_facts<T: for<'a> From<&'a TripleRef<'a>> + AsMut<QueryFacts>>(triple: *const Triple, facts: *mut u8, size: usize) -> Status {
+unsafe fn write_facts<T: for<'a> From<&'a TripleRef<'a>> + AsMut<QueryFacts>>(
+    triple: *const Triple, facts: *mut u8, size: usize,
+) -> Status {
     let asked = match unsafe { Triple::read(triple) } {
         Ok(asked) => asked,
         Err(fault) => return fault.into(),
@@ -446,7 +462,8 @@ unsafe fn write_name(
         find(dialect, &triple).map_err(|why| TextError::of_name(TranslateError::Write(why), ""))
     };
     let name = named();
-    let status = unsafe { write_text(out, out_size, length, |out| Ok(written(name.as_ref().map_err(|it| it.status)?.as_str(), out))) };
+    let found = name.as_ref().map_err(|it| it.status);
+    let status = unsafe { write_text(out, out_size, length, |out| Ok(written(found?.as_str(), out))) };
     if let (TRIPLE_WITHOUT_NAME | NEEDS_C_LIBRARY, Err(why), false) = (status, name, reason.is_null()) {
         unsafe { reason.write(why.reason) }
     }
@@ -561,12 +578,17 @@ pub unsafe extern "C" fn lexicon_suggestion(
 ) -> Status {
     match unsafe { refused_at(text, text_size, error, out_size) } {
         Err(TOO_LARGE) => TOO_LARGE,
-        refused => unsafe { write_suggestion(refused.ok().and_then(|(bytes, error)| suggestion(bytes, &error)), out, out_size, length) },
+        refused => {
+            let found = refused.ok().and_then(|(bytes, error)| suggestion(bytes, &error));
+            unsafe { write_suggestion(found, out, out_size, length) }
+        }
     }
 }
 
 #[no_mangle]
-pub unsafe extern "C" fn lexicon_vendor_suggestion(triple: *const Triple, out: *mut u8, out_size: usize, length: *mut usize) -> Status {
+pub unsafe extern "C" fn lexicon_vendor_suggestion(
+    triple: *const Triple, out: *mut u8, out_size: usize, length: *mut usize,
+) -> Status {
     match unsafe { Triple::read(triple) } {
         Err(fault) if out_size <= MAX_SIZE => fault.into(),
         triple => unsafe { write_suggestion(triple.ok().and_then(vendor_suggestion), out, out_size, length) },

@@ -37,8 +37,8 @@ impl<'a> TripleRef<'a> {
     ///
     /// # Errors
     ///
-    /// [`NotPlain`] if no string parses as the vendor (see [`VendorRef::is_plain`](crate::VendorRef::is_plain)). The error
-    /// owns a copy of the triple; nothing else is allocated.
+    /// [`NotPlain`] if no string parses as the vendor (see [`VendorRef::is_plain`](crate::VendorRef::is_plain)). The
+    /// error owns a copy of the triple; nothing else is allocated.
     ///
     /// # Examples
     ///

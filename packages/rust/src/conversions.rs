@@ -1,5 +1,5 @@
-//! Conversions, which allocate nothing. None is into a type of upstream's by `From`: with a second one rustc would no longer know
-//! what `Vendor::from(string.parse()?)` parses.
+//! Conversions, which allocate nothing. None is into a type of upstream's by `From`: with a second one rustc would no
+//! longer know what `Vendor::from(string.parse()?)` parses.
 use crate::{
     DeploymentTarget, Field, KnownVendor, Refusal, TextPart, Triple, TripleRef, Vendor, VendorRef,
 };
@@ -59,7 +59,8 @@ impl From<KnownVendor> for VendorRef<'_> {
 
 impl PartialEq<Triple> for TripleRef<'_> {
     /// Whether the values are the same. Equal ones have the same hash.
-    // Not the other way round: if a `Triple` were compared with two types, rustc wouldn't know what `triple == string.parse()?` parses.
+    // Not the other way round: if a `Triple` were compared with two types, rustc wouldn't know what
+    // `triple == string.parse()?` parses.
     #[inline]
     fn eq(&self, other: &Triple) -> bool {
         *self == other.as_triple_ref()

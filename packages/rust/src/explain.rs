@@ -3,12 +3,13 @@ use crate::proved::explain;
 use crate::{Explanation, TripleRef};
 
 impl<'a> TripleRef<'a> {
-    /// What a string parses as, or why it is refused; and where in the string each field comes from. Nothing is allocated.
+    /// What a string parses as, or why it is refused; and where in the string each field comes from. Nothing is
+    /// allocated.
     ///
     /// A part is of the first field that it parses as, of those after the field of the part before it. So `nuttx` in
-    /// `armv7a-nuttx-eabi` is the vendor, since it is the name of no field. The whole of a special string gives all five
-    /// fields; its parts have none of their own. Of a refused string it says which fields the parts before the refused one
-    /// filled.
+    /// `armv7a-nuttx-eabi` is the vendor, since it is the name of no field. The whole of a special string gives all
+    /// five fields; its parts have none of their own. Of a refused string it says which fields the parts before the
+    /// refused one filled.
     ///
     /// # Examples
     ///

@@ -1,5 +1,5 @@
-//! What upstream's types have here and not there, as traits: a method of a trait that a program doesn't import changes nothing in it, and a
-//! method of the type would take precedence over one of the program's own traits.
+//! What upstream's types have here and not there, as traits: a method of a trait that a program doesn't import changes
+//! nothing in it, and a method of the type would take precedence over one of the program's own traits.
 use crate::{
     Architecture, BinaryFormat, CDataModel, CallingConvention, DeploymentTarget, Endianness,
     Environment, OperatingSystem, PointerWidth, RoundTripException, Triple, TripleRef, Upstream,
@@ -15,7 +15,8 @@ use sealed::Sealed;
 
 /// The calls of a [`Triple`] that upstream doesn't have. A [`TripleRef`] has them itself.
 pub trait TripleExt: Sealed + Sized {
-    /// The triple that a string parses as. It is that of `str::parse`, with an error that shows the place and owns the string.
+    /// The triple that a string parses as. It is that of `str::parse`, with an error that shows the place and owns the
+    /// string.
     ///
     /// # Errors
     ///
@@ -49,8 +50,8 @@ pub trait TripleExt: Sealed + Sized {
     #[must_use]
     fn as_triple_ref(&self) -> TripleRef<'_>;
 
-    /// Whether the triple comes back: printed and parsed again, it is itself. It does unless one of the five exceptions of
-    /// [`RoundTripException`]. Nothing is allocated.
+    /// Whether the triple comes back: printed and parsed again, it is itself. It does unless one of the five exceptions
+    /// of [`RoundTripException`]. Nothing is allocated.
     ///
     /// # Examples
     ///
@@ -74,7 +75,8 @@ pub trait TripleExt: Sealed + Sized {
     /// use target_lexicon::{triple, RoundTripException, TripleExt};
     ///
     /// assert_eq!(triple!("x86_64-unknown-linux-gnu").round_trip_exception(), None);
-    /// assert_eq!(triple!("armv7-nintendo-horizon-newlib").round_trip_exception(), Some(RoundTripException::HidesNewlib));
+    /// let exception = triple!("armv7-nintendo-horizon-newlib").round_trip_exception();
+    /// assert_eq!(exception, Some(RoundTripException::HidesNewlib));
     /// ```
     #[must_use]
     #[inline]
@@ -82,9 +84,9 @@ pub trait TripleExt: Sealed + Sized {
         self.as_triple_ref().round_trip_exception()
     }
 
-    /// The canonical form of the triple, which is what its printed string parses as. It comes back, and two canonical triples
-    /// with the same string are the same, so the string serves as a key. A triple that [`comes_back`](TripleExt::comes_back)
-    /// is unchanged.
+    /// The canonical form of the triple, which is what its printed string parses as. It comes back, and two canonical
+    /// triples with the same string are the same, so the string serves as a key. A triple that
+    /// [`comes_back`](TripleExt::comes_back) is unchanged.
     ///
     /// # Errors
     ///
@@ -104,8 +106,8 @@ pub trait TripleExt: Sealed + Sized {
     #[cfg(feature = "alloc")]
     fn settle(self) -> Result<Self, NotPlain>;
 
-    /// Whether both triples have the same canonical form. Nothing is moved, copied or allocated. A triple whose vendor isn't plain
-    /// may have one here too, but its string is no key.
+    /// Whether both triples have the same canonical form. Nothing is moved, copied or allocated. A triple whose vendor
+    /// isn't plain may have one here too, but its string is no key.
     ///
     /// # Examples
     ///
@@ -122,8 +124,9 @@ pub trait TripleExt: Sealed + Sized {
         self.as_triple_ref().settles_as(other)
     }
 
-    /// The triple as upstream prints it: `Display` of what is returned writes that. It differs from what `Display` of the
-    /// triple writes only if environment and format are both unknown and another format is implied. Nothing is allocated.
+    /// The triple as upstream prints it: `Display` of what is returned writes that. It differs from what `Display` of
+    /// the triple writes only if environment and format are both unknown and another format is implied. Nothing is
+    /// allocated.
     ///
     /// # Examples
     ///

@@ -1,4 +1,5 @@
-//! The hash of a borrowed vendor, and so of a [`TripleRef`](crate::proved::TripleRef): that of the owned one of the same value.
+//! The hash of a borrowed vendor, and so of a [`TripleRef`](crate::proved::TripleRef): that of the owned one of the
+//! same value.
 use crate::proved::{CustomVendor, Vendor, VendorRef};
 use core::hash::{Hash, Hasher};
 use core::mem::discriminant;

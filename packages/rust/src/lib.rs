@@ -23,15 +23,15 @@
 //! - **Without an allocator**: [`TripleRef`] borrows from the string. [`TripleRef::write_to`] prints into a buffer.
 //! - **Where each field comes from**: [`TripleRef::explain`] says it.
 //!
-//! Upstream's types have upstream's methods. What they have besides is in traits, which a program imports: [`TripleExt`], [`Named`],
-//! [`OperatingSystemExt`] and [`ParseErrorExt`].
+//! Upstream's types have upstream's methods. What they have besides is in traits, which a program imports:
+//! [`TripleExt`], [`Named`], [`OperatingSystemExt`] and [`ParseErrorExt`].
 //!
 //! # Features
 //!
 //! Only `alloc` is on by default.
 //!
-//! - `alloc`: what owns a string, such as the errors of [`TripleExt::parse`]. Without it no allocator is linked: [`TripleRef`] has its
-//!   calls except `parse`, `settle` and those that make an owned value.
+//! - `alloc`: what owns a string, such as the errors of [`TripleExt::parse`]. Without it no allocator is linked:
+//!   [`TripleRef`] has its calls except `parse`, `settle` and those that make an owned value.
 //! - `serde_support`: a triple and each field is its string in serde.
 //! - `std`: [`ParseError`] implements `Error`, as in upstream; the other errors do before Rust 1.81 too.
 //! - `arch_zkasm` and `arch_z80` change nothing.

@@ -1,6 +1,6 @@
-//! Orders. Fields are in the order of their names, and triples in that of their fields, the first one first. So a list of
-//! triples is in the order of what a reader sees, except that a version is a number: `ios9` comes before `ios17`. Only
-//! equal values have the same place: a custom vendor comes after the known one of its name.
+//! Orders. Fields are in the order of their names, and triples in that of their fields, the first one first. So a list
+//! of triples is in the order of what a reader sees, except that a version is a number: `ios9` comes before `ios17`.
+//! Only equal values have the same place: a custom vendor comes after the known one of its name.
 // written by tools/names/write: the types of families with an order
 use crate::{
     Aarch64Architecture, ArmArchitecture, CleverArchitecture, Mips32Architecture,

@@ -7,11 +7,11 @@ use core::fmt;
 use core::ops::Range;
 
 /// Why a string doesn't parse as a triple, with the whole string. It owns what it needs, so that `?` takes it out of a
-/// function. `{}` shows it in one line, and `{:#}` in three: what is wrong, the string, and carets below the refused part. Of the
-/// string only what ASCII can print is shown as it is; the rest is escaped.
+/// function. `{}` shows it in one line, and `{:#}` in three: what is wrong, the string, and carets below the refused
+/// part. Of the string only what ASCII can print is shown as it is; the rest is escaped.
 ///
-/// [`TripleExt::parse`](crate::TripleExt::parse) and [`TripleRef::parse`] return it. `str::parse` returns upstream's [`ParseError`], and
-/// [`TripleRef::from_str`] a [`Refusal`], which borrows from the string.
+/// [`TripleExt::parse`](crate::TripleExt::parse) and [`TripleRef::parse`] return it. `str::parse` returns upstream's
+/// [`ParseError`], and [`TripleRef::from_str`] a [`Refusal`], which borrows from the string.
 ///
 /// # Examples
 ///
@@ -61,8 +61,8 @@ impl<'a> TripleRef<'a> {
 }
 
 impl Refusal<'_> {
-    /// The refusal as an error that owns the string it is about. If the refused part isn't in this string, the error is about
-    /// the part only.
+    /// The refusal as an error that owns the string it is about. If the refused part isn't in this string, the error is
+    /// about the part only.
     ///
     /// # Examples
     ///
@@ -185,8 +185,8 @@ impl fmt::Display for ParseTripleError {
     }
 }
 
-/// The string, of which each character that ASCII doesn't print is escaped, as `\u{1b}`: it may control a terminal, turn the direction of
-/// text, combine with its neighbour, be invisible or look like another letter.
+/// The string, of which each character that ASCII doesn't print is escaped, as `\u{1b}`: it may control a terminal,
+/// turn the direction of text, combine with its neighbour, be invisible or look like another letter.
 fn visible(text: &str) -> String {
     let mut shown = String::with_capacity(text.len());
     for c in text.chars() {

@@ -1,4 +1,5 @@
-//! The queries of a [`TripleRef`], with an error that has a name. Those of a `Triple` are upstream's, whose error is `()`.
+//! The queries of a [`TripleRef`], with an error that has a name. Those of a `Triple` are upstream's, whose error is
+//! `()`.
 use crate::{CDataModel, CallingConvention, Endianness, PointerWidth, TripleRef};
 use core::fmt;
 
@@ -84,7 +85,8 @@ impl TripleRef<'_> {
         }
     }
 
-    /// The calling convention, as [`Triple::default_calling_convention`](crate::Triple::default_calling_convention) says.
+    /// The calling convention, as [`Triple::default_calling_convention`](crate::Triple::default_calling_convention)
+    /// says.
     ///
     /// # Errors
     ///

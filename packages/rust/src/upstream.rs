@@ -2,7 +2,8 @@
 use crate::TripleRef;
 use core::fmt;
 
-/// A triple that `Display` writes as upstream does. [`TripleExt::upstream`](crate::TripleExt::upstream) and [`TripleRef::upstream`] return it.
+/// A triple that `Display` writes as upstream does. [`TripleExt::upstream`](crate::TripleExt::upstream) and
+/// [`TripleRef::upstream`] return it.
 ///
 /// # Examples
 ///

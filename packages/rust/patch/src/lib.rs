@@ -1,5 +1,5 @@
-//! Upstream's names, each for that of the crate `target-lexicon-verified`, for `[patch.crates-io]`. A triple has a type of its own, which is
-//! printed as upstream does.
+//! Upstream's names, each for that of the crate `target-lexicon-verified`, for `[patch.crates-io]`. A triple has a type
+//! of its own, which is printed as upstream does.
 #![no_std]
 #![forbid(unsafe_code)]
 

@@ -30,7 +30,8 @@ pub const HOST: Triple = Triple {
 
 impl<'a> From<&'a Triple> for TripleRef<'a> {
     /// The same triple, borrowed, for the calls that upstream lacks.
-    // None is into a type of upstream's: with a second one rustc wouldn't know what `Triple::from(string.parse()?)` parses.
+    // None is into a type of upstream's: with a second one rustc wouldn't know what `Triple::from(string.parse()?)`
+    // parses.
     #[inline]
     fn from(triple: &'a Triple) -> Self {
         TripleRef {
