@@ -1,5 +1,5 @@
 -- The five exceptions to the round trip: printed and parsed again, these triples are another triple or none.
-use Rattle.std.specs.Prelude.{Bool, true, false, ◌&&◌, codes, if◌then◌else◌, Option, Some, None, is_some}
+use Rattle.std.specs.Prelude.{Bool, false, ◌&&◌, codes, if◌then◌else◌, Option, Some, None, is_some}
 use Rattle.std.specs.Str.{bytes_eq}
 use Rattle.lexicon_fields.specs.Vendor.{is_plain}
 pub use Rattle.target_lexicon.specs.declared.exception.RoundTripException.{RoundTripException}

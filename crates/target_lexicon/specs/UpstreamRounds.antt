@@ -1,7 +1,7 @@
 -- Round trips by upstream's own rule of printing, without the addition `shows_unknowns`: there are six exceptions, and
 -- one round trip settles every plain triple but one, which takes two. What these definitions cite is compared with
 -- upstream's crate. `checks/theorem` proves the law.
-use Rattle.std.specs.Prelude.{◌≡◌, ◌≢◌, ◌↔◌, Bool, true, false, ◌&&◌, None, codes, is_none, if◌then◌else◌}
+use Rattle.std.specs.Prelude.{◌≡◌, ◌≢◌, ◌↔◌, Bool, false, ◌&&◌, None, codes, is_none, if◌then◌else◌}
 use Rattle.lexicon_fields.specs.Laws.{HasVersionInRange}
 use Rattle.target_lexicon.specs.{Exceptions.exception, FixedPoints.IsPlainTriple, ImpliedFormat.default_binary_format}
 use Rattle.target_lexicon.specs.{NormalStep.normal_step}
