@@ -51,7 +51,13 @@ FieldValues =
 
 -- what a string parses as in each field by its fixed names
 abbrev pub name_values : List ℕ → FieldValues
-name_values text = (architecture_of text, known_vendor_of text, fixed_operating_system_of text, environment_of text, binary_format_of text)
+name_values text = (
+  architecture_of text,
+  known_vendor_of text,
+  fixed_operating_system_of text,
+  environment_of text,
+  binary_format_of text,
+)
 
 abbrev pub row_values : FixedRow → FieldValues
 row_values row = (row.architecture, row.vendor, row.operating_system, row.environment, row.binary_format)
@@ -63,7 +69,13 @@ values_meant (meaning.OperatingSystem it) = (None, None, Some it, None, None)
 values_meant (meaning.Environment it) = (None, None, None, Some it, None)
 values_meant (meaning.BinaryFormat it) = (None, None, None, None, Some it)
 values_meant meaning.None = (None, None, Some operating_system.None_, Some environment.None, None)
-values_meant meaning.Unknown = (Some architecture.Unknown, Some known_vendor.Unknown, Some operating_system.Unknown, Some environment.Unknown, Some binary_format.Unknown)
+values_meant meaning.Unknown = (
+  Some architecture.Unknown,
+  Some known_vendor.Unknown,
+  Some operating_system.Unknown,
+  Some environment.Unknown,
+  Some binary_format.Unknown,
+)
 
 -- the table has this string and meaning, and the string is this one
 pub record IsTheRow (name : List ℕ) (row : Bor (List ℕ) × Meaning) : Type 0 where
