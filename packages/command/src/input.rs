@@ -10,7 +10,7 @@ use std::io::{self, BufRead, BufReader, ErrorKind};
 use std::num::NonZeroUsize;
 use std::path::{Path, PathBuf};
 use std::{fmt, str};
-use target_names::{meanings, targets_in, words_in, Evidence, Said, Word, WordIs};
+use target_names::{meanings, targets_in, words_in, Word};
 
 pub const STANDARD_INPUT: &str = "<stdin>";
 
@@ -135,21 +135,6 @@ fn text_of(path: &Path, file: &str) -> Result<Option<Vec<u8>>, Fault> {
     }
 }
 
-/// How many items of a file say whether it is a list.
-const ENOUGH_ITEMS: usize = 100;
-
-/// Whether a text is a list of targets: at least half of its first items are names, or may be misspelled ones. Otherwise
-/// it has single words of other things, such as a `.gitignore` or the number of a version.
-fn is_list(text: &str) -> bool {
-    let (mut items, mut named) = (0, 0);
-    for word in targets_in(text).take_while(|it| it.is_item()).take(ENOUGH_ITEMS) {
-        items += 1;
-        let says_machine = || Evidence::of(word.text()).machine() != Said::Unsaid;
-        named += usize::from(word.is() != WordIs::Unknown && says_machine());
-    }
-    items > 0 && items <= 2 * named
-}
-
 /// Answers each target in the text of a file.
 fn each_in_text(path: &Path, answers: &mut impl Answers) -> Result<(), Fault> {
     let file = &path.display().to_string();
@@ -159,9 +144,8 @@ fn each_in_text(path: &Path, answers: &mut impl Answers) -> Result<(), Fault> {
     };
     let text = String::from_utf8_lossy(&bytes);
     let text = text.strip_prefix(BYTE_ORDER_MARK).unwrap_or(&text);
-    let words = if is_list(text) { targets_in(text) } else { words_in(text) };
     let (mut at, mut number, mut indent) = (0, 1, 0);
-    for word in words {
+    for word in words_in(text) {
         let before = &text[at..word.start()];
         number += before.matches('\n').count();
         let (start, characters) = before.rsplit_once('\n').map_or((indent, before), |it| (0, it.1));

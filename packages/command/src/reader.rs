@@ -5,10 +5,7 @@ use crate::refusal::Refusal;
 use clap::ArgMatches;
 use std::cell::Cell;
 use target_lexicon::{OperatingSystem, Source, Sources, TripleRef, VendorRef};
-use target_names::{
-    is_near_name, is_vendor_of_rustc, meanings, read, vendor_suggestion, ChosenLibc, Dialect, Evidence, Meaning,
-    NameError, NameOf, TargetInfo, WordIs,
-};
+use target_names::{is_vendor_of_rustc, read, vendor_suggestion, ChosenLibc, Dialect, NameError, TargetInfo, Verdict};
 
 /// How targets are given.
 #[derive(Clone, Copy, PartialEq, Eq)]
@@ -110,51 +107,22 @@ impl Reader {
         let Some(word) = target.word.filter(|_| self.from.is_none() && !self.is_spelled) else {
             return self.meaning(text).map(|(triple, warning)| Meant::Triple(triple, warning));
         };
-        let (own, is) = (TripleRef::from_str(text), word.is());
-        // What isn't spelled like a triple, and says all of one, is a name of some tool: vcpkg's `x64-windows-static`.
-        let is_vendor = |it| VendorRef::from_str(it).map_or(false, |it| !it.is_custom());
-        let is_understood = || {
-            let is_unknown = own.is_err() && is == WordIs::Unknown && !text.split('-').any(is_vendor);
-            is_unknown && Evidence::of(text).triple().is_some()
-        };
-        let is_known = own.as_ref().map_or(false, |it| !it.vendor.is_custom());
-        // GNU takes any vendor.
-        let is_of_tool = |it: &Meaning<'_>| match it.of {
-            NameOf::Triple => false,
-            NameOf::Dialect(Dialect::Gnu) => own.is_err() && matches!(is, WordIs::Name(_)),
-            NameOf::Dialect(_) | NameOf::Spelling => true,
-        };
-        let tool = meanings(text).filter(|_| !is_known).find(is_of_tool);
-        match (tool, is) {
-            (Some(Meaning { of: NameOf::Dialect(dialect), sense: Err(why) }), _) => {
+        match word.verdict(self.is_strict, |it| self.vendors.iter().any(|of| of == it)) {
+            Verdict::WithoutTriple(dialect, why) => {
                 Ok(Meant::NoTriple(Some(Refusal::of_name(text, dialect, NameError::WithoutTriple(why)))))
             }
-            (Some(Meaning { of: NameOf::Dialect(_) | NameOf::Spelling, sense: Ok(it) }), _) => {
-                Ok(Meant::Triple(self.completed(it.triple), None))
-            }
-            _ if (word.is_unclear() || is_understood()) && !self.is_strict => {
+            Verdict::Unclear => {
                 self.unclear.set(self.unclear.get() + 1);
                 Ok(Meant::NoTriple(None))
             }
-            (_, WordIs::Misspelled(it)) if it.part.text == text => Err(Refusal::unknown_to_all(text)),
-            (_, is) => {
-                let parsed = self.parse(text);
-                let is_clear = match &parsed {
-                    Ok(it) => it.warning.is_some() || !self.is_custom(&it.triple),
-                    Err(refusal) => refusal.has_begun(),
-                };
-                if !is_clear && !matches!(is, WordIs::Misspelled(_)) && is_near_name(text) {
-                    return Err(Refusal::unknown_to_all(text));
-                }
-                parsed.map(|it| Meant::Triple(self.completed(it.triple), it.warning))
+            Verdict::Unknown => Err(Refusal::unknown_to_all(text)),
+            Verdict::Right(triple) if TripleRef::from_str(text) != Ok(triple) => {
+                Ok(Meant::Triple(self.completed(triple), None))
+            }
+            Verdict::Right(_) | Verdict::Refused(_) | Verdict::NearVendor(..) => {
+                self.parse(text).map(|it| Meant::Triple(self.completed(it.triple), it.warning))
             }
         }
-    }
-
-    /// Whether a triple has a custom vendor that isn't meant.
-    fn is_custom(&self, triple: &TripleRef<'_>) -> bool {
-        let is_meant = |it: &str| is_vendor_of_rustc(it) || self.vendors.iter().any(|of| of == it);
-        matches!(triple.vendor, VendorRef::Custom(it) if !is_meant(it))
     }
 
     /// The triple of a string that is one, or is spelled like one if that is asked; and a warning.

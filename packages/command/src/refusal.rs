@@ -108,11 +108,6 @@ impl Refusal<'_> {
         self.reason.is_some()
     }
 
-    /// Whether the string is right up to a part.
-    pub fn has_begun(&self) -> bool {
-        self.part.start > 0
-    }
-
     /// Whether it is a name that a dialect doesn't have.
     pub fn is_unknown_name(&self) -> bool {
         matches!(self.names, Names::OfDialect(..))

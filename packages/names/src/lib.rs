@@ -77,6 +77,7 @@ mod table_tests;
 mod target_info;
 mod text;
 mod translation;
+mod verdict;
 mod versions;
 
 pub use dialect::{NameError, Sense};
@@ -99,6 +100,7 @@ pub use table::{ArmProfile, CLibrary, ChosenLibc, Dialect, FloatAbi, Signedness,
 pub use target_info::TargetInfo;
 pub use text::{is_near_name, targets_in, words_in, TargetsIn, Word, WordIs};
 pub use translation::TranslateError;
+pub use verdict::Verdict;
 pub use versions::{VersionOf, Versions};
 
 /// The samples of the page are tested.

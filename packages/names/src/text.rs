@@ -1,6 +1,6 @@
 //! The targets in any text.
 use crate::buffer::Buffer;
-use crate::evidence::only_machine;
+use crate::evidence::{only_machine, said};
 use crate::hints::LONGEST_PATH;
 use crate::suggestions::{architecture_of, edits_between, known_names, vendor_suggestion};
 use crate::{meanings, Dialect, Evidence, Meaning, Meant, NameOf, Said, Sense};
@@ -11,7 +11,8 @@ use target_lexicon::{Architecture, Field, OperatingSystem, TextPart, TripleRef, 
 /// The words of a text that are targets or may be misspelled ones, from its start to its end. The text may be a list of
 /// targets, a file in YAML, TOML or JSON, a page in Markdown, a script, or what a command has printed.
 ///
-/// A *comment* isn't read: it begins with `#`, which is the first of a line or has white space on both sides.
+/// A *comment* isn't read: it begins with `#`, which is the first of a line, and of no `#define`, or has white space on
+/// both sides.
 ///
 /// A text is a *list* if there is nothing but items between the commas of its lines. An item has no white space in it.
 /// Around it may be white space, quotes, backquotes, brackets and braces, a dash and a space before it, and words in
@@ -48,9 +49,11 @@ pub fn targets_in(text: &str) -> TargetsIn<'_> {
     TargetsIn { text, lines, line: "", is_list, is_value: false, is_check: false }
 }
 
-/// The words of a text that a check looks at, as of running text whatever its lines are: the names that [`targets_in`]
-/// gives, what is [near one](is_near_name), and misspelled triples. Of other triples with a known vendor, and of other
-/// values of the fourth rule's keys that say a machine, or before a slash a system, [`Word::is_unclear`] is true.
+/// The words of a text that a check looks at. Of a *list of targets*, in which at least half of the first items are names
+/// or may be misspelled ones, they are the items. Of any other text, such as a `.gitignore`, they are those of running
+/// text: the names that [`targets_in`] gives, what is [near one](is_near_name), and misspelled triples. Of other triples
+/// with a known vendor, of what has the parts of one and an unknown machine, and of other values of the fourth rule's keys
+/// that say a machine, or before a slash a system, [`Word::is_unclear`] is true. [`Word::verdict`] says what is wrong.
 ///
 /// ```
 /// use target_names::words_in;
@@ -61,7 +64,24 @@ pub fn targets_in(text: &str) -> TargetsIn<'_> {
 /// ```
 #[must_use]
 pub fn words_in(text: &str) -> TargetsIn<'_> {
-    TargetsIn { is_list: false, is_check: true, ..targets_in(text) }
+    let words = targets_in(text);
+    if is_list_of_targets(words.clone()) {
+        return words;
+    }
+    TargetsIn { is_list: false, is_check: true, ..words }
+}
+
+/// How many items say whether a list is one of targets.
+const ENOUGH_ITEMS: usize = 100;
+
+fn is_list_of_targets(words: TargetsIn<'_>) -> bool {
+    let (mut items, mut named) = (0, 0);
+    for word in words.take_while(Word::is_item).take(ENOUGH_ITEMS) {
+        items += 1;
+        let says_machine = || Evidence::of(word.text()).machine() != Said::Unsaid;
+        named += usize::from(word.is() != WordIs::Unknown && says_machine());
+    }
+    items > 0 && items <= 2 * named
 }
 
 /// Whether a word in lower case is a letter more, less or other, or a swap, away from a name of a tool that has parts. If
@@ -122,10 +142,11 @@ fn is_one_edit(word: &[u8], name: &[u8]) -> bool {
     let (word, (before, name)) = (&word[start..], name.split_at(start));
     let end = word.iter().rev().zip(name.iter().rev()).take_while(|(one, other)| one == other).count();
     let letter = u8::is_ascii_lowercase;
-    // With another letter a short word of two is another word, as in `linux-atm`.
+    // With another letter a short word of two is another word, as in `linux-atm`, and so is an identifier: `linux_ipc64`.
     let (is_letter, after) = (|it: &&u8| it.is_ascii_alphanumeric(), &name[name.len() - end..]);
     let count = |of: &mut dyn Iterator<Item = &u8>| of.take_while(is_letter).count();
-    let is_of_long_word = || is_long || count(&mut before.iter().rev()) + count(&mut after.iter()) > 2;
+    let of_word = || count(&mut before.iter().rev()) + count(&mut after.iter());
+    let is_of_long_word = || is_long || !before.contains(&b'_') && of_word() > 2;
     match (&word[..word.len() - end], &name[..name.len() - end]) {
         ([it], []) | ([], [it]) => letter(it),
         ([one], [other]) => letter(one) && letter(other) && is_of_long_word(),
@@ -269,7 +290,7 @@ impl<'a> TargetsIn<'a> {
                 // that of a program, of which GNU takes any vendor: `aarch64-linux-gnu-gcc`.
                 let is_name = |it: &&str| may_be_given(it, false) && name_of(it).is_some() && is_whole(it);
                 let ends = |it: &'a str| [it.split_once('-').map(|it| it.1), it.rsplit_once('-').map(|it| it.0)];
-                let ends = parts.clone().flat_map(ends).flatten().filter(|it| it.contains('-'));
+                let ends = parts.clone().flat_map(ends).flatten().filter(|it| it.matches('-').count() > 1);
                 let near = || ends.clone().find(|it| is_near_name(it) && !is_known(it)).map(|it| (it, false));
                 if let Some(name) = parts.clone().find(is_name) {
                     let misspelled = if is_known(name) { None } else { near() };
@@ -332,7 +353,8 @@ fn uncommented(line: &str) -> &str {
     let is_space = |it: Option<char>| it.map_or(true, char::is_whitespace);
     let is_comment = |at: usize| {
         let (before, after) = (&line[..at], &line[at + 1..]);
-        before.trim_start().is_empty() || is_space(before.chars().next_back()) && is_space(after.chars().next())
+        before.trim_start().is_empty() && !after.trim_start().starts_with("define ")
+            || is_space(before.chars().next_back()) && is_space(after.chars().next())
     };
     let mut signs = line.match_indices('#').map(|it| it.0);
     signs.find(|at| is_comment(*at)).map_or(line, |at| &line[..at])
@@ -403,7 +425,7 @@ fn clarity(word: &str, is_value: bool) -> Option<bool> {
     if word.len() <= LONGEST_PATH && is_wrong() && !is_known(word) {
         return Some(false);
     }
-    (is_value && is_unclear(word)).then_some(true)
+    ((is_value || is_like_triple(word)) && is_unclear(word)).then_some(true)
 }
 
 /// Whether a word that isn't given says a machine, or a machine or a system before a slash. What runs jobs is no
@@ -414,8 +436,15 @@ fn is_unclear(word: &str) -> bool {
     }
     let evidence = Evidence::of(word);
     let is_runner = RUNNERS.iter().any(|it| word.strip_prefix(it).map_or(false, |it| it.starts_with('-')));
-    let is_said = evidence.machine() != Said::Unsaid || word.contains('/') && evidence.system() != Said::Unsaid;
+    let has_system = || word.contains('/') || is_like_triple(word);
+    let is_said = evidence.machine() != Said::Unsaid || evidence.system() != Said::Unsaid && has_system();
     is_said && !is_runner && name_of(word).is_none()
+}
+
+/// Whether a word has the parts of a triple, of which one after the first is a known vendor: `i868-unknown-linux-gnu`.
+fn is_like_triple(word: &str) -> bool {
+    let is_vendor = |it| VendorRef::from_str(it).map_or(false, |it| !it.is_custom());
+    word.matches('-').count() > 2 && !word.contains(['.', '/']) && word.split('-').skip(1).any(is_vendor)
 }
 
 /// With what labels of GitHub's runners begin.
@@ -481,6 +510,7 @@ fn is_of_unknown_environment(word: &str, is_value: bool) -> bool {
     let mut names = known_names(Field::Environment).iter();
     refusal.expected == Some(Field::Environment)
         && TripleRef::from_str(before).map_or(false, is_known)
+        && said(part) != Some("other-abi")
         && (part.len() > 3 && names.any(|name| edits_between(part.as_bytes(), name).is_some())
             || is_value && word.matches('-').count() == 3)
 }
