@@ -49,11 +49,12 @@ pub fn targets_in(text: &str) -> TargetsIn<'_> {
     TargetsIn { text, lines, line: "", is_list, is_value: false, is_check: false }
 }
 
-/// The words of a text that a check looks at. Of a *list of targets*, in which at least half of the first items are names
-/// or may be misspelled ones, they are the items. Of any other text, such as a `.gitignore`, they are those of running
-/// text: the names that [`targets_in`] gives, what is [near one](is_near_name), and misspelled triples. Of other triples
-/// with a known vendor, of what has the parts of one and an unknown machine, and of other values of the fourth rule's keys
-/// that say a machine, or before a slash a system, [`Word::is_unclear`] is true. [`Word::verdict`] says what is wrong.
+/// The words of a text that a check looks at. Of a *list of targets*, in which at least half of the first items are
+/// names or may be misspelled ones, they are the items. Of any other text, such as a `.gitignore`, they are those of
+/// running text: the names that [`targets_in`] gives, what is [near one](is_near_name), and misspelled triples. Of
+/// other triples with a known vendor, of what has the parts of one and an unknown machine, and of other values of the
+/// fourth rule's keys that say a machine, or before a slash a system, [`Word::is_unclear`] is true. [`Word::verdict`]
+/// says what is wrong.
 ///
 /// ```
 /// use target_names::words_in;
@@ -84,8 +85,8 @@ fn is_list_of_targets(words: TargetsIn<'_>) -> bool {
     items > 0 && items <= 2 * named
 }
 
-/// Whether a word in lower case is a letter more, less or other, or a swap, away from a name of a tool that has parts. If
-/// all that it says is understood, as of Debian's `freebsd-arc`, it isn't meant as another.
+/// Whether a word in lower case is a letter more, less or other, or a swap, away from a name of a tool that has parts.
+/// If all that it says is understood, as of Debian's `freebsd-arc`, it isn't meant as another.
 ///
 /// ```
 /// use target_names::is_near_name;
@@ -125,7 +126,8 @@ fn starred(word: &str) -> Buffer<LONGEST_PATH> {
 /// Shorter names have too many words near them.
 const SHORTEST_NEAR: usize = 8;
 
-/// Whether a word without parts that says nothing is likewise near a name of a machine, where both have a digit: `amd46`.
+/// Whether a word without parts that says nothing is likewise near a name of a machine, where both have a digit:
+/// `amd46`.
 fn is_near_machine(word: &str) -> bool {
     let has_digit = |it: &str| it.len() > 3 && it.bytes().any(|it| it.is_ascii_digit());
     let is_near = |name: &str| has_digit(name) && is_one_edit(word.as_bytes(), name.as_bytes());
@@ -142,7 +144,8 @@ fn is_one_edit(word: &[u8], name: &[u8]) -> bool {
     let (word, (before, name)) = (&word[start..], name.split_at(start));
     let end = word.iter().rev().zip(name.iter().rev()).take_while(|(one, other)| one == other).count();
     let letter = u8::is_ascii_lowercase;
-    // With another letter a short word of two is another word, as in `linux-atm`, and so is an identifier: `linux_ipc64`.
+    // With another letter a short word of two is another word, as in `linux-atm`, and so is an identifier, as
+    // `linux_ipc64`.
     let (is_letter, after) = (|it: &&u8| it.is_ascii_alphanumeric(), &name[name.len() - end..]);
     let count = |of: &mut dyn Iterator<Item = &u8>| of.take_while(is_letter).count();
     let of_word = || count(&mut before.iter().rev()) + count(&mut after.iter());
