@@ -22,7 +22,7 @@ use Rattle.triples.specs.Output.{Answer, Shown, Refused, shown_by, written_lines
 use Rattle.triples.specs.declared.line_mode.LineMode.{LineMode}
 use Rattle.triples.specs.declared.line_mode.LineMode.TheVariants.{Print, Show, Settle}
 use Rattle.triples.proofs.AnswerLemmas.{written_lines-append}
-use Rattle.triples.proofs.FilterAnswers.{every_input_is_filtered}
+use Rattle.triples.proofs.FilterLawLemmas.{every_input_is_filtered}
 use Rattle.triples.proofs.LineLemmas.{stays-first}
 
 -- a text after another in a buffer
@@ -113,16 +113,6 @@ feeds-append (x ∷ xs) ys =
     ∙ sym (append_assoc x (line_feed ∷ with_feeds xs) (with_feeds ys))
 
 module _ (mode : LineMode) (size : ℕ) where
-  answers-then : (xs ys : List (List ℕ)) (first next : List ℕ) → AreFilterAnswers mode size xs first
-      → AreFilterAnswers mode size ys next
-      → AreFilterAnswers mode size (xs ++ ys) (first ++ next)
-  answers-then xs ys first next a b = (
-    a.0 ++ b.0,
-    zip-append (IsFilterAnswer mode size) xs ys a.0 b.0 a.1 b.1,
-    ap (λ (t : List ℕ). t ++ next) a.2 ∙ ap (λ (t : List ℕ). written_lines a.0 ++ t) b.2
-        ∙ sym (written_lines-append a.0 b.0),
-  )
-
   pub filtered-none : (bytes : List ℕ) → IsFilteredTo mode size bytes bytes []
   filtered-none bytes = record { lines = []; whole = refl; each = tt; answered = ([], tt, refl) }
 
@@ -137,7 +127,12 @@ module _ (mode : LineMode) (size : ℕ) where
         ∙ sym (append_assoc (with_feeds a.lines) (with_feeds b.lines) rest)
         ∙ ap (λ (t : List ℕ). t ++ rest) (sym (feeds-append a.lines b.lines));
     each = each-append HasNoFeed a.lines b.lines a.each b.each;
-    answered = answers-then a.lines b.lines first next a.answered b.answered;
+    answered = (
+      a.answered.0 ++ b.answered.0,
+      zip-append (IsFilterAnswer mode size) a.lines b.lines a.answered.0 b.answered.0 a.answered.1 b.answered.1,
+      ap (λ (t : List ℕ). t ++ next) a.answered.2 ∙ ap (λ (t : List ℕ). written_lines a.answered.0 ++ t) b.answered.2
+          ∙ sym (written_lines-append a.answered.0 b.answered.0),
+    );
   }
 
   -- one line
@@ -225,8 +220,14 @@ module _ (mode : LineMode) (size : ℕ) where
       let lines : ended_lines_of bytes ≡ far.lines ++ ended_lines_of rest = ap ended_lines_of far.whole
       ∙ ended-lines far.lines rest far.each in (
         output ++ others.output,
-        subst (λ (t : List (List ℕ)). AreFilterAnswers mode size t (output ++ others.output)) (sym lines)
-            (answers-then mode size far.lines (ended_lines_of rest) output others.output far.answered others.is),
+        subst (λ (t : List (List ℕ)). AreFilterAnswers mode size t (output ++ others.output)) (sym lines) (
+          far.answered.0 ++ others.is.0,
+          zip-append (IsFilterAnswer mode size) far.lines (ended_lines_of rest) far.answered.0 others.is.0
+              far.answered.1 others.is.1,
+          ap (λ (t : List ℕ). t ++ others.output) far.answered.2
+              ∙ ap (λ (t : List ℕ). written_lines far.answered.0 ++ t) others.is.2
+              ∙ sym (written_lines-append far.answered.0 others.is.0),
+        ),
         others.output,
         refl,
       )
@@ -238,16 +239,22 @@ module _ (mode : LineMode) (size : ℕ) where
       × (last ≡ written_lines (answer ∷ [])))
       → AreFilterAnswers mode size (lines_of bytes) (output ++ last)
   filtered-end bytes rest output last far none (inl end) =
-      let lines : lines_of bytes ≡ far.lines ++ [] =
-      ap lines_of far.whole ∙ lines-ended far.lines rest far.each ∙ ap (λ (t : List ℕ). far.lines ++ lines_of t) end.0 in
+      let lines : lines_of bytes ≡ far.lines = ap lines_of far.whole ∙ lines-ended far.lines rest far.each
+      ∙ ap (λ (t : List ℕ). far.lines ++ lines_of t) end.0 ∙ append-nil far.lines in
       subst (λ (t : List (List ℕ)). AreFilterAnswers mode size t (output ++ last)) (sym lines)
-      (answers-then mode size far.lines [] output last far.answered ([], tt, end.1))
+      (subst (λ (t : List ℕ). AreFilterAnswers mode size far.lines t)
+      (sym (ap (λ (t : List ℕ). output ++ t) end.1 ∙ append-nil output)) far.answered)
   filtered-end bytes rest output last far none (inr end) =
       let lines : lines_of bytes ≡ far.lines ++ rest ∷ [] =
       ap lines_of far.whole ∙ lines-ended far.lines rest far.each
       ∙ ap (λ (t : List (List ℕ)). far.lines ++ t) (lines-last rest none end.0) in
-      subst (λ (t : List (List ℕ)). AreFilterAnswers mode size t (output ++ last)) (sym lines)
-      (answers-then mode size far.lines (rest ∷ []) output last far.answered (end.1 ∷ [], (end.2, tt), end.3))
+      subst (λ (t : List (List ℕ)). AreFilterAnswers mode size t (output ++ last)) (sym lines) (
+        far.answered.0 ++ end.1 ∷ [],
+        zip-append (IsFilterAnswer mode size) far.lines (rest ∷ []) far.answered.0 (end.1 ∷ []) far.answered.1
+            (end.2, tt),
+        ap (λ (t : List ℕ). t ++ last) far.answered.2 ∙ ap (λ (t : List ℕ). written_lines far.answered.0 ++ t) end.3
+            ∙ sym (written_lines-append far.answered.0 (end.1 ∷ [])),
+      )
 
 -- the answer to a line of which a part came before
 line-answer : (mode : LineMode) (late : Bool) (size : ℕ) (before line : List ℕ) (answer : Answer)
@@ -294,20 +301,24 @@ module _ (mode : LineMode) (late : Bool) (bytes : List ℕ) where
       ([], filtered-then mode size (before ++ bytes) _ others output (written_lines (answer ∷ [])) mid one, refl)
 
 -- the last line
-some-left : (late : Bool) (size : ℕ) (before bytes : List ℕ) → (late ≡ false → 0 < length bytes)
-    → length bytes < size → IsLate late size before → 0 < length (before ++ bytes)
-some-left true size before bytes some less fits = omega (arith, less, fits.0, length-append before bytes)
-some-left false size before bytes some less fits = omega (arith, some refl, length-append before bytes)
-
 pub rest-answered : (mode : LineMode) (late : Bool) (bytes : List ℕ) (answer : Answer)
     → (late ≡ false → 0 < length bytes) → IsLineAnswer mode late bytes answer
     → AnswersRest mode late bytes (written_lines (answer ∷ []))
-rest-answered mode late bytes answer some is = record {
+rest-answered mode true bytes answer some is = record {
   rest =
       λ size before less fits. inr (
-        some-left late size before bytes some less fits,
+        omega (arith, less, fits.0, length-append before bytes),
         answer,
-        line-answer mode late size before bytes answer fits less is,
+        line-answer mode true size before bytes answer fits less is,
+        refl,
+      );
+}
+rest-answered mode false bytes answer some is = record {
+  rest =
+      λ size before less fits. inr (
+        omega (arith, some refl, length-append before bytes),
+        answer,
+        line-answer mode false size before bytes answer fits less is,
         refl,
       );
 }

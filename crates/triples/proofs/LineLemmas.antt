@@ -1,17 +1,20 @@
 -- The lines that an iterator has left.
-use Rattle.std.proofs.Common.{◌≡◌, ◌∙◌, ap, sym, subst, ℕ, ◌+◌, ◌<◌, ◌==◌, Bool, true, false}
-use Rattle.std.proofs.Common.{if◌then◌else◌, List, [], ◌∷◌, ◌++◌, length, take, drop, Option, Some, None}
+use Rattle.std.proofs.Common.{◌≡◌, ◌∙◌, ap, sym, subst, ℕ, zero, suc, lit<, ◌+◌, ◌<◌, ◌==◌, Bool, true, false}
+use Rattle.std.proofs.Common.{if◌then◌else◌, List, [], ◌∷◌, ◌++◌, length, take, drop, get_or, Option, Some, None}
 use Rattle.std.proofs.Common.{MatchOption, refl, arith}
-use Rattle.std.specs.List.{All, slice_split}
-use Rattle.std.specs.Str.{NoCharPasses}
+use Rattle.std.specs.List.{All, AllByRecursion, join_with_byte, slice_split}
+use Rattle.std.specs.Str.{IsAscii, IsUtf8, NoCharPasses}
 use Rattle.std.specs.Str.Pattern.{FindsChar}
 use Rattle.std.specs.Str.Iter.{split_text, split_has_more, split_terminator_parts, split_terminator_pattern}
 use Rattle.std.specs.Str.Iter.{split_terminator_steps}
 use Rattle.std.specs.declared.str.SplitTerminator.{SplitTerminator}
 use Rattle.std.proofs.lemmas.Bool.{ne_eqb}
-use Rattle.std.proofs.lemmas.List.{get_or_default, nil_from_length, take-append-drop}
-use Rattle.std.proofs.lemmas.List.Splits.{slice_split_at, slice_split_none}
+use Rattle.std.proofs.lemmas.List.{get_or_default, length-append, nil_from_length, take-append-drop}
+use Rattle.std.proofs.lemmas.List.Splits.{join_with_byte-slice_split, slice_split_at, slice_split_none}
 use Rattle.std.proofs.lemmas.List.Splits.{length-slice_split}
+use Rattle.std.proofs.lemmas.Str.{IsUtf8-append, IsUtf8-drop, IsUtf8-from_ascii, IsUtf8-take}
+use Rattle.std.proofs.lemmas.Str.{IsCharBoundary-after_ascii, IsCharBoundary-at_seam}
+use Rattle.std.proofs.Math.Seq.{drop-append-add, get_or-append_seam, take-append_seam}
 use Rattle.std.proofs.lemmas.Str.Pattern.{NoCharPasses-char, drop_at_char}
 use Rattle.triples.specs.Lines.{line_feed, parts_without_empty_last, lines_of}
 
@@ -86,3 +89,47 @@ lines_left-none it next pattern steps =
       | false ↦ λ _. refl
     ]
     steps.0
+
+feed-ascii : IsAscii (line_feed ∷ [])
+feed-ascii zero = lit< tt
+feed-ascii (suc i) = lit< tt
+
+-- each line of UTF-8 is UTF-8
+module _ (line rest : List ℕ) (utf8 : IsUtf8 (line ++ (line_feed ∷ rest))) where
+  rest-utf8 : IsUtf8 rest
+  rest-utf8 =
+      let below : length line < length (line ++ (line_feed ∷ rest)) =
+      omega (arith, length-append line (line_feed ∷ rest)) in
+      let ascii : get_or (line ++ (line_feed ∷ rest)) (length line) 0 < 128 =
+      rw (get_or-append_seam line line_feed rest 0) (omega arith) in
+      subst IsUtf8 (drop-append-add line (line_feed ∷ rest) 1)
+      (IsUtf8-drop (line ++ (line_feed ∷ rest)) (length line + 1) utf8
+      (IsCharBoundary-after_ascii (line ++ (line_feed ∷ rest)) (length line) utf8 below ascii))
+
+  line-utf8 : IsUtf8 line
+  line-utf8 =
+      let seam = IsCharBoundary-at_seam (line ++ (line_feed ∷ rest)) line (line_feed ∷ rest) refl
+      (IsUtf8-append (line_feed ∷ []) rest (IsUtf8-from_ascii (line_feed ∷ []) feed-ascii) rest-utf8) in
+      subst IsUtf8 (take-append_seam line (line_feed ∷ rest))
+      (IsUtf8-take (line ++ (line_feed ∷ rest)) (length line) utf8 seam)
+
+parts-utf8 : (parts : List (List ℕ)) → IsUtf8 (join_with_byte line_feed parts) → AllByRecursion IsUtf8 parts
+parts-utf8 [] utf8 = tt
+parts-utf8 (part ∷ []) utf8 = (utf8, tt)
+parts-utf8 (part ∷ next ∷ parts) utf8 = (
+  line-utf8 part (join_with_byte line_feed (next ∷ parts)) utf8,
+  parts-utf8 (next ∷ parts) (rest-utf8 part (join_with_byte line_feed (next ∷ parts)) utf8),
+)
+
+stay-utf8 : (parts : List (List ℕ)) → AllByRecursion IsUtf8 parts
+    → AllByRecursion IsUtf8 (parts_without_empty_last parts)
+stay-utf8 [] all = tt
+stay-utf8 ([] ∷ []) all = tt
+stay-utf8 ((b ∷ bs) ∷ []) all = all
+stay-utf8 ([] ∷ next ∷ parts) all = (all.0, stay-utf8 (next ∷ parts) all.1)
+stay-utf8 ((b ∷ bs) ∷ next ∷ parts) all = (all.0, stay-utf8 (next ∷ parts) all.1)
+
+pub lines-utf8 : (input : List ℕ) → IsUtf8 input → AllByRecursion IsUtf8 (lines_of input)
+lines-utf8 input utf8 =
+    stay-utf8 (slice_split is_line_feed input)
+    (parts-utf8 (slice_split is_line_feed input) (subst IsUtf8 (sym (join_with_byte-slice_split line_feed input)) utf8))

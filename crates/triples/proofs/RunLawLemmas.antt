@@ -1,19 +1,20 @@
 -- The laws of how runs end.
 use Rattle.std.proofs.Common.{◌≡◌, ◌≢◌, ◌↔◌, ℕ, List, [], take, Option, None, MatchOption, IsErrAnd, IsErrOf, IsTrue}
-use Rattle.std.proofs.Common.{Result, Ok, Err, refl, subst, ap, inl, inr, ◌<◌, length}
+use Rattle.std.proofs.Common.{Result, Ok, Err, refl, sym, subst, ◌∙◌, ap, inl, inr, ◌<◌, length}
 use Rattle.std.specs.Str.{IsUtf8}
 use Rattle.serde_json.specs.{Data.Data, Find.as_array, Read.read}
+use Rattle.target_lexicon.specs.Laws.{EveryStringHasOneOutcome}
 use Rattle.triples.specs.{JsonOutput.IsJsonInputErrorOf, Output.IsOutput, Run.Use, Run.Gives, Run.Takes}
 use Rattle.triples.specs.{Run.TakesBeginning, Run.IsReadWhole, Run.IsUnfailed, Run.HasFailed, Run.RunEnds, Run.EndsAs}
 use Rattle.triples.specs.{Run.IsUntouched, Run.StopsLast, Calls.ends_last, Calls.failures_in, Calls.stops_in}
 use Rattle.triples.specs.{Private.HasNoOutput}
-use Rattle.triples.specs.Laws.{HasJsonError, IsJudged, ErrorsOfRunsAreExact}
+use Rattle.triples.specs.RunLaws.{RunGives, RunsEndOneWay, IsJudged, ErrorsOfRunsAreExact}
 use Rattle.triples.specs.declared.mode.Mode.{Mode}
 use Rattle.triples.specs.declared.mode.Mode.TheVariants.{Json}
 use Rattle.triples.specs.declared.run_error.RunError.{RunError}
 use Rattle.triples.specs.declared.run_error.RunError.TheVariants as run_error
-use Rattle.triples.proofs.UniqueOutputs.{text-is-json, text-is-list}
-use Rattle.triples.proofs.UseLemmas.{input-is, not-both}
+use Rattle.triples.proofs.UniqueOutputs.{outputs-unique, text-is-json, text-is-list}
+use Rattle.triples.proofs.UseLemmas.{input-is, not-both, output-is}
 
 -- an input with an output has no error of JSON
 output-no-json-error : (mode : Mode) (text output : List ℕ) → IsOutput mode text output → mode ≡ Json
@@ -25,6 +26,16 @@ output-no-list-error : (mode : Mode) (text output : List ℕ) → IsOutput mode 
     → IsJsonInputErrorOf text run_error.NotList → ⊥
 output-no-list-error mode text output is json error =
     text-is-list (read text) output (subst (λ (m : Mode). IsOutput m text output) json is) error
+
+-- what a run without failures does, by its result
+abbrev pub Outcome : Mode → List ℕ → Result (Unit {0}) RunError → List ℕ → Type 0
+Outcome mode text (Ok _) bytes = IsUtf8 text × IsOutput mode text bytes
+Outcome mode text (Err run_error.NotUtf8) bytes = (IsUtf8 text → ⊥) × (bytes ≡ [])
+Outcome mode text (Err run_error.NotJson) bytes =
+    (mode ≡ Json) × IsUtf8 text × IsJsonInputErrorOf text run_error.NotJson × (bytes ≡ [])
+Outcome mode text (Err run_error.NotList) bytes =
+    (mode ≡ Json) × IsUtf8 text × IsJsonInputErrorOf text run_error.NotList × (bytes ≡ [])
+Outcome mode text (Err _) bytes = ⊥
 
 -- a run in which no read failed and memory did not run out read the input to its end
 read-whole : (mode : Mode) (reader writer : Use) (input output : List ℕ) (result : Result (Unit {0}) RunError)
@@ -48,11 +59,63 @@ judged mode reader writer result text ends it =
     subst (λ (t : List ℕ). RunEnds mode reader writer t ends.output result)
     (input-is reader ends.input text it.text_is ends.gives whole) ends.by_result
 
+outcome-of : (mode : Mode) (reader writer : Use) (text bytes : List ℕ) (result : Result (Unit {0}) RunError)
+    → RunEnds mode reader writer text bytes result
+    → IsUnfailed reader → IsUnfailed writer → result ≢ Err run_error.OutOfMemory → Outcome mode text result bytes
+outcome-of mode reader writer text bytes (Ok _) ends read write memory = (ends.2, ends.3)
+outcome-of mode reader writer text bytes (Err run_error.Read) ends read write memory = not-both reader read ends.0
+outcome-of mode reader writer text bytes (Err run_error.Write) ends read write memory = not-both writer write ends.1
+outcome-of mode reader writer text bytes (Err run_error.NotUtf8) ends read write memory = (ends.2, ends.1.1)
+outcome-of mode reader writer text bytes (Err run_error.NotJson) ends read write memory =
+    (ends.0, ends.3, ends.4, ends.2.1)
+outcome-of mode reader writer text bytes (Err run_error.NotList) ends read write memory =
+    (ends.0, ends.3, ends.4, ends.2.1)
+outcome-of mode reader writer text bytes (Err run_error.OutOfMemory) ends read write memory = memory refl
+
+outcome : (mode : Mode) (text bytes : List ℕ) (result : Result (Unit {0}) RunError) → RunGives mode text result bytes
+    → Outcome mode text result bytes
+outcome mode text bytes result run =
+    let ends = judged mode run.reader run.writer result text run.ends
+    (record { text_is = run.text_is; read_unfailed = run.read_unfailed; memory = run.memory }) in
+    outcome-of mode run.reader run.writer text bytes result
+    (subst (λ (t : List ℕ). RunEnds mode run.reader run.writer text t result)
+    (output-is run.writer run.ends.output bytes run.bytes_are run.ends.takes) ends)
+    run.read_unfailed run.write_unfailed run.memory
+
 -- no text is JSON that is no list, and no JSON
 not-json-or-not-list : (text : List ℕ) → IsJsonInputErrorOf text run_error.NotJson
     → IsJsonInputErrorOf text run_error.NotList → ⊥
 not-json-or-not-list text json list =
     subst (λ (o : Option Data). MatchOption o ⊥ (λ value. as_array value ≡ None)) json list
+
+module _ (one : EveryStringHasOneOutcome) (mode : Mode) (text x y : List ℕ) where
+  same-outcome : (a b : Result (Unit {0}) RunError) → Outcome mode text a x → Outcome mode text b y → (a ≡ b) × (x ≡ y)
+  same-outcome (Ok _) (Ok _) a b = (refl, outputs-unique one mode text x y a.1 b.1)
+  same-outcome (Ok _) (Err run_error.NotUtf8) a b = absurd (b.0 a.0)
+  same-outcome (Ok _) (Err run_error.NotJson) a b = absurd (output-no-json-error mode text x a.1 b.0 b.2)
+  same-outcome (Ok _) (Err run_error.NotList) a b = absurd (output-no-list-error mode text x a.1 b.0 b.2)
+  same-outcome (Err run_error.NotUtf8) (Ok _) a b = absurd (a.0 b.0)
+  same-outcome (Err run_error.NotUtf8) (Err run_error.NotUtf8) a b = (refl, a.1 ∙ sym b.1)
+  same-outcome (Err run_error.NotUtf8) (Err run_error.NotJson) a b = absurd (a.0 b.1)
+  same-outcome (Err run_error.NotUtf8) (Err run_error.NotList) a b = absurd (a.0 b.1)
+  same-outcome (Err run_error.NotJson) (Ok _) a b = absurd (output-no-json-error mode text y b.1 a.0 a.2)
+  same-outcome (Err run_error.NotJson) (Err run_error.NotUtf8) a b = absurd (b.0 a.1)
+  same-outcome (Err run_error.NotJson) (Err run_error.NotJson) a b = (refl, a.3 ∙ sym b.3)
+  same-outcome (Err run_error.NotJson) (Err run_error.NotList) a b = absurd (not-json-or-not-list text a.2 b.2)
+  same-outcome (Err run_error.NotList) (Ok _) a b = absurd (output-no-list-error mode text y b.1 a.0 a.2)
+  same-outcome (Err run_error.NotList) (Err run_error.NotUtf8) a b = absurd (b.0 a.1)
+  same-outcome (Err run_error.NotList) (Err run_error.NotJson) a b = absurd (not-json-or-not-list text b.2 a.2)
+  same-outcome (Err run_error.NotList) (Err run_error.NotList) a b = (refl, a.3 ∙ sym b.3)
+  same-outcome _ (Err run_error.Read) a b = absurd b
+  same-outcome _ (Err run_error.Write) a b = absurd b
+  same-outcome _ (Err run_error.OutOfMemory) a b = absurd b
+  same-outcome (Err run_error.Read) _ a b = absurd a
+  same-outcome (Err run_error.Write) _ a b = absurd a
+  same-outcome (Err run_error.OutOfMemory) _ a b = absurd a
+
+pub runs_end_one_way : EveryStringHasOneOutcome → RunsEndOneWay
+runs_end_one_way one mode text x y a b first second =
+    same-outcome one mode text x y a b (outcome mode text x a first) (outcome mode text y b second)
 
 -- each error is the result exactly in its case
 never : {A B : Type 0} → ¬ A → ¬ B → A ↔ B
@@ -74,11 +137,15 @@ module _ (mode : Mode) (reader writer : Use) (text output : List ℕ) where
   failures-exact (Err run_error.OutOfMemory) ends =
       (never (λ bad. cc) (not-both reader ends.0), never (λ bad. cc) (not-both writer ends.1.0))
 
+  -- the input is UTF-8 in mode `json`, with this error
+  abbrev HasJsonError : RunError → Type 0
+  HasJsonError e = (mode ≡ Json) × IsUtf8 text × IsJsonInputErrorOf text e
+
   abbrev JudgesInput : Result (Unit {0}) RunError → Type 0
   JudgesInput result =
       (IsErrOf result run_error.NotUtf8 ↔ ¬ (IsUtf8 text))
-      × (IsErrOf result run_error.NotJson ↔ HasJsonError mode text run_error.NotJson)
-      × (IsErrOf result run_error.NotList ↔ HasJsonError mode text run_error.NotList)
+      × (IsErrOf result run_error.NotJson ↔ HasJsonError run_error.NotJson)
+      × (IsErrOf result run_error.NotList ↔ HasJsonError run_error.NotList)
 
   with-output : (result : Result (Unit {0}) RunError) → ¬ (IsErrOf result run_error.NotUtf8)
       → ¬ (IsErrOf result run_error.NotJson) → ¬ (IsErrOf result run_error.NotList)

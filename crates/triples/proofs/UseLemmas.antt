@@ -1,14 +1,14 @@
 -- What reads gave and writes took, call after call; and which input and output that makes.
-use Rattle.std.proofs.Common.{◌≡◌, ◌∙◌, ℕ, ◌+◌, inl, inr, List, [], ◌++◌, length, take, drop, Option, Some, None}
-use Rattle.std.proofs.Common.{sym, ap, append_assoc, arith}
-use Rattle.std.proofs.{lemmas.List.append-nil, lemmas.List.append_cancel_left}
+use Rattle.std.proofs.Common.{◌≡◌, ◌∙◌, ℕ, ◌+◌, ◌≤◌, inl, inr, List, [], ◌++◌, length, take, drop, Option, Some, None}
+use Rattle.std.proofs.Common.{sym, ap, subst, append_assoc, arith}
+use Rattle.std.proofs.{lemmas.List.append-nil, lemmas.List.append_cancel_left, lemmas.List.length-append}
 use Rattle.std.proofs.{lemmas.List.take-append-drop}
 use Rattle.std.proofs.{KnownBytes.Appends-nil, KnownBytes.Appends-trans, KnownBytes.Appends-kept}
 use Rattle.std.proofs.{KnownBytes.Consumes-nil, KnownBytes.Consumes-trans, KnownBytes.Consumes-kept}
 use Rattle.std.proofs.Math.Seq.{take-append-add, take-append_seam}
-use Rattle.std.specs.Io.KnownBytes.{Consumes, IsAtEnd, Keeps}
+use Rattle.std.specs.Io.KnownBytes.{Appends, Consumes, IsAtEnd, Keeps}
 use Rattle.triples.specs.Run.{Use, Gives, Takes, TakesBeginning, IsReadWhole, IsUnfailed, HasFailed, use_of}
-use Rattle.triples.specs.Laws.{IsInput}
+use Rattle.triples.specs.RunLaws.{IsInput, IsWritten}
 use Rattle.triples.specs.Calls.{bytes_of}
 use Rattle.triples.specs.Streams.{inner, moved}
 use Rattle.triples.specs.declared.counted.Counted.{Counted}
@@ -78,9 +78,31 @@ module _ (reader : Use) (input text : List ℕ) where
       let same : xs ≡ text = cc in
       sym (append-nil input) ∙ ap (λ (t : List ℕ). input ++ t) (sym at_end) ∙ sym consumes ∙ same
 
+  input-longer : (before after : Option (List ℕ)) → before ≡ Some text → Consumes before after input
+      → length input ≤ length text
+  input-longer None after is consumes = let bad : ◌≡◌ {A = Option (List ℕ)} None (Some text) = is in absurd cc
+  input-longer (Some xs) None is consumes = absurd consumes
+  input-longer (Some xs) (Some ys) is consumes =
+      let same : xs ≡ text = cc in
+      omega (arith, ap (λ (t : List ℕ). length t) same, ap (λ (t : List ℕ). length t) consumes, length-append input ys)
+
   given-once : Gives reader input → Gives reader text → input ≡ text
   given-once a b = append_cancel_left (bytes_of reader.calls_before) input text (sym a.moved ∙ b.moved)
 
   pub input-is : IsInput reader text → Gives reader input → IsReadWhole reader → input ≡ text
   input-is (inl given) gives whole = given-once gives given
   input-is (inr known) gives whole = input-known reader.bytes_before reader.bytes_after known gives.known whole.1
+
+  -- without the end, they are no more than it
+  pub input-within : IsInput reader text → Gives reader input → length input ≤ length text
+  input-within (inl given) gives = omega (arith, ap (λ (t : List ℕ). length t) (given-once gives given))
+  input-within (inr known) gives = input-longer reader.bytes_before reader.bytes_after known gives.known
+
+-- what the writes took is the output
+pub output-is : (writer : Use) (output bytes : List ℕ) → IsWritten writer bytes → Takes writer output → output ≡ bytes
+output-is writer output bytes (inl taken) takes =
+    append_cancel_left (bytes_of writer.calls_before) output bytes (sym takes.moved ∙ taken.moved)
+output-is writer output bytes (inr known) takes =
+    sym (append_cancel_left known.0 bytes output
+    (subst (λ (new : Option (List ℕ)). Appends (Some known.0) new output) known.2
+    (subst (λ (old : Option (List ℕ)). Appends old writer.bytes_after output) known.1 takes.known)))

@@ -2,13 +2,15 @@ pub mod Calls
 pub mod Facts
 pub mod Faults
 pub mod Filter
+pub mod FilterLaws
 pub mod FilterSteps
 pub mod JsonOutput
-pub mod Laws
 pub mod Lines
+pub mod MatrixLaws
 pub mod Output
 pub mod Private
 pub mod Program
 pub mod Run
+pub mod RunLaws
 pub mod Streams
 pub mod Words

@@ -1,0 +1,238 @@
+-- Each input has an outcome in each mode.
+use Rattle.std.proofs.Common.{◌≡◌, ◌≢◌, ◌⊎◌, ℕ, zero, suc, ◌<◌, Bool, true, false, List, [], ◌∷◌, ◌++◌, codes, Option}
+use Rattle.std.proofs.Common.{Some, None, MatchOption, inl, inr, Result, Ok, Err, refl, sym, ap, subst, ◌∙◌, arith}
+use Rattle.std.proofs.lemmas.List.{append-nil}
+use Rattle.std.proofs.lemmas.Str.{IsUtf8-from_is_utf8, is_utf8-from_IsUtf8}
+use Rattle.std.specs.Str.{IsUtf8, is_utf8}
+use Rattle.serde_json.specs.{Data.Data, Data.Items, Data.no_items, Data.item, Find.as_array, Find.as_str, Read.read}
+use Rattle.serde_json.specs.{Written.compact_text}
+use Rattle.target_lexicon.specs.Json.{JsonParsesAs, JsonErrorValue, NotText, Parse, Element, IsElementParsed}
+use Rattle.target_lexicon.specs.Json.{IsJsonErrorOf, ElementsParseAs, IsFirstError, list_json_of, list_error_line}
+use Rattle.target_lexicon.specs.{FixedPoints.canonical_string, Laws.EveryStringHasOneOutcome, Printing.string_of}
+use Rattle.target_lexicon.specs.{Parsing.ParsesAs, Parsing.IsRefusedAs, Refusal.Refusal, Refusal.refusal_line}
+use Rattle.target_lexicon.specs.{Values.Values}
+use Rattle.triples.specs.{Facts.text_with_facts, Lines.line_feed, Lines.lines_of}
+use Rattle.triples.specs.Output.{Answer, Shown, Refused, AreAnswers, matrix_of, written_lines}
+use Rattle.triples.specs.Calls.{Moved, Ended, Flushed}
+use Rattle.triples.specs.Run.{Use, IsReadWhole, IsUnfailed, RunEnds, StopsOnce, Takes}
+use Rattle.triples.specs.RunLaws.{IsWritten, RunGives, EveryInputHasAnOutcome}
+use Rattle.triples.specs.declared.mode.Mode.{Mode}
+use Rattle.triples.specs.declared.mode.Mode.TheVariants.{Print, Show, Settle, Json, Matrix}
+use Rattle.triples.specs.declared.run_error.RunError.{RunError}
+use Rattle.triples.specs.declared.run_error.RunError.TheVariants as run_error
+use Rattle.triples.proofs.UniqueOutputs.{IsJsonText}
+use Rattle.triples.proofs.RunLawLemmas.{Outcome}
+
+-- an outcome that some result has
+abbrev HasOutcome : Mode → List ℕ → Type 0
+HasOutcome mode text = (result : Result (Unit {0}) RunError) × (bytes : List ℕ) × Outcome mode text result bytes
+
+module _ (one : EveryStringHasOneOutcome) where
+  some-answers : (shown : Values → List ℕ) (lines : List (List ℕ))
+      → (answers : List Answer) × AreAnswers shown lines answers
+  some-answers shown [] = ([], tt)
+  some-answers shown (line ∷ lines) =
+      let rest = some-answers shown lines in
+      elim ((one line).some) as (λ _. (answers : List Answer) × AreAnswers shown (line ∷ lines) answers) [
+        | inl read ↦ (Shown (shown read.0) ∷ rest.0, ((read.0, read.1, refl), rest.1))
+        | inr refused ↦
+            (Refused (codes "error: " ++ refusal_line refused.0) ∷ rest.0, ((refused.0, refused.1, refl), rest.1))
+      ]
+
+  -- what a string, or a value that is none, is
+  text-outcome : (text : Option (List ℕ))
+      → ((t : Values) × MatchOption text ⊥ (λ s. ParsesAs s t))
+      ⊎ ((text ≡ None) ⊎ ((refusal : Refusal) × MatchOption text ⊥ (λ s. IsRefusedAs s refusal)))
+  text-outcome None = inr (inl refl)
+  text-outcome (Some s) =
+      elim ((one s).some) as
+      (λ _. ((t : Values) × ParsesAs s t) ⊎ ((Some s ≡ None) ⊎ ((refusal : Refusal) × IsRefusedAs s refusal)))
+      [ inl read ↦ inl read | inr refused ↦ inr (inr refused) ]
+
+  value-outcome : (value : Data)
+      → ((t : Values) × JsonParsesAs value t)
+      ⊎ ((error : JsonErrorValue) × IsJsonErrorOf value error × (error ≢ Parse None))
+  value-outcome value =
+      elim (text-outcome (as_str value)) as
+      (λ _. ((t : Values) × JsonParsesAs value t)
+      ⊎ ((error : JsonErrorValue) × IsJsonErrorOf value error × (error ≢ Parse None))) [
+        | inl read ↦ inl read
+        | inr other ↦ elim other as
+            (λ _. ((t : Values) × JsonParsesAs value t)
+            ⊎ ((error : JsonErrorValue) × IsJsonErrorOf value error × (error ≢ Parse None))) [
+              | inl none ↦ inr (NotText, none, λ bad. absurd cc)
+              | inr refused ↦ inr (Parse (Some refused.0), refused.1, λ bad. absurd cc)
+            ]
+      ]
+
+  before-next : (value : Data) (values : Items) (i : ℕ) → ((t : Values) × JsonParsesAs value t)
+      → ((k : ℕ) → k < i → IsElementParsed values k) → (k : ℕ) → k < suc i → IsElementParsed (item value values) k
+  before-next value values i read before zero less = read
+  before-next value values i read before (suc k) less = before k (omega (arith, less))
+
+  elements-outcome : (elements : Items)
+      → ((ts : List Values) × ElementsParseAs elements ts)
+      ⊎ ((i : ℕ) × (error : JsonErrorValue) × IsFirstError elements i error × (error ≢ Parse None))
+  elements-outcome no_items = inl ([], tt)
+  elements-outcome (item value values) =
+      let rest = elements-outcome values in
+      elim (value-outcome value) as
+      (λ _. ((ts : List Values) × ElementsParseAs (item value values) ts)
+      ⊎ ((i : ℕ) × (error : JsonErrorValue) × IsFirstError (item value values) i error × (error ≢ Parse None))) [
+        | inl read ↦ elim rest as
+            (λ _. ((ts : List Values) × ElementsParseAs (item value values) ts)
+            ⊎ ((i : ℕ) × (error : JsonErrorValue) × IsFirstError (item value values) i error × (error ≢ Parse None))) [
+              | inl all ↦ inl (read.0 ∷ all.0, (read.1, all.1))
+              | inr first ↦ inr (
+                suc first.0,
+                first.1,
+                record { here = first.2.here; before = before-next value values first.0 read first.2.before },
+                first.3,
+              )
+            ]
+        | inr bad ↦ inr (zero, bad.0, record { here = bad.1; before = λ k less. absurd (omega (arith, less)) }, bad.2)
+      ]
+
+  array-outcome : (found : Option Items)
+      → (found ≡ None) ⊎ (((ts : List Values) × MatchOption found ⊥ (λ elements. ElementsParseAs elements ts))
+      ⊎ ((i : ℕ) × (error : JsonErrorValue) × MatchOption found ⊥ (λ elements. IsFirstError elements i error)
+      × (error ≢ Parse None)))
+  array-outcome None = inl refl
+  array-outcome (Some elements) =
+      elim (elements-outcome elements) as
+      (λ _. (Some elements ≡ None)
+      ⊎ (((ts : List Values) × ElementsParseAs elements ts)
+      ⊎ ((i : ℕ) × (error : JsonErrorValue) × IsFirstError elements i error × (error ≢ Parse None)))) [
+        | inl all ↦ inr (inl all)
+        | inr first ↦ inr (inr first)
+      ]
+
+  json-outcome : (found : Option Data)
+      → (found ≡ None)
+      ⊎ (MatchOption found ⊥ (λ value. as_array value ≡ None) ⊎ ((output : List ℕ) × IsJsonText found output))
+  json-outcome None = inl refl
+  json-outcome (Some value) =
+      elim (array-outcome (as_array value)) as
+      (λ _. (Some value ≡ None) ⊎ ((as_array value ≡ None) ⊎ ((output : List ℕ) × IsJsonText (Some value) output))) [
+        | inl none ↦ inr (inl none)
+        | inr list ↦ elim list as
+            (λ _. (Some value ≡ None)
+            ⊎ ((as_array value ≡ None) ⊎ ((output : List ℕ) × IsJsonText (Some value) output))) [
+              | inl all ↦
+                  (let text = compact_text (list_json_of all.0) in
+                  inr (inr (text ++ line_feed ∷ [], (text, inl (all.0, all.1, refl), refl))))
+              | inr first ↦ (let text = codes "error: " ++ list_error_line (Element first.0 first.1) in
+                  inr (inr (text ++ line_feed ∷ [], (text, inr (first.0, (first.1, (first.2, first.3, refl))), refl))))
+            ]
+      ]
+
+  text-has-outcome : (mode : Mode) (text : List ℕ) → IsUtf8 text → HasOutcome mode text
+  text-has-outcome Print text utf8 =
+      let found = some-answers string_of (lines_of text) in
+      (Ok tt, written_lines found.0, (utf8, (found.0, found.1, refl)))
+  text-has-outcome Show text utf8 =
+      let found = some-answers text_with_facts (lines_of text) in
+      (Ok tt, written_lines found.0, (utf8, (found.0, found.1, refl)))
+  text-has-outcome Settle text utf8 =
+      let found = some-answers canonical_string (lines_of text) in
+      (Ok tt, written_lines found.0, (utf8, (found.0, found.1, refl)))
+  text-has-outcome Matrix text utf8 =
+      let found = some-answers canonical_string (lines_of text) in
+      (Ok tt, written_lines (matrix_of found.0), (utf8, (found.0, found.1, refl)))
+  text-has-outcome Json text utf8 =
+      elim (json-outcome (read text)) as (λ _. HasOutcome Json text) [
+        | inl none ↦ (Err run_error.NotJson, [], (refl, utf8, none, refl))
+        | inr some ↦ elim some as (λ _. HasOutcome Json text) [
+          | inl other ↦ (Err run_error.NotList, [], (refl, utf8, other, refl))
+          | inr output ↦ (Ok tt, output.0, (utf8, output.1))
+        ]
+      ]
+
+  has-outcome : (mode : Mode) (text : List ℕ) (b : Bool) → is_utf8 text ≡ b → HasOutcome mode text
+  has-outcome mode text true is = text-has-outcome mode text (IsUtf8-from_is_utf8 text is)
+  has-outcome mode text false is = (
+    Err run_error.NotUtf8,
+    [],
+    ((λ utf8. let bad : false ≡ true = sym is ∙ is_utf8-from_IsUtf8 text utf8 in absurd cc), refl),
+  )
+
+-- what such a run did to its reader and its writer
+abbrev read_from : List ℕ → Use
+read_from text =
+    record { bytes_before = Some text; bytes_after = Some []; calls_before = []; calls_after = Ended ∷ Moved text ∷ [] }
+
+abbrev written_to : List ℕ → Use
+written_to bytes =
+    record
+    { bytes_before = Some []; bytes_after = Some bytes; calls_before = []; calls_after = Flushed ∷ Moved bytes ∷ [] }
+
+-- nothing was called
+abbrev untouched : Use
+untouched = record { bytes_before = Some []; bytes_after = Some []; calls_before = []; calls_after = [] }
+
+-- what was done to the writer, by the result
+abbrev written_by : Result (Unit {0}) RunError → List ℕ → Use
+written_by (Ok _) bytes = written_to bytes
+written_by (Err _) bytes = untouched
+
+whole : (text : List ℕ) → IsReadWhole (read_from text)
+whole text = (refl, refl, refl, (refl, refl))
+
+ends : (mode : Mode) (text bytes : List ℕ) (result : Result (Unit {0}) RunError) → Outcome mode text result bytes
+    → RunEnds mode (read_from text) (written_by result bytes) text bytes result
+ends mode text bytes (Ok _) is = (whole text, (refl, refl, (refl, refl)), is.0, is.1)
+ends mode text bytes (Err run_error.Read) is = absurd is
+ends mode text bytes (Err run_error.Write) is = absurd is
+ends mode text bytes (Err run_error.NotUtf8) is = (whole text, (refl, is.1, refl), is.0)
+ends mode text bytes (Err run_error.NotJson) is = (is.0, whole text, (refl, is.3, refl), is.1, is.2)
+ends mode text bytes (Err run_error.NotList) is = (is.0, whole text, (refl, is.3, refl), is.1, is.2)
+ends mode text bytes (Err run_error.OutOfMemory) is = absurd is
+
+-- nothing is written without success
+none-written : (mode : Mode) (text bytes : List ℕ) (e : RunError) → Outcome mode text (Err e) bytes → bytes ≡ []
+none-written mode text bytes run_error.Read is = absurd is
+none-written mode text bytes run_error.Write is = absurd is
+none-written mode text bytes run_error.NotUtf8 is = is.1
+none-written mode text bytes run_error.NotJson is = is.3
+none-written mode text bytes run_error.NotList is = is.3
+none-written mode text bytes run_error.OutOfMemory is = absurd is
+
+-- a run with this outcome, and this writer
+gives-run : (mode : Mode) (text : List ℕ) (result : Result (Unit {0}) RunError) (bytes : List ℕ) (writer : Use)
+    → Outcome mode text result bytes
+    → RunEnds mode (read_from text) writer text bytes result → Takes writer bytes → IsUnfailed writer → StopsOnce writer
+    → IsWritten writer bytes → RunGives mode text result bytes
+gives-run mode text result bytes writer is ends takes unfailed once written = record {
+  reader = read_from text;
+  writer = writer;
+  ends = record {
+    input = text;
+    output = bytes;
+    gives = record { moved = append-nil text; known = sym (append-nil text) };
+    takes = takes;
+    reads = inr (refl, refl);
+    writes = once;
+    by_result = ends;
+  };
+  read_unfailed = refl;
+  write_unfailed = unfailed;
+  memory = λ out. subst (λ (r : Result (Unit {0}) RunError). Outcome mode text r bytes) out is;
+  text_is = inr refl;
+  bytes_are = written;
+}
+
+run-of : (mode : Mode) (text : List ℕ) (result : Result (Unit {0}) RunError) (bytes : List ℕ)
+    → Outcome mode text result bytes → RunGives mode text result bytes
+run-of mode text (Ok u) bytes is =
+    gives-run mode text (Ok u) bytes (written_to bytes) is (ends mode text bytes (Ok u) is)
+    (record { moved = append-nil bytes; known = refl }) refl (inr (refl, refl)) (inr ([], refl, refl))
+run-of mode text (Err e) bytes is =
+    let none = sym (none-written mode text bytes e is) in
+    gives-run mode text (Err e) bytes untouched is (ends mode text bytes (Err e) is)
+    (record { moved = none; known = none }) refl (inl refl)
+    (inr ([], refl, ap (λ (t : List ℕ). Some t) none))
+
+pub every_input_has_an_outcome : EveryStringHasOneOutcome → EveryInputHasAnOutcome
+every_input_has_an_outcome one mode text =
+    let found = has-outcome one mode text (is_utf8 text) refl in
+    (found.0, found.1, run-of mode text found.0 found.1 found.2)
