@@ -1,5 +1,5 @@
-"""Writes why the functions of rustc's MIR are those of the source, and the theorems of the source about them. Nothing
-of this is trusted: Coq checks the proofs, and the statements have only what mir.py wrote."""
+"""Writes why the functions of rustc's MIR are those of the source, and the theorems of the source about them.
+Coq checks the proofs. That the statements are those of the source's theorems is trusted, as PROOF.md says."""
 import re
 
 from reading import Untranslated
