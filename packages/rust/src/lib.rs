@@ -20,11 +20,13 @@
 //!
 //! - **A key**: [`TripleExt::settle`] gives the canonical form.
 //! - **Errors**: [`TripleExt::parse`] has one that owns the string and shows the place.
-//! - **Without an allocator**: [`TripleRef`] borrows from the string. [`TripleRef::write_to`] prints into a buffer.
+//! - **Without an allocator**: [`TripleRef`] borrows from the string. [`TripleRef::write_to`] prints into a buffer. A
+//!   `HashMap<Triple, _>` can't be looked up by one: take [`TripleRef`], or the canonical string, as its key.
 //! - **Where each field comes from**: [`TripleRef::explain`] says it.
 //!
 //! Upstream's types have upstream's methods. What they have besides is in traits, which a program imports:
-//! [`TripleExt`], [`Named`], [`OperatingSystemExt`] and [`ParseErrorExt`].
+//! [`TripleExt`], [`Named`], [`OperatingSystemExt`] and [`ParseErrorExt`]. Triples are ordered by their fields, and
+//! these by their names, except that versions are numbers.
 //!
 //! # Features
 //!
