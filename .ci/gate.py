@@ -150,7 +150,9 @@ LAST = {"proved": [
 running, passed, left_out, failed = set(), [], [], []
 HALVES = [half for half in ROWS if OPTIONS.half in (None, half)]
 ENVIRONMENT = {**os.environ, "WORK": WORK, "BUILT": BUILT, "WASM_RUST": WASM, "PYTHONDONTWRITEBYTECODE": "1",
-               "WITHOUT": " ".join(sorted(WITHOUT))}
+               "WITHOUT": " ".join(sorted(WITHOUT)),
+               # Nobody debugs the test programs, or compiles them again.
+               "CARGO_PROFILE_DEV_DEBUG": "0", "CARGO_INCREMENTAL": "0"}
 
 
 def changed():
