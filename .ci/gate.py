@@ -67,7 +67,6 @@ WITHOUT |= {tool for name in WITHOUT for tool in GROUPS.get(name, [])} | {
 TOP = os.path.dirname(os.path.dirname(os.path.realpath(__file__)))
 WORK = os.environ["WORK"]  # a folder that is closed to others, as .ci/isolated makes it
 BUILT, CARGO_HOME, WASM = f"{WORK}/built", f"{WORK}/cargo", f"{WORK}/rust"
-COMMANDS = "packages/target/release"
 
 # Each step: what it is for, its command, the tools without which it isn't run, and the rooms that it reads, if it isn't
 # always run. What is neither a page nor in a room is read by each. The halves are what is proved, and what is around
@@ -111,24 +110,24 @@ ROWS = {"proved": [[PROOFS], [
      "cargo cc dpkg-buildpackage", "rust names c command python debian"),
 ], [
     ("the command `target-lexicon`, and a program to compare with, are built for the next steps",
-     "(cd packages/command && ../../tools/cargo build --quiet --locked --release --all-features) && "
-     f'cp {COMMANDS}/lines {COMMANDS}/target-lexicon "$BUILT/bin"', "cargo"),
+     'packages/command/tests/folders "$WORK/command" only && '
+     'cd "$WORK/command/packages/target/release" && cp lines target-lexicon "$BUILT/bin"', "cargo"),
     ("the library for C is built and installed for the next steps", 'checks/gate/planted packages/c/install "$BUILT"',
      "cargo cc", "rust names c command python comparisons"),
     ("what other tools say of names and targets; suggestions keep the machine",
      "checks/compare elsewhere && checks/compare llvm && checks/compare suggestions", "cargo cc",
      "rust names c comparisons"),
     ("the Python package: each answer, wheels, types, samples",
-     f'packages/python/test "$BUILT/lib/libtarget_lexicon.so" {COMMANDS}/lines',
+     'packages/python/test "$BUILT/lib/libtarget_lexicon.so" "$BUILT/bin/lines"',
      "cargo cc hatchling", "rust names c python"),
     ("a list of misspelled names takes at most ten times as long as one of right names",
-     f"packages/command/tests/cost {COMMANDS}/target-lexicon", "cargo valgrind", "rust names command"),
+     'packages/command/tests/cost "$BUILT/bin/target-lexicon"', "cargo valgrind", "rust names command"),
     ("what is released is made, and works in clean folders", "umask 077; checks/gate/planted tools/release release",
      "cargo cc", "rust names c command python javascript"),
     ("the module, the package and the page for JavaScript are built",
      'checks/gate/planted packages/javascript/build --out "$WORK/web"', "cargo wasm32", "rust names c javascript"),
     ("the page and the package for JavaScript answer as the command does, in Node and in a browser",
-     f'packages/javascript/test "$WORK/web" --command {COMMANDS}/target-lexicon', "cargo wasm32",
+     'packages/javascript/test "$WORK/web" --command "$BUILT/bin/target-lexicon"', "cargo wasm32",
      "rust names c javascript"),
 ]]}
 LAST = {"proved": [
