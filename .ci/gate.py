@@ -83,17 +83,18 @@ FIRST = [
 ]
 PROOFS = ("all proofs, must-fail edits, tests and proved programs", "rt ci", "rt", "crates")
 ROWS = {"proved": [[PROOFS], [
+    ("Coq proves the laws of the definitions, and of the Rust source, which is the proved source and what rustc "
+     "compiles; twelve edits of them, others on each day, are refused at their lemmas; bad input",
+     'checks/theorem mir source no_alloc ${UPSTREAM:+upstream "$UPSTREAM"} --keep "$WORK/theorem" && '
+     'checks/coq/edits "$WORK/theorem" 12 && checks/coq/test', "cargo coqc rustc",
+     "crates rust coq"),
+], [
     ("the Rust crate, as its users build it: tests, samples of the documentation, public surface, features, "
      "a dependent",
      "packages/rust/test", "cargo", "rust coq"),
     ("the definitions, as Coq extracts them, say what upstream and the Rust crate answer; bad input",
      "checks/specification quick && checks/upstream/extracted/test", "cargo coqc ocamlopt",
      "crates rust coq upstream"),
-    ("Coq proves the laws of the definitions, and of the Rust source, which is the proved source and what rustc "
-     "compiles; twelve edits of them, others on each day, are refused at their lemmas; bad input",
-     'checks/theorem mir source no_alloc ${UPSTREAM:+upstream "$UPSTREAM"} --keep "$WORK/theorem" && '
-     'checks/coq/edits "$WORK/theorem" 12 && checks/coq/test', "cargo coqc rustc",
-     "crates rust coq"),
     ("they, and the table of names, say what upstream's own crate answers",
      'if [ "$UPSTREAM" ]; then tools/port "$UPSTREAM"; '
      'else echo "left out: upstream\'s crate (UPSTREAM isn\'t set)"; fi',
@@ -106,8 +107,6 @@ ROWS = {"proved": [[PROOFS], [
      "rust names command"),
     ("the library for C, header, packages and samples, as C and C++ users have them", "packages/c/test", "cargo cc",
      "rust names c"),
-    ("Debian's packages are built, and lintian finds no error", "checks/gate/planted packages/debian/build debian -d",
-     "cargo cc dpkg-buildpackage", "rust names c command python debian"),
 ], [
     ("the command `target-lexicon`, and a program to compare with, are built for the next steps",
      'packages/command/tests/folders "$WORK/command" only && '
@@ -122,13 +121,16 @@ ROWS = {"proved": [[PROOFS], [
      "cargo cc hatchling", "rust names c python"),
     ("a list of misspelled names takes at most ten times as long as one of right names",
      'packages/command/tests/cost "$BUILT/bin/target-lexicon"', "cargo valgrind", "rust names command"),
-    ("what is released is made, and works in clean folders", "umask 077; checks/gate/planted tools/release release",
-     "cargo cc", "rust names c command python javascript"),
     ("the module, the package and the page for JavaScript are built",
      'checks/gate/planted packages/javascript/build --out "$WORK/web"', "cargo wasm32", "rust names c javascript"),
     ("the page and the package for JavaScript answer as the command does, in Node and in a browser",
      'packages/javascript/test "$WORK/web" --command "$BUILT/bin/target-lexicon"', "cargo wasm32",
      "rust names c javascript"),
+], [
+    ("Debian's packages are built, and lintian finds no error", "checks/gate/planted packages/debian/build debian -d",
+     "cargo cc dpkg-buildpackage", "rust names c command python debian"),
+    ("what is released is made, and works in clean folders", "umask 077; checks/gate/planted tools/release release",
+     "cargo cc", "rust names c command python javascript"),
 ]]}
 LAST = {"proved": [
     ("each allocation fails in turn", "checks/gate/fail_allocations", "rt cc", "crates"),
@@ -271,7 +273,7 @@ def main():
     if has("/usr/share/cargo/registry/clap-4.0.32") and subprocess.run(
         ["tools/debian_crates", CARGO_HOME], cwd=TOP).returncode == 0:
         ENVIRONMENT["CARGO_HOME"] = CARGO_HOME
-    with concurrent.futures.ThreadPoolExecutor(max(3, os.cpu_count())) as pool:
+    with concurrent.futures.ThreadPoolExecutor(max(6, os.cpu_count())) as pool:
         if not in_turn(FIRST) or not all([*pool.map(in_turn, [row for half in HALVES for row in ROWS[half]])]):
             return
         if PROOFS[1] not in [it[0] for it in passed] and "cargo" not in WITHOUT:
