@@ -230,6 +230,13 @@ function markDouble(row, first) {
 
 const rowsInSight = () => [...table.querySelectorAll("tbody > tr")].filter((row) => row.getClientRects().length > 0);
 
+/** Types over a range of the text field, so that undo takes it back. An engine that can't leaves undo as it was. */
+function typeOver(start, end, text) {
+  field.focus();
+  field.setSelectionRange(start, end);
+  if (!document.execCommand("insertText", false, text)) field.setRangeText(text, start, end);
+}
+
 /**
  * Replaces the target in the text field, and shows it. The focus goes to the next mistake, or if there is none to the
  * row of the target.
@@ -238,10 +245,7 @@ async function replaceTarget(text, fixed) {
   const item = targetsIn(field.value).find((it) => it.text === text);
   if (!item) return;
   const place = rowsInSight().findIndex((row) => row.target === text);
-  field.focus();
-  field.setSelectionRange(item.start, item.end);
-  // By typing, so that undo takes it back; an engine that can't leaves undo with what it was.
-  if (!document.execCommand("insertText", false, fixed)) field.setRangeText(fixed, item.start, item.end);
+  typeOver(item.start, item.end, fixed);
   await edited(true);
   const rows = rowsInSight(), next = rows[Math.min(place, rows.length - 1)];
   const head = (next && next.kind !== "other" ? next : rows.find((row) => row.target === fixed))?.firstChild;
@@ -466,19 +470,20 @@ let known; // the targets, with what they are searched by
 /** Shows the targets that the words of the search are about, which a click adds to the list. */
 function search() {
   known ??= new Map(TARGETS.map((target) => [target, about(target, Triple.parse(target), VALUES)]));
-  const { targets: all, unknown } = found(byId("search").value, known);
+  const { targets: all, unknown, isAll } = found(byId("search").value, known);
   const offers = all.slice(0, MOST_FOUND).map((target) => {
     const button = element("button", { type: "button", class: "offer", "aria-label": `Add ${target}` }, target);
     button.addEventListener("click", () => {
-      field.value = `${target}\n${field.value}`;
+      typeOver(0, 0, `${target}\n`);
+      button.focus();
       edited(true);
     });
     return button;
   });
-  const more = all.length - offers.length;
-  const none = !all.length && byId("search").value.trim() ? [dim("no target has all these words")] : [];
-  const words = unknown.map((word) => dim(`no target is about ${shown(word)}`));
-  byId("found").replaceChildren(...words, ...offers, ...(more > 0 ? [dim(`and ${more} more`)] : none));
+  const more = all.length - offers.length, of = unknown.map(shown).join(" or ");
+  byId("found").replaceChildren(...of ? [dim(`No target is about ${of}.`)] : [],
+    ...isAll ? [] : [dim("No target has all these words, but some of them:")], ...offers,
+    ...more > 0 ? [dim(`and ${more} more`)] : []);
 }
 
 async function copy(button, text, said) {

@@ -27,11 +27,11 @@ export interface Version {
   readonly patch: number;
 }
 
-/** A version as an argument. */
 /** Versions that names state, of a C library or a system: of Android its API level, of Windows its build. */
 export type NamedVersions = Partial<Record<"glibc" | "musl" | "macos" | "ios" | "android" | "freebsd" | "netbsd" |
   "openbsd" | "dragonfly" | "windows", GivenVersion>>;
 
+/** A version as an argument. */
 export type GivenVersion = {
   readonly major: number;
   readonly minor?: number | undefined;

@@ -1,6 +1,6 @@
-// Target triples for JavaScript, over the module target-lexicon.wasm. Nothing here is proved: this file moves strings and
-// numbers in and out of the module's memory, and gives the numbers their names. Every answer is the module's, except for
-// `host`. target-lexicon.d.ts says what each call does. `build` puts names.js, the lists of names, before this file.
+// Target triples for JavaScript, over the module target-lexicon.wasm. Nothing here is proved: this file moves strings
+// and numbers in and out of the module's memory, and gives the numbers their names. Every answer is the module's,
+// except for `host`. target-lexicon.d.ts says what each call does. `build` puts names.js, the lists, before this file.
 //
 // SPDX-License-Identifier: Apache-2.0 WITH LLVM-exception
 
@@ -237,12 +237,13 @@ const objectOf = (value, name, form) =>
   checked(kindOf(value) === "an object", name, `an object such as ${form}`, value);
 
 /**
- * The question whether one of these names was meant by a word: it is in capitals, goes on, or has its letters in
- * another order.
+ * The question whether one of these names was meant by a word: it is in capitals, goes on, is cut off, or has its
+ * letters in another order.
  */
 function meant(word, names) {
   const lower = word.toLowerCase(), sorted = (it) => [...it].sort().join("");
-  const name = names.find((it) => lower.startsWith(it)) ?? names.find((it) => sorted(it) === sorted(lower));
+  const name = names.find((it) => lower.startsWith(it) || lower.length > 1 && it.startsWith(lower))
+    ?? names.find((it) => sorted(it) === sorted(lower));
   return name ? `; did you mean ${name}?` : "";
 }
 
@@ -552,7 +553,8 @@ export const meanings = (text) => meaningsBy("meanings", text);
 
 export function settleAll(targets) {
   const isRight = typeof targets !== "string" && typeof targets?.[Symbol.iterator] === "function";
-  const lines = Array.from(checked(isRight, "targets", "an iterable of strings", targets), (it) => stringOf(it));
+  const lines = Array.from(checked(isRight, "targets", "an iterable of strings", targets),
+    (it, at) => typeof it === "string" ? it : stringOf(it, `targets[${at}]`));
   if (lines.length === 0) return [];
   const text = lines.map((it) => (it.includes("\n") ? "" : it)).join("\n") + "\n";
   const it = instance(), given = it.text(text), size = given[1] + GROWTH * lines.length + 1;

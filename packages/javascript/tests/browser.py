@@ -49,8 +49,19 @@ class Page:
         if AS_NOBODY:
             os.chown(self.home, 65534, 65534)
         self.driver = webdriver.Chrome(service=Driver(self.home), options=options)
-        self.call("Browser.grantPermissions", permissions=["clipboardReadWrite", "clipboardSanitizedWrite"])
         self.driver.set_script_timeout(600)
+        self.open(url)
+
+    def open(self, url):
+        """Opens a page in a tab of its own, without the history of this one, which is closed."""
+        old = self.driver.current_window_handle
+        self.driver.switch_to.new_window("tab")
+        new = self.driver.current_window_handle
+        self.driver.switch_to.window(old)
+        self.driver.close()
+        self.driver.switch_to.window(new)
+        self.errors(), self.requests()
+        self.call("Browser.grantPermissions", permissions=["clipboardReadWrite", "clipboardSanitizedWrite"])
         self.driver.get(url)
 
     def call(self, method, **params):

@@ -202,8 +202,7 @@ const tests = {
     for (let i = 0; i < 100; i++) Triple.parse("avr").facts();
     assert.deepEqual([error.suggestion, other.suggestion, error.suggestion, refusal("x86_64-\u{1f600}").suggestion],
       ["linux", "gnu", "linux", null]);
-    assert.match(error.stack,
-      /^ParseError: Unrecognized operating system: linx\n  x86_64-pc-linx\n {12}\^{4} did you mean `linux`\?\n +at .*calls\.mjs/s);
+    assert(error.stack.startsWith(`ParseError: ${error.report}\n`) && /\n +at .*calls\.mjs/.test(error.stack));
     assert.equal(inspect(error).split("\n")[2], "            ^^^^ did you mean `linux`?");
     assert.equal(structuredClone(error).message, error.message); // as it comes from a worker
     assert.equal(refusal("x86_64-\u{1f600}\n-x").report,
@@ -215,7 +214,7 @@ const tests = {
       form = "version is an object such as { major: 17, minor: 2 }, not ";
     const whole = (part, most) => `a version's ${part} is a whole number up to ${most}`;
     for (const call of [Triple.parse, Triple.tryParse, Triple.explain, Triple.read, changes, meanings,
-      (it) => Triple.read(it, "go"), (it) => settleAll(["avr", it])]) {
+      (it) => Triple.read(it, "go")]) {
       for (const [it, kind] of [[7, "a number"], [7n, "a bigint"], [null, "null"], [["avr"], "an array"],
         [new String("avr"), "an object"], [() => "avr", "a function"]])
         assert.throws(() => call(it), { name: "TypeError", message: `text is a string, not ${kind}` }, `${call}`);
@@ -223,6 +222,7 @@ const tests = {
     for (const [kind, message, ...calls] of [
       [TypeError, "targets is an iterable of strings, not a number", () => settleAll(7)],
       [TypeError, "targets is an iterable of strings, not a string", () => settleAll("avr")],
+      [TypeError, "targets[1] is a string, not null", () => settleAll(["avr", null])],
       [TypeError, "other is a Triple, not a string", () => linux.equals("x"), () => linux.sameTarget("x")],
       [TypeError, "name is a string, not an object", () => translate({}, "go", "oci")],
       [TypeError, "from is a string, not an object", () => translate("x", {}, "oci")],
@@ -237,6 +237,7 @@ const tests = {
         () => linux.reasonWithoutName("Debian"), () => translate("x", "Debian", "go"),
         () => translate("x", "go", "Debian")],
       [TypeError, "there is no dialect golang; did you mean go?", () => Triple.read("x", "golang")],
+      [TypeError, "there is no dialect deb; did you mean debian?", () => Triple.read("x", "deb")],
       [TypeError, "there is no dialect dotent; did you mean dotnet?", () => linux.nameIn("dotent")],
       [TypeError, "there is no dialect Docker; did you mean docker?", () => linux.nameIn("Docker")],
       [TypeError, "there is no dialect podman", () => linux.nameIn("podman")],
