@@ -17,8 +17,8 @@ import tempfile
 from hatchling.builders.hooks.plugin.interface import BuildHookInterface
 
 NO_CARGO = """the shared library of this package isn't built: cargo doesn't run ({error}).
-Install Rust, which has cargo, or set the variable TARGET_LEXICON_LIBRARY to PATH/libtarget_lexicon.so of a built library for C
-(libtarget_lexicon 0.5)."""
+Install Rust, which has cargo, or set the variable TARGET_LEXICON_LIBRARY to PATH/libtarget_lexicon.so of a built
+library for C (libtarget_lexicon 0.5)."""
 CARGO_FAILED = "the shared library of this package isn't built: cargo ended with status {status}, and wrote why above."
 
 LICENCES = ("LICENSE", "COPYRIGHT")

@@ -97,14 +97,14 @@ class Columns(unittest.TestCase):
                     column = [*["x86_64"] * before, value]
                     with self.assertRaises(TypeError) as caught:
                         call(column)
-                    self.assertEqual(str(caught.exception),
-                                     f"a target must be a str, not {type(value).__name__}: index {before} has {value!r}")
+                    said = f"a target must be a str, not {type(value).__name__}: index {before} has {value!r}"
+                    self.assertEqual(str(caught.exception), said)
                     self.assertTrue(call(column, errors="coerce") == call([*column[:-1], None]))
             for wrong in "ignore", None, "":
                 self.assertRaisesRegex(ValueError, f"^errors must be 'raise' or 'coerce', not {wrong!r}$", call,
                                        ["avr"], wrong)
             for errors in "raise", "coerce":
-                for wrong in "x86_64-linux", {"avr": 1}, memoryview(b"avr!").cast("B", (2, 2)):  # which has two dimensions
+                for wrong in "x86_64-linux", {"avr": 1}, memoryview(b"avr!").cast("B", (2, 2)):  # of two dimensions
                     self.assertRaisesRegex(TypeError, "such as one column, not a", call, wrong, errors)
 
     def test_long_columns(self):

@@ -129,7 +129,8 @@ class Names(unittest.TestCase):
             triple = Triple(text)
             self.assertEqual((triple.name_in("python", **versions),
                               triple.reason_without_name("python", **versions) is None), (name, name is not None), text)
-        self.assertRegex(Triple("aarch64-apple-darwin").reason_without_name("python", **versions), "macOS 10.x or later$")
+        mac = Triple("aarch64-apple-darwin")
+        self.assertRegex(mac.reason_without_name("python", **versions), "macOS 10.x or later$")
         self.assertRegex(Triple("x86_64-pc-windows").reason_without_name("rust"), "say msvc, mingw or gnullvm$")
         for wrong in ((2, 17, 1), (), (1, 2, 3, 4), (2, 256), (-1,), (65536,)):
             for call in Triple("x86_64-linux-gnu").name_in, Triple("x86_64-linux-gnu").reason_without_name:
@@ -160,9 +161,9 @@ class Names(unittest.TestCase):
                          (None, "freebsd_14_1_RELEASE_amd64"))
         self.assertRaisesRegex(TypeError, "there are no versions of 'gnu'", freebsd.name_in, "python", gnu=(2, 17))
         self.assertRaisesRegex(ValueError, "one or two numbers", freebsd.name_in, "python", glibc=(2, 17, 1))
+        no_go = "No name in the other dialect: avr-none: the tool has no name for this machine on any system"
         for words, line, needs_libc in ((("linux/arm64", "oci", "debian"), NO_DEBIAN, True),
-                                        (("avr-none", None, "go"),
-                                         "No name in the other dialect: avr-none: the tool has no name for this machine on any system", False)):
+                                        (("avr-none", None, "go"), no_go, False)):
             with self.assertRaises(target_lexicon.TranslationError) as caught:
                 target_lexicon.translate(*words)
             for error in caught.exception, pickle.loads(pickle.dumps(caught.exception)), copy.deepcopy(

@@ -30,7 +30,8 @@ class Values(Refused):
     def test_facts(self):
         """In a dictionary, by their names, and in a column. tests/test_package.py compares them with those of the
         command in Rust."""
-        for text in *TEXTS, "thumbv7em-none-eabihf", "x86_64-pc-windows-msvc", "avr-acme-unknown-macho", "i386-unknown-openbsd", "m68k-linux-gnu":
+        for text in (*TEXTS, "thumbv7em-none-eabihf", "x86_64-pc-windows-msvc", "avr-acme-unknown-macho",
+                     "i386-unknown-openbsd", "m68k-linux-gnu"):
             triple = Triple(text)
             answers = triple.to_dict()
             self.assertEqual((answers["version"], answers["printed"]),
@@ -154,8 +155,8 @@ class Values(Refused):
             self.assertRaises(ValueError, darwin.replace, version=version)
         for version in "13", b"13", 13, {13}, iter([13]), {"major": 13}:
             for call in (lambda it: darwin.replace(version=it), lambda it: darwin.name_in("python", macos=it)):
-                self.assertRaisesRegex(
-                    TypeError, rf"^a version must be a tuple of numbers such as \(17, 2\), not {type(version).__name__}$", call, version)
+                said = rf"^a version must be a tuple of numbers such as \(17, 2\), not {type(version).__name__}$"
+                self.assertRaisesRegex(TypeError, said, call, version)
         for number in 1.5, "13", None:
             self.assertRaisesRegex(TypeError, f"^the numbers of a version must be int, not {type(number).__name__}$",
                                    darwin.replace,
@@ -193,10 +194,13 @@ class Refusals(Refused):
             "x86_64-foo-bar": "Unrecognized operating system: bar\n  x86_64-foo-bar\n             ^^^",
             "": "Unrecognized architecture: \n  \n  ^",
             "x86_64-": "Unrecognized vendor: \n  x86_64-\n         ^",
-            "x86_64-pc-l\u00e9\tx": "Unrecognized operating system: l\\xe9\\tx\n  x86_64-pc-l\\xe9\\tx\n            ^^^^^^^^",
+            "x86_64-pc-l\u00e9\tx": "Unrecognized operating system: l\\xe9\\tx\n"
+                                   "  x86_64-pc-l\\xe9\\tx\n            ^^^^^^^^",
             "x86_64-linux-elf-gnu": "Unrecognized field: gnu\n  x86_64-linux-elf-gnu\n                   ^^^",
-            "arm64-apple-iso17": "Unrecognized operating system: iso17\n  arm64-apple-iso17\n              ^^^^^ did you mean `ios17`?",
-            "x86_64-pc-linux-gnuu-elf": "Unrecognized environment: gnuu\n  x86_64-pc-linux-gnuu-elf\n                  ^^^^ did you mean `gnu`?",
+            "arm64-apple-iso17": "Unrecognized operating system: iso17\n"
+                                 "  arm64-apple-iso17\n              ^^^^^ did you mean `ios17`?",
+            "x86_64-pc-linux-gnuu-elf": "Unrecognized environment: gnuu\n"
+                                        "  x86_64-pc-linux-gnuu-elf\n                  ^^^^ did you mean `gnu`?",
             "x86_64-\udcff": "Lone surrogate: \\udcff\n  x86_64-\\udcff\n         ^^^^^^",
         }.items():
             for call in Triple, target_lexicon.explain:
@@ -238,12 +242,12 @@ class Refusals(Refused):
             self.assertNotIn("note:", str(error))
 
     def test_errors_are_values(self):
-        errors = {ParseError("x86_64-foo-bar", "operating_system",
-                             11): "Unrecognized operating system: bar\n  x86_64-foo-bar\n             ^^^",
-                  ParseError("x86_64-foo-bar", start=7,
-                             part="foo"): "Unrecognized field: foo\n  x86_64-foo-bar\n         ^^^",
-                  ParseError("linux/amd46",
-                             dialect="go"): "Unknown name: linux/amd46\n  linux/amd46\n  ^^^^^^^^^^^ did you mean `linux/amd64`?",
+        errors = {ParseError("x86_64-foo-bar", "operating_system", 11):
+                      "Unrecognized operating system: bar\n  x86_64-foo-bar\n             ^^^",
+                  ParseError("x86_64-foo-bar", start=7, part="foo"):
+                      "Unrecognized field: foo\n  x86_64-foo-bar\n         ^^^",
+                  ParseError("linux/amd46", dialect="go"):
+                      "Unknown name: linux/amd46\n  linux/amd46\n  ^^^^^^^^^^^ did you mean `linux/amd64`?",
                   ParseError("\udcff"): "Lone surrogate: \\udcff\n  \\udcff\n  ^^^^^^"}
         caught = [self.refusal(Triple, "x86_64-foo-bar"), self.refusal(Triple.read, "js/wasm", "go")]
         for error, message in [*errors.items(), *((it, str(it)) for it in caught)]:
@@ -253,8 +257,8 @@ class Refusals(Refused):
                                  (message, error.args, error.reason, error.line))
         self.assertEqual((repr(caught[1]), caught[1].dialect),
                          ("ParseError('js/wasm', None, 0, 'js/wasm', 'go')", "go"))
-        for arguments in ("x", "cpu"), ("x", None, 2, "x"), ("x", None, -1), ("x", None, 0,
-                                                                              "y"), ("x", None, 0, "x", "podman"):
+        for arguments in (("x", "cpu"), ("x", None, 2, "x"), ("x", None, -1), ("x", None, 0, "y"),
+                          ("x", None, 0, "x", "podman")):
             self.assertRaises(ValueError, ParseError, *arguments)
         self.assertRaises(TypeError, ParseError, b"x")
 
@@ -263,16 +267,16 @@ class Refusals(Refused):
         self.assertIs(Triple(triple), triple)
         self.assertRaises(TypeError, target_lexicon.explain, triple)
         for value in None, 3, b"x86_64", bytearray(b"x86_64"), ["x86_64"], object():
-            for call in Triple, Triple.parse, Triple.read, target_lexicon.explain, target_lexicon.changes, target_lexicon.meanings:
+            for call in (Triple, Triple.parse, Triple.read, target_lexicon.explain, target_lexicon.changes,
+                         target_lexicon.meanings):
                 self.assertRaisesRegex(TypeError, f"must be a str, not {type(value).__name__}", call, value)
 
     def test_subclass_of_str(self):
         """No method of it is asked."""
         def asked(*_):
             raise AssertionError("the text of a subclass was asked")
-        Text = type("Text", (str,), dict.fromkeys(("encode", "startswith", "__contains__", "__eq__", "__hash__",
-                                                   "__str__", "__len__",
-                                                   "__getitem__", "__iter__"), asked))
+        methods = "encode startswith __contains__ __eq__ __hash__ __str__ __len__ __getitem__ __iter__"
+        Text = type("Text", (str,), dict.fromkeys(methods.split(), asked))
         self.assertEqual(Triple(Text("x86_64-linux")), Triple("x86_64-linux"))
         self.assertRaises(ParseError, Triple, Text("x86_64-\u00e9"))
         self.assertEqual(target_lexicon.translate(Text("linux/arm64"), "oci", "go"), "linux/arm64")

@@ -1,8 +1,8 @@
 """Makes each allocation of the package's calls fail in turn. Each call must then raise a MemoryError or give its usual
 answer.
 
-It runs with checks/gate/failing_allocator.c in LD_PRELOAD and PYTHONMALLOC=malloc. It writes each other outcome to standard
-error, and last the number of trials. The allocator writes to standard output.
+It runs with checks/gate/failing_allocator.c in LD_PRELOAD and PYTHONMALLOC=malloc. It writes each other outcome to
+standard error, and last the number of trials. The allocator writes to standard output.
 
 From 3.10 on, CPython itself may end any function that raises with a SystemError, if there is no memory. So that of a
 call whose string is refused is let pass there.

@@ -14,8 +14,7 @@ from ctypes import POINTER, Structure, c_bool, c_char, c_char_p, c_size_t, c_uin
 from typing import TYPE_CHECKING, Any, Callable, Iterator, List, Optional, Sequence, Tuple
 
 from ._names import (
-    FACT_NAMES, FIELDS, NEEDS_C_LIBRARY, NO_SUCH_CHANGE, NO_SUGGESTION, OK,
-    TOO_SMALL, TRIPLE_WITHOUT_NAME,
+    FACT_NAMES, FIELDS, NEEDS_C_LIBRARY, NO_SUCH_CHANGE, NO_SUGGESTION, OK, TOO_SMALL, TRIPLE_WITHOUT_NAME,
 )
 
 #: The version of this package.
@@ -151,9 +150,9 @@ def _load() -> Tuple[str, ctypes.CDLL]:
         except OSError as error:
             failures.append(str(error))
     raise ImportError(
-        f"target_lexicon needs the shared library libtarget_lexicon {_CALLS_VERSION}: in the package as {_PACKAGE_FILE}, as the file that the "
-        f"variable TARGET_LEXICON_LIBRARY names, or where the loader finds {_NAME} ({'; '.join(failures)})"
-    )
+        f"target_lexicon needs the shared library libtarget_lexicon {_CALLS_VERSION}: in the package as "
+        f"{_PACKAGE_FILE}, as the file that the variable TARGET_LEXICON_LIBRARY names, or where the loader finds "
+        f"{_NAME} ({'; '.join(failures)})")
 
 
 #: The file or the name by which the library was loaded, and the library.
@@ -263,8 +262,8 @@ def _writes_whole_errors() -> bool:
 
 
 if not _writes_whole_errors():
-    raise ImportError(
-        f"{LIBRARY_PATH} is of another build than this package, whose errors have another size: build both of one commit")
+    raise ImportError(f"{LIBRARY_PATH} is of another build than this package, whose errors have another size: build "
+                      "both of one commit")
 
 
 class LibraryError(RuntimeError):
