@@ -17,19 +17,25 @@ from reading import Untranslated
 HERE = Path(__file__).parent
 TRIED = "1.95"  # the version of rustc whose MIR was read; another one's may have other forms
 CRATE = ("--crate-name", "target_lexicon", "--edition=2021", "--crate-type=lib")
-FLAGS = ("-Copt-level=0", "-Coverflow-checks=on", "-Ztrim-diagnostic-paths=no")
+# A constant that decides stays in the function that it decides about, as it may depend on the target or the host.
+UNFOLDED = ",".join(f"-SimplifyConstCondition-{it}" for it in ("after-inst-simplify", "after-const-prop", "final"))
+FLAGS = ("-Copt-level=0", "-Coverflow-checks=on", "-Ztrim-diagnostic-paths=no", f"-Zmir-enable-passes={UNFOLDED}")
 FEATURES = "std", "arch_zkasm", "arch_z80"  # of upstream, whose last two decide nothing here
 UNPROVED = []  # a part of which something isn't proved, as isn't written what it needs
 UPSTREAM = "UpstreamCrate", "UpstreamTriple"  # the proofs about upstream's own crate
 BOTH = "Pairs", "Both"  # and about ours and it; Pairs is written
-# What the build script writes; the functions that answer it aren't proved.
-HOST = "Triple { architecture: Architecture::Unknown, vendor: Vendor::Unknown, operating_system: OperatingSystem::" \
-       "Unknown, environment: Environment::Unknown, binary_format: BinaryFormat::Unknown }"
+# What the build script writes, which is another host as for an older rustc; what answers it isn't proved.
+HOST = "Triple {{ architecture: Architecture::{}, vendor: Vendor::{}, operating_system: OperatingSystem::{}, " \
+       "environment: Environment::{}, binary_format: BinaryFormat::{} }}"
+HOSTS = ["Unknown"] * 5, ["X86_64", "Pc", "Linux", "Gnu", "Elf"]
+# What it prints. So nothing else decides what cargo compiles, or is linked with.
+PRINTED = ["rerun-if-env-changed=TARGET_LEXICON_HOST", "rustc-check-cfg=cfg(core_error)", "rustc-cfg=core_error"]
 # The attributes that change no function, or that rustc writes.
 ATTRIBUTES = "allow automatically_derived coverage doc forbid inline macro_export must_use no_std non_exhaustive " \
              "prelude_import repr rustfmt warn".split()
 # Why functions aren't written, or proved to be those of the source: all of some traits, and these.
 UNSAID = ("std::Debug", "std::Hash", "std::Ord", "std::PartialOrd", "std::Clone", "std::Eq", "std::Error")
+SERDE = ("std::Serialize", "std::Deserialize")
 COMPARED = ("std::Hash", "std::Ord", "std::PartialOrd")  # of these, with upstream's
 LEFT_OUT = {
     **{f"proved::{it}::host": "the host is that of the build" for it in (
@@ -42,8 +48,12 @@ LEFT_OUT = {
     "<parse_triple_error::ParseTripleError as std::Display>::fmt": "escapes of std",
     "parse_triple_error::visible": "escapes of std",
 }
-# These differ without the feature `alloc`, as no name of a vendor is owned then.
-OWNED = "mir_CustomVendor_as_str", "mir_Triple_step"
+# What differs without the feature `alloc`, as no name of a vendor is owned then.
+OWNED = """Definition mir_CustomVendor_as_str (fuel : nat) (v1 : RsCustomVendor) : option (list ℕ) :=
+match v1 with
+| (RsCustomVendor__Static x'1) =>
+Some x'1 end.
+"""
 
 
 # The numbers of a version in Rust are in the range that the theorems suppose.
@@ -63,14 +73,19 @@ def rustc(folder, features, *words, at="", older=False):
     if not shutil.which("rustc"):
         raise NoCompiler("rustc isn't on the path, so that nothing is proved of its MIR; all else is")
     with tempfile.TemporaryDirectory(prefix="mir-") as out:
-        Path(out, "host.rs").write_text(HOST, encoding="utf-8")
+        Path(out, "host.rs").write_text(HOST.format(*HOSTS[older]), encoding="utf-8")
         words = [*CRATE, *FLAGS, *(f'--cfg=feature="{it}"' for it in features), *["--cfg=core_error"] * (not older),
                  *words, f"{at or '/'}{str(folder / 'src/lib.rs')[1:]}"]
+        if "serde_support" in features:
+            serde = f"{out}/libserde.rmeta"
+            subprocess.run(["rustc", "--crate-name=serde", "--edition=2021", "--crate-type=lib", "--emit=metadata",
+                            f"-o{serde}", HERE / "serde.rs"], cwd="/", check=True)
+            words.append(f"--extern=serde={serde}")
         for of in ([f"--emit=mir={out}/mir,dep-info={out}/read", f"--out-dir={out}"],
                    ["-Zunpretty=hir-tree", f"-o{out}/hir"], ["-Zunpretty=expanded", f"-o{out}/expanded"]):
             ran = subprocess.run(["rustc", *words, *of], cwd="/", capture_output=True, text=True,
                                  env={**os.environ, "RUSTC_BOOTSTRAP": "1", "OUT_DIR": out})
-            if ran.returncode:
+            if ran.returncode or "is unknown and will be ignored" in ran.stderr:  # a pass of MIR
                 raise Untranslated(f"rustc doesn't write the MIR of {folder}: {' '.join(ran.stderr.split())[:300]}")
         mir, hir, read, expanded = (Path(out, it).read_text(encoding="utf-8") for it in "mir hir read expanded".split())
     if names := {*re.findall(r"^# env-dep:(\w+)", read, re.M)} - {"OUT_DIR"}:
@@ -84,6 +99,28 @@ def rustc(folder, features, *words, at="", older=False):
         if re.match(r"\w*", it)[0] not in ATTRIBUTES and it != "feature(prelude_import)":
             raise Untranslated(f"the attribute {it}")
     return mir, hir
+
+
+def run_build_script(folder):
+    """That for the two hosts the build script prints and writes only what it is known to."""
+    with tempfile.TemporaryDirectory(prefix="mir-") as out:
+        package, made = Path(out, "package"), Path(out, "out")
+        shutil.copytree(folder / "src", package / "src")
+        shutil.copyfile(folder / "build.rs", package / "build.rs")
+        before = {it: it.read_bytes() for it in package.rglob("*") if it.is_file()}
+        for words, host in [(["rustc", "--edition=2021", "--cap-lints=allow", "build.rs", f"-o{out}/script"], None),
+                            *(([f"{out}/script"], it) for it in HOSTS)]:
+            made.mkdir(exist_ok=True)
+            ran = subprocess.run(words, cwd=package, capture_output=True, text=True, env={
+                **os.environ, "OUT_DIR": str(made), "TARGET": "-".join(host or ()).lower(), "TARGET_LEXICON_HOST": ""})
+            if ran.returncode:
+                raise Untranslated(f"{folder / 'build.rs'} doesn't run: {' '.join(ran.stderr.split())[:300]}")
+            if host and ran.stdout.splitlines() != [f"cargo:{it}" for it in PRINTED]:
+                raise Untranslated(f"{folder / 'build.rs'} prints other lines: {' '.join(ran.stdout.split())[:300]}")
+            written = {it.name: " ".join(it.read_text(encoding="utf-8").split()) for it in made.rglob("*")}
+            if host and written != {"host.rs": HOST.format(*host).replace(" }", ", }")} or before != {
+                    it: it.read_bytes() for it in package.rglob("*") if it.is_file()}:
+                raise Untranslated(f"{folder / 'build.rs'} writes something else than the host")
 
 
 def conditions(file, text):
@@ -116,13 +153,14 @@ def same_without_alloc(root, crate, known):
     """That each function without the feature `alloc` is written as with it, but for what owned names differ in."""
     folder = root.resolve() / "packages/rust"
     main = rustc(folder, [])
-    same(main, rustc(folder, [], older=True), "without the feature `alloc`, as for an older rustc")
+    same(main, rustc(folder, [], "-Cdebug-assertions=off", older=True),
+         "without the feature `alloc`, without debug assertions, as for an older rustc")
     other = crate_of(main, known)
     if unknown := {*all_of(other)} - {*LEFT_OUT}:
         raise Untranslated(f"{min(unknown)} isn't known without the feature `alloc`")
-    ours = {code for _, _, code in crate.out}
-    for title, _, code in other.out:
-        if code not in ours and title not in OWNED:
+    ours, others = ({re.sub(r"\bbb\d+_", "bb_", code): title for title, _, code in it.out} for it in (crate, other))
+    for code, title in others.items():
+        if code not in ours and code != OWNED:
             raise Untranslated(f"{title} is another function without the feature `alloc`")
 
 
@@ -139,7 +177,9 @@ def same(main, other, where):
         text = re.sub(r"DefId\(\d+:\d+ ~ (\w+)\[\w+\]", r"DefId(\1", text)  # which also depends on rustc's flags
         text = re.sub(r"(<impl at |\{closure@)\S*?\bsrc/", r"\1src/", text)
         types, impls = read_hir(hir)
-        return {m[0] for m in re.finditer(ITEM, text)} | {str(it) for it in types.items()} | {
+        impls = [it for it in impls if it.module != "serde" or it.trait not in SERDE]
+        return {m[0] for m in re.finditer(ITEM, text) if m["name"] != "host::HOST" and not re.match(
+            r"(const |static )?(fn )?serde::<", m[0])} | {str(it) for it in types.items()} | {
             f"{it.trait} for {it.owner}: {it.methods}" for it in impls if it.trait not in UNSAID}
     if others := items(*other) - items(*main):
         raise Untranslated(f"{where}, rustc compiles another item: {min(others).splitlines()[0][:200]}")
@@ -152,6 +192,8 @@ def source(root, known):
     main = rustc(crate, ["alloc"])
     same(main, rustc(crate, ["alloc"], "-Cdebug-assertions=off", at="./", older=True),
          "without debug assertions, in another folder, as for an older rustc")
+    run_build_script(crate)
+    same(main, rustc(crate, ["alloc", "std", "serde_support"]), "with the feature `serde_support`")
     same(main, rustc(crate, ["alloc", "std"]), "with the feature `std`")
     same(main, rustc(crate, ["alloc", "std"], "-Cdebug-assertions=off", older=True),
          "with the feature `std`, as for an older rustc")

@@ -182,12 +182,12 @@ class Crate:
             owner, _, name = function.path.rpartition("::")
             return None, owner, name
         found = [it for it in self.impls if it.place == m[2] and it.module == m[1] and m[3] in it.methods]
-        own = [strip(type) for _, type in function.parameters[:1]] or re.findall(r"[\w:]+", function.result)
-        if len(found) > 1:  # of a macro
-            found = [it for it in found if it.owner in own]
-        if len({(it.trait, it.owner) for it in found}) != 1:
+        same = [it for it in self.functions if it.path == function.path]  # those of a macro, in the order of the impls
+        own = found[same.index(function)] if len(found) == len(same) else None
+        if not own or own.owner and re.search(r"^ *debug self => _1;", function.text, re.M) and referred(
+                function.parameters[0][1]) != own.owner:
             raise Unknown(f"the impl of {function.path}")
-        return found[0].trait, found[0].owner or "", m[3]
+        return own.trait, own.owner or "", m[3]
 
     def find(self, key, types=None):
         """The function of a key, with these types of arguments, or none."""
@@ -265,7 +265,7 @@ class Crate:
     def write(self, it, pure=False):
         """Writes a function, and what it calls before. Returns its name. A pure one has no fuel, and can't panic."""
         from mir_body import Body
-        known = self.written.get((it.path, it.key, str(it.parameters), pure))
+        known = self.written.get(at := (it.path, it.key, str(it.parameters), pure))
         if isinstance(known, Unknown):
             raise Unknown(f"calls {it.key[2]}: {known}")
         if known:
@@ -273,7 +273,6 @@ class Crate:
             return known
         it.recursive = it.finished = False
         title = self.name(it) + "_pure" * pure
-        at = it.path, it.key, str(it.parameters), pure
         self.written[at] = title
         it.mutable = [n for n, type in it.parameters if type.startswith("&mut ")]
         try:

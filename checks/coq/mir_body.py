@@ -158,8 +158,7 @@ class Body:
 
     def emit(self, code, base="it"):
         """The value of an option, which is none for a panic."""
-        if self.pure:
-            raise Unknown("a possible panic in a constant, a closure or an equality")
+        self.none()
         name = self.new(base)
         self.before.append((f"match {code} with None => None | Some {name} =>\n", " end"))
         return name
@@ -290,20 +289,18 @@ class Body:
         if m := re.search(r"::(\w+)::promoted\[(\d+)\]$", what):
             return self.promoted(m[1], m[2])
         if what in self.crate.constants:
-            value = self.crate.constants[what]
-            return self.inline(value) if isinstance(value, Function) else self.operand(value, {})
+            return self.inline(self.crate.constants[what])
         return self.aggregate(what, [])
 
     def inline(self, constant):
-        return Body(self.crate, constant, True).whole()
+        is_body = isinstance(constant, Function)
+        return Body(self.crate, constant, True).whole() if is_body else self.operand(constant, {})
 
     def promoted(self, name, number):
         """A constant that rustc took out of this function."""
         it = self.f.promoted.get(number)
         if it is None or not self.f.path.endswith("::" + name):
             raise Unknown(f"the constant of {name}")
-        if not isinstance(it, Function):
-            return self.operand(it, {})
         return self.inline(it)
 
     def aggregate(self, path, args, names=None):
@@ -398,10 +395,12 @@ class Body:
         raise Unknown(f"{name} of {type}")
 
     # ---- calls
-    def called(self, path, operands, env):
+    def called(self, path, operands, to, env):
         values, types = [self.operand(it, env) for it in operands], [self.type_of(it) for it in operands]
         trait, owner, name = key = of_call(path)
         if (it := self.crate.find(key, types)) and it.text:
+            if it.result != to:
+                raise Unknown(f"the call of {path}, which returns no {it.result}")
             return self.own(it, values, types, env)
         if trait == "std::Into" and owner.startswith("impl Into<"):
             return values[0]  # the parameter is what this returns
@@ -537,7 +536,12 @@ class Body:
 
     def equality(self, path, owner, name, types, values, env):
         """`==`, or `!=` by `==`: a type's own, or std's of the types' in it."""
-        it = self.crate.find(("std::PartialEq", strip(owner), "eq"), [re.sub("^&&", "&", it) for it in types])
+        other = re.search(r"PartialEq(?:<(.*)>)?>::(?:eq|ne)$", path)[1] or owner
+        while owner[0] == other[0] == "&":  # std's of references
+            owner, other = owner[1:], other[1:]
+        it = self.crate.find(("std::PartialEq", owner, "eq"), [f"&{owner}", f"&{other}"])
+        if not it and owner != other and not {strip(owner), strip(other)} <= {*TEXTS}:
+            raise Unknown(f"the equality of {owner} and {other}")
         if it and not self.pure:
             code = self.emit(f"{self.crate.write(it)} fuel {self.code(values[0])} {self.code(values[1])}")
         else:
@@ -551,7 +555,7 @@ class Body:
         if m := re.match(r"std::(option::Option|result::Result)<", type):
             return f"({m[1].split('::')[1].lower()}_eqb {' '.join(map(self.equal, arguments(type)))})"
         it = self.crate.find(("std::PartialEq", type, "eq"), [f"&{type}"] * 2)
-        if not it or ("std::PartialEq", type, "ne") in self.crate.by:
+        if not it:
             raise Unknown(f"the equality of {type}")
         return self.crate.write(it, True)
 
@@ -665,7 +669,7 @@ class Body:
         if kind == "goto":
             return self.go(it[1], env, joins)
         if kind == "call":
-            self.assign(it[1], self.called(it[2], it[3], env), env)
+            self.assign(it[1], self.called(it[2], it[3], self.type_of(("copy", it[1])), env), env)
             return self.go(it[4], env, joins)
         if kind == "assert":
             return self.check(*it[1:], env, joins)

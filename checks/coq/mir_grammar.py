@@ -283,7 +283,7 @@ KINDS = "Const Enum ExternCrate Fn Impl Macro Mod Static Struct Trait TyAlias Ty
 
 def read_hir(text):
     """The fields of each struct, the variants of each enum with their number of fields, and the impls."""
-    types, impls = {}, []
+    types, impls, aliases = {}, [], []
     taken = {*BINARY, "Not", "PtrMetadata", *re.findall(r" name: Plain\(\n +(\w+)#", text)}  # of generics
     for block in re.split(r"^(?=DefId\(0:(?!0 ))", text, flags=re.M)[1:]:  # without the crate's root
         m, kind = re.match(DEFINED + " => OwnerNodes", block), re.search(r"^ {16}kind: (\w+)", block, re.M)
@@ -291,12 +291,17 @@ def read_hir(text):
             raise Unknown(f"an item {block.splitlines()[0]} of kind {kind and kind[1]}")
         crate, path = m[1], m[2]
         is_type = kind[1] in ("Enum", "Struct")
-        if re.match(r"(core|alloc|std)::", path) or is_type and (path in taken or path.islower()):
+        if re.match(r"(core|alloc|std)::", path) or path in taken or is_type and path.islower():
             raise Unknown(f"{path}, whose name could be another one's")
         if "#" in re.sub(r"\{\w+#\d+\}", "", path) or path in types:
             raise Unknown(f"{path}, which isn't the only one of its path")
         if re.search(PATTERN, block):
             raise Unknown(f"a constant in a pattern of {path}")
+        if kind[1] == "Use" and (to := re.search(r" Single\(\n +(\w+)#", block)) and to[1] != "_":
+            if {*re.findall(r" DefId\(\S+ ~ \S+::(\w+)\),", block.partition(" segments: ")[0])} - {to[1]}:
+                raise Unknown(f"an import under another name, {to[1]}")
+        if kind[1] == "TyAlias":
+            aliases.append(path)
         if kind[1] == "Enum":
             parts = re.split(r"^ {28}Variant \{$", block, flags=re.M)[1:]
             types[path] = [(re.search(r"ident: (\w+)#", it)[1], it.count(" FieldDef {")) for it in parts]
@@ -308,4 +313,6 @@ def read_hir(text):
                 raise Unknown(f"the fields of {path}")
         elif kind[1] == "Impl":
             impls.append(Impl(path, crate, block))
+    if twice := {it.split("::")[-1] for it in aliases} & {it.split("::")[-1] for it in types}:
+        raise Unknown(f"a type that is another one's alias, {min(twice)}")
     return types, impls
