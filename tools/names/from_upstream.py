@@ -90,7 +90,8 @@ def rules_there(field, name, said):
         linux, unknown, none = of
         return {"order": known(linux.order.lower()), "width": known(linux.width.lstrip("U")), "format": unknown.format,
                 "implied": shown(unknown.format in ("unknown", unknown.printed[-1])),
-                "convention": known(unknown.convention), "vendor": shown(none.printed[1] != "none")}
+                "convention": known(unknown.convention), "vendor": shown(none.printed[1] != "none"),
+                "system": shown(unknown.printed[1:3] == ["unknown", "unknown"])}
     if field == "operating_system":
         there, wasm, arm, eabi, _ = of
         by_field = "by_environment" if there.format != eabi.format else "by_architecture"

@@ -15,6 +15,8 @@ NAME = re.compile(r"[a-z][a-z0-9_.]*")
 VARIANT = re.compile(r"[A-Z][A-Za-z0-9_]*")
 SPECIAL = re.compile(r"[a-z0-9_.]+(-[a-z0-9_.]+)+")
 LONGEST_SPECIAL = 255
+# So much longer may an alias print, with an implied format.
+ALIAS_GROWTH = 6
 # The one whose parts parse as a triple with a custom vendor, which the exception `PrintsTheEspIdfString` is about.
 WITH_CUSTOM_VENDOR = "riscv32imc-esp-espidf"
 # How many values of a field the table first had, and a checksum of their names, in the order of their numbers.
@@ -33,7 +35,8 @@ CONVENTIONS = tuple(it for it in re.findall(r"^calling_convention\t(\w+)", ANSWE
 RULES = {
     "architecture": {
         "order": ("little", "big", "none"), "width": ("64", "32", "16", "none"), "format": ("elf", *FORMATS),
-        "convention": ("none", *CONVENTIONS), "vendor": ("shown", "omitted"), "implied": ("shown", "omitted")},
+        "convention": ("none", *CONVENTIONS), "vendor": ("shown", "omitted"), "implied": ("shown", "omitted"),
+        "system": ("shown", "omitted")},
     "operating_system": {
         "format": ("elf", *FORMATS, "by_architecture", "by_environment"),
         "convention": ("none", *CONVENTIONS, "by_architecture"),
@@ -96,6 +99,8 @@ def table_of(text):
     wrong = wrong or [f"names.tsv: {it}" for it in number_faults(values)]
     wrong = wrong or [f"names.tsv: the family `{it.variant}` has no architecture" for it in families
                       if it.variant not in {of.family for of in values}]
+    wrong = wrong or [f"names.tsv: {fault}, and `{law}` has no case for it: it needs a new one"
+                      for fault, law in law_faults(values)]
     return values, specials, families, wrong
 
 
@@ -145,6 +150,39 @@ def special_faults(row, values):
     others_parse = all(it in set().union(*(known[field] for field in FIELDS[2:])) for it in others)
     if first in known["architecture"] and is_custom and others_parse and row.text != WITH_CUSTOM_VENDOR:
         yield f"parses by its parts too, with the custom vendor `{second}`", "round_is_normal_step"
+
+
+def law_faults(values):
+    """What laws and contracts don't allow of the rules, with the first of these."""
+    rules = {(it.field, it.name): it.rules for it in values if it.field != "alias"}
+    machines = {it.name: it.rules for it in values if it.field == "architecture"}
+    no_system, unknown_system = rules["operating_system", "none"], rules["operating_system", "unknown"]
+    none, unknown, newlib = (rules["environment", it] for it in ("none", "unknown", "newlib"))
+    for name, of in machines.items():
+        for rule, call in (("order", "endianness"), ("width", "pointer_width")):
+            if (of[rule] == "none") != (name == "unknown"):
+                yield f"`{name}` has {rule}={of[rule]}, but just `unknown` has none", f"Architecture::{call}"
+    if unknown_system["vendor"] != "shown":
+        yield "the system `unknown` omits an unknown vendor, whose name parses as a vendor", "round_is_normal_step"
+    if unknown["width"] != newlib["width"]:
+        yield "the environments `unknown` and `newlib` have different widths", "queries_kept"
+    for name, of in machines.items():
+        if of["system"] == "shown":
+            continue
+        convention = lambda system: of["convention"] if system["convention"] == "by_architecture" else system["convention"]
+        if convention(unknown_system) != convention(no_system) or none["width"] != unknown["width"] or any(
+                unknown_system[it] != no_system[it] for it in ("model_64", "model_32")):
+            yield (f"`{name}` omits an unknown system, and its queries differ with the system `none`", "queries_kept")
+        if "omitted" in (of["implied"], none["implied"]) and of["format"] != "unknown":
+            yield (f"`{name}` omits an unknown system, and with the environment `none` its implied format",
+                   "round_is_normal_step")
+        if (no_system["format"], unknown["format"]) != ("by_environment", "unknown"):
+            yield f"`{name}` omits an unknown system, and the system `none` implies a format", "round_is_normal_step"
+    for it in values:
+        aliased = next((of for of in values if (of.variant, of.family) == (it.variant, it.family)), it)
+        of = aliased.rules.get("format") if it.field == "alias" else None
+        if of and len(aliased.name) + len(f"-{of}") * (of != "unknown") > len(it.name) + ALIAS_GROWTH:
+            yield f"`{it.name}` prints more than {ALIAS_GROWTH} bytes longer", "printed_strings_grow_at_most"
 
 
 def add_value(earlier, families, line):

@@ -43,9 +43,12 @@ def grouped(values, all_values, names, text):
         yield members[0], None if is_whole else members
 
 
-def families_without_vendor(table):
-    """The families of which some architectures omit an unknown vendor."""
-    return sorted({it.family for it in having(table.field["architecture"], "vendor", "omitted") if it.family})
+def families_with(table, rule, *others):
+    """The families whose architectures don't all have the same answer to each of these rules."""
+    found = {(it.family, name, it.rules[name]) for it in table.field["architecture"] for name in (rule, *others)
+             if it.family}
+    named = [(family, name) for family, name, _ in found]
+    return sorted({family for family, name in named if named.count((family, name)) > 1})
 
 
 # ---- code
@@ -203,6 +206,7 @@ IN_CODE = {
     "the formats of systems": system_formats,
     "the conventions of systems": system_conventions,
     "what omits an unknown vendor": omitted_vendors,
+    "the architectures that omit an unknown system": one_of("machines", "system", "omitted", 12),
     "the environments that show the vendor": lambda of: arm(of.environments("vendor", "shown"), "true"),
     "the systems with LLP64": one_of("systems", "model_64", "LLP64", 12),
     "the systems with ILP32": one_of("systems", "model_32", "ILP32", 12),
@@ -306,6 +310,9 @@ IN_DEFINITIONS = {
     "has_ilp32": rule_lines("has_ilp32", "operating_system", "model_32", {"ILP32": "true"}),
     "is_bare_arm": lambda of: [f"is_bare_arm {it} = true" for it in of.members("Arm", "vendor", "omitted")],
     "omits_unknown_vendor": vendor_lines,
+    "each architecture that omits an unknown system": lambda of: of.lines(
+        "alone-shows {} is = (refl, refl)", "architecture", "system", OMITTED),
+    "omits_system": rule_lines("omits_system", "architecture", "system", OMITTED),
     "is_hermit_or_linux_kernel": rule_lines("is_hermit_or_linux_kernel", "environment", "vendor", SHOWN),
     "environment_implies_format": rule_lines("environment_implies_format", "environment", "implied", OMITTED),
     "architecture_implies_format": rule_lines("architecture_implies_format", "architecture", "implied", OMITTED),

@@ -64,9 +64,18 @@ let of_word s =
   line ([ opt show_architecture a; opt vendor v; opt show_operatingSystem o; opt show_environment e;
     opt show_binaryFormat b; opt of_architecture a; opt (fun v -> str (vendor_name v)) v;
     opt (fun o -> str (operating_system_name o) ^ yes (is_like_darwin o)) o; opt (fun e -> str (environment_name e)) e;
-    opt (fun b -> str (binary_format_name b)) b; part as_arm arm_name; part as_aarch64 aarch64_name;
-    part as_x86_32 x86_32_name; part as_mips32 mips32_name; part as_mips64 mips64_name; part as_riscv32 riscv32_name;
-    part as_riscv64 riscv64_name; part as_clever clever_name ]
+    opt (fun b -> str (binary_format_name b)) b;
+    (* written by tools/names/write: families of words, extracted *)
+    part as_arm arm_name;
+    part as_aarch64 aarch64_name;
+    part as_x86_32 x86_32_name;
+    part as_mips32 mips32_name;
+    part as_mips64 mips64_name;
+    part as_riscv32 riscv32_name;
+    part as_riscv64 riscv64_name;
+    part as_clever clever_name;
+    (* end of what is written *)
+  ]
     @ if is_ours then [ opt (fun v -> str (version_name v)) (version_of w) ] else [])
 
 let value of_name s = match of_name (bytes s) with Some x -> x | None -> failwith ("no value has the name " ^ s)

@@ -170,6 +170,7 @@ fn of_word(word: &str) -> String {
         opt(word.parse(), system),
         name(word, |it: Environment| it.into_str().into()),
         name(word, |it: BinaryFormat| it.into_str().into()),
+        // written by tools/names/write: families of words
         name(word, |it: ArmArchitecture| it.into_str().into()),
         name(word, |it: Aarch64Architecture| it.into_str().into()),
         name(word, |it: X86_32Architecture| it.into_str().into()),
@@ -178,6 +179,7 @@ fn of_word(word: &str) -> String {
         name(word, |it: Riscv32Architecture| it.into_str().into()),
         name(word, |it: Riscv64Architecture| it.into_str().into()),
         name(word, |it: CleverArchitecture| it.into_str().into()),
+        // end of what is written
         #[cfg(feature = "port")]
         opt(word.parse::<DeploymentTarget>(), |it| it.to_string()),
     ];
@@ -216,10 +218,12 @@ fn fed(it: &impl Hash) -> Vec<u8> {
     hasher.0
 }
 
+/// The version that the system shows.
 fn version_of(it: OperatingSystem) -> Option<DeploymentTarget> {
-    use OperatingSystem::*;
-    match it {
-        Darwin(v) | IOS(v) | MacOSX(v) | TvOS(v) | VisionOS(v) | WatchOS(v) | XROS(v) => v,
+    let text = it.to_string();
+    let numbers = text.trim_start_matches(|of: char| !of.is_ascii_digit()).split('.').map(str::parse::<u16>);
+    match numbers.collect::<Result<Vec<_>, _>>().as_deref() {
+        Ok(&[major, minor, patch]) => Some(DeploymentTarget { major, minor: minor as u8, patch: patch as u8 }),
         _ => None,
     }
 }

@@ -10,10 +10,13 @@ use Rattle.lexicon_fields.specs.{declared.endianness.Endianness.TheVariants.Big}
 use Rattle.lexicon_fields.specs.{declared.pointer_width.PointerWidth.PointerWidth, SubArchitecture.arm_name}
 use Rattle.lexicon_fields.specs.declared.pointer_width.PointerWidth.TheVariants.{U16, U32, U64}
 use Rattle.lexicon_fields.specs.declared.architecture.Architecture.TheVariants as architecture
+-- written by tools/names/write: families that answer by their members
 use Rattle.lexicon_fields.specs.declared.architecture.arm.ArmArchitecture.TheVariants as arm
 use Rattle.lexicon_fields.specs.declared.architecture.aarch64.Aarch64Architecture.TheVariants as aarch64
 use Rattle.lexicon_fields.specs.declared.architecture.families.Mips32Architecture.TheVariants as mips32
 use Rattle.lexicon_fields.specs.declared.architecture.families.Mips64Architecture.TheVariants as mips64
+
+-- end of what is written
 
 -- whether an Arm architecture is Thumb, which its name shows
 abbrev pub is_thumb : ArmArchitecture → Bool

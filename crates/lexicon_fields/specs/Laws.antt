@@ -29,9 +29,12 @@ abbrev pub NamesGrowAtMost : ℕ → {V : Type 0} → (V → List ℕ) → (List
 NamesGrowAtMost bytes {V} name find =
     (text : List ℕ) (v : V) → find text ≡ Some v → length (name v) ≤ length text + bytes
 
--- the length of the longest name that is no custom vendor's, for instance `visionos65535.255.255`
+-- the length of the longest name that is no custom vendor's, such as that of a system with a version of 13 bytes
 abbrev pub max_name_length : ℕ
+-- written by tools/names/write: max_name_length
 max_name_length = 21
+
+-- end of what is written
 
 -- no value's name is longer
 abbrev pub NamesAreShort : {V : Type 0} → (V → List ℕ) → Type 0

@@ -75,8 +75,8 @@ pub fn names_grow_at_most()
     ensures operating_system { NamesGrowAtMost 4 operating_system_name operating_system_of }
 {}
 
-/// No name has more than 21 bytes, except the string of a custom vendor. So the length of a printed triple doesn't
-/// overflow.
+/// No name has more than `max_name_length` bytes, except the string of a custom vendor. So the length of a printed
+/// triple doesn't overflow.
 pub fn names_are_short()
     ensures architecture { NamesAreShort architecture_name }
     ensures vendor { NamesAreShort known_vendor_name }

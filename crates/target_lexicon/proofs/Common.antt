@@ -11,7 +11,7 @@ pub use Rattle.std.proofs.{lemmas.List.length-append, lemmas.Slice.Eq.bytes_eq-D
 pub use Rattle.std.specs.Prelude.{◌==◌, IfErr, IfOk, IfSome, IsTrue, MatchOption, MatchResult, option_map, slice_get}
 pub use Rattle.std.specs.Prelude.{string_bytes, unwrap_or, ⊤}
 pub use Rattle.std.specs.{List.join_with_byte, Option.option_map_or, Str.bytes_eq}
-pub use Rattle.lexicon_fields.specs.{Architecture.architecture_name, ArchitectureQueries.is_clever}
+pub use Rattle.lexicon_fields.specs.{Architecture.architecture_name}
 pub use Rattle.lexicon_fields.specs.{BinaryFormat.binary_format_name, Environment.environment_name}
 pub use Rattle.lexicon_fields.specs.{Laws.HasVersionInRange, Names.dash, OperatingSystem.operating_system_name}
 pub use Rattle.lexicon_fields.specs.{Vendor.is_plain, Vendor.vendor_name}
@@ -27,7 +27,7 @@ pub use Rattle.target_lexicon.specs.Parsing.{ArePartsOf, HasPlacement, HoldsPart
 pub use Rattle.target_lexicon.specs.Parsing.{IsRefusedAs, IsValueOf, ParsesAs, PartsParseAs, expected_after, last_field}
 pub use Rattle.target_lexicon.specs.Parsing.{part_at, parts_of}
 pub use Rattle.target_lexicon.specs.Values.{Architecture, BinaryFormat, Custom, Environment, Known, OperatingSystem}
-pub use Rattle.target_lexicon.specs.Values.{Values, VendorValue, is_clever_without_system, is_same_format}
+pub use Rattle.target_lexicon.specs.Values.{Values, VendorValue, omits_system, omits_unknown_system, is_same_format}
 pub use Rattle.target_lexicon.specs.Values.{is_unknown_vendor, unknown_values, values, values_of}
 pub use Rattle.target_lexicon.specs.{Exceptions.RoundTripException, Exceptions.is_custom_esp, Field.Field, Field.Vendor}
 pub use Rattle.target_lexicon.specs.{Field.field_number, FixedPoints.RoundIsNormalStep}

@@ -4,14 +4,14 @@ use Rattle.target_lexicon.proofs.Common
 use Common.{◌&&◌, ◌+◌, ◌<◌, ◌^◌, ◌||◌, ◌∙◌, ◌∷◌, ◌≡◌, ◌≢◌, ◌≤◌, Bool, List, None, Option, Some, [], ap, arith, false}
 use Common.{inl, inr, is_some, length, nat_le, not, refl, subst, suc, sym, true, true≢false, zero, ℕ, and-false}
 use Common.{and_parts, not-true, length-append, join_with_byte, MatchOption, slice_get, unwrap_or, architecture_name}
-use Common.{architecture_of, is_clever, binary_format_name, binary_format_of, environment_name, environment_of, dash}
+use Common.{architecture_of, omits_system, binary_format_name, binary_format_of, environment_name, environment_of, dash}
 use Common.{operating_system_name, operating_system_of, vendor_name, vendor_of, Unknown, HasFieldsOf, HasSpecialFields}
 use Common.{HasSystemOf, HidesNewlib, PrintsTheEspIdfString, ShowsOnlyNone, Field, field_number, parses_as, field_for}
 use Common.{open_fields, default_binary_format, implied_format, elf_if_unknown, normal_step, step_of, ArePartsOf}
 use Common.{HoldsParts, IsLeastPlacement, IsValueOf, PartsParseAs, expected_after, part_at, cons_if, shown_names}
 use Common.{shows_binary_format, shows_environment, shows_operating_system, shows_unknowns, shows_vendor, string_of}
 use Common.{SpecialRow, implies_newlib, special_string, special_triple, special_values, Architecture, BinaryFormat}
-use Common.{Environment, Known, OperatingSystem, Values, VendorValue, is_clever_without_system, is_same_format}
+use Common.{Environment, Known, OperatingSystem, Values, VendorValue, omits_unknown_system, is_same_format}
 use Common.{is_unknown_vendor, values}
 use Rattle.std.proofs.{lemmas.Bool.leb-true, Math.Bool.or-true}
 use Rattle.target_lexicon.specs.{ImpliedFormat.wasm_or_elf, FixedPoints.PrintedStringsGrowAtMost}
@@ -25,8 +25,8 @@ use Rattle.target_lexicon.proofs.SpecialRows.{prints_row}
 use Rattle.target_lexicon.proofs.PrintingLemmas.{names_after_system, printed_names}
 use Rattle.target_lexicon.proofs.{NamesAcross.environment_of-format, ReadParts.absent}
 use Rattle.target_lexicon.proofs.{RoundTrips.is_same_format-is, RoundTrips.without_system, StepCases.step_cases}
+use Rattle.target_lexicon.proofs.{StepCases.alone-shows, SpecialRows.no_special, SpecialRows.special_system}
 use Rattle.lexicon_fields.specs.Laws.{TextsAreNames, NamesGrowAtMost, NamesAreShort, max_name_length}
-use Rattle.lexicon_fields.specs.{declared.architecture.families.CleverArchitecture.CleverArchitecture}
 use Rattle.lexicon_fields.specs.{Architecture.architecture_texts, Vendor.known_vendor_name}
 use Rattle.lexicon_fields.proofs.LookUpLemmas.{value_named-all}
 use Rattle.target_lexicon.specs.declared.exception.RoundTripException.TheVariants as exceptions
@@ -150,9 +150,9 @@ format-short _ = omega arith
 -- a special string is not longer than the parts that are shown otherwise
 
 system_shown : (a : Architecture) (s : OperatingSystem) → is_none_or_unknown s ≡ false
-    → is_clever_without_system a s ≡ false
-system_shown (architecture.Clever sub) operating_system.Unknown known = absurd (true≢false known)
-system_shown _ _ known = refl
+    → omits_unknown_system a s ≡ false
+system_shown a operating_system.Unknown known = absurd (true≢false known)
+system_shown a _ known = refl
 
 weight-row : (t : Values) (b : Bool) (row : SpecialRow) → HasFieldsOf row t → RowFacts row
     → length row.text ≤ length (join_with_byte dash (shown_names b t))
@@ -446,25 +446,48 @@ newlib-lighter : (t : Values) (f : BinaryFormat) → t.binary_format ≡ f → H
 newlib-lighter t f format is =
     let at = row_of_system t is.system in lighter-by t f at.0 at.1 at.2 format is.environment
 
-clever-lighter : (c : CleverArchitecture) (v : VendorValue) (f : BinaryFormat) → let a = architecture.Clever c in
-    weight (printed_names (values a v operating_system.None_ environment.Unknown f))
+-- on an architecture that omits an unknown system
+alone-lighter : (a : Architecture) (v : VendorValue) (f : BinaryFormat) → omits_system a ≡ true
+    → weight (printed_names (values a v operating_system.None_ environment.Unknown f))
     ≤ weight (printed_names (values a v operating_system.Unknown environment.None f))
 unfolding shown_names shows_vendor shows_operating_system shows_environment shows_binary_format implied_format
-clever-lighter c v binary_format.Unknown =
-    rw (or-true (not (is_unknown_vendor v) || false), without_system v) (omega arith)
-clever-lighter c v f = rw (or-true (not (is_unknown_vendor v) || false), without_system v) (omega arith)
+alone-lighter a v binary_format.Unknown omits =
+    rw (omits, (alone-shows a omits).0, or-true (not (is_unknown_vendor v) || false), without_system v) (omega (
+      arith,
+      weight-cons_if (shows_vendor (values a v operating_system.None_ environment.Unknown binary_format.Unknown))
+          (vendor_name v) (operating_system_name operating_system.None_ ∷ []),
+    ))
+alone-lighter a v f omits =
+    rw (
+      omits,
+      (alone-shows a omits).0,
+      or-true (not (is_unknown_vendor v) || false),
+      or-true (not (is_same_format f (wasm_or_elf a))),
+      without_system v,
+    ) (omega (
+      arith,
+      weight-cons_if (shows_vendor (values a v operating_system.None_ environment.Unknown f)) (vendor_name v)
+          (operating_system_name operating_system.None_ ∷ binary_format_name f ∷ []),
+    ))
 
-clever-does_not_grow : (a : Architecture) (v : VendorValue) (f : BinaryFormat) → is_clever a ≡ true
+no_string : (t : Values) → is_none_or_unknown t.operating_system ≡ true → special_string t ≡ None
+no_string t without = by_option (special_string t)
+    (no_special t (λ special. true≢false (sym without ∙ special_system t special)))
+  where
+    by_option : (o : Option (List ℕ)) → is_some o ≡ false → o ≡ None
+    by_option None is = refl
+    by_option (Some text) is = absurd (true≢false is)
+
+alone-does_not_grow : (a : Architecture) (v : VendorValue) (f : BinaryFormat) → omits_system a ≡ true
     → DoesNotGrow (values a v operating_system.None_ environment.Unknown f)
     (values a v operating_system.Unknown environment.None f)
-unfolding special_string
-clever-does_not_grow (architecture.Clever c) v f is = by_weight _ _ refl (clever-lighter c v f)
-clever-does_not_grow _ v f is = absurd (true≢false (sym is))
+alone-does_not_grow a v f omits =
+    by_weight _ _ (no_string _ refl ∙ sym (no_string _ refl)) (alone-lighter a v f omits)
 
 none-does_not_grow : (t : Values) → ShowsOnlyNone t → DoesNotGrow (step_of (Some exceptions.ShowsOnlyNone) t) t
 none-does_not_grow t is =
     rw (is.operating_system, is.environment)
-    (clever-does_not_grow t.architecture t.vendor t.binary_format is.architecture)
+    (alone-does_not_grow t.architecture t.vendor t.binary_format is.architecture)
 
 step-does_not_grow : (t : Values) → DoesNotGrow (normal_step t) t
 unfolding special_string

@@ -4,7 +4,7 @@ use Common.{◌++◌, ◌||◌, ◌∙◌, ◌∷◌, ◌≡◌, Bool, List, Non
 use Common.{sym, true, ℕ, and-false, join_with_byte, architecture_name, binary_format_name, environment_name, dash}
 use Common.{operating_system_name, vendor_name, cons_if, shown_names, shows_binary_format, shows_environment}
 use Common.{shows_operating_system, shows_unknowns, shows_vendor, implies_newlib, special_string, Architecture}
-use Common.{Environment, OperatingSystem, Values, is_clever_without_system}
+use Common.{Environment, OperatingSystem, Values, omits_unknown_system}
 use Rattle.std.specs.{Borrow.Bor, Bool.then_some}
 use Rattle.std.proofs.lemmas.List.{append-nil}
 use Rattle.lexicon_fields.specs.OperatingSystem.{system_version, version_suffix}
@@ -65,10 +65,10 @@ name_piece-shown true name = refl
 name_piece-shown false name = refl
 
 -- a system that isn't shown has no version
-version-hidden : (a : Architecture) (s : OperatingSystem) → not (is_clever_without_system a s) ≡ false
+version-hidden : (a : Architecture) (s : OperatingSystem) → not (omits_unknown_system a s) ≡ false
     → system_version s ≡ None
-version-hidden (architecture.Clever sub) operating_system.Unknown hidden = refl
-version-hidden _ _ hidden = absurd cc
+version-hidden a operating_system.Unknown hidden = refl
+version-hidden a _ hidden = absurd cc
 
 -- a system that is shown if this holds, as a piece and its version
 system-shown : (last_three : Bool) (t : Values) (before : List ℕ) (prefix : Bor (List ℕ)) (b : Bool)

@@ -1,11 +1,11 @@
 -- The normal step keeps the answers of the four queries.
-use Rattle.target_lexicon.proofs.Common.{◌∙◌, ◌≡◌, Bool, Some, ap, cond, false, refl, sym, true, true≢false, is_clever}
+use Rattle.target_lexicon.proofs.Common.{◌∙◌, ◌≡◌, Bool, Some, ap, cond, false, refl, sym, true, omits_system}
 use Rattle.target_lexicon.proofs.Common.{U32, PrintsAsSpecial, normal_step, convention_on, data_model, pointer_width}
 use Rattle.target_lexicon.proofs.Common.{Architecture, BinaryFormat, Environment, OperatingSystem, Values, VendorValue}
 use Rattle.target_lexicon.proofs.Common.{values}
 use Rattle.target_lexicon.specs.{Queries.is_ilp32, Queries.model_of_width, QueryLaws.HaveSameAnswers}
 use Rattle.lexicon_fields.specs.ArchitectureQueries.{architecture_width}
-use Rattle.target_lexicon.proofs.{SpecialRows.row_of_fields, StepCases.step_cases}
+use Rattle.target_lexicon.proofs.{SpecialRows.row_of_fields, StepCases.step_cases, StepCases.alone-shows}
 use Rattle.target_lexicon.specs.Values.architecture
 use Rattle.target_lexicon.specs.Values.operating_system
 use Rattle.target_lexicon.specs.Values.environment
@@ -40,19 +40,18 @@ newlib-width : (a : Architecture) (v w : VendorValue) (s : OperatingSystem) (f g
 unfolding pointer_width
 newlib-width a v w s f g = refl
 
--- on Clever neither the system nor the environment matters
-clever-alike : (a : Architecture) (v : VendorValue) (f : BinaryFormat) → is_clever a ≡ true
+-- on an architecture that omits an unknown system neither the system nor the environment matters
+alone-alike : (a : Architecture) (v : VendorValue) (f : BinaryFormat) → omits_system a ≡ true
     → HaveSameAnswers (values a v operating_system.None_ environment.Unknown f)
     (values a v operating_system.Unknown environment.None f)
 unfolding pointer_width convention_on data_model
-clever-alike (architecture.Clever sub) v f clever = record {
+alone-alike a v f omits = let none = (alone-shows a omits).1 in record {
   architecture = refl;
   endianness = refl;
   pointer_width = refl;
-  calling_convention = refl;
-  data_model = refl;
+  calling_convention = sym none;
+  data_model = rw none refl;
 }
-clever-alike _ v f clever = absurd (true≢false (sym clever))
 
 pub kept : (t : Values) → HaveSameAnswers (normal_step t) t
 kept t =
@@ -63,5 +62,5 @@ kept t =
     alike_by_width a v v s _ e _ f (narrow_width _ narrow ∙ sym (narrow_width t narrow)))
     (λ newlib. rw newlib.environment (alike_by_width a v v s _ _ _ f (newlib-width a v v s _ f)))
     (λ esp. rw esp (alike_by_width _ _ _ _ _ _ _ _ (sym (newlib-width _ _ _ _ _ _))))
-    (λ none. rw (none.operating_system, none.environment) (clever-alike a v f none.architecture))
+    (λ none. rw (none.operating_system, none.environment) (alone-alike a v f none.architecture))
     (λ outside. alike_by_width a v v s e e f f refl)

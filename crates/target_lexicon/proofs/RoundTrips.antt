@@ -2,23 +2,23 @@
 use Rattle.target_lexicon.proofs.Common
 use Common.{◌&&◌, ◌||◌, ◌∙◌, ◌∷◌, ◌≡◌, ◌≢◌, ◌⊎◌, Bool, List, None, Ok, Result, Some, [], ap, cond, false, inl, inr}
 use Common.{is_some, not, refl, subst, sym, true, true≢false, ℕ, and-false, and_parts, false≢true, not-true}
-use Common.{architecture_name, is_clever, binary_format_name, environment_name, HasVersionInRange}
+use Common.{architecture_name, omits_system, binary_format_name, environment_name, HasVersionInRange}
 use Common.{operating_system_name, is_plain, vendor_name, vendor_of, Unknown, HasSystemOf, HidesNewlib, PrintsAsSpecial}
 use Common.{PrintsTheEspIdfString, ShowsOnlyNone, parses_as, reading_from, reading_of_parts, with_value}
 use Common.{default_binary_format, implied_format, elf_if_unknown, normal_step, step_of, cons_if, shown_names}
 use Common.{shows_binary_format, shows_environment, shows_operating_system, shows_unknowns, shows_vendor, Refusal}
 use Common.{SpecialRow, implies_newlib, special_string, Architecture, BinaryFormat, Environment, Known, OperatingSystem}
-use Common.{Values, VendorValue, is_clever_without_system, is_same_format, is_unknown_vendor, unknown_values, values}
-use Rattle.target_lexicon.specs.Printing.{omits_unknown_vendor}
-use Rattle.lexicon_fields.specs.declared.architecture.families.CleverArchitecture.{CleverArchitecture}
+use Common.{Values, VendorValue, omits_unknown_system, is_same_format, is_unknown_vendor, unknown_values, values}
+use Rattle.target_lexicon.specs.{Printing.omits_unknown_vendor, ImpliedFormat.wasm_or_elf}
 use Rattle.std.proofs.lemmas.Bool.{or_parts, not-false}
+use Rattle.std.proofs.Math.Bool.{or-true}
 use Rattle.target_lexicon.proofs.PrintingLemmas.{names_after_system, printed_names}
 use Rattle.target_lexicon.proofs.NamesAcross.{NamesAreRead, environment_of-format, operating_system_of-format}
 use Rattle.target_lexicon.proofs.NamesAcross.{operating_system_of-environment, vendor_of-operating_system}
 use Rattle.target_lexicon.proofs.NamesAcross.{system_as_vendor}
 use Rattle.target_lexicon.proofs.SpecialRows.{RowFacts, special_of_fields, system_of_newlib, row_of_system}
 use Rattle.target_lexicon.proofs.SpecialRows.{special_system, newlib_system, no_newlib}
-use Rattle.target_lexicon.proofs.StepCases.{step_cases, outside-fixed, only_none-step}
+use Rattle.target_lexicon.proofs.StepCases.{step_cases, outside-fixed, only_none-step, alone-shows}
 use Rattle.target_lexicon.specs.declared.exception.RoundTripException.TheVariants as exceptions
 use Rattle.target_lexicon.specs.Values.architecture
 use Rattle.target_lexicon.specs.Values.operating_system
@@ -114,20 +114,16 @@ no_vendor a _ e h = refl
 
 hidden_system : (a : Architecture) (v : VendorValue) (s : OperatingSystem) (e : Environment) (f : BinaryFormat)
     → shows_operating_system (values a v s e f) ≡ false
-    → (s ≡ operating_system.Unknown) × ((c : CleverArchitecture) × (a ≡ architecture.Clever c))
+    → (s ≡ operating_system.Unknown) × (omits_system a ≡ true)
 unfolding shows_operating_system
-hidden_system (architecture.Clever sub) v operating_system.Unknown e f h = (refl, (sub, refl))
-hidden_system _ v _ e f h = absurd (true≢false h)
-
-clever-alone : (a : Architecture) → is_clever a ≡ true → is_clever_without_system a operating_system.Unknown ≡ true
-clever-alone (architecture.Clever sub) clever = refl
-clever-alone _ clever = absurd (false≢true clever)
+hidden_system a v operating_system.Unknown e f h = (refl, not-false _ h)
+hidden_system a v _ e f h = absurd (true≢false h)
 
 -- if the system is shown
 shown_system : (t : Values) → shows_operating_system t ≡ true → ¬ ShowsOnlyNone t
 unfolding shows_operating_system
 shown_system t h is =
-    false≢true (sym (not-true _ h) ∙ rw is.operating_system (clever-alone t.architecture is.architecture))
+    false≢true (sym (not-true _ h) ∙ rw is.operating_system is.architecture)
 
 -- an unknown system implies no environment
 pub without_system : (v : VendorValue) → implies_newlib v operating_system.Unknown ≡ false
@@ -137,9 +133,9 @@ without_system v = no_newlib v operating_system.Unknown refl
 abbrev unread : Architecture → VendorValue → OperatingSystem → Values
 unread a v s = values a v s environment.Unknown binary_format.Unknown
 
--- `Clever` without a system
-abbrev on_clever : CleverArchitecture → VendorValue → Environment → BinaryFormat → Values
-on_clever c v e f = values (architecture.Clever c) v operating_system.Unknown e f
+-- without a system
+abbrev alone : Architecture → VendorValue → Environment → BinaryFormat → Values
+alone a v e f = values a v operating_system.Unknown e f
 
 -- the parts parse as the normal step
 abbrev Rounds : Bool → Values → Type 0
@@ -293,66 +289,60 @@ module _ (names : NamesAreRead) where
       rw (other, names.operating_system.reads_back s range) (then (Known Unknown) is.0))
       (rw (names.operating_system.reads_back s range) (then v refl))
 
-  -- if it isn't: Clever without a system
-  clever-fixed : (c : CleverArchitecture) (v : VendorValue) (e : Environment) (f : BinaryFormat) → e ≢ environment.None
-      → normal_step (on_clever c v e f) ≡ on_clever c v e f
-  clever-fixed c v e f other = outside-fixed (on_clever c v e f) (record {
+  -- if it isn't
+  alone-fixed : (a : Architecture) (v : VendorValue) (e : Environment) (f : BinaryFormat) → e ≢ environment.None
+      → normal_step (alone a v e f) ≡ alone a v e f
+  alone-fixed a v e f other = outside-fixed (alone a v e f) (record {
     special = λ is. true≢false (special_system _ is.fields);
     newlib = λ is. true≢false (newlib_system _ is.system);
     esp = λ is. let bad = ap (λ x. x.operating_system) is in cc;
     none = λ is. other is.environment;
   })
 
-  clever-step : (c : CleverArchitecture) (v : VendorValue) (f : BinaryFormat)
-      → normal_step (on_clever c v environment.None f)
-      ≡ values (architecture.Clever c) v operating_system.None_ environment.Unknown f
-  clever-step c v f = only_none-step (on_clever c v environment.None f)
-      (record { architecture = refl; operating_system = refl; environment = refl })
+  module _ (a : Architecture) (omits : omits_system a ≡ true) where
+    alone-step : (v : VendorValue) (f : BinaryFormat) → normal_step (alone a v environment.None f)
+        ≡ values a v operating_system.None_ environment.Unknown f
+    alone-step v f = only_none-step (alone a v environment.None f)
+        (record { architecture = omits; operating_system = refl; environment = refl })
 
-  -- after an environment `none` the format is shown, unless it is unknown
-  none-shown : (c : CleverArchitecture) (v : VendorValue) (f : BinaryFormat)
-      → cond (known_format f && shows_binary_format
-      (on_clever c v environment.None f)) f binary_format.Unknown ≡ f
-  unfolding shows_binary_format implied_format
-  none-shown c v binary_format.Unknown = refl
-  none-shown c v _ = refl
+    -- after an environment `none` the format is shown, unless it is unknown
+    none-shown : (v : VendorValue) (f : BinaryFormat) → cond (known_format f && shows_binary_format
+        (alone a v environment.None f)) f binary_format.Unknown ≡ f
+    unfolding shows_binary_format implied_format
+    none-shown v binary_format.Unknown = refl
+    none-shown v f = rw ((alone-shows a omits).0, or-true (not (is_same_format f (wasm_or_elf a)))) refl
 
-  clever-read : (c : CleverArchitecture) (v : VendorValue) (e : Environment) (f : BinaryFormat)
-      → shows_unknowns (on_clever c v e f) ≡ false
-      → reading_from (Some field.OperatingSystem) (unread (architecture.Clever c) v operating_system.Unknown)
-      (names_after_system false (on_clever c v e f)) ≡ Ok (normal_step (on_clever c v e f))
-  unfolding parses_as shows_environment shows_binary_format implied_format
-  clever-read c v environment.Unknown f hidden = rw (clever-fixed c v environment.Unknown f (λ is. cc))
-      (alone-read (architecture.Clever c) v f _
-      ∙ ap (λ x. Ok (values (architecture.Clever c) v operating_system.Unknown environment.Unknown x))
-      (shown_unless_unknown f _ _ hidden
-      (shown_or_implied (on_clever c v environment.Unknown f))))
-  clever-read c v environment.None f hidden = rw (clever-step c v f, without_system v)
-      (simp (operating_system_of-environment environment.None)
-      (hidden-read (architecture.Clever c) v operating_system.None_ f _
-      ∙ ap (λ x. Ok (values (architecture.Clever c) v operating_system.None_ environment.Unknown x))
-      (none-shown c v f)))
-  clever-read c v e f hidden = rw (clever-fixed c v e f (λ is. cc), without_system v, operating_system_of-environment e)
-      (simp (names.environment.reads_back e tt)
-      (format-read (architecture.Clever c) v operating_system.Unknown e f
-      (shows_binary_format (on_clever c v e f))
-      ∙ ap (λ x. Ok (values (architecture.Clever c) v operating_system.Unknown e x))
-      (shown_or_implied (on_clever c v e f))))
+    alone-reads : (v : VendorValue) (e : Environment) (f : BinaryFormat)
+        → shows_unknowns (alone a v e f) ≡ false
+        → reading_from (Some field.OperatingSystem) (unread a v operating_system.Unknown)
+        (names_after_system false (alone a v e f)) ≡ Ok (normal_step (alone a v e f))
+    unfolding parses_as shows_environment shows_binary_format implied_format
+    alone-reads v environment.Unknown f hidden = rw (alone-fixed a v environment.Unknown f (λ is. cc))
+        (alone-read a v f _
+        ∙ ap (λ x. Ok (values a v operating_system.Unknown environment.Unknown x))
+        (shown_unless_unknown f _ _ hidden (shown_or_implied (alone a v environment.Unknown f))))
+    alone-reads v environment.None f hidden = rw (alone-step v f, without_system v)
+        (simp (operating_system_of-environment environment.None)
+        (hidden-read a v operating_system.None_ f _
+        ∙ ap (λ x. Ok (values a v operating_system.None_ environment.Unknown x)) (none-shown v f)))
+    alone-reads v e f hidden = rw (alone-fixed a v e f (λ is. cc), without_system v, operating_system_of-environment e)
+        (simp (names.environment.reads_back e tt)
+        (format-read a v operating_system.Unknown e f (shows_binary_format (alone a v e f))
+        ∙ ap (λ x. Ok (values a v operating_system.Unknown e x)) (shown_or_implied (alone a v e f))))
 
-  clever-round : (c : CleverArchitecture) (v : VendorValue) (e : Environment) (f : BinaryFormat) → is_plain v ≡ true
-      → shows_unknowns (on_clever c v e f) ≡ false → Rounds false (on_clever c v e f)
-  unfolding shown_names shows_operating_system
-  clever-round c v e f plain hidden =
-      prefix (architecture.Clever c) v _ _ _ plain
-      (λ h. absurd (let is = (hidden_vendor (on_clever c v e f) h).1 in cc))
-      (clever-read c v e f hidden)
+    alone-round : (v : VendorValue) (e : Environment) (f : BinaryFormat) → is_plain v ≡ true
+        → shows_unknowns (alone a v e f) ≡ false → Rounds false (alone a v e f)
+    unfolding shown_names shows_operating_system
+    alone-round v e f plain hidden = rw omits (prefix a v _ _ _ plain
+        (λ h. absurd (let is = (hidden_vendor (alone a v e f) h).1 in cc))
+        (alone-reads v e f hidden))
 
   module _ (a : Architecture) (v : VendorValue) (s : OperatingSystem) (e : Environment) (f : BinaryFormat)
       (plain : is_plain v ≡ true) (range : HasVersionInRange s)
       (none : special_string (values a v s e f) ≡ None) (apart : ¬ PrintsTheEspIdfString (values a v s e f)) where
-    clever_by : (c : CleverArchitecture) → a ≡ architecture.Clever c → s ≡ operating_system.Unknown
+    alone-by : omits_system a ≡ true → s ≡ operating_system.Unknown
         → shows_unknowns (values a v s e f) ≡ false → Rounds false (values a v s e f)
-    clever_by c is_a is_s hidden = rw (is_a, is_s) (clever-round c v e f plain (rw (is_a, is_s) at hidden))
+    alone-by omits is_s hidden = rw is_s (alone-round a omits v e f plain (rw is_s at hidden))
 
     upstream-round : (b : Bool) → shows_operating_system (values a v s e f) ≡ b
         → shows_unknowns (values a v s e f) ≡ false → Rounds false (values a v s e f)
@@ -360,7 +350,7 @@ module _ (names : NamesAreRead) where
     upstream-round true shown hidden = rw shown (after_system a v s e f _ _ plain range
         (tail-round a v s e f none hidden apart (shown_system (values a v s e f) shown)))
     upstream-round false none_shown hidden = let is = hidden_system a v s e f none_shown in
-        clever_by is.1.0 is.1.1 is.0 hidden
+        alone-by is.1 is.0 hidden
 
     -- an unknown environment and an unknown format, both shown, change nothing
     unknowns-step : (e ≡ environment.Unknown) × (f ≡ binary_format.Unknown)

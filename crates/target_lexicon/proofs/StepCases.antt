@@ -2,19 +2,22 @@
 -- exception, and outside them, holds for the step.
 use Rattle.target_lexicon.proofs.Common
 use Common.{◌&&◌, ◌∙◌, ◌≡◌, ◌⊎◌, Bool, List, None, Option, Some, ap, codes, cond, false, inl, inr, is_some, refl, subst}
-use Common.{sym, true, ℕ, and-false, and_parts, cases_Bool, false≢true, bytes_eq-Decides, architecture_of, is_clever}
+use Common.{sym, true, ℕ, and-false, and_parts, cases_Bool, false≢true, bytes_eq-Decides, architecture_of, omits_system}
 use Common.{binary_format_of, environment_of, fixed_operating_system_of, operating_system_of, is_admitted, is_plain}
 use Common.{known_vendor_of, HasSpecialFields, HidesNewlib, PrintsAsSpecial, PrintsTheEspIdfString, ShowsOnlyNone}
 use Common.{RoundTripException, exception, is_custom_esp, normal_step, step_of, implies_newlib, special_string}
 use Common.{Architecture, BinaryFormat, Custom, Environment, OperatingSystem, Values, VendorValue}
-use Common.{is_clever_without_system, is_same_format, values}
+use Common.{omits_unknown_system, is_same_format, values}
 use Rattle.target_lexicon.specs.ExceptionFacts.{HasNewlibAndElf, VendorIsNotPlain, ExceptionsAreFactsOfFields}
 use Rattle.target_lexicon.specs.{Values.is_newlib, Values.is_none_environment, Exceptions.has_newlib_and_elf}
+use Rattle.target_lexicon.specs.{Printing.architecture_implies_format, Queries.wasm_convention}
 use Rattle.target_lexicon.proofs.SpecialRows.{row_of_fields, row_of_system, fields_of_special, special_of_fields}
 use Rattle.target_lexicon.proofs.SpecialRows.{no_special, system_of_newlib, newlib_of_system, special_system}
 use Rattle.target_lexicon.specs.declared.exception.RoundTripException.TheVariants as exceptions
 use Rattle.target_lexicon.specs.Values.architecture
 use Rattle.target_lexicon.specs.Values.riscv32
+-- written by tools/names/write: families that omit an unknown system
+-- end of what is written
 use Rattle.target_lexicon.specs.Values.operating_system
 use Rattle.target_lexicon.specs.Values.environment
 use Rattle.target_lexicon.specs.Values.binary_format
@@ -62,17 +65,17 @@ esp-is (architecture.Riscv32 riscv32.Riscv32imc) (Custom text) operating_system.
     binary_format.Elf is = ap on_esp_idf ((bytes_eq-Decides text (codes "esp")).0 is)
 esp-is _ _ _ _ _ is = absurd (false≢true is)
 
-clever-is : (a : Architecture) (s : OperatingSystem) → is_clever_without_system a s ≡ true
-    → (is_clever a ≡ true) × (s ≡ operating_system.Unknown)
-clever-is (architecture.Clever sub) operating_system.Unknown is = (refl, refl)
-clever-is _ _ is = absurd (false≢true is)
+alone-is : (a : Architecture) (s : OperatingSystem) → omits_unknown_system a s ≡ true
+    → (omits_system a ≡ true) × (s ≡ operating_system.Unknown)
+alone-is a operating_system.Unknown is = (is, refl)
+alone-is a _ is = absurd (false≢true is)
 
 -- the tests of the list of exceptions, one after the other
 facts-by : (t : Values) (special both newlib esp none plain : Bool)
     → is_some (special_string t) ≡ special → has_newlib_and_elf t ≡ both
     → (implies_newlib t.vendor t.operating_system && is_newlib t.environment) ≡ newlib
     → is_custom_esp t.architecture t.vendor t.operating_system t.environment t.binary_format ≡ esp
-    → (is_clever_without_system t.architecture t.operating_system && is_none_environment t.environment) ≡ none
+    → (omits_unknown_system t.architecture t.operating_system && is_none_environment t.environment) ≡ none
     → is_plain t.vendor ≡ plain
     → FactsOf (cond special (cond both None (Some exceptions.PrintsAsSpecial))
     (cond newlib (Some exceptions.HidesNewlib) (cond esp (Some exceptions.PrintsTheEspIdfString)
@@ -91,9 +94,9 @@ facts-by t false both true esp none plain is_s is_b is_n is_e is_o is_p =
 facts-by t false both false true none plain is_s is_b is_n is_e is_o is_p =
     esp-is t.architecture t.vendor t.operating_system t.environment t.binary_format is_e
 facts-by t false both false false true plain is_s is_b is_n is_e is_o is_p =
-    let parts = and_parts (is_clever_without_system t.architecture t.operating_system) _ is_o in
-    let clever = clever-is t.architecture t.operating_system parts.0 in
-    record { architecture = clever.0; operating_system = clever.1; environment = none-is t.environment parts.1 }
+    let parts = and_parts (omits_unknown_system t.architecture t.operating_system) _ is_o in
+    let alone = alone-is t.architecture t.operating_system parts.0 in
+    record { architecture = alone.0; operating_system = alone.1; environment = none-is t.environment parts.1 }
 facts-by t false both false false false true is_s is_b is_n is_e is_o is_p = is_p
 facts-by t false both false false false false is_s is_b is_n is_e is_o is_p = is_p
 
@@ -127,23 +130,29 @@ unknown_system-other : (t : Values) → t.operating_system ≡ operating_system.
 unknown_system-other t unknown special = let known = special_system t special in
     false≢true (sym known ∙ rw unknown refl)
 
-if_clever : (a : Architecture) (v : VendorValue) (f : BinaryFormat) → is_clever a ≡ true
-    → (is_custom_esp a v operating_system.Unknown environment.None f ≡ false)
-    × (is_clever_without_system a operating_system.Unknown ≡ true)
-if_clever (architecture.Clever sub) v f clever = (refl, refl)
-if_clever _ v f clever = absurd (false≢true clever)
+alone-other : (a : Architecture) (v : VendorValue) (f : BinaryFormat)
+    → is_custom_esp a v operating_system.Unknown environment.None f ≡ false
+alone-other (architecture.Riscv32 riscv32.Riscv32imc) (Custom text) f = refl
+alone-other _ v f = refl
+
+-- an architecture that omits an unknown system shows the implied format, and decides no convention
+pub alone-shows : (a : Architecture) → omits_system a ≡ true
+    → (architecture_implies_format a ≡ false) × (wasm_convention a ≡ None)
+-- written by tools/names/write: each architecture that omits an unknown system
+alone-shows (architecture.Clever _) is = (refl, refl)
+-- end of what is written
+alone-shows _ is = absurd (false≢true is)
 
 pub only_none-exception : (t : Values) → ShowsOnlyNone t → exception t ≡ Some exceptions.ShowsOnlyNone
 unfolding exception
 only_none-exception t is =
-    let clever = if_clever t.architecture t.vendor t.binary_format is.architecture in
     rw (
       no_special t (unknown_system-other t is.operating_system),
       is.operating_system,
       is.environment,
       and-false,
-      clever.0,
-      clever.1,
+      alone-other t.architecture t.vendor t.binary_format,
+      is.architecture,
     ) refl
 
 -- none of the four exceptions applies by which a triple with a plain vendor changes

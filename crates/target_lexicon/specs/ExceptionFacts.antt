@@ -1,11 +1,11 @@
 -- What each exception says of the five fields: facts that follow from the list of exceptions, one law for each
 -- exception.
 use Rattle.std.specs.Prelude.{◌≡◌, ◌↔◌, ◌⊎◌, List, [], ◌∷◌, true, false, codes, Some}
-use Rattle.lexicon_fields.specs.{ArchitectureQueries.is_clever, Vendor.is_plain}
+use Rattle.lexicon_fields.specs.{Vendor.is_plain}
 use Rattle.target_lexicon.specs.Exceptions.{exception}
 use Rattle.target_lexicon.specs.SpecialStrings.{SpecialRow, special_rows}
 use Rattle.target_lexicon.specs.declared.exception.RoundTripException.TheVariants as exceptions
-use Rattle.target_lexicon.specs.Values.{Known, Custom, Values, values}
+use Rattle.target_lexicon.specs.Values.{Known, Custom, Values, omits_system, values}
 use Rattle.target_lexicon.specs.Values.architecture
 use Rattle.target_lexicon.specs.Values.riscv32
 use Rattle.target_lexicon.specs.Values.operating_system
@@ -53,9 +53,9 @@ PrintsTheEspIdfString t =
     t ≡ values (architecture.Riscv32 riscv32.Riscv32imc) (Custom (codes "esp")) operating_system.Espidf
     environment.Unknown binary_format.Elf
 
--- on Clever without a system the environment `none` is shown, and parses as the system
+-- an unknown system is omitted, and the environment `none` is shown, which parses as the system
 pub record ShowsOnlyNone (t : Values) : Type 0 where
-  pub architecture : is_clever t.architecture ≡ true
+  pub architecture : omits_system t.architecture ≡ true
   pub operating_system : t.operating_system ≡ operating_system.Unknown
   pub environment : t.environment ≡ environment.None
 

@@ -9,7 +9,7 @@ use Rattle.target_lexicon.specs.declared.exception.RoundTripException.TheVariant
 use Rattle.target_lexicon.specs.SpecialStrings.{special_string, implies_newlib}
 use Rattle.target_lexicon.specs.Values.{Architecture, OperatingSystem, Environment, BinaryFormat, VendorValue, Custom}
 use Rattle.target_lexicon.specs.Values.{Values}
-use Rattle.target_lexicon.specs.Values.{is_newlib, is_none_environment, is_same_format, is_clever_without_system}
+use Rattle.target_lexicon.specs.Values.{is_newlib, is_none_environment, is_same_format, omits_unknown_system}
 use Rattle.target_lexicon.specs.Values.architecture
 use Rattle.target_lexicon.specs.Values.riscv32
 use Rattle.target_lexicon.specs.Values.operating_system
@@ -34,8 +34,8 @@ exception_of_special t = if has_newlib_and_elf t then None else Some PrintsAsSpe
 abbrev pub exception_of_vendor : VendorValue → Option RoundTripException
 exception_of_vendor v = if is_plain v then None else Some VendorIsNotPlain
 
--- the first exception that applies to the triple, if any: the first line that fits decides. Only to a triple on Clever
--- can two apply: without a system, with the environment `None` and a vendor that isn't plain it is in `ShowsOnlyNone`,
+-- the first exception that applies to the triple, if any: the first line that fits decides. Two apply
+-- only to a triple whose system is omitted: with the environment `None` and a vendor that isn't plain it is in `ShowsOnlyNone`,
 -- which comes before `VendorIsNotPlain`
 unfoldable pub exception : Values → Option RoundTripException
 exception t =
@@ -45,7 +45,7 @@ exception t =
     -- the string is special, and the vendor isn't that of its triple
     else if is_custom_esp t.architecture t.vendor t.operating_system t.environment t.binary_format
     then Some PrintsTheEspIdfString
-    -- on Clever without a system the environment `none` is shown, and parses as the system
-    else if is_clever_without_system t.architecture t.operating_system && is_none_environment t.environment
+    -- the system is omitted, and the environment `none` is shown, which parses as the system
+    else if omits_unknown_system t.architecture t.operating_system && is_none_environment t.environment
     then Some ShowsOnlyNone
     else exception_of_vendor t.vendor

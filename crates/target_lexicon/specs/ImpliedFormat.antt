@@ -7,6 +7,9 @@ use Rattle.target_lexicon.specs.Values.operating_system
 use Rattle.target_lexicon.specs.Values.environment
 use Rattle.target_lexicon.specs.Values.binary_format
 
+-- written by tools/names/write: families that imply formats by their members
+-- end of what is written
+
 -- without an operating system only the embedded ABIs imply a format
 abbrev pub format_without_system : Environment → BinaryFormat
 -- written by tools/names/write: format_without_system

@@ -6,7 +6,7 @@ use Rattle.std.specs.Prelude.{◌≡◌, ◌≢◌, ◌↔◌, ℕ, Bool, true, 
 use Rattle.std.specs.List.{join_with_byte}
 use Rattle.lexicon_fields.specs.Names.{dash}
 use Rattle.target_lexicon.specs.Values.{Architecture, OperatingSystem, Environment, Values, is_unknown_vendor}
-use Rattle.target_lexicon.specs.Values.{is_unknown_environment, is_newlib, is_clever_without_system, is_same_format}
+use Rattle.target_lexicon.specs.Values.{is_unknown_environment, is_newlib, omits_unknown_system, is_same_format}
 use Rattle.target_lexicon.specs.{ImpliedFormat.default_binary_format, SpecialStrings.implies_newlib}
 use Rattle.target_lexicon.specs.{SpecialStrings.special_string}
 use Rattle.lexicon_fields.specs.{declared.architecture.arm.ArmArchitecture.ArmArchitecture}
@@ -16,7 +16,7 @@ use Rattle.target_lexicon.specs.Values.architecture
 use Rattle.target_lexicon.specs.Values.operating_system
 use Rattle.target_lexicon.specs.Values.environment
 use Rattle.target_lexicon.specs.Values.binary_format
--- written by tools/names/write: families that omit an unknown vendor
+-- written by tools/names/write: families that print by their members
 use Rattle.target_lexicon.specs.Values.arm
 
 -- end of what is written
@@ -69,9 +69,9 @@ shows_vendor t =
     not (is_unknown_vendor t.vendor) || is_hermit_or_linux_kernel t.environment
     || not (omits_unknown_vendor t.architecture t.operating_system t.environment)
 
--- an unknown system is omitted on Clever
+-- on some architectures an unknown system is omitted
 unfoldable pub shows_operating_system : Values → Bool
-shows_operating_system t = not (is_clever_without_system t.architecture t.operating_system)
+shows_operating_system t = not (omits_unknown_system t.architecture t.operating_system)
 
 -- an unknown environment is omitted, and so is a `Newlib` that vendor and system imply
 unfoldable pub shows_environment : Values → Bool

@@ -14,6 +14,8 @@ use Rattle.lexicon_fields.specs.declared.pointer_width.PointerWidth.TheVariants.
 use Rattle.target_lexicon.specs.Values.architecture
 use Rattle.target_lexicon.specs.Values.operating_system
 use Rattle.target_lexicon.specs.Values.environment
+-- written by tools/names/write: families that have conventions by their members
+-- end of what is written
 pub use Rattle.lexicon_fields.specs.{Endianness.endianness_name, PointerWidth.width_name}
 
 -- the environments whose pointers have 32 bits on every architecture

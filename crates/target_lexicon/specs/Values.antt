@@ -65,9 +65,16 @@ abbrev pub is_none_environment : Environment → Bool
 is_none_environment environment.None = true
 is_none_environment _ = false
 
-abbrev pub is_clever_without_system : Architecture → OperatingSystem → Bool
-is_clever_without_system (architecture.Clever sub) operating_system.Unknown = true
-is_clever_without_system _ _ = false
+-- the architectures on which an unknown system is omitted
+abbrev pub omits_system : Architecture → Bool
+-- written by tools/names/write: omits_system
+omits_system (architecture.Clever _) = true
+-- end of what is written
+omits_system _ = false
+
+abbrev pub omits_unknown_system : Architecture → OperatingSystem → Bool
+omits_unknown_system a operating_system.Unknown = omits_system a
+omits_unknown_system a _ = false
 
 -- whether two formats are the same
 abbrev pub is_same_format : BinaryFormat → BinaryFormat → Bool

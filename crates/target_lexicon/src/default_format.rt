@@ -7,6 +7,8 @@ ghost use Rattle.target_lexicon.specs.ValuesRef.{values_of_ref};
 use crate::triple::Triple;
 use crate::triple_ref::TripleRef;
 use lexicon_fields::{Architecture, BinaryFormat, Environment, OperatingSystem};
+// written by tools/names/write: the families that imply formats by their members
+// end of what is written
 
 /// The binary format that the architecture, the operating system and the environment imply. The triple's own format
 /// doesn't matter.

@@ -22,7 +22,7 @@ use lexicon_fields::{
     Architecture, BinaryFormat, DeploymentTarget, Environment, KnownVendor, MAX_VERSION_LENGTH,
     OperatingSystem, VendorRef, version_text,
 };
-// written by tools/names/write: the families that omit an unknown vendor
+// written by tools/names/write: the families that print by their members
 use lexicon_fields::ArmArchitecture;
 // end of what is written
 use std::alloc::{AllocError, Global};
@@ -150,12 +150,7 @@ impl<'a> TripleRef<'a> {
                 binary_format: None,
             };
         }
-        // an unknown system is omitted on Clever
-        let system = shows_last_three
-            | !matches!(
-                (self.architecture, self.operating_system),
-                (Architecture::Clever(_), OperatingSystem::Unknown)
-            );
+        let system = shows_last_three | !self.omits_unknown_system();
         let environment = shows_last_three | self.shows_environment();
         let binary_format = shows_last_three | self.shows_binary_format();
         Pieces {
@@ -219,6 +214,23 @@ impl<'a> TripleRef<'a> {
                     )
             ),
             // end of what is written
+            _ => false,
+        }
+    }
+
+    /// Whether the system is unknown, and the architecture omits an unknown one.
+    #[inline(always)]
+    pub(crate) fn omits_unknown_system(&self) -> bool
+        ensures { result
+            ≡ values.omits_unknown_system self.now.architecture self.now.operating_system }
+    {
+        match self.operating_system {
+            OperatingSystem::Unknown => matches!(
+                self.architecture,
+                // written by tools/names/write: the architectures that omit an unknown system
+                Architecture::Clever(_)
+                // end of what is written
+            ),
             _ => false,
         }
     }

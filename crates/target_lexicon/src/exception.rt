@@ -3,7 +3,7 @@ ghost use Rattle.std.specs.Prelude.{◌≡◌, ◌&&◌};
 ghost use Rattle.lexicon_fields.specs.VendorRef.{ref_value};
 ghost use Rattle.target_lexicon.specs.Exceptions as spec;
 ghost use Rattle.target_lexicon.specs.SpecialStrings.{implies_newlib};
-ghost use Rattle.target_lexicon.specs.Values.{is_clever_without_system, is_newlib, is_none_environment, values_of};
+ghost use Rattle.target_lexicon.specs.Values.{omits_unknown_system, is_newlib, is_none_environment, values_of};
 ghost use Rattle.target_lexicon.specs.ValuesRef.{values_of_ref};
 
 use crate::triple::Triple;
@@ -35,7 +35,7 @@ pub enum RoundTripException {
     HidesNewlib,
     /// The string is `riscv32imc-esp-espidf`, but the vendor is the custom `esp`.
     PrintsTheEspIdfString,
-    /// On Clever with an unknown system, the environment is `None`, which parses as the system.
+    /// An unknown system is omitted, as on Clever, and the environment is `None`, which parses as the system.
     ShowsOnlyNone,
     /// The vendor isn't plain: no string parses as it. If `ShowsOnlyNone` applies too, it is the answer.
     VendorIsNotPlain,
@@ -44,7 +44,7 @@ pub enum RoundTripException {
 impl Triple {
     /// The first exception that applies to the triple. `None` if it comes back. Nothing is allocated.
     ///
-    /// Only on Clever can a triple be in two: `ShowsOnlyNone` comes before `VendorIsNotPlain`.
+    /// Only with such a system can a triple be in two: `ShowsOnlyNone` comes before `VendorIsNotPlain`.
     // Not in Rust.
     pub fn round_trip_exception(&self) -> Option<RoundTripException>
         ensures { result ≡ spec.exception (values_of self.now) }
@@ -130,18 +130,11 @@ impl TripleRef<'_> {
         }
     }
 
-    /// Whether the environment `none` is shown without a system, on Clever.
+    /// Whether the environment `none` is shown, and an unknown system isn't.
     fn shows_only_none(&self) -> bool
-        ensures { result ≡ (is_clever_without_system self.now.architecture self.now.operating_system
+        ensures { result ≡ (omits_unknown_system self.now.architecture self.now.operating_system
             && is_none_environment self.now.environment) }
     {
-        matches!(
-            (self.architecture, self.operating_system, self.environment),
-            (
-                Architecture::Clever(_),
-                OperatingSystem::Unknown,
-                Environment::None,
-            )
-        )
+        self.omits_unknown_system() && matches!(self.environment, Environment::None)
     }
 }

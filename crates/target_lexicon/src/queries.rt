@@ -13,6 +13,8 @@ use crate::triple_ref::TripleRef;
 use lexicon_fields::{
     Architecture, Endianness, Environment, KnownVendor, OperatingSystem, PointerWidth, VendorRef,
 };
+// written by tools/names/write: the families that have conventions by their members
+// end of what is written
 
 impl TripleRef<'_> {
     /// The byte order, as [`Triple::endianness`] says.

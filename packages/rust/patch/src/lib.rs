@@ -12,11 +12,15 @@ mod triple;
 pub use triple::{DefaultToHost, DefaultToUnknown, Triple, HOST};
 // No glob: another name would collide in a program that has globs of two crates.
 pub use verified::{
-    Aarch64Architecture, Architecture, ArmArchitecture, BinaryFormat, CDataModel,
-    CallingConvention, CleverArchitecture, CustomVendor, DeploymentTarget, Endianness, Environment,
-    Mips32Architecture, Mips64Architecture, OperatingSystem, ParseError, PointerWidth,
-    Riscv32Architecture, Riscv64Architecture, Size, Vendor, X86_32Architecture,
+    Architecture, BinaryFormat, CDataModel, CallingConvention, CustomVendor, DeploymentTarget,
+    Endianness, Environment, OperatingSystem, ParseError, PointerWidth, Size, Vendor,
 };
+// written by tools/names/write: the types of families in upstream's place
+pub use verified::{
+    Aarch64Architecture, ArmArchitecture, CleverArchitecture, Mips32Architecture,
+    Mips64Architecture, Riscv32Architecture, Riscv64Architecture, X86_32Architecture,
+};
+// end of what is written
 
 /// The triple of a string. Panics if the string is refused.
 #[macro_export]

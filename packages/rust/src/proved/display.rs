@@ -55,12 +55,7 @@ impl<'a> TripleRef<'a> {
                 binary_format: None,
             };
         }
-        // an unknown system is omitted on Clever
-        let system = shows_last_three
-            | !matches!(
-                (self.architecture, self.operating_system),
-                (Architecture::Clever(_), OperatingSystem::Unknown)
-            );
+        let system = shows_last_three | !self.omits_unknown_system();
         let environment = shows_last_three | self.shows_environment();
         let binary_format = shows_last_three | self.shows_binary_format();
         Pieces {
@@ -114,6 +109,15 @@ impl<'a> TripleRef<'a> {
                             | ArmArchitecture::Thumbv8mMain
                     )
             ),
+            _ => false,
+        }
+    }
+
+    /// Whether the system is unknown, and the architecture omits an unknown one.
+    #[inline(always)]
+    pub(crate) fn omits_unknown_system(&self) -> bool {
+        match self.operating_system {
+            OperatingSystem::Unknown => matches!(self.architecture, Architecture::Clever(_)),
             _ => false,
         }
     }

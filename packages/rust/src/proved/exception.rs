@@ -28,7 +28,7 @@ pub enum RoundTripException {
     HidesNewlib,
     /// The string is `riscv32imc-esp-espidf`, but the vendor is the custom `esp`.
     PrintsTheEspIdfString,
-    /// On Clever with an unknown system, the environment is `None`, which parses as the system.
+    /// An unknown system is omitted, as on Clever, and the environment is `None`, which parses as the system.
     ShowsOnlyNone,
     /// The vendor isn't plain: no string parses as it. If `ShowsOnlyNone` applies too, it is the answer.
     VendorIsNotPlain,
@@ -100,15 +100,8 @@ impl TripleRef<'_> {
         }
     }
 
-    /// Whether the environment `none` is shown without a system, on Clever.
+    /// Whether the environment `none` is shown, and an unknown system isn't.
     fn shows_only_none(&self) -> bool {
-        matches!(
-            (self.architecture, self.operating_system, self.environment),
-            (
-                Architecture::Clever(_),
-                OperatingSystem::Unknown,
-                Environment::None,
-            )
-        )
+        self.omits_unknown_system() && matches!(self.environment, Environment::None)
     }
 }

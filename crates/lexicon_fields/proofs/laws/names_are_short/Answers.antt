@@ -1,5 +1,5 @@
 -- The length of each name is computed and compared with the limit; that of a version has a bound of its own.
-use Rattle.lexicon_fields.proofs.Common.{◌++◌, ◌≡◌, ◌≤◌, IfSome, List, None, Option, Some, [], arith, codes, length}
+use Rattle.lexicon_fields.proofs.Common.{◌+◌, ◌++◌, ◌≡◌, ◌≤◌, IfSome, List, None, Option, Some, [], arith, codes, length}
 use Rattle.lexicon_fields.proofs.Common.{nat_le, refl, true, ℕ, leb-true, length-append, architecture_name}
 use Rattle.lexicon_fields.proofs.Common.{binary_format_name, environment_name, HasVersionInRange, IsVersionInRange}
 use Rattle.lexicon_fields.proofs.Common.{operating_system_name, version_suffix, known_vendor_name, version_name}
@@ -56,8 +56,8 @@ returns-clause-binary_format c = λ f. leb-true _ _ (binary_format-is_short f)
 pub returns-clause-vendor : goal.returns-clause-vendor
 returns-clause-vendor c = λ k. leb-true _ _ (known_vendor-is_short k)
 
--- the longest prefix of a system like Darwin has eight bytes
-with_version : (prefix : List ℕ) (version : Option DeploymentTarget) → nat_le (length prefix) 8 ≡ true
+-- the longest version has 13 bytes
+with_version : (prefix : List ℕ) (version : Option DeploymentTarget) → nat_le (length prefix + 13) max_name_length ≡ true
     → IfSome version IsVersionInRange → length (prefix ++ version_suffix version) ≤ max_name_length
 with_version prefix None short range = omega (arith, length-append prefix [], leb-true _ _ short)
 with_version prefix (Some v) short range =

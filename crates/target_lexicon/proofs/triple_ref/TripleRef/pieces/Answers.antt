@@ -1,4 +1,4 @@
-use Rattle.target_lexicon.proofs.Common.{◌||◌, ◌∙◌, ◌≡◌, ap, not, rules, shows_operating_system, values_of_ref}
+use Rattle.target_lexicon.proofs.Common.{◌||◌, ◌∙◌, ◌≡◌, ap, not, shows_operating_system, values_of_ref}
 use Rattle.target_lexicon.proofs.PrintingLemmas.{string_of_pieces}
 use Rattle.target_lexicon.proofs.triple_ref.TripleRef.pieces.Goals as goal
 
@@ -6,7 +6,7 @@ pub returns-clause-text : goal.returns-clause-text
 unfolding shows_operating_system
 returns-clause-text c =
     let t = values_of_ref c.args.self.now in
-    let system : not c.match-matches.matches ≡ shows_operating_system t = search rules in
+    let system : not c.omits_unknown_system.result ≡ shows_operating_system t = ap not c.omits_unknown_system.ensures in
     string_of_pieces c.args.shows_last_three t c.name.result c.as_str.result c.prefix.result c.name-2.result
     c.name-3.result _ _ _ _ _ _ _ _ _ c.in_default.ensures c.name.ensures
     c.then_some.ensures c.shows_vendor.ensures c.as_str.ensures
