@@ -657,11 +657,20 @@ function* builtWith({ arch, config, platform }) {
   if (platform === "win32") yield { environment: "msvc" };
 }
 
+/** Whether Node runs with glibc, by its report, for which it needn't look up the names of connected machines. */
+function hasGlibc(report) {
+  const { excludeNetwork } = report;
+  report.excludeNetwork = true;
+  const { header } = report.getReport();
+  report.excludeNetwork = excludeNetwork;
+  return Boolean(header.glibcVersionRuntime);
+}
+
 export function host() {
   const { arch, platform, report } = globalThis.process ?? {};
   if (!arch || !platform) throw new Error("only Node and its like say what they run on");
   const hasLibrary = platform === "linux" && report?.getReport;
-  const library = !hasLibrary ? "" : report.getReport().header.glibcVersionRuntime ? "-glibc" : "-musl";
+  const library = !hasLibrary ? "" : hasGlibc(report) ? "-glibc" : "-musl";
   const named = namedByNode(`${platform}-${arch}${library}`) ?? ofTwoWords(platform, arch);
   return named.with(Object.assign({}, ...builtWith(globalThis.process)));
 }

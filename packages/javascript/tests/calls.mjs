@@ -338,13 +338,16 @@ const tests = {
   "the host": () => {
     const process = Object.getOwnPropertyDescriptor(globalThis, "process");
     const hostOf = (arch, platform, variables = {}, header = {}) => {
-      const report = header && { getReport: () => ({ header }) };
+      const report = header && { excludeNetwork: false, getReport() {
+        return { header: this.excludeNetwork && header };
+      } };
       Object.defineProperty(globalThis, "process",
         { value: { arch, platform, config: { variables }, report }, configurable: true });
       try {
         return `${host()}`;
       } finally {
         Object.defineProperty(globalThis, "process", process);
+        assert(!report?.excludeNetwork);
       }
     };
     const glibc = { glibcVersionRuntime: "2.36" };
