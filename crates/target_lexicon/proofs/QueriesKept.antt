@@ -1,9 +1,12 @@
 -- The normal step keeps the answers of the four queries.
-use Rattle.target_lexicon.proofs.Common.{◌∙◌, ◌≡◌, Bool, Some, ap, cond, false, refl, sym, true, omits_system}
+use Rattle.target_lexicon.proofs.Common.{◌∙◌, ◌≡◌, Bool, None, Option, Some, ap, cond, false, refl, sym, true, omits_system}
 use Rattle.target_lexicon.proofs.Common.{U32, PrintsAsSpecial, normal_step, convention_on, data_model, pointer_width}
 use Rattle.target_lexicon.proofs.Common.{Architecture, BinaryFormat, Environment, OperatingSystem, Values, VendorValue}
 use Rattle.target_lexicon.proofs.Common.{values}
 use Rattle.target_lexicon.specs.{Queries.is_ilp32, Queries.model_of_width, QueryLaws.HaveSameAnswers}
+use Rattle.target_lexicon.specs.Queries.{other_model_32, other_model_64, wasm_convention}
+use Rattle.lexicon_fields.specs.declared.pointer_width.PointerWidth.{PointerWidth}
+use Rattle.lexicon_fields.specs.declared.pointer_width.PointerWidth.TheVariants.{U64}
 use Rattle.lexicon_fields.specs.ArchitectureQueries.{architecture_width}
 use Rattle.target_lexicon.proofs.{SpecialRows.row_of_fields, StepCases.step_cases, StepCases.alone-shows}
 use Rattle.target_lexicon.specs.Values.architecture
@@ -40,6 +43,14 @@ newlib-width : (a : Architecture) (v w : VendorValue) (s : OperatingSystem) (f g
 unfolding pointer_width
 newlib-width a v w s f g = refl
 
+-- where the architecture decides no convention, the systems `none` and `unknown` have the same models
+same_model : (x : Option PointerWidth) (a : Architecture) → wasm_convention a ≡ None
+    → model_of_width x a operating_system.None_ ≡ model_of_width x a operating_system.Unknown
+unfolding convention_on
+same_model (Some U64) a none = ap (λ c. other_model_64 a c) (sym none)
+same_model (Some U32) a none = ap (λ c. other_model_32 a c) (sym none)
+same_model _ a none = refl
+
 -- on an architecture that omits an unknown system neither the system nor the environment matters
 alone-alike : (a : Architecture) (v : VendorValue) (f : BinaryFormat) → omits_system a ≡ true
     → HaveSameAnswers (values a v operating_system.None_ environment.Unknown f)
@@ -50,7 +61,7 @@ alone-alike a v f omits = let none = (alone-shows a omits).1 in record {
   endianness = refl;
   pointer_width = refl;
   calling_convention = sym none;
-  data_model = rw none refl;
+  data_model = same_model (architecture_width a) a none;
 }
 
 pub kept : (t : Values) → HaveSameAnswers (normal_step t) t
