@@ -1,17 +1,17 @@
 -- The answers to the lines of an input, one after another.
-use Rattle.std.proofs.Common.{◌≡◌, ℕ, Bool, true, false, ◌||◌, not, List, [], ◌∷◌, ◌++◌, String, if◌then◌else◌, Option}
-use Rattle.std.proofs.Common.{Some, None, MatchOption, Result, Ok, Err, OnOk, refl, sym, ap, ◌∙◌, append_assoc}
-use Rattle.std.proofs.{lemmas.List.append-nil, lemmas.List.Folds.list_any-append, Math.Bool.or-false}
-use Rattle.std.proofs.lemmas.{Bool.Decides.same_from_decides, Map.Text.hash_set_updates_text, Slice.Eq.bytes_eq-Decides}
-use Rattle.std.specs.{HashSet.IsEmpty, HashSet.UpdatesBy, HashSet.contains_text, List.list_any, Str.bytes_eq}
-use Rattle.std.specs.{String.string_bytes, String.string_eq}
-use Rattle.std.specs.declared.alloc.Global.{Global}
-use Rattle.target_lexicon.specs.{FixedPoints.canonical_string, Parsing.ParsesAs, Parsing.IsErrorOf, Parsing.IsRefusedAs}
-use Rattle.target_lexicon.specs.{Parsing.MayAllocate, Refusal.Refusal, Refusal.refusal_of, Values.Values}
-use Rattle.target_lexicon.specs.{declared.parse_error.ParseError.ParseError}
-use Rattle.triples.specs.Lines.{line_feed}
-use Rattle.triples.specs.Output.{Answer, Shown, Refused, IsAnswer, AreAnswers, IsLineOutput, IsMatrix, shows}
-use Rattle.triples.specs.Output.{is_kept_after, kept_answers, matrix_of, answer_bytes, written_lines}
+use Rattle.triples.proofs.Common.{◌++◌, ◌||◌, ◌∙◌, ◌∷◌, ◌≡◌, Answer, AreAnswers, Bool, Err, IsAnswer, IsLineOutput}
+use Rattle.triples.proofs.Common.{IsRefusedAs, List, MatchOption, None, Ok, Option, ParsesAs, Refusal, Refused, Result}
+use Rattle.triples.proofs.Common.{Shown, Some, Values, [], answer_bytes, ap, append-nil, append_assoc, bytes_eq}
+use Rattle.triples.proofs.Common.{bytes_eq-Decides, canonical_string, false, if◌then◌else◌, is_kept_after, kept_answers}
+use Rattle.triples.proofs.Common.{line_feed, list_any, matrix_of, not, or-false, refl, shows, sym, true, written_lines}
+use Rattle.triples.proofs.Common.{ℕ}
+use Rattle.std.proofs.{Common.String, Common.OnOk, lemmas.List.Folds.list_any-append}
+use Rattle.std.proofs.{lemmas.Bool.Decides.same_from_decides, lemmas.Map.Text.hash_set_updates_text}
+use Rattle.std.specs.HashSet.{IsEmpty, UpdatesBy, contains_text}
+use Rattle.std.specs.{String.string_bytes, String.string_eq, declared.alloc.Global.Global}
+use Rattle.target_lexicon.specs.Parsing.{IsErrorOf, MayAllocate}
+use Rattle.target_lexicon.specs.{Refusal.refusal_of, declared.parse_error.ParseError.ParseError}
+use Rattle.triples.specs.Output.{IsMatrix}
 use Rattle.triples.specs.Private.{Seen, HasOneMore, is_repeated, refused_answer, AddsAnswer, AddsEntry, AddsRefusal}
 
 -- the lines so far precede the rest, and these are their answers

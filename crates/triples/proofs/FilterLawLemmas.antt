@@ -1,23 +1,16 @@
 -- The laws of what a filter writes and how it ends.
-use Rattle.std.proofs.Common.{◌≡◌, ◌↔◌, ◌∙◌, ℕ, ◌-◌, ◌^◌, ◌<◌, inl, inr, Bool, true, false, List, [], ◌∷◌, ◌++◌, codes}
-use Rattle.std.proofs.Common.{length, Result, Ok, Err, refl, sym, ap, subst, arith}
-use Rattle.std.proofs.lemmas.Bool.{cases_lt}
-use Rattle.std.proofs.lemmas.Str.{IsUtf8-from_is_utf8, is_utf8-from_IsUtf8}
-use Rattle.std.specs.List.{AllByRecursion, AllZip}
-use Rattle.std.specs.Str.{IsUtf8, is_utf8}
-use Rattle.target_lexicon.specs.{Laws.EveryStringHasOneOutcome, Refusal.refusal_line}
-use Rattle.triples.specs.Filter.{AreFilterAnswers, IsFilterAnswer, complete_lines, not_utf8, too_long}
+use Rattle.triples.proofs.Common.{◌++◌, ◌-◌, ◌<◌, ◌^◌, ◌↔◌, ◌∙◌, ◌∷◌, ◌≡◌, AllByRecursion, AllZip, Answer, AreAnswers}
+use Rattle.triples.proofs.Common.{AreFilterAnswers, Bool, Err, EveryStringHasOneOutcome, FilterError, IsAnswer}
+use Rattle.triples.proofs.Common.{IsFilterAnswer, IsLineOutput, IsOutput, IsUtf8, IsUtf8-from_is_utf8, LineMode, List}
+use Rattle.triples.proofs.Common.{Ok, Refused, Result, Shown, Takes, Use, [], ap, arith, cases_lt, codes}
+use Rattle.triples.proofs.Common.{complete_lines, false, inl, inr, is_utf8, is_utf8-from_IsUtf8, length, lines_of}
+use Rattle.triples.proofs.Common.{not_utf8, refl, refusal_line, shown_by, subst, sym, too_long, true, written_lines, ℕ}
 use Rattle.triples.specs.FilterLaws.{ErrorsOfFiltersAreExact, EveryInputIsFiltered, FilterGives, FiltersAgreeWithRuns}
 use Rattle.triples.specs.FilterLaws.{FiltersEndOneWay, run_mode}
-use Rattle.triples.specs.{Lines.lines_of, Output.Answer, Output.Shown, Output.Refused, Output.AreAnswers}
-use Rattle.triples.specs.{Output.IsAnswer, Output.IsLineOutput, Output.IsOutput, Output.shown_by, Output.written_lines}
-use Rattle.triples.specs.Run.{Use, Takes}
-use Rattle.triples.specs.declared.filter_error.FilterError.{FilterError}
-use Rattle.triples.specs.declared.filter_error.FilterError.TheVariants as filter_error
-use Rattle.triples.specs.declared.line_mode.LineMode.{LineMode}
 use Rattle.triples.specs.declared.line_mode.LineMode.TheVariants.{Print, Show, Settle}
-use Rattle.triples.proofs.{LineLemmas.lines-utf8, UniqueOutputs.answer-unique}
 use Rattle.triples.proofs.UseLemmas.{input-is, input-within, not-both}
+use Rattle.triples.proofs.{LineLemmas.lines-utf8, UniqueOutputs.answer-unique}
+use Rattle.triples.specs.declared.filter_error.FilterError.TheVariants as filter_error
 
 -- the one answer to a line
 record OneAnswer (mode : LineMode) (size : ℕ) (line : List ℕ) : Type 0 where
@@ -25,21 +18,26 @@ record OneAnswer (mode : LineMode) (size : ℕ) (line : List ℕ) : Type 0 where
   is : IsFilterAnswer mode size line answer
   only : (other : Answer) → IsFilterAnswer mode size line other → other ≡ answer
 
+-- an answer to a line that fits
+pub fitting-answer : (mode : LineMode) (size : ℕ) (line : List ℕ) (answer : Answer) → length line < size
+    → (¬ (IsUtf8 line) → answer ≡ not_utf8) → (IsUtf8 line → IsAnswer (shown_by mode) line answer)
+    → IsFilterAnswer mode size line answer
+fitting-answer mode size line answer less other text =
+    record { long = λ most. absurd (omega (arith, less, most)); other = λ _. other; text = λ _. text }
+
 module _ (one : EveryStringHasOneOutcome) (mode : LineMode) (size : ℕ) where
   shows : (line : List ℕ) (answer : Answer) → length line < size → IsUtf8 line → IsAnswer (shown_by mode) line answer
       → OneAnswer mode size line
   shows line answer less utf8 is = record {
     answer = answer;
-    is =
-        record
-        { long = λ most. absurd (omega (arith, less, most)); other = λ _ not. absurd (not utf8); text = λ _ _. is };
+    is = fitting-answer mode size line answer less (λ not. absurd (not utf8)) (λ _. is);
     only = λ other it. answer-unique one (shown_by mode) line other answer (it.text less utf8) is;
   }
 
   short-answer : (line : List ℕ) (b : Bool) → is_utf8 line ≡ b → length line < size → OneAnswer mode size line
   short-answer line true is less =
       let utf8 = IsUtf8-from_is_utf8 line is in
-      elim ((one line).some) as (λ _. OneAnswer mode size line) [
+      elim ((one line).some) [
         | inl read ↦ shows line (Shown (shown_by mode read.0)) less utf8 (read.0, read.1, refl)
         | inr refused ↦ shows line (Refused (codes "error: " ++ refusal_line refused.0)) less utf8
             (refused.0, refused.1, refl)
@@ -49,28 +47,20 @@ module _ (one : EveryStringHasOneOutcome) (mode : LineMode) (size : ℕ) where
       absurd cc in
       record {
         answer = not_utf8;
-        is =
-            record {
-              long = λ most. absurd (omega (arith, less, most));
-              other = λ _ _. refl;
-              text = λ _ utf8. absurd
-                  (differs utf8);
-            };
+        is = fitting-answer mode size line not_utf8 less (λ _. refl) (λ utf8. absurd (differs utf8));
         only = λ other it. it.other less differs;
       }
 
   one-answer : (line : List ℕ) → OneAnswer mode size line
-  one-answer line = elim (cases_lt (length line) size) as (λ _. OneAnswer mode size line) [
+  one-answer line = elim (cases_lt (length line) size) [
     | inl less ↦ short-answer line (is_utf8 line) refl less
     | inr most ↦ record {
       answer = too_long;
-      is =
-          record {
-            long = λ _. refl;
-            other = λ less _. absurd (omega (arith, less, most));
-            text = λ less _. absurd
-                (omega (arith, less, most));
-          };
+      is = record {
+        long = λ _. refl;
+        other = λ less _. absurd (omega (arith, less, most));
+        text = λ less _. absurd (omega (arith, less, most));
+      };
       only = λ other it. it.long most;
     }
   ]
@@ -119,12 +109,7 @@ module _ (mode : LineMode) (size : ℕ) where
   from-run [] (answer ∷ answers) utf8 short are = absurd are
   from-run (line ∷ lines) [] utf8 short are = absurd are
   from-run (line ∷ lines) (answer ∷ answers) utf8 short are = (
-    record {
-      long = λ most. absurd (omega (arith, short.0, most));
-      other = λ _ not. absurd (not utf8.0);
-      text = λ _ _.
-          are.0;
-    },
+    fitting-answer mode size line answer short.0 (λ not. absurd (not utf8.0)) (λ _. are.0),
     from-run lines answers utf8.1 short.1 are.1,
   )
 

@@ -1,29 +1,23 @@
 -- Answers in a buffer, and the lines that were answered so far.
-use Rattle.std.proofs.Common.{◌≡◌, ◌∙◌, ℕ, ◌+◌, ◌-◌, ◌<◌, ◌≤◌, ◌==◌, Bool, true, false, List, [], ◌∷◌, ◌++◌, codes}
-use Rattle.std.proofs.Common.{length, take, drop, Option, Some, None, inl, inr, ◌⊎◌, refl, sym, ap, subst, append_assoc}
-use Rattle.std.proofs.Common.{lit≤, option_map, arith}
-use Rattle.std.proofs.lemmas.List.{append-nil, length-append, length-drop, length-take, take_all, drop-drop}
-use Rattle.std.proofs.lemmas.List.Elements.{All-append}
-use Rattle.std.proofs.lemmas.List.Splits.{slice_split_at, slice_split_none, length-slice_split}
-use Rattle.std.specs.List.{AllZip, AllByRecursion, slice_split}
-use Rattle.std.specs.Str.{IsUtf8}
-use Rattle.target_lexicon.specs.{CallingConvention.convention_name, DataModel.model_name}
+use Rattle.triples.proofs.Common.{◌++◌, ◌+◌, ◌-◌, ◌<◌, ◌==◌, ◌∙◌, ◌∷◌, ◌≡◌, ◌≤◌, ◌⊎◌, AllByRecursion, AllZip, Answer}
+use Rattle.triples.proofs.Common.{AnswersLines, AnswersRest, AreFilterAnswers, Bool, EveryStringHasOneOutcome}
+use Rattle.triples.proofs.Common.{HasNoFeed, IsFilterAnswer, IsFilteredTo, IsLate, IsRefusedAs, IsUtf8, LineMode, List}
+use Rattle.triples.proofs.Common.{None, Option, ParsesAs, Refusal, Refused, Shown, Some, Values, [], ap, append-nil}
+use Rattle.triples.proofs.Common.{append_assoc, arith, codes, drop, ended_lines_of, facts_of, false, inl, inr, length}
+use Rattle.triples.proofs.Common.{length-append, length-drop, length-slice_split, length-take, line_feed, lines_of}
+use Rattle.triples.proofs.Common.{parts_without_empty_last, refl, refusal_line, shown_by, slice_split, slice_split_at}
+use Rattle.triples.proofs.Common.{slice_split_none, string_of, subst, sym, take, take_all, true, written_lines, ℕ}
+use Rattle.std.proofs.{Common.lit≤, Common.option_map, lemmas.List.drop-drop, lemmas.List.Elements.All-append}
 use Rattle.target_lexicon.specs.Queries.{endianness_name, width_name, endianness, pointer_width, calling_convention}
 use Rattle.target_lexicon.specs.Queries.{data_model}
-use Rattle.target_lexicon.specs.{FixedPoints.PrintedStringsGrowAtMost, FixedPoints.CanonicalStringsGrowAtMost}
-use Rattle.target_lexicon.specs.{Laws.EveryStringHasOneOutcome, Printing.string_of, Parsing.ParsesAs}
-use Rattle.target_lexicon.specs.{Parsing.IsRefusedAs, Refusal.Refusal, Refusal.refusal_line, Values.Values}
+use Rattle.target_lexicon.specs.FixedPoints.{PrintedStringsGrowAtMost, CanonicalStringsGrowAtMost}
+use Rattle.target_lexicon.specs.{CallingConvention.convention_name, DataModel.model_name}
 use Rattle.target_lexicon.proofs.WordLengths.{short-endianness, short-width, short-convention, short-model}
-use Rattle.triples.specs.{Facts.facts_of, Facts.spaced_word, Filter.AreFilterAnswers, Filter.IsFilterAnswer}
-use Rattle.triples.specs.FilterSteps.{AnswersLines, AnswersRest, HasNoFeed, IsFilteredTo, IsLate, IsLineAnswer}
-use Rattle.triples.specs.FilterSteps.{IsLineEnd, IsShortAnswer, Pushes, PushesAnswer, with_feeds}
-use Rattle.triples.specs.Lines.{line_feed, lines_of, ended_lines_of, parts_without_empty_last, parts_without_last}
-use Rattle.triples.specs.Output.{Answer, Shown, Refused, shown_by, written_lines}
-use Rattle.triples.specs.declared.line_mode.LineMode.{LineMode}
+use Rattle.triples.specs.FilterSteps.{IsLineAnswer, IsLineEnd, IsShortAnswer, Pushes, PushesAnswer, with_feeds}
 use Rattle.triples.specs.declared.line_mode.LineMode.TheVariants.{Print, Show, Settle}
-use Rattle.triples.proofs.AnswerLemmas.{written_lines-append}
-use Rattle.triples.proofs.FilterLawLemmas.{every_input_is_filtered}
-use Rattle.triples.proofs.LineLemmas.{stays-first}
+use Rattle.triples.specs.{Facts.spaced_word, Lines.parts_without_last}
+use Rattle.triples.proofs.FilterLawLemmas.{every_input_is_filtered, fitting-answer}
+use Rattle.triples.proofs.{AnswerLemmas.written_lines-append, LineLemmas.stays-first}
 
 -- a text after another in a buffer
 pub pushes-then : (a b old mid new : List ℕ) (at m end : ℕ) → Pushes a old at mid m → Pushes b mid m new end
@@ -267,11 +261,7 @@ line-answer mode true size before line answer fits less is = record {
 }
 line-answer mode false size before line answer fits less is =
     subst (λ (t : List ℕ). IsFilterAnswer mode size (t ++ line) answer) (sym fits)
-    (record {
-      long = λ bad. absurd (omega (arith, bad, less));
-      other = λ _ other. is.other other;
-      text = λ _ utf8. is.text utf8;
-    })
+    (fitting-answer mode size line answer less is.other is.text)
 
 pub late-no-feed : (late : Bool) (size : ℕ) (before line : List ℕ) → IsLate late size before → HasNoFeed line
     → HasNoFeed (before ++ line)
@@ -301,26 +291,21 @@ module _ (mode : LineMode) (late : Bool) (bytes : List ℕ) where
       ([], filtered-then mode size (before ++ bytes) _ others output (written_lines (answer ∷ [])) mid one, refl)
 
 -- the last line
+late-some : (late : Bool) (size : ℕ) (before bytes : List ℕ) → length bytes < size → (late ≡ false → 0 < length bytes)
+    → IsLate late size before → 0 < length (before ++ bytes)
+late-some true size before bytes less some fits = omega (arith, less, fits.0, length-append before bytes)
+late-some false size before bytes less some fits = omega (arith, some refl, length-append before bytes)
+
 pub rest-answered : (mode : LineMode) (late : Bool) (bytes : List ℕ) (answer : Answer)
     → (late ≡ false → 0 < length bytes) → IsLineAnswer mode late bytes answer
     → AnswersRest mode late bytes (written_lines (answer ∷ []))
-rest-answered mode true bytes answer some is = record {
-  rest =
-      λ size before less fits. inr (
-        omega (arith, less, fits.0, length-append before bytes),
-        answer,
-        line-answer mode true size before bytes answer fits less is,
-        refl,
-      );
-}
-rest-answered mode false bytes answer some is = record {
-  rest =
-      λ size before less fits. inr (
-        omega (arith, some refl, length-append before bytes),
-        answer,
-        line-answer mode false size before bytes answer fits less is,
-        refl,
-      );
+rest-answered mode late bytes answer some is = record {
+  rest = λ size before less fits. inr (
+    late-some late size before bytes less some fits,
+    answer,
+    line-answer mode late size before bytes answer fits less is,
+    refl,
+  );
 }
 
 -- an answer was put after what is used of the buffer, of which a part may have gone to the writer first

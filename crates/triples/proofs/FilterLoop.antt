@@ -1,30 +1,21 @@
 -- A filter between its reads, and its ends.
-use Rattle.std.proofs.Common.{◌≡◌, ◌↔◌, ◌∙◌, ℕ, ◌+◌, ◌-◌, ◌^◌, ◌<◌, ◌≤◌, ◌⊎◌, inl, inr, Bool, true, false, List, []}
-use Rattle.std.proofs.Common.{◌∷◌, ◌++◌, length, take, drop, Option, Result, Ok, Err, refl, sym, ap, subst}
-use Rattle.std.proofs.Common.{append_assoc, arith, rules}
-use Rattle.std.proofs.lemmas.List.{append-nil, length-append, length-take, take-append-drop, take-append-le, take_all}
-use Rattle.std.proofs.Math.Seq.{take-append-add, take-append_seam}
-use Rattle.std.proofs.lemmas.List.{places, length-drop}
-use borrow.Rule.Slice.PartMut.{put_mid, post_of}
-use Rattle.std.specs.Io.KnownBytes.{Consumes, IsAtEnd, Keeps}
+use Rattle.triples.proofs.Common
+use Common.{◌++◌, ◌+◌, ◌-◌, ◌<◌, ◌^◌, ◌↔◌, ◌∙◌, ◌∷◌, ◌≡◌, ◌≤◌, ◌⊎◌, After, AreFilterAnswers, Bool, Call, Consumes}
+use Common.{Counted, Ended, Err, EveryStringHasOneOutcome, Failed, FilterError, Gives, HasFailed, HasNoFeed, IsAtEnd}
+use Common.{IsFilteredTo, IsKept, IsLate, IsReadWhole, IsUnfailed, Keeps, LineMode, List, Moved, Ok, OnlyMoves, Option}
+use Common.{RestAnswered, Result, StopsLast, StopsOnce, Takes, Use, [], ap, append-nil, append_assoc, arith, bytes_of}
+use Common.{calls, complete_lines, drop, ended_lines_of, ends_last, failures_in, false, inl, inner, inr, length}
+use Common.{length-append, length-drop, length-take, moved, ne_eqb, put_mid, refl, rules, stops_in, subst, sym, take}
+use Common.{take-append-add, take-append-drop, take-append_seam, take_all, true, use_of, ℕ}
+use Rattle.std.proofs.lemmas.List.{take-append-le, places}
 use Rattle.std.specs.Prelude.{IsErrOf, OnErr, OnOk}
-use Rattle.triples.specs.Calls.{Call, After, Ended, Failed, Moved, bytes_of, ends_last, failures_in, stops_in}
-use Rattle.triples.specs.Calls.{stops_last}
-use Rattle.triples.specs.{Filter.AreFilterAnswers, Filter.FilterEndsAs, Filter.IsPrompt, Filter.ReadsPromptly}
-use Rattle.triples.specs.{Filter.complete_lines, Lines.ended_lines_of}
-use Rattle.triples.specs.FilterSteps.{HasNoFeed, IsFilteredTo, IsKept, IsLate, LinesAnswered, RestAnswered}
-use Rattle.triples.specs.Run.{Use, Gives, Takes, IsReadWhole, IsUnfailed, IsWrittenWhole, HasFailed, OnlyMoves}
-use Rattle.triples.specs.Run.{StopsLast, StopsOnce, use_of}
-use Rattle.std.proofs.lemmas.Bool.{ne_eqb}
-use Rattle.triples.specs.Streams.{calls, inner, moved, read_call}
-use Rattle.triples.specs.declared.counted.Counted.{Counted}
-use Rattle.triples.specs.declared.filter_error.FilterError.{FilterError}
-use Rattle.triples.specs.declared.filter_error.FilterError.TheVariants as filter_error
-use Rattle.triples.specs.declared.line_mode.LineMode.{LineMode}
-use Rattle.target_lexicon.specs.Laws.{EveryStringHasOneOutcome}
+use Rattle.triples.specs.Filter.{FilterEndsAs, IsPrompt, ReadsPromptly}
+use Rattle.triples.specs.{Calls.stops_last, FilterSteps.LinesAnswered, Run.IsWrittenWhole, Streams.read_call}
 use Rattle.triples.proofs.FilterLemmas.{filtered-none, filtered-then, filtered-more, filtered-end, filtered-part}
 use Rattle.triples.proofs.FilterLemmas.{filtered-so-far, late-no-feed, no-bytes}
 use Rattle.triples.proofs.UseLemmas.{gives-kept, gives-none, gives-then, not-both, takes-none, takes-part, takes-then}
+use borrow.Rule.Slice.PartMut.{post_of}
+use Rattle.triples.specs.declared.filter_error.FilterError.TheVariants as filter_error
 
 -- the reads that gave these bytes, each after the answers to all lines that had ended
 abbrev pub PromptReads : LineMode → ℕ → Use → Use → List ℕ → Type 0
@@ -351,15 +342,6 @@ between-kept rem con mode size late late_after rest new held input written count
     subst (λ (b : Bool). IsBetweenReads mode size b (take held new) input written count) (kept.1 ∙ sym kept.0)
     (subst (λ (t : List ℕ). IsBetweenReads mode size late t input written count) (sym kept.2) state)
 
--- what a buffer holds after a read into its end
-pub read-piece : (held n k : ℕ) (xs ys : List ℕ) → held ≤ length xs → n ≤ length ys
-    → take (held + n) (put_mid held k xs ys) ≡ take held xs ++ take n ys
-read-piece held n k xs ys within count =
-    let front = take held xs in
-    let size : length front ≡ held = omega (arith, length-take held xs, within) in
-    ap (λ (m : ℕ). take (m + n) (put_mid held k xs ys)) (sym size) ∙ take-append-add front (ys ++ post_of held k xs) n
-    ∙ ap (λ (t : List ℕ). front ++ t) (take-append-le n ys (post_of held k xs) count)
-
 -- what was searched before a read stays so
 pub searched-front : (n : ℕ) (front more piece : List ℕ) → length front ≡ n → piece ≡ front ++ more → HasNoFeed front
     → HasNoFeed (take n piece)
@@ -368,11 +350,6 @@ searched-front n front more piece size is none =
     (sym
     (ap (λ (t : List ℕ). take n t) is ∙ ap (λ (m : ℕ). take m (front ++ more)) (sym size)
     ∙ take-append_seam front more)) none
-
--- the buffer keeps its length
-pub length-read : (held : ℕ) (xs ys : List ℕ) → held ≤ length xs → length ys ≡ length xs - held
-    → length (put_mid held (length xs - held) xs ys) ≡ length xs
-length-read held xs ys within size = search (rules, places)
 
 -- a read that gave some byte moved it, and one that gave none, with room for one, found the end
 pub some-read : (count : ℕ) (buffer : List ℕ) → (count ≡ 0 → ⊥)
@@ -383,6 +360,31 @@ pub none-read : (count : ℕ) (buffer : List ℕ) → count ≡ 0 → 0 < length
     → read_call {E = ⊥} (Ok count) buffer ≡ Ended
 none-read count buffer none room = rw (none, ne_eqb (length buffer) 0 (λ bad. omega (arith, bad, room))) refl
 
--- the length of a slice from an index to the end
-pub part-length : (start : ℕ) (xs : List ℕ) → length (take (length xs - start) (drop start xs)) ≡ length xs - start
-part-length start xs = omega (arith, length-take (length xs - start) (drop start xs), length-drop start xs)
+-- what a buffer holds after a read into its end, of which it keeps the length
+pub record HasRead (held taken : ℕ) (xs ys : List ℕ) : Type 0 where
+  pub given : length ys ≡ length xs - held
+  pub piece : take (held + taken) (put_mid held (length xs - held) xs ys) ≡ take held xs ++ take taken ys
+  pub fits : length (take held xs ++ take taken ys) ≤ length xs
+  pub whole : length (put_mid held (length xs - held) xs ys) ≡ length xs
+
+length-read : (held : ℕ) (xs ys : List ℕ) → held ≤ length xs → length ys ≡ length xs - held
+    → length (put_mid held (length xs - held) xs ys) ≡ length xs
+length-read held xs ys within size = search (rules, places)
+
+pub has-read : (held taken : ℕ) (xs ys : List ℕ) → held < length xs → taken ≤ length ys
+    → length ys ≡ length (take (length xs - held) (drop held xs)) → HasRead held taken xs ys
+has-read held taken xs ys within count room =
+    let given : length ys ≡ length xs - held =
+    omega (arith, room, length-take (length xs - held) (drop held xs), length-drop held xs) in
+    let size : length (take held xs) ≡ held = omega (arith, length-take held xs, within) in
+    record {
+      given = given;
+      piece =
+          ap (λ (m : ℕ). take (m + taken) (put_mid held (length xs - held) xs ys)) (sym size)
+          ∙ take-append-add (take held xs) (ys ++ post_of held (length xs - held) xs) taken
+          ∙ ap (λ (t : List ℕ). take held xs ++ t)
+          (take-append-le taken ys (post_of held (length xs - held) xs) count);
+      fits =
+          omega (arith, length-append (take held xs) (take taken ys), size, length-take taken ys, count, given, within);
+      whole = length-read held xs ys (omega (arith, within)) given;
+    }

@@ -1,11 +1,10 @@
 -- The answers of mode `json`.
-use Rattle.std.proofs.Common.{◌≡◌, ℕ, ◌<◌, false, List, [], ◌∷◌, Some, None, MatchOption, Option, map, length, refl}
-use Rattle.std.proofs.Common.{sym, subst, arith}
-use Rattle.serde_json.specs.{Data.Data, Read.read, Find.as_array, View.items_of, Written.items_have_float}
+use Rattle.triples.proofs.Common.{◌<◌, ◌∷◌, ◌≡◌, Data, IsJsonInputErrorOf, List, MatchOption, None, Option, RunError}
+use Rattle.triples.proofs.Common.{Some, Values, [], arith, as_array, false, length, map, read, refl, subst, sym, ℕ}
+use Rattle.serde_json.specs.{View.items_of, Written.items_have_float}
 use Rattle.serde_json.proofs.OnLiterals.{serde_json_on_literals}
-use Rattle.target_lexicon.specs.{Json.json_of, Values.Values}
-use Rattle.triples.specs.{JsonOutput.IsJsonAnswerErrorOf, JsonOutput.IsJsonInputErrorOf}
-use Rattle.triples.specs.declared.run_error.RunError.{RunError}
+use Rattle.target_lexicon.specs.Json.{json_of}
+use Rattle.triples.specs.JsonOutput.{IsJsonAnswerErrorOf}
 use Rattle.triples.specs.declared.run_error.RunError.TheVariants as run_error
 
 -- a list of strings has no floating-point number

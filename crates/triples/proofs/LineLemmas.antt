@@ -1,22 +1,18 @@
 -- The lines that an iterator has left.
-use Rattle.std.proofs.Common.{◌≡◌, ◌∙◌, ap, sym, subst, ℕ, zero, suc, lit<, ◌+◌, ◌<◌, ◌==◌, Bool, true, false}
-use Rattle.std.proofs.Common.{if◌then◌else◌, List, [], ◌∷◌, ◌++◌, length, take, drop, get_or, Option, Some, None}
-use Rattle.std.proofs.Common.{MatchOption, refl, arith}
-use Rattle.std.specs.List.{All, AllByRecursion, join_with_byte, slice_split}
-use Rattle.std.specs.Str.{IsAscii, IsUtf8, NoCharPasses}
-use Rattle.std.specs.Str.Pattern.{FindsChar}
-use Rattle.std.specs.Str.Iter.{split_text, split_has_more, split_terminator_parts, split_terminator_pattern}
-use Rattle.std.specs.Str.Iter.{split_terminator_steps}
+use Rattle.triples.proofs.Common.{◌++◌, ◌+◌, ◌<◌, ◌==◌, ◌∙◌, ◌∷◌, ◌≡◌, AllByRecursion, Bool, IsUtf8, List, MatchOption}
+use Rattle.triples.proofs.Common.{None, Option, Some, [], ap, arith, drop, false, get_or, if◌then◌else◌, length}
+use Rattle.triples.proofs.Common.{length-append, length-slice_split, line_feed, lines_of, ne_eqb}
+use Rattle.triples.proofs.Common.{parts_without_empty_last, refl, slice_split, slice_split_at, slice_split_none}
+use Rattle.triples.proofs.Common.{split_terminator_parts, split_terminator_pattern, split_text, subst, suc, sym, take}
+use Rattle.triples.proofs.Common.{take-append-drop, take-append_seam, true, zero, ℕ}
+use Rattle.std.proofs.{Common.lit<, lemmas.List.get_or_default, lemmas.List.nil_from_length}
+use Rattle.std.proofs.{lemmas.List.Splits.join_with_byte-slice_split, lemmas.Str.IsUtf8-append, lemmas.Str.IsUtf8-drop}
+use Rattle.std.proofs.{lemmas.Str.IsUtf8-from_ascii, lemmas.Str.IsUtf8-take, lemmas.Str.IsCharBoundary-after_ascii}
+use Rattle.std.proofs.{lemmas.Str.IsCharBoundary-at_seam, Math.Seq.drop-append-add, Math.Seq.get_or-append_seam}
+use Rattle.std.proofs.{lemmas.Str.Pattern.NoCharPasses-char, lemmas.Str.Pattern.drop_at_char}
+use Rattle.std.specs.List.{All, join_with_byte}
+use Rattle.std.specs.Str.{IsAscii, NoCharPasses, Pattern.FindsChar, Iter.split_has_more, Iter.split_terminator_steps}
 use Rattle.std.specs.declared.str.SplitTerminator.{SplitTerminator}
-use Rattle.std.proofs.lemmas.Bool.{ne_eqb}
-use Rattle.std.proofs.lemmas.List.{get_or_default, length-append, nil_from_length, take-append-drop}
-use Rattle.std.proofs.lemmas.List.Splits.{join_with_byte-slice_split, slice_split_at, slice_split_none}
-use Rattle.std.proofs.lemmas.List.Splits.{length-slice_split}
-use Rattle.std.proofs.lemmas.Str.{IsUtf8-append, IsUtf8-drop, IsUtf8-from_ascii, IsUtf8-take}
-use Rattle.std.proofs.lemmas.Str.{IsCharBoundary-after_ascii, IsCharBoundary-at_seam}
-use Rattle.std.proofs.Math.Seq.{drop-append-add, get_or-append_seam, take-append_seam}
-use Rattle.std.proofs.lemmas.Str.Pattern.{NoCharPasses-char, drop_at_char}
-use Rattle.triples.specs.Lines.{line_feed, parts_without_empty_last, lines_of}
 
 abbrev is_line_feed : ℕ → Bool
 is_line_feed b = b == line_feed

@@ -1,18 +1,16 @@
 -- The laws of mode `matrix`.
-use Rattle.std.proofs.Common.{◌≡◌, ℕ, Bool, true, false, ◌||◌, not, List, [], ◌∷◌, ◌++◌, cond, map, take, if◌then◌else◌}
-use Rattle.std.proofs.Common.{refl, sym, ap, ◌∙◌, subst}
-use Rattle.std.proofs.{lemmas.List.append-nil, Math.Bool.or-false, Math.Bool.or-true, lemmas.Bool.not-false}
-use Rattle.std.proofs.{lemmas.List.Elements.filter-append}
-use Rattle.std.proofs.lemmas.Slice.Eq.{bytes_eq-Decides}
-use Rattle.std.specs.{Cmp.Lexicographic.same_text, List.filter, List.list_any, Str.bytes_eq}
-use Rattle.target_lexicon.specs.{FixedPoints.ParsedTriplesArePlain, FixedPoints.RoundIsNormalStep}
-use Rattle.target_lexicon.specs.{FixedPoints.CanonicalStringsAreKeys, FixedPoints.canonical_values}
-use Rattle.target_lexicon.specs.{FixedPoints.canonical_string, NormalStep.normal_step, Laws.EqualTextsEqualTriples}
-use Rattle.target_lexicon.specs.{Laws.EveryStringHasOneOutcome, Printing.string_of, Parsing.ParsesAs, Values.Values}
+use Rattle.triples.proofs.Common.{◌++◌, ◌||◌, ◌∙◌, ◌∷◌, ◌≡◌, Answer, AreAnswers, Bool, EveryStringHasOneOutcome}
+use Rattle.triples.proofs.Common.{IsAnswer, List, ParsesAs, Refused, Shown, Values, [], answer_bytes, ap, append-nil}
+use Rattle.triples.proofs.Common.{bytes_eq, bytes_eq-Decides, canonical_string, false, if◌then◌else◌, is_kept_after}
+use Rattle.triples.proofs.Common.{kept_answers, list_any, map, matrix_of, not, or-false, refl, shows, string_of, subst}
+use Rattle.triples.proofs.Common.{sym, take, true, ℕ}
+use Rattle.std.proofs.{Common.cond, Math.Bool.or-true, lemmas.Bool.not-false, lemmas.List.Elements.filter-append}
+use Rattle.std.specs.{Cmp.Lexicographic.same_text, List.filter}
+use Rattle.target_lexicon.specs.FixedPoints.{ParsedTriplesArePlain, RoundIsNormalStep, CanonicalStringsAreKeys}
+use Rattle.target_lexicon.specs.FixedPoints.{canonical_values}
+use Rattle.target_lexicon.specs.{NormalStep.normal_step, Laws.EqualTextsEqualTriples}
 use Rattle.triples.specs.MatrixLaws.{EntriesAreCanonicalTriples, entries_of, is_refusal, FirstEntriesStayInOrder}
 use Rattle.triples.specs.MatrixLaws.{EachCanonicalTripleHasAnEntry, only_entries, MatricesAreTheirOwn}
-use Rattle.triples.specs.Output.{Answer, Shown, Refused, IsAnswer, AreAnswers, shows, is_kept_after, kept_answers}
-use Rattle.triples.specs.Output.{matrix_of, answer_bytes}
 use Rattle.triples.proofs.AnswerLemmas.{if_stays, push-any, staying-push}
 
 -- two lines that parse have the same entry if and only if their canonical triples are equal

@@ -1,27 +1,17 @@
 -- Each input has an outcome in each mode.
-use Rattle.std.proofs.Common.{◌≡◌, ◌≢◌, ◌⊎◌, ℕ, zero, suc, ◌<◌, Bool, true, false, List, [], ◌∷◌, ◌++◌, codes, Option}
-use Rattle.std.proofs.Common.{Some, None, MatchOption, inl, inr, Result, Ok, Err, refl, sym, ap, subst, ◌∙◌, arith}
-use Rattle.std.proofs.lemmas.List.{append-nil}
-use Rattle.std.proofs.lemmas.Str.{IsUtf8-from_is_utf8, is_utf8-from_IsUtf8}
-use Rattle.std.specs.Str.{IsUtf8, is_utf8}
-use Rattle.serde_json.specs.{Data.Data, Data.Items, Data.no_items, Data.item, Find.as_array, Find.as_str, Read.read}
-use Rattle.serde_json.specs.{Written.compact_text}
-use Rattle.target_lexicon.specs.Json.{JsonParsesAs, JsonErrorValue, NotText, Parse, Element, IsElementParsed}
-use Rattle.target_lexicon.specs.Json.{IsJsonErrorOf, ElementsParseAs, IsFirstError, list_json_of, list_error_line}
-use Rattle.target_lexicon.specs.{FixedPoints.canonical_string, Laws.EveryStringHasOneOutcome, Printing.string_of}
-use Rattle.target_lexicon.specs.{Parsing.ParsesAs, Parsing.IsRefusedAs, Refusal.Refusal, Refusal.refusal_line}
-use Rattle.target_lexicon.specs.{Values.Values}
-use Rattle.triples.specs.{Facts.text_with_facts, Lines.line_feed, Lines.lines_of}
-use Rattle.triples.specs.Output.{Answer, Shown, Refused, AreAnswers, matrix_of, written_lines}
-use Rattle.triples.specs.Calls.{Moved, Ended, Flushed}
-use Rattle.triples.specs.Run.{Use, IsReadWhole, IsUnfailed, RunEnds, StopsOnce, Takes}
-use Rattle.triples.specs.RunLaws.{IsWritten, RunGives, EveryInputHasAnOutcome}
-use Rattle.triples.specs.declared.mode.Mode.{Mode}
-use Rattle.triples.specs.declared.mode.Mode.TheVariants.{Print, Show, Settle, Json, Matrix}
-use Rattle.triples.specs.declared.run_error.RunError.{RunError}
+use Rattle.triples.proofs.Common
+use Common.{◌++◌, ◌<◌, ◌∙◌, ◌∷◌, ◌≡◌, ◌≢◌, ◌⊎◌, Answer, AreAnswers, Bool, Data, Element, ElementsParseAs, Ended, Err}
+use Common.{EveryStringHasOneOutcome, Flushed, IsFirstError, IsJsonAnswer, IsJsonErrorOf, IsReadWhole, IsRefusedAs}
+use Common.{IsUnfailed, IsUtf8, IsUtf8-from_is_utf8, IsWritten, Items, Json, JsonErrorValue, JsonParsesAs, List}
+use Common.{MatchOption, Matrix, Mode, Moved, None, NotText, Ok, Option, Parse, ParsesAs, Print, Refusal, Refused}
+use Common.{Result, RunEnds, RunError, RunGives, Settle, Show, Shown, Some, StopsOnce, Takes, Use, Values, [], ap}
+use Common.{append-nil, arith, as_array, as_str, canonical_string, codes, compact_text, false, inl, inr, is_utf8}
+use Common.{is_utf8-from_IsUtf8, item, line_feed, lines_of, list_error_line, list_json_of, matrix_of, no_items, read}
+use Common.{refl, refusal_line, string_of, subst, suc, sym, text_with_facts, true, written_lines, zero, ℕ}
+use Rattle.target_lexicon.specs.Json.{IsElementParsed}
+use Rattle.triples.specs.RunLaws.{EveryInputHasAnOutcome}
+use Rattle.triples.proofs.{UniqueOutputs.IsJsonText, RunLawLemmas.Outcome}
 use Rattle.triples.specs.declared.run_error.RunError.TheVariants as run_error
-use Rattle.triples.proofs.UniqueOutputs.{IsJsonText}
-use Rattle.triples.proofs.RunLawLemmas.{Outcome}
 
 -- an outcome that some result has
 abbrev HasOutcome : Mode → List ℕ → Type 0
@@ -33,7 +23,7 @@ module _ (one : EveryStringHasOneOutcome) where
   some-answers shown [] = ([], tt)
   some-answers shown (line ∷ lines) =
       let rest = some-answers shown lines in
-      elim ((one line).some) as (λ _. (answers : List Answer) × AreAnswers shown (line ∷ lines) answers) [
+      elim ((one line).some) [
         | inl read ↦ (Shown (shown read.0) ∷ rest.0, ((read.0, read.1, refl), rest.1))
         | inr refused ↦
             (Refused (codes "error: " ++ refusal_line refused.0) ∷ rest.0, ((refused.0, refused.1, refl), rest.1))
@@ -45,24 +35,19 @@ module _ (one : EveryStringHasOneOutcome) where
       ⊎ ((text ≡ None) ⊎ ((refusal : Refusal) × MatchOption text ⊥ (λ s. IsRefusedAs s refusal)))
   text-outcome None = inr (inl refl)
   text-outcome (Some s) =
-      elim ((one s).some) as
-      (λ _. ((t : Values) × ParsesAs s t) ⊎ ((Some s ≡ None) ⊎ ((refusal : Refusal) × IsRefusedAs s refusal)))
-      [ inl read ↦ inl read | inr refused ↦ inr (inr refused) ]
+      elim ((one s).some) [ inl read ↦ inl read | inr refused ↦ inr (inr refused) ]
 
   value-outcome : (value : Data)
       → ((t : Values) × JsonParsesAs value t)
       ⊎ ((error : JsonErrorValue) × IsJsonErrorOf value error × (error ≢ Parse None))
   value-outcome value =
-      elim (text-outcome (as_str value)) as
-      (λ _. ((t : Values) × JsonParsesAs value t)
-      ⊎ ((error : JsonErrorValue) × IsJsonErrorOf value error × (error ≢ Parse None))) [
+      elim (text-outcome (as_str value)) [
         | inl read ↦ inl read
-        | inr other ↦ elim other as
-            (λ _. ((t : Values) × JsonParsesAs value t)
-            ⊎ ((error : JsonErrorValue) × IsJsonErrorOf value error × (error ≢ Parse None))) [
-              | inl none ↦ inr (NotText, none, λ bad. absurd cc)
-              | inr refused ↦ inr (Parse (Some refused.0), refused.1, λ bad. absurd cc)
-            ]
+        | inr other ↦
+            inr (elim other [
+              | inl none ↦ (NotText, none, λ bad. absurd cc)
+              | inr refused ↦ (Parse (Some refused.0), refused.1, λ bad. absurd cc)
+            ])
       ]
 
   before-next : (value : Data) (values : Items) (i : ℕ) → ((t : Values) × JsonParsesAs value t)
@@ -75,13 +60,9 @@ module _ (one : EveryStringHasOneOutcome) where
       ⊎ ((i : ℕ) × (error : JsonErrorValue) × IsFirstError elements i error × (error ≢ Parse None))
   elements-outcome no_items = inl ([], tt)
   elements-outcome (item value values) =
-      let rest = elements-outcome values in
-      elim (value-outcome value) as
-      (λ _. ((ts : List Values) × ElementsParseAs (item value values) ts)
-      ⊎ ((i : ℕ) × (error : JsonErrorValue) × IsFirstError (item value values) i error × (error ≢ Parse None))) [
-        | inl read ↦ elim rest as
-            (λ _. ((ts : List Values) × ElementsParseAs (item value values) ts)
-            ⊎ ((i : ℕ) × (error : JsonErrorValue) × IsFirstError (item value values) i error × (error ≢ Parse None))) [
+      elim (value-outcome value) [
+        | inl read ↦
+            elim (elements-outcome values) [
               | inl all ↦ inl (read.0 ∷ all.0, (read.1, all.1))
               | inr first ↦ inr (
                 suc first.0,
@@ -93,38 +74,27 @@ module _ (one : EveryStringHasOneOutcome) where
         | inr bad ↦ inr (zero, bad.0, record { here = bad.1; before = λ k less. absurd (omega (arith, less)) }, bad.2)
       ]
 
-  array-outcome : (found : Option Items)
-      → (found ≡ None) ⊎ (((ts : List Values) × MatchOption found ⊥ (λ elements. ElementsParseAs elements ts))
-      ⊎ ((i : ℕ) × (error : JsonErrorValue) × MatchOption found ⊥ (λ elements. IsFirstError elements i error)
-      × (error ≢ Parse None)))
-  array-outcome None = inl refl
-  array-outcome (Some elements) =
-      elim (elements-outcome elements) as
-      (λ _. (Some elements ≡ None)
-      ⊎ (((ts : List Values) × ElementsParseAs elements ts)
-      ⊎ ((i : ℕ) × (error : JsonErrorValue) × IsFirstError elements i error × (error ≢ Parse None)))) [
-        | inl all ↦ inr (inl all)
-        | inr first ↦ inr (inr first)
-      ]
+  list-outcome : (found : Option Items) (value : Data) → as_array value ≡ found
+      → (as_array value ≡ None) ⊎ ((answer : List ℕ) × IsJsonAnswer value answer)
+  list-outcome None value is = inl is
+  list-outcome (Some elements) value is =
+      inr (elim (elements-outcome elements) [
+        | inl all ↦ (compact_text (list_json_of all.0), inl (all.0, rw is all.1, refl))
+        | inr first ↦ (
+          codes "error: " ++ list_error_line (Element first.0 first.1),
+          inr (first.0, (first.1, (rw is first.2, first.3, refl))),
+        )
+      ])
 
   json-outcome : (found : Option Data)
       → (found ≡ None)
       ⊎ (MatchOption found ⊥ (λ value. as_array value ≡ None) ⊎ ((output : List ℕ) × IsJsonText found output))
   json-outcome None = inl refl
   json-outcome (Some value) =
-      elim (array-outcome (as_array value)) as
-      (λ _. (Some value ≡ None) ⊎ ((as_array value ≡ None) ⊎ ((output : List ℕ) × IsJsonText (Some value) output))) [
-        | inl none ↦ inr (inl none)
-        | inr list ↦ elim list as
-            (λ _. (Some value ≡ None)
-            ⊎ ((as_array value ≡ None) ⊎ ((output : List ℕ) × IsJsonText (Some value) output))) [
-              | inl all ↦
-                  (let text = compact_text (list_json_of all.0) in
-                  inr (inr (text ++ line_feed ∷ [], (text, inl (all.0, all.1, refl), refl))))
-              | inr first ↦ (let text = codes "error: " ++ list_error_line (Element first.0 first.1) in
-                  inr (inr (text ++ line_feed ∷ [], (text, inr (first.0, (first.1, (first.2, first.3, refl))), refl))))
-            ]
-      ]
+      inr (elim (list-outcome (as_array value) value refl) [
+        | inl none ↦ inl none
+        | inr answer ↦ inr (answer.0 ++ line_feed ∷ [], (answer.0, answer.1, refl))
+      ])
 
   text-has-outcome : (mode : Mode) (text : List ℕ) → IsUtf8 text → HasOutcome mode text
   text-has-outcome Print text utf8 =
@@ -140,9 +110,9 @@ module _ (one : EveryStringHasOneOutcome) where
       let found = some-answers canonical_string (lines_of text) in
       (Ok tt, written_lines (matrix_of found.0), (utf8, (found.0, found.1, refl)))
   text-has-outcome Json text utf8 =
-      elim (json-outcome (read text)) as (λ _. HasOutcome Json text) [
+      elim (json-outcome (read text)) [
         | inl none ↦ (Err run_error.NotJson, [], (refl, utf8, none, refl))
-        | inr some ↦ elim some as (λ _. HasOutcome Json text) [
+        | inr some ↦ elim some [
           | inl other ↦ (Err run_error.NotList, [], (refl, utf8, other, refl))
           | inr output ↦ (Ok tt, output.0, (utf8, output.1))
         ]

@@ -1,20 +1,15 @@
 -- The laws of how runs end.
-use Rattle.std.proofs.Common.{◌≡◌, ◌≢◌, ◌↔◌, ℕ, List, [], take, Option, None, MatchOption, IsErrAnd, IsErrOf, IsTrue}
-use Rattle.std.proofs.Common.{Result, Ok, Err, refl, sym, subst, ◌∙◌, ap, inl, inr, ◌<◌, length}
-use Rattle.std.specs.Str.{IsUtf8}
-use Rattle.serde_json.specs.{Data.Data, Find.as_array, Read.read}
-use Rattle.target_lexicon.specs.Laws.{EveryStringHasOneOutcome}
-use Rattle.triples.specs.{JsonOutput.IsJsonInputErrorOf, Output.IsOutput, Run.Use, Run.Gives, Run.Takes}
-use Rattle.triples.specs.{Run.TakesBeginning, Run.IsReadWhole, Run.IsUnfailed, Run.HasFailed, Run.RunEnds, Run.EndsAs}
-use Rattle.triples.specs.{Run.IsUntouched, Run.StopsLast, Calls.ends_last, Calls.failures_in, Calls.stops_in}
-use Rattle.triples.specs.{Private.HasNoOutput}
-use Rattle.triples.specs.RunLaws.{RunGives, RunsEndOneWay, IsJudged, ErrorsOfRunsAreExact}
-use Rattle.triples.specs.declared.mode.Mode.{Mode}
-use Rattle.triples.specs.declared.mode.Mode.TheVariants.{Json}
-use Rattle.triples.specs.declared.run_error.RunError.{RunError}
-use Rattle.triples.specs.declared.run_error.RunError.TheVariants as run_error
+use Rattle.triples.proofs.Common.{◌↔◌, ◌∙◌, ◌≡◌, ◌≢◌, Data, Err, EveryStringHasOneOutcome, Gives, HasFailed}
+use Rattle.triples.proofs.Common.{IsJsonInputErrorOf, IsOutput, IsReadWhole, IsUnfailed, IsUtf8, Json, List}
+use Rattle.triples.proofs.Common.{MatchOption, Mode, None, Ok, Option, Result, RunEnds, RunError, RunGives, StopsLast}
+use Rattle.triples.proofs.Common.{StopsOnce, Takes, TakesBeginning, Use, [], ap, as_array, ends_last, failures_in, inl}
+use Rattle.triples.proofs.Common.{inr, read, refl, stops_in, subst, sym, take, ℕ}
+use Rattle.std.proofs.Common.{IsErrAnd, IsErrOf, IsTrue}
+use Rattle.triples.specs.RunLaws.{RunsEndOneWay, IsJudged, ErrorsOfRunsAreExact}
+use Rattle.triples.specs.{Run.EndsAs, Run.IsUntouched, Private.HasNoOutput}
 use Rattle.triples.proofs.UniqueOutputs.{outputs-unique, text-is-json, text-is-list}
 use Rattle.triples.proofs.UseLemmas.{input-is, not-both, output-is}
+use Rattle.triples.specs.declared.run_error.RunError.TheVariants as run_error
 
 -- an input with an output has no error of JSON
 output-no-json-error : (mode : Mode) (text output : List ℕ) → IsOutput mode text output → mode ≡ Json
@@ -196,82 +191,43 @@ errors_of_runs_are_exact mode reader writer result ends =
 -- how a run ends, from its steps
 module _ (mode : Mode) (reader writer : Use) (input : List ℕ) (gives : Gives reader input) (whole : IsReadWhole reader)
     (utf8 : IsUtf8 input) where
-  untouched : writer.calls_after ≡ writer.calls_before → IsUntouched writer []
-  untouched same = (ap failures_in same, refl, same)
+  ends-with : (result : Result (Unit {0}) RunError) (output : List ℕ) → Takes writer output → StopsOnce writer
+      → RunEnds mode reader writer input output result → EndsAs mode reader writer result
+  ends-with result output takes once by_result = record {
+    input = input;
+    output = output;
+    gives = gives;
+    takes = takes;
+    reads = inr whole.3;
+    writes = once;
+    by_result = by_result;
+  }
 
   -- the output was written and flushed
   pub written-ends : (output : List ℕ) → IsOutput mode input output → Takes writer output
       → IsTrue (ends_last writer.calls_after) → IsUnfailed writer → StopsLast writer → EndsAs mode reader writer (Ok tt)
   written-ends output is takes flushed unfailed last =
-      record {
-        input = input;
-        output = output;
-        gives = gives;
-        takes = takes;
-        reads = inr whole.3;
-        writes = inr last;
-        by_result = (whole, (flushed, unfailed, last), utf8, is);
-      }
+      ends-with (Ok tt) output takes (inr last) (whole, (flushed, unfailed, last), utf8, is)
 
   -- a write or the flush failed
   pub write-ends : (output : List ℕ) → IsOutput mode input output → TakesBeginning writer output → HasFailed writer
       → StopsLast writer → EndsAs mode reader writer (Err run_error.Write)
-  write-ends output is begun failed last =
-      record {
-        input = input;
-        output = take begun.0 output;
-        gives = gives;
-        takes = begun.1;
-        reads = inr whole.3;
-        writes =
-            inr last;
-        by_result = (whole, failed, utf8, output, is, begun.0, refl);
-      }
+  write-ends output is (n, takes) failed last =
+      ends-with (Err run_error.Write) (take n output) takes (inr last) (whole, failed, utf8, output, is, n, refl)
 
   -- the input has no output
-  json-ends : (e : RunError) → mode ≡ Json → Takes writer [] → writer.calls_after ≡ writer.calls_before
-      → IsJsonInputErrorOf input e → RunEnds mode reader writer input [] (Err e)
-  json-ends run_error.NotJson json takes same error = (json, whole, untouched same, utf8, error)
-  json-ends run_error.NotList json takes same error = (json, whole, untouched same, utf8, error)
-  json-ends run_error.OutOfMemory json takes same error = (whole.2, untouched same, error)
-  json-ends run_error.Read json takes same error = absurd error
-  json-ends run_error.Write json takes same error = absurd error
-  json-ends run_error.NotUtf8 json takes same error = absurd error
+  no-output : (e : RunError) → HasNoOutput mode input e → IsUntouched writer []
+      → RunEnds mode reader writer input [] (Err e)
+  no-output e (inr memory) none = rw memory.0 (whole.2, none, memory.1)
+  no-output run_error.NotJson (inl (json, error)) none = (json, whole, none, utf8, error)
+  no-output run_error.NotList (inl (json, error)) none = (json, whole, none, utf8, error)
+  no-output run_error.OutOfMemory (inl (json, error)) none = (whole.2, none, error)
+  no-output _ (inl (json, error)) none = absurd error
 
-  pub json-error-ends : (e : RunError) → mode ≡ Json → Takes writer [] → writer.calls_after ≡ writer.calls_before
-      → IsJsonInputErrorOf input e → EndsAs mode reader writer (Err e)
-  json-error-ends e json takes same error =
-      record {
-        input = input;
-        output = [];
-        gives = gives;
-        takes = takes;
-        reads = inr whole.3;
-        writes = inl
-            (ap stops_in same);
-        by_result = json-ends e json takes same error;
-      }
-
-  -- memory ran out
-  pub memory-ends : Takes writer [] → writer.calls_after ≡ writer.calls_before → 0 < length input
-      → EndsAs mode reader writer (Err run_error.OutOfMemory)
-  memory-ends takes same some =
-      record {
-        input = input;
-        output = [];
-        gives = gives;
-        takes = takes;
-        reads = inr whole.3;
-        writes = inl
-            (ap stops_in same);
-        by_result = (whole.2, untouched same, some);
-      }
-
-  -- the input has no output
   pub no-output-ends : (e : RunError) → HasNoOutput mode input e → Takes writer []
       → writer.calls_after ≡ writer.calls_before → EndsAs mode reader writer (Err e)
-  no-output-ends e (inl json) takes same = json-error-ends e json.0 takes same json.1
-  no-output-ends e (inr memory) takes same = rw memory.0 (memory-ends takes same memory.1)
+  no-output-ends e none takes same =
+      ends-with (Err e) [] takes (inl (ap stops_in same)) (no-output e none (ap failures_in same, refl, same))
 
 -- the error of a step is that of the run
 pub as-error : (mode : Mode) (reader writer : Use) (found : Result (Unit {0}) RunError) (e : RunError)

@@ -1,19 +1,12 @@
 -- An input has at most one output in a mode, and none if it isn't a JSON list.
-use Rattle.std.proofs.Common.{◌≡◌, ◌≢◌, ℕ, zero, suc, List, [], ◌∷◌, ◌++◌, codes, Option, Some, None, MatchOption, inl}
-use Rattle.std.proofs.Common.{inr, refl, sym, ap, subst, ◌∙◌, arith}
-use Rattle.std.proofs.lemmas.Bool.{cases_lt}
-use Rattle.serde_json.specs.{Data.Data, Data.string, Data.Items, Data.no_items, Data.item, Find.as_array, Find.as_str}
-use Rattle.serde_json.specs.{Find.get_item, Read.read, Written.compact_text}
-use Rattle.target_lexicon.specs.{Json.JsonParsesAs, Json.JsonErrorValue, Json.NotText, Json.Parse, Json.Element}
-use Rattle.target_lexicon.specs.{Json.IsJsonErrorOf, Json.ElementsParseAs, Json.IsFirstError, Json.list_json_of}
-use Rattle.target_lexicon.specs.{Json.list_error_line}
-use Rattle.target_lexicon.specs.{FixedPoints.canonical_string, Laws.EveryStringHasOneOutcome, Printing.string_of}
-use Rattle.target_lexicon.specs.{Parsing.ParsesAs, Refusal.Refusal, Refusal.refusal_line, Values.Values}
-use Rattle.triples.specs.{Facts.text_with_facts, JsonOutput.IsJsonAnswer, Lines.line_feed, Lines.lines_of}
-use Rattle.triples.specs.Output.{Answer, Shown, Refused, IsAnswer, AreAnswers, IsLineOutput, IsOutput, matrix_of}
-use Rattle.triples.specs.Output.{written_lines}
-use Rattle.triples.specs.declared.mode.Mode.{Mode}
-use Rattle.triples.specs.declared.mode.Mode.TheVariants.{Print, Show, Settle, Json, Matrix}
+use Rattle.triples.proofs.Common
+use Common.{◌++◌, ◌∙◌, ◌∷◌, ◌≡◌, ◌≢◌, Answer, AreAnswers, Data, Element, ElementsParseAs, EveryStringHasOneOutcome}
+use Common.{IsAnswer, IsFirstError, IsJsonAnswer, IsJsonErrorOf, IsLineOutput, IsOutput, Items, Json, JsonErrorValue}
+use Common.{JsonParsesAs, List, MatchOption, Matrix, Mode, None, NotText, Option, Parse, ParsesAs, Print, Refusal}
+use Common.{Refused, Settle, Show, Shown, Some, Values, [], ap, arith, as_array, as_str, canonical_string, cases_lt}
+use Common.{codes, compact_text, inl, inr, item, line_feed, lines_of, list_error_line, list_json_of, matrix_of}
+use Common.{no_items, read, refl, refusal_line, string_of, subst, suc, sym, text_with_facts, written_lines, zero, ℕ}
+use Rattle.serde_json.specs.{Data.string, Find.get_item}
 
 -- what is written for a JSON value
 abbrev pub IsJsonText : Option Data → List ℕ → Type 0
@@ -33,6 +26,12 @@ pub text-is-list : (found : Option Data) (output : List ℕ) → IsJsonText foun
     → MatchOption found ⊥ (λ value. as_array value ≡ None) → ⊥
 text-is-list None output is none = is
 text-is-list (Some value) output is none = answer-is-list value is.0 is.1 none
+
+-- what follows from two facts of the value that was found
+both : {A G : Type 0} (found : Option A) (P Q : A → Type 0) → ((x : A) → P x → Q x → G) → MatchOption found ⊥ P
+    → MatchOption found ⊥ Q → G
+both None P Q follows a b = absurd a
+both (Some x) P Q follows a b = follows x a b
 
 module _ (one : EveryStringHasOneOutcome) where
   pub answer-unique : (shown : Values → List ℕ) (line : List ℕ) (a b : Answer) → IsAnswer shown line a
@@ -84,11 +83,6 @@ module _ (one : EveryStringHasOneOutcome) where
   error-unique _ NotText (Parse y) some_x some_y a b = absurd b
   error-unique _ (Parse x) y some_x some_y a b = absurd a
 
-  text-unique : (text : Option (List ℕ)) (t u : Values) → MatchOption text ⊥ (λ s. ParsesAs s t)
-      → MatchOption text ⊥ (λ s. ParsesAs s u) → t ≡ u
-  text-unique None t u a b = absurd a
-  text-unique (Some s) t u a b = (one s).values t u a b
-
   elements-unique : (elements : Items) (ts us : List Values) → ElementsParseAs elements ts → ElementsParseAs elements us
       → ts ≡ us
   elements-unique no_items [] [] a b = refl
@@ -97,7 +91,8 @@ module _ (one : EveryStringHasOneOutcome) where
   elements-unique (item value values) [] us a b = absurd a
   elements-unique (item value values) (t ∷ ts) [] a b = absurd b
   elements-unique (item value values) (t ∷ ts) (u ∷ us) a b =
-      ap (λ (v : Values). v ∷ ts) (text-unique (as_str value) t u a.0 b.0)
+      ap (λ (v : Values). v ∷ ts)
+      (both (as_str value) (λ s. ParsesAs s t) (λ s. ParsesAs s u) (λ s. (one s).values t u) a.0 b.0)
       ∙ ap (λ (vs : List Values). u ∷ vs) (elements-unique values ts us a.1 b.1)
 
   elements-no-error : (elements : Items) (ts : List Values) (i : ℕ) (error : JsonErrorValue) → error ≢ Parse None
@@ -113,14 +108,9 @@ module _ (one : EveryStringHasOneOutcome) where
   found-no-error : (found : Option Data) (error : JsonErrorValue) → error ≢ Parse None
       → MatchOption found ⊥ (λ value. (t : Values) × JsonParsesAs value t)
       → MatchOption found ⊥ (λ value. IsJsonErrorOf value error) → ⊥
-  found-no-error None error some reads is = reads
-  found-no-error (Some value) error some reads is = read-no-error value reads.0 error some reads.1 is
-
-  found-error-unique : (found : Option Data) (x y : JsonErrorValue) → x ≢ Parse None → y ≢ Parse None
-      → MatchOption found ⊥ (λ value. IsJsonErrorOf value x)
-      → MatchOption found ⊥ (λ value. IsJsonErrorOf value y) → x ≡ y
-  found-error-unique None x y some_x some_y a b = absurd a
-  found-error-unique (Some value) x y some_x some_y a b = error-unique value x y some_x some_y a b
+  found-no-error found error some =
+      both found (λ value. (t : Values) × JsonParsesAs value t) (λ value. IsJsonErrorOf value error)
+      (λ value reads. read-no-error value reads.0 error some reads.1)
 
   first-unique : (elements : Items) (i j : ℕ) (x y : JsonErrorValue) → x ≢ Parse None → y ≢ Parse None
       → IsFirstError elements i x → IsFirstError elements j y
@@ -135,41 +125,33 @@ module _ (one : EveryStringHasOneOutcome) where
           a.here in
           ap (λ (k : ℕ). list_error_line (Element k x)) same
           ∙ ap (λ (e : JsonErrorValue). list_error_line (Element j e))
-          (found-error-unique (get_item j elements) x y some_x some_y there b.here)
+          (both (get_item j elements) (λ value. IsJsonErrorOf value x) (λ value. IsJsonErrorOf value y)
+          (λ value. error-unique value x y some_x some_y) there b.here)
     ]
   ]
 
-  list-unique : (found : Option Items) (ts us : List Values)
-      → MatchOption found ⊥ (λ elements. ElementsParseAs elements ts)
-      → MatchOption found ⊥ (λ elements. ElementsParseAs elements us) → ts ≡ us
-  list-unique None ts us a b = absurd a
-  list-unique (Some elements) ts us a b = elements-unique elements ts us a b
-
-  list-no-error : (found : Option Items) (ts : List Values) (i : ℕ) (error : JsonErrorValue) → error ≢ Parse None
-      → MatchOption found ⊥ (λ elements. ElementsParseAs elements ts)
-      → MatchOption found ⊥ (λ elements. IsFirstError elements i error) → ⊥
-  list-no-error None ts i error some a b = a
-  list-no-error (Some elements) ts i error some a b = elements-no-error elements ts i error some a b.here
-
-  line-unique : (found : Option Items) (i j : ℕ) (x y : JsonErrorValue) → x ≢ Parse None → y ≢ Parse None
-      → MatchOption found ⊥ (λ elements. IsFirstError elements i x)
-      → MatchOption found ⊥ (λ elements. IsFirstError elements j y)
-      → list_error_line (Element i x) ≡ list_error_line (Element j y)
-  line-unique None i j x y some_x some_y a b = absurd a
-  line-unique (Some elements) i j x y some_x some_y a b = first-unique elements i j x y some_x some_y a b
+  list-no-error : (value : Data) (ts : List Values) (i : ℕ) (error : JsonErrorValue) → error ≢ Parse None
+      → MatchOption (as_array value) ⊥ (λ items. ElementsParseAs items ts)
+      → MatchOption (as_array value) ⊥ (λ items. IsFirstError items i error) → ⊥
+  list-no-error value ts i error some =
+      both (as_array value) (λ items. ElementsParseAs items ts) (λ items. IsFirstError items i error)
+      (λ items reads first. elements-no-error items ts i error some reads first.here)
 
   json-answer-unique : (value : Data) (x y : List ℕ) → IsJsonAnswer value x → IsJsonAnswer value y → x ≡ y
   json-answer-unique value x y (inl a) (inl b) =
-      a.2 ∙ ap (λ (ts : List Values). compact_text (list_json_of ts)) (list-unique (as_array value) a.0 b.0 a.1 b.1)
-      ∙ sym b.2
+      a.2
+      ∙ ap (λ (ts : List Values). compact_text (list_json_of ts))
+      (both (as_array value) (λ items. ElementsParseAs items a.0) (λ items. ElementsParseAs items b.0)
+      (λ items. elements-unique items a.0 b.0) a.1 b.1) ∙ sym b.2
   json-answer-unique value x y (inr a) (inr b) =
       a.1.1.2
       ∙ ap (λ (t : List ℕ). codes "error: " ++ t)
-      (line-unique (as_array value) a.0 b.0 a.1.0 b.1.0 a.1.1.1 b.1.1.1 a.1.1.0 b.1.1.0) ∙ sym b.1.1.2
+      (both (as_array value) (λ items. IsFirstError items a.0 a.1.0) (λ items. IsFirstError items b.0 b.1.0)
+      (λ items. first-unique items a.0 b.0 a.1.0 b.1.0 a.1.1.1 b.1.1.1) a.1.1.0 b.1.1.0) ∙ sym b.1.1.2
   json-answer-unique value x y (inl a) (inr b) =
-      absurd (list-no-error (as_array value) a.0 b.0 b.1.0 b.1.1.1 a.1 b.1.1.0)
+      absurd (list-no-error value a.0 b.0 b.1.0 b.1.1.1 a.1 b.1.1.0)
   json-answer-unique value x y (inr a) (inl b) =
-      absurd (list-no-error (as_array value) b.0 a.0 a.1.0 a.1.1.1 b.1 a.1.1.0)
+      absurd (list-no-error value b.0 a.0 a.1.0 a.1.1.1 b.1 a.1.1.0)
 
   json-unique : (found : Option Data) (x y : List ℕ) → IsJsonText found x → IsJsonText found y → x ≡ y
   json-unique None x y a b = absurd a

@@ -1,17 +1,13 @@
 -- What reads gave and writes took, call after call; and which input and output that makes.
-use Rattle.std.proofs.Common.{◌≡◌, ◌∙◌, ℕ, ◌+◌, ◌≤◌, inl, inr, List, [], ◌++◌, length, take, drop, Option, Some, None}
-use Rattle.std.proofs.Common.{sym, ap, subst, append_assoc, arith}
-use Rattle.std.proofs.{lemmas.List.append-nil, lemmas.List.append_cancel_left, lemmas.List.length-append}
-use Rattle.std.proofs.{lemmas.List.take-append-drop}
-use Rattle.std.proofs.{KnownBytes.Appends-nil, KnownBytes.Appends-trans, KnownBytes.Appends-kept}
-use Rattle.std.proofs.{KnownBytes.Consumes-nil, KnownBytes.Consumes-trans, KnownBytes.Consumes-kept}
-use Rattle.std.proofs.Math.Seq.{take-append-add, take-append_seam}
-use Rattle.std.specs.Io.KnownBytes.{Appends, Consumes, IsAtEnd, Keeps}
-use Rattle.triples.specs.Run.{Use, Gives, Takes, TakesBeginning, IsReadWhole, IsUnfailed, HasFailed, use_of}
-use Rattle.triples.specs.RunLaws.{IsInput, IsWritten}
-use Rattle.triples.specs.Calls.{bytes_of}
-use Rattle.triples.specs.Streams.{inner, moved}
-use Rattle.triples.specs.declared.counted.Counted.{Counted}
+use Rattle.triples.proofs.Common.{◌++◌, ◌+◌, ◌∙◌, ◌≡◌, ◌≤◌, Consumes, Counted, Gives, HasFailed, IsAtEnd, IsReadWhole}
+use Rattle.triples.proofs.Common.{IsUnfailed, IsWritten, Keeps, List, None, Option, Some, Takes, TakesBeginning, Use}
+use Rattle.triples.proofs.Common.{[], ap, append-nil, append_assoc, arith, bytes_of, drop, inl, inner, inr, length}
+use Rattle.triples.proofs.Common.{length-append, moved, subst, sym, take, take-append-add, take-append-drop}
+use Rattle.triples.proofs.Common.{take-append_seam, use_of, ℕ}
+use Rattle.std.proofs.KnownBytes.{Appends-nil, Appends-trans, Appends-kept, Consumes-nil, Consumes-trans, Consumes-kept}
+use Rattle.std.proofs.lemmas.List.{append_cancel_left}
+use Rattle.std.specs.Io.KnownBytes.{Appends}
+use Rattle.triples.specs.RunLaws.{IsInput}
 
 -- a call that didn't fail has not failed
 pub not-both : (it : Use) → IsUnfailed it → HasFailed it → ⊥

@@ -1,7 +1,6 @@
 -- The loop has answered the lines before `start`; what is left after the last line feed begins there.
-use Rattle.std.proofs.Common.{◌∙◌, ◌++◌, ◌≤◌, ℕ, List, [], length, take, drop, refl, sym, ap, subst, arith, rules}
-use Rattle.std.proofs.lemmas.List.{length-drop}
-use Rattle.triples.specs.{FilterSteps.HasNoFeed}
+use Rattle.triples.proofs.Common.{◌++◌, ◌∙◌, ◌≤◌, HasNoFeed, List, [], ap, arith, drop, length, length-drop, refl}
+use Rattle.triples.proofs.Common.{rules, subst, sym, take, ℕ}
 use Rattle.triples.proofs.FilterLemmas.{answers-none, no-bytes, rest-of, line-step, pushed-within}
 use Rattle.triples.proofs.UseLemmas.{takes-none, takes-then, takes-part}
 use Rattle.triples.proofs.filter.answer_lines.Goals as goal

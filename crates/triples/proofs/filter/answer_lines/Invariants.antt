@@ -1,7 +1,6 @@
 -- The lines before `start` were answered: what has gone to the writer and what is used of the buffer are their answers.
-use Rattle.std.proofs.Common.{◌-◌, ◌≤◌, ◌++◌, ℕ, List, length, take, drop}
-use Rattle.triples.specs.{FilterSteps.AnswersLines, FilterSteps.HasNoFeed, Run.IsUnfailed, Run.OnlyMoves, Run.Takes}
-use Rattle.triples.specs.{Run.use_of}
+use Rattle.triples.proofs.Common.{◌++◌, ◌-◌, ◌≤◌, AnswersLines, HasNoFeed, IsUnfailed, List, OnlyMoves, Takes, drop}
+use Rattle.triples.proofs.Common.{length, take, use_of, ℕ}
 use Rattle.triples.proofs.filter.answer_lines.Given as goal
 
 abbrev pub invariant-loop-at : goal.invariant-loop-at

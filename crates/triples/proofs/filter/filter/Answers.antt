@@ -1,15 +1,10 @@
 -- The loop keeps what holds between two reads; each way out of it is one of the ends of `FilterEnds`.
-use Rattle.std.proofs.Common.{◌≡◌, ◌∙◌, ◌+◌, ◌-◌, ◌^◌, ◌<◌, ◌≤◌, ◌++◌, ℕ, List, [], ◌∷◌, length, take, drop, refl, ap}
-use Rattle.std.proofs.Common.{subst, arith}
-use Rattle.std.proofs.lemmas.List.{length-append, length-take}
+use Rattle.triples.proofs.Common.{◌+◌, ◌-◌, ◌<◌, ◌^◌, ◌∙◌, ◌∷◌, ◌≡◌, ◌≤◌, After, Call, Consumes, IsKept, List}
+use Rattle.triples.proofs.Common.{RestAnswered, [], ap, arith, calls, drop, inner, length, length-take, moved, put_mid}
+use Rattle.triples.proofs.Common.{refl, subst, take, use_of, ℕ}
 use Rattle.std.proofs.lemmas.Slice.{take-put_mid_below}
-use borrow.Rule.Slice.PartMut.{put_mid}
-use Rattle.std.specs.Io.KnownBytes.{Consumes}
-use Rattle.triples.specs.{Calls.Call, Calls.After, Run.use_of, Streams.calls, Streams.inner, Streams.moved}
-use Rattle.triples.specs.FilterSteps.{IsKept, RestAnswered}
 use Rattle.triples.proofs.FilterLoop.{between-none, between-more, between-kept, ends-read, ends-rest, ends-write}
-use Rattle.triples.proofs.FilterLoop.{ends-endless, read-piece, length-read, none-read, part-length, searched-front}
-use Rattle.triples.proofs.FilterLoop.{some-read}
+use Rattle.triples.proofs.FilterLoop.{ends-endless, has-read, none-read, searched-front, some-read}
 use Rattle.triples.proofs.filter.filter.Goals as goal
 
 pub loop-init : goal.loop-init
@@ -31,37 +26,23 @@ loop-preserved g c =
     let held = take c.loop.held c.loop.input in
     let more = take c.in-Ok.taken c.read_after.new.buf in
     let piece = take (c.loop.held + c.in-Ok.taken) buffer in
-    let given : length c.read_after.new.buf ≡ length c.loop.input - c.loop.held = c.read_after.auto.buf
-    ∙ part-length c.loop.held c.loop.input in
-    let is : piece ≡ held ++ more = read-piece c.loop.held c.in-Ok.taken (length c.loop.input - c.loop.held)
-    c.loop.input c.read_after.new.buf (omega (arith, inv.held)) read.bound.0 in
+    let it = has-read c.loop.held c.in-Ok.taken c.loop.input c.read_after.new.buf (omega (arith, inv.held))
+    read.bound.0 c.read_after.auto.buf in
     let made = some-read c.in-Ok.taken c.read_after.new.buf (λ bad. omega (arith, bad, c.if-taken-eq0.false)) in
-    let fits : length piece ≤ size =
-    omega (
-      arith,
-      ap (λ (t : List ℕ). length t) is,
-      length-append held more,
-      length-take c.loop.held c.loop.input,
-      length-take c.in-Ok.taken c.read_after.new.buf,
-      read.bound.0,
-      given,
-      inv.held,
-      inv.same_length,
-    ) in
+    let fits : length piece ≤ size = rw it.piece (omega (arith, it.fits, inv.same_length)) in
     let some : 0 < length more = omega (arith, read.bound.1, c.if-taken-eq0.false) in
-    let whole = length-read c.loop.held c.loop.input c.read_after.new.buf (omega (arith, inv.held)) given in
     let next =
     between-more g.R.Read.remaining g.W.Write.contents c.args.mode size c.args.r.now c.loop.r c.read_after.new.self
     c.args.w.now c.loop.w c.answer_lines.new.w c.loop.is_late held c.loop.counter inv.state
-    more read.bytes.0 (read.call ∙ ap (λ (call : Call). call ∷ (After (moved c.loop.w) ∷ calls c.loop.r)) made) piece is
-    fits
+    more read.bytes.0 (read.call ∙ ap (λ (call : Call). call ∷ (After (moved c.loop.w) ∷ calls c.loop.r)) made) piece
+    it.piece fits
     c.in-Ok-answer_lines.start c.in-Ok-answer_lines.late some c.in-Ok-answer_lines.ensures.lines in
     let keeps =
     subst (λ (n : ℕ). IsKept n c.in-Ok-answer_lines.late (drop c.in-Ok-answer_lines.start piece) c.keep_rest.new.buffer
-    c.keep_rest.result.0 c.keep_rest.result.1) (whole ∙ inv.same_length) kept.kept in
+    c.keep_rest.result.0 c.keep_rest.result.1) (it.whole ∙ inv.same_length) kept.kept in
     record {
       held = kept.held;
-      same_length = kept.same_length ∙ whole ∙ inv.same_length;
+      same_length = kept.same_length ∙ it.whole ∙ inv.same_length;
       state =
           between-kept g.R.Read.remaining g.W.Write.contents c.args.mode size c.in-Ok-answer_lines.late
           c.keep_rest.result.1 (drop c.in-Ok-answer_lines.start piece) c.keep_rest.new.buffer
@@ -74,10 +55,10 @@ answer_lines-requires-clause-searched g c =
     let read = c.in-Ok.ensures in
     let inv = c.loop.invariant in
     let front = take c.loop.held c.loop.input in
-    let is = read-piece c.loop.held c.in-Ok.taken (length c.loop.input - c.loop.held) c.loop.input c.read_after.new.buf
-    (omega (arith, inv.held)) read.bound.0 in
+    let it = has-read c.loop.held c.in-Ok.taken c.loop.input c.read_after.new.buf (omega (arith, inv.held))
+    read.bound.0 c.read_after.auto.buf in
     searched-front c.loop.held front (take c.in-Ok.taken c.read_after.new.buf) _
-    (omega (arith, length-take c.loop.held c.loop.input, inv.held)) is inv.state.none
+    (omega (arith, length-take c.loop.held c.loop.input, inv.held)) it.piece inv.state.none
 
 pub returns-in_default : goal.returns-in_default
 returns-in_default g c =
@@ -96,9 +77,9 @@ returns-then-taken-eq0 g c =
     let held = take c.loop.held c.loop.input in
     let more = take c.in-Ok.taken c.read_after.new.buf in
     let none : more ≡ [] = ap (λ (n : ℕ). take n c.read_after.new.buf) c.if-taken-eq0.true in
-    let given : length c.read_after.new.buf ≡ length c.loop.input - c.loop.held = c.read_after.auto.buf
-    ∙ part-length c.loop.held c.loop.input in
-    let room : 0 < length c.read_after.new.buf = omega (arith, given, inv.held) in
+    let it = has-read c.loop.held c.in-Ok.taken c.loop.input c.read_after.new.buf (omega (arith, inv.held))
+    read.bound.0 c.read_after.auto.buf in
+    let room : 0 < length c.read_after.new.buf = omega (arith, it.given, inv.held) in
     let made = none-read c.in-Ok.taken c.read_after.new.buf c.if-taken-eq0.true room in
     let same : take c.loop.held
     (put_mid c.loop.held (length c.loop.input - c.loop.held) c.loop.input c.read_after.new.buf) ≡ held =
@@ -128,29 +109,16 @@ returns-in_default-answer_lines g c =
     let held = take c.loop.held c.loop.input in
     let more = take c.in-Ok.taken c.read_after.new.buf in
     let piece = take (c.loop.held + c.in-Ok.taken) buffer in
-    let given : length c.read_after.new.buf ≡ length c.loop.input - c.loop.held = c.read_after.auto.buf
-    ∙ part-length c.loop.held c.loop.input in
-    let is : piece ≡ held ++ more = read-piece c.loop.held c.in-Ok.taken (length c.loop.input - c.loop.held)
-    c.loop.input c.read_after.new.buf (omega (arith, inv.held)) read.bound.0 in
+    let it = has-read c.loop.held c.in-Ok.taken c.loop.input c.read_after.new.buf (omega (arith, inv.held))
+    read.bound.0 c.read_after.auto.buf in
     let made = some-read c.in-Ok.taken c.read_after.new.buf (λ bad. omega (arith, bad, c.if-taken-eq0.false)) in
-    let fits : length piece ≤ size =
-    omega (
-      arith,
-      ap (λ (t : List ℕ). length t) is,
-      length-append held more,
-      length-take c.loop.held c.loop.input,
-      length-take c.in-Ok.taken c.read_after.new.buf,
-      read.bound.0,
-      given,
-      inv.held,
-      inv.same_length,
-    ) in
+    let fits : length piece ≤ size = rw it.piece (omega (arith, it.fits, inv.same_length)) in
     record {
       ends =
           ends-write g.R.Read.remaining g.W.Write.contents c.args.mode size c.args.r.now c.loop.r c.read_after.new.self
           c.args.w.now c.loop.w c.answer_lines.new.w c.loop.is_late held c.loop.counter inv.state
           more read.bytes.0 (read.call ∙ ap (λ (call : Call). call ∷ (After (moved c.loop.w) ∷ calls c.loop.r)) made)
-          piece is fits c.every_string_has_one_outcome.ensures
+          piece it.piece fits c.every_string_has_one_outcome.ensures
           c.in_default-answer_lines.field-0 c.in_default-answer_lines.ensures.lines;
     }
 

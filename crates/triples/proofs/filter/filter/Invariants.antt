@@ -1,5 +1,4 @@
-use Rattle.std.proofs.Common.{◌≡◌, ◌<◌, length, take}
-use Rattle.triples.specs.Run.{use_of}
+use Rattle.triples.proofs.Common.{◌<◌, ◌≡◌, length, take, use_of}
 use Rattle.triples.proofs.FilterLoop.{IsBetweenReads}
 use Rattle.triples.proofs.filter.filter.Given as goal
 

@@ -1,5 +1,6 @@
-use Rattle.std.proofs.Common.{◌≡◌, ◌∙◌, ℕ, List, ◌+◌, ◌-◌, ◌≤◌, length, take, drop, inr, refl, sym, ap, arith}
-use Rattle.std.proofs.lemmas.List.{drop-take, length-drop}
+use Rattle.triples.proofs.Common.{◌+◌, ◌-◌, ◌∙◌, ◌≡◌, ◌≤◌, List, ap, arith, drop, inr, length, length-drop, refl, sym}
+use Rattle.triples.proofs.Common.{take, ℕ}
+use Rattle.std.proofs.lemmas.List.{drop-take}
 use lib.Seq.{take-paste, paste}
 use Rattle.triples.proofs.filter.keep_rest.Goals as goal
 

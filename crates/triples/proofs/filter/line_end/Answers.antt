@@ -1,6 +1,6 @@
-use Rattle.std.proofs.Common.{◌≡◌, ◌∙◌, ◌==◌, ℕ, ◌<◌, ◌≤◌, true, false, List, length, take, get_or, sym, ap, arith}
-use Rattle.std.proofs.lemmas.List.{get_or-take, length-take}
-use Rattle.triples.specs.{FilterSteps.HasNoFeed, Lines.line_feed}
+use Rattle.triples.proofs.Common.{◌<◌, ◌==◌, ◌∙◌, ◌≡◌, ◌≤◌, HasNoFeed, List, ap, arith, false, get_or, length}
+use Rattle.triples.proofs.Common.{length-take, line_feed, sym, take, true, ℕ}
+use Rattle.std.proofs.lemmas.List.{get_or-take}
 use Rattle.triples.proofs.filter.line_end.Goals as goal
 
 -- no byte of those is a line feed, by index

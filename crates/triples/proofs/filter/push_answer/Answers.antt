@@ -1,8 +1,6 @@
 -- The answer to a line that is UTF-8 is what is shown of its triple, or its refusal.
-use Rattle.std.proofs.Common.{ℕ, List, refl, subst, arith}
-use Rattle.target_lexicon.specs.{Parsing.ParsesAs, Parsing.IsRefusedAs, ValuesRef.refusal_value}
-use Rattle.target_lexicon.specs.{ValuesRef.values_of_ref}
-use Rattle.triples.specs.{Filter.not_utf8, Output.shown_by}
+use Rattle.triples.proofs.Common.{IsRefusedAs, List, ParsesAs, arith, not_utf8, refl, shown_by, subst, values_of_ref, ℕ}
+use Rattle.target_lexicon.specs.ValuesRef.{refusal_value}
 use Rattle.triples.proofs.FilterLemmas.{shown-pushes, shown-short, refused-pushes}
 use Rattle.triples.proofs.filter.push_answer.Goals as goal
 

@@ -1,5 +1,4 @@
-use Rattle.std.proofs.Common.{refl}
-use Rattle.triples.specs.Filter.{too_long}
+use Rattle.triples.proofs.Common.{refl, too_long}
 use Rattle.triples.proofs.filter.push_line.Goals as goal
 
 pub returns-then-is_late : goal.returns-then-is_late

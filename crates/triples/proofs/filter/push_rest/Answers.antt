@@ -1,5 +1,5 @@
-use Rattle.std.proofs.Common.{◌≡◌, ◌∙◌, ◌==◌, ℕ, zero, suc, ◌<◌, true, false, List, length, sym, subst, arith}
-use Rattle.triples.specs.FilterSteps.{AnswersRest}
+use Rattle.triples.proofs.Common.{◌<◌, ◌==◌, ◌∙◌, ◌≡◌, AnswersRest, List, arith, false, length, subst, suc, sym, true}
+use Rattle.triples.proofs.Common.{zero, ℕ}
 use Rattle.triples.proofs.FilterLemmas.{rest-answered}
 use Rattle.triples.proofs.filter.push_rest.Goals.{else-not-is_late-via-then-not-is_late+else-is_empty}
 use Rattle.triples.proofs.filter.push_rest.Goals.{else-not-is_late-via-else-not-is_late}

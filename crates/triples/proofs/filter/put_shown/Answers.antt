@@ -1,5 +1,4 @@
-use Rattle.target_lexicon.specs.{Printing.string_of, ValuesRef.values_of_ref}
-use Rattle.triples.specs.Facts.{facts_of}
+use Rattle.triples.proofs.Common.{facts_of, string_of, values_of_ref}
 use Rattle.triples.proofs.FilterLemmas.{pushes-then}
 use Rattle.triples.proofs.filter.put_shown.Goals as goal
 

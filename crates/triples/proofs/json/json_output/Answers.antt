@@ -1,4 +1,4 @@
-use Rattle.std.proofs.Common.{rules}
+use Rattle.triples.proofs.Common.{rules}
 use Rattle.serde_json.specs.View.{view}
 use Rattle.triples.proofs.JsonAnswers.{input_error, read-some}
 use Rattle.triples.proofs.json.json_output.Goals as goal

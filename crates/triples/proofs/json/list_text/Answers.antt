@@ -1,5 +1,4 @@
-use Rattle.std.proofs.Common.{map, rules}
-use Rattle.target_lexicon.specs.Values.{values_of}
+use Rattle.triples.proofs.Common.{map, rules, values_of}
 use Rattle.triples.proofs.JsonAnswers.{no_float}
 use Rattle.triples.proofs.json.list_text.Goals as goal
 

@@ -1,4 +1,4 @@
-use Rattle.std.proofs.Common.{[]}
+use Rattle.triples.proofs.Common.{[]}
 use Rattle.triples.proofs.MatrixLawLemmas.{entries-staying, refusals-staying}
 use Rattle.triples.proofs.laws.entries_are_kept_once.Goals as goal
 

@@ -1,6 +1,5 @@
 -- Each iteration answers the first line that is left.
-use Rattle.std.proofs.Common.{◌∙◌, arith}
-use Rattle.std.proofs.{lemmas.Grind.common_steps}
+use Rattle.triples.proofs.Common.{◌∙◌, arith, common_steps}
 use Rattle.triples.proofs.AnswerLemmas.{so-far-none, so-far-more, so-far-whole}
 use Rattle.triples.proofs.LineLemmas.{lines_left-some, lines_left-none}
 use Rattle.triples.proofs.lines.answers.Goals as goal

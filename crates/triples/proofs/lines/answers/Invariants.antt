@@ -1,10 +1,7 @@
 -- The lines so far have been answered.
-use Rattle.std.proofs.Common.{◌≡◌, ◌≤◌, length, string_bytes}
-use Rattle.std.specs.Str.Iter.{split_text, split_terminator_parts, split_terminator_pattern}
-use Rattle.triples.specs.Lines.{line_feed, lines_of}
-use Rattle.triples.specs.Output.{shown_by}
-use Rattle.triples.proofs.AnswerLemmas.{IsSoFar}
-use Rattle.triples.proofs.LineLemmas.{lines_left}
+use Rattle.triples.proofs.Common.{◌≡◌, ◌≤◌, length, line_feed, lines_of, shown_by, split_terminator_parts}
+use Rattle.triples.proofs.Common.{split_terminator_pattern, split_text, string_bytes}
+use Rattle.triples.proofs.{AnswerLemmas.IsSoFar, LineLemmas.lines_left}
 use Rattle.triples.proofs.lines.answers.Given as goal
 
 abbrev pub invariant-loop-line : goal.invariant-loop-line

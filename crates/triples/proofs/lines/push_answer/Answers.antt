@@ -1,7 +1,6 @@
 -- The answer to a line is what is shown of its triple, which has a plain vendor, or its refusal.
-use Rattle.std.proofs.Common.{◌≡◌, ◌++◌, ◌∙◌, ℕ, List, ap, append_assoc, string_bytes, rules}
-use Rattle.target_lexicon.specs.{Printing.string_of, Values.values_of}
-use Rattle.triples.specs.{Facts.facts_of, Output.shown_by}
+use Rattle.triples.proofs.Common.{◌++◌, ◌∙◌, ◌≡◌, List, ap, append_assoc, facts_of, rules, shown_by, string_bytes}
+use Rattle.triples.proofs.Common.{string_of, values_of, ℕ}
 use Rattle.triples.proofs.AnswerLemmas.{refusal-adds, shown-adds}
 use Rattle.triples.proofs.lines.push_answer.Goals.{in-Show+in_ok-push_facts-in-Show, in-Print-mode}
 use Rattle.triples.proofs.lines.push_answer.Goals as goal

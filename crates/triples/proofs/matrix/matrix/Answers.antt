@@ -1,6 +1,5 @@
 -- Each iteration adds the entry of the first line that is left.
-use Rattle.std.proofs.Common.{◌∙◌, arith}
-use Rattle.std.proofs.{lemmas.Grind.common_steps}
+use Rattle.triples.proofs.Common.{◌∙◌, arith, common_steps}
 use Rattle.triples.proofs.AnswerLemmas.{matrix-none, matrix-more, matrix-whole, none-seen}
 use Rattle.triples.proofs.LineLemmas.{lines_left-some, lines_left-none}
 use Rattle.triples.proofs.matrix.matrix.Goals as goal

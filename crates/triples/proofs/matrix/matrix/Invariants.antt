@@ -1,9 +1,7 @@
 -- The output is the matrix of the lines so far, and its triples have been seen.
-use Rattle.std.proofs.Common.{◌≡◌, ◌≤◌, length, string_bytes}
-use Rattle.std.specs.Str.Iter.{split_text, split_terminator_parts, split_terminator_pattern}
-use Rattle.triples.specs.Lines.{line_feed, lines_of}
-use Rattle.triples.proofs.AnswerLemmas.{IsMatrixSoFar}
-use Rattle.triples.proofs.LineLemmas.{lines_left}
+use Rattle.triples.proofs.Common.{◌≡◌, ◌≤◌, length, line_feed, lines_of, split_terminator_parts}
+use Rattle.triples.proofs.Common.{split_terminator_pattern, split_text, string_bytes}
+use Rattle.triples.proofs.{AnswerLemmas.IsMatrixSoFar, LineLemmas.lines_left}
 use Rattle.triples.proofs.matrix.matrix.Given as goal
 
 abbrev pub invariant-loop-line : goal.invariant-loop-line

@@ -1,6 +1,5 @@
 -- The entry of a line is its canonical triple, printed, or its refusal.
-use Rattle.std.proofs.Common.{string_bytes, ap, ◌∙◌}
-use Rattle.target_lexicon.specs.{Printing.string_of, Values.values_of}
+use Rattle.triples.proofs.Common.{◌∙◌, ap, string_bytes, string_of, values_of}
 use Rattle.triples.proofs.AnswerLemmas.{read-enters, refusal-enters}
 use Rattle.triples.proofs.matrix.push_entry.Goals as goal
 

@@ -1,4 +1,4 @@
-use Rattle.std.proofs.Common.{string_bytes}
+use Rattle.triples.proofs.Common.{string_bytes}
 use Rattle.triples.proofs.AnswerLemmas.{inserted}
 use Rattle.triples.proofs.matrix.push_first.Goals as goal
 

@@ -1,6 +1,5 @@
-use Rattle.std.proofs.Common.{◌≡◌, ◌∙◌, Some, Option, ap, refl}
-use Rattle.triples.specs.{Program.Concludes, Run.use_of, declared.request.Request.Request}
-use Rattle.triples.specs.declared.request.Request.TheVariants.{Run}
+use Rattle.triples.proofs.Common.{◌∙◌, ◌≡◌, Option, Some, ap, refl, use_of}
+use Rattle.triples.specs.{Program.Concludes, declared.request.Request.Request, declared.request.Request.TheVariants.Run}
 use Rattle.triples.proofs.perform.perform.Goals as goal
 
 pub returns-in-Some-Run : goal.returns-in-Some-Run

@@ -1,6 +1,5 @@
-use Rattle.std.proofs.Common.{◌∙◌, Option, None, ap}
-use Rattle.triples.specs.{Words.mode_from_word, Words.request_among, declared.line_mode.LineMode.LineMode}
-use Rattle.triples.specs.{declared.mode.Mode.Mode}
+use Rattle.triples.proofs.Common.{◌∙◌, LineMode, Mode, None, Option, ap}
+use Rattle.triples.specs.Words.{mode_from_word, request_among}
 use Rattle.triples.proofs.request.request_named.Goals as goal
 
 pub returns-in-Some : goal.returns-in-Some

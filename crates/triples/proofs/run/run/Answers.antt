@@ -1,7 +1,6 @@
 -- What was written is the output of the mode, and a flush keeps it.
-use Rattle.std.proofs.Common.{◌∙◌, ℕ, List, string_bytes, refl, sym, subst, arith}
-use Rattle.std.specs.Str.{IsUtf8}
-use Rattle.triples.specs.Run.{Gives, Takes, TakesBeginning, use_of}
+use Rattle.triples.proofs.Common.{◌∙◌, Gives, IsUtf8, List, Takes, TakesBeginning, arith, refl, string_bytes, subst}
+use Rattle.triples.proofs.Common.{sym, use_of, ℕ}
 use Rattle.triples.proofs.RunLawLemmas.{as-error, no-output-ends, write-ends, written-ends}
 use Rattle.triples.proofs.UseLemmas.{takes-all, takes-kept, takes-none}
 use Rattle.triples.proofs.run.run.Goals as goal

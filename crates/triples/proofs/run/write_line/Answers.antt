@@ -1,6 +1,5 @@
 -- What was written before an error is a beginning of the line.
-use Rattle.std.proofs.Common.{[], ◌∷◌, ◌++◌}
-use Rattle.triples.specs.{Lines.line_feed, Run.use_of}
+use Rattle.triples.proofs.Common.{◌++◌, ◌∷◌, [], line_feed, use_of}
 use Rattle.triples.proofs.UseLemmas.{takes-all, takes-kept, takes-more, takes-part, takes-then}
 use Rattle.triples.proofs.run.write_line.Goals as goal
 

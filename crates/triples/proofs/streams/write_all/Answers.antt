@@ -1,6 +1,6 @@
 -- What was written so far and `rest` together are the bytes; so it is a beginning of them wherever the loop ends.
-use Rattle.std.proofs.Common.{List, ℕ, [], ◌++◌, ◌∙◌, refl, ap, sym, take, arith}
-use Rattle.std.proofs.{lemmas.Grind.common_steps, lemmas.List.append-nil, lemmas.List.take-append-drop}
+use Rattle.triples.proofs.Common.{◌++◌, ◌∙◌, List, [], ap, append-nil, arith, common_steps, refl, sym, take}
+use Rattle.triples.proofs.Common.{take-append-drop, ℕ}
 use Rattle.triples.proofs.UseLemmas.{takes-beginning, takes-kept, takes-none, takes-then}
 use Rattle.triples.proofs.streams.write_all.Goals as goal
 

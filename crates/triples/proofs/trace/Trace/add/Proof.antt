@@ -1,27 +1,17 @@
 -- An empty body. The borrow is opened, and closed at the longer list.
-use Rattle.std.proofs.Common.{List, [], ◌∷◌, refl}
-use Rattle.std.proofs.raw_atomic.Walks.{proved}
-use mir.Syntax.{named}
-use mir.Val.{Val, vunit, vptr}
-use base.Logic.{emp, fst∗, id⊢, via}
-use base.Fml.{flft, ftrue}
-use types.Kit.{‵, ◌⊛◌, ◌$◌, ◌∵◌, !, qed, move, keep, drop, use1, split, join, fsplit, fsplit3, fjoin, fjoin3, feq_i}
-use types.Kit.{suffices, frame, done}
-use types.Run.{unit_lit, of_opd, returns, enter}
-use types.ByLocal.{alloc_all, pass_all, free_all, look_at, sets}
-use denote.RattleType.{owns}
-use denote.Ref.{MutRef, mut_vals, mut_Tells}
-use denote.Builtin.{u8}
-use denote.Exit.{yes}
+use Rattle.triples.proofs.Common.{◌$◌, ◌∵◌, ◌∷◌, ◌⊛◌, !, Goes-ref, List, Moved, MutRef, Stays, Trace, Val, []}
+use Rattle.triples.proofs.Common.{alloc_all, closes, done, emp, ends_at, enter, feq_i, flft, frame, free_all, fsplit3}
+use Rattle.triples.proofs.Common.{fst∗, ftrue, join, keep, look_at, move, mut_Tells, mut_vals, named, of_opd, opens}
+use Rattle.triples.proofs.Common.{owns, pass_all, plain, proved, qed, refl, returns, says, sets, split, stay_ref}
+use Rattle.triples.proofs.Common.{suffices, unit_lit, via, vunit, walk_of, yes, ‵}
+use mir.Val.{vptr}
+use base.Logic.{id⊢}
+use types.Kit.{drop, use1, fsplit, fjoin, fjoin3}
 use denote.Slice.{ShrSlice, shr_slice_vals, shr_slice_Tells}
-use denote.Signature.{plain}
-use denote.Steps.{opens, closes}
-use denote.Triple.Walked.{says, Stays, stay_ref, stay_none_slice, walk_of, Goes-ref, Goes-none_slice, ends_at}
-use Rattle.triples.specs.Calls.{Moved}
-use Rattle.triples.specs.declared.trace.Trace.{Trace}
+use denote.{Builtin.u8, Triple.Walked.stay_none_slice, Triple.Walked.Goes-none_slice}
+use Rattle.triples.specs.contracts.trace.Trace.{the_row as R}
 use Rattle.triples.proofs.trace.Trace.add.Statement.{statement}
 use Rattle.triples.specs.contracts.trace.Trace.add as f
-use Rattle.triples.specs.contracts.trace.Trace.{the_row as R}
 use Rattle.triples.proofs.trace.Trace.add.Code as code
 
 abbrev stayed : Stays f.ended.signature.params f.ended.kept

@@ -1,27 +1,13 @@
 -- `after` makes a struct of no bytes from two references.
-use mathlib.Core.Path.{refl}
-use mathlib.Core.List.{List, [], ◌∷◌}
-use Rattle.std.proofs.raw_atomic.Walks.{proved}
-use mir.Syntax.{named}
-use mir.Val.{Val, vstruct, vnil}
-use base.Logic.{via, fst∗, emp}
-use contract.Running.{tables}
-use types.Kit.{‵, raw, ◌$◌, ◌∵◌, !, qed, move, suffices, done}
-use types.Run.{no_more, returns, enter}
-use types.Part.{agg}
-use types.ByLocal.{alloc_all, pass_all, free_all, look_at, sets}
-use denote.Exit.{yes}
-use denote.RattleType.{owns}
-use denote.Ref.{shr_vals, shr_Tells}
-use denote.Shadow.{pure_i}
-use denote.Signature.{plain, types_at}
-use denote.Triple.Entry.{alive}
-use denote.Triple.Walked.{says, Stays, stay_none_ref, walk_of, Goes-none_ref, ends_at}
-use Rattle.triples.specs.Calls.{After, bytes_of}
-use Rattle.triples.specs.declared.trace.Trace.{Trace}
+use Rattle.triples.proofs.Common.{◌$◌, ◌∵◌, !, After, Stays, Trace, Val, agg, alive, alloc_all, bytes_of, done, emp}
+use Rattle.triples.proofs.Common.{ends_at, enter, free_all, fst∗, look_at, move, named, no_more, owns, pass_all, plain}
+use Rattle.triples.proofs.Common.{proved, pure_i, qed, raw, returns, says, sets, suffices, tables, via, vnil, vstruct}
+use Rattle.triples.proofs.Common.{walk_of, yes, ‵}
+use mathlib.Core.{Path.refl, List.List, List.[], List.◌∷◌}
+use denote.{Ref.shr_vals, Ref.shr_Tells, Signature.types_at, Triple.Walked.stay_none_ref, Triple.Walked.Goes-none_ref}
+use Rattle.triples.specs.contracts.trace.Trace.{the_row as R}
 use Rattle.triples.proofs.trace.Trace.after.Statement.{statement}
 use Rattle.triples.specs.contracts.trace.Trace.after as f
-use Rattle.triples.specs.contracts.trace.Trace.{the_row as R}
 use Rattle.triples.proofs.trace.Trace.after.Code as code
 
 abbrev stayed : Stays f.ended.signature.params f.ended.kept

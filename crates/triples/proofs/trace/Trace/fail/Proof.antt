@@ -1,21 +1,12 @@
 -- `fail` changes a ghost field, which has no bytes.
-use mathlib.Core.Path.{refl}
-use mathlib.Core.List.{[], ◌∷◌}
-use Rattle.std.proofs.raw_atomic.Walks.{proved}
-use mir.Syntax.{named}
-use mir.Val.{vunit}
-use base.Fml.{ftrue, flft}
-use types.Kit.{‵, ◌⊛◌, ◌$◌, ◌∵◌, !, qed, done, move, keep, split, join, fsplit3, feq_i, suffices, frame, group}
-use types.Run.{enter, of_opd, unit_lit, returns}
-use types.ByLocal.{alloc_all, pass_all, free_all, look_at, sets}
-use denote.Ref.{MutRef, mut_vals, mut_Tells}
-use denote.Signature.{plain}
-use denote.Steps.{nothing, opens, closes}
-use denote.Triple.Walked.{Stays, walk_of, says, stay_ref, Goes-ref, ends_at}
-use Rattle.triples.specs.Calls.{Failed}
+use Rattle.triples.proofs.Common.{◌$◌, ◌∵◌, ◌⊛◌, !, Failed, Goes-ref, MutRef, Stays, alloc_all, closes, done, ends_at}
+use Rattle.triples.proofs.Common.{enter, feq_i, flft, frame, free_all, fsplit3, ftrue, group, join, keep, look_at, move}
+use Rattle.triples.proofs.Common.{mut_Tells, mut_vals, named, nothing, of_opd, opens, pass_all, plain, proved, qed}
+use Rattle.triples.proofs.Common.{returns, says, sets, split, stay_ref, suffices, unit_lit, vunit, walk_of, ‵}
+use mathlib.Core.{Path.refl, List.[], List.◌∷◌}
+use Rattle.triples.specs.contracts.trace.Trace.{the_row as R}
 use Rattle.triples.proofs.trace.Trace.fail.Statement.{statement}
 use Rattle.triples.specs.contracts.trace.Trace.fail as f
-use Rattle.triples.specs.contracts.trace.Trace.{the_row as R}
 use Rattle.triples.proofs.trace.Trace.fail.Code as code
 
 abbrev stayed : Stays f.ended.signature.params f.ended.kept

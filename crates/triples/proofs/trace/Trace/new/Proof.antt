@@ -1,18 +1,8 @@
 -- `new` makes the struct of no bytes, of no calls.
-use mathlib.Core.Path.{refl}
-use mathlib.Core.List.{[], ◌∷◌}
-use Rattle.std.proofs.raw_atomic.Walks.{proved}
-use mir.Val.{vstruct, vnil}
-use base.Logic.{via, fst∗, emp}
-use contract.Running.{tables}
-use types.Kit.{‵, raw, ◌$◌, ◌∵◌, !, qed, move, suffices, done}
-use types.Run.{no_more, returns, enter}
-use types.Part.{agg}
-use types.ByLocal.{alloc_all, pass_all, free_all, look_at, sets}
-use denote.RattleType.{owns}
-use denote.Shadow.{pure_i}
-use denote.Triple.Entry.{alive}
-use denote.Triple.Walked.{says, Stays, walk_of, ends_at}
+use Rattle.triples.proofs.Common.{◌$◌, ◌∵◌, !, Stays, agg, alive, alloc_all, done, emp, ends_at, enter, free_all, fst∗}
+use Rattle.triples.proofs.Common.{look_at, move, no_more, owns, pass_all, proved, pure_i, qed, raw, returns, says, sets}
+use Rattle.triples.proofs.Common.{suffices, tables, via, vnil, vstruct, walk_of, ‵}
+use mathlib.Core.{Path.refl, List.[], List.◌∷◌}
 use Rattle.triples.proofs.trace.Trace.new.Statement.{statement}
 use Rattle.triples.specs.contracts.trace.Trace.new as f
 use Rattle.triples.specs.contracts.trace.Trace as made
