@@ -209,7 +209,7 @@ def add_words(known, words, said=""):
     for word in words.split(" "):
         if not word or word in known:
             raise Mistake(f"a list has each word once, with a space between two, and not `{word}`")
-        known[word] = said
+        known[word] = word if said == "=" else said
 
 
 def check_no_name(words, names):

@@ -535,8 +535,8 @@ pub unsafe extern "C" fn lexicon_targets(
     text: *const u8, text_size: usize, parts: *mut Part, most: usize, count: *mut usize,
 ) -> Status {
     let range = |word: target_names::Word<'_>| {
-        let start = word.start();
-        Part { start, end: start + word.text().len() }
+        let range = word.part.range();
+        Part { start: range.start, end: range.end }
     };
     unsafe { each_of(text, text_size, parts, most, count, |text| target_names::targets_in(text).map(range)) }
 }

@@ -67,14 +67,14 @@ fn each_of_list(list: Target<'_>, answers: &mut impl Answers) -> Result<(), Faul
         Place::Line { file, number, indent } => (Some(file), number, indent),
     };
     let words = targets_in(list.text);
-    if !words.clone().next().map_or(false, |it| it.is_item()) {
+    if !words.clone().next().map_or(false, |it| it.is_item) {
         return answers.answer(list);
     }
     for word in words {
-        indent += list.text[at..word.start()].chars().count();
-        at = word.start();
+        indent += list.text[at..word.part.start].chars().count();
+        at = word.part.start;
         let place = file.map_or(list.place, |file| Place::Line { file, number, indent });
-        answers.answer(Target { text: word.text(), place, word: None })?;
+        answers.answer(Target { text: word.part.text, place, word: None })?;
     }
     Ok(())
 }
@@ -146,13 +146,13 @@ fn each_in_text(path: &Path, answers: &mut impl Answers) -> Result<(), Fault> {
     let text = text.strip_prefix(BYTE_ORDER_MARK).unwrap_or(&text);
     let (mut at, mut number, mut indent) = (0, 1, 0);
     for word in words_in(text) {
-        let before = &text[at..word.start()];
+        let before = &text[at..word.part.start];
         number += before.matches('\n').count();
         let (start, characters) = before.rsplit_once('\n').map_or((indent, before), |it| (0, it.1));
         indent = start + characters.chars().count();
-        at = word.start();
+        at = word.part.start;
         let place = Place::Line { file, number, indent };
-        answers.answer(Target { text: word.text(), place, word: Some(word) })?;
+        answers.answer(Target { text: word.part.text, place, word: Some(word) })?;
     }
     Ok(())
 }

@@ -8,6 +8,7 @@ use crate::shape::{is_another_target, unversioned, version, AbiRule, Rules};
 use crate::table::refusals::SEVERAL;
 use crate::table::{Dialect, DIALECT_NAMES, ONLY_WRITTEN, TABLES, VERSION_RANGES};
 use core::cmp::Ordering;
+use core::fmt;
 use core::str::FromStr;
 use target_lexicon::{DeploymentTarget, OperatingSystem, TripleRef};
 
@@ -46,8 +47,8 @@ pub(super) type Numbers = Option<(u16, u8)>;
 /// The most bytes of a triple's text with a known vendor, and more.
 pub(super) const MAX_LENGTH: usize = 64;
 
-/// What a name means. Rows, shapes, files and the words of any text give it, and names are written for it, so that a level isn't lost by what
-/// is around a name. A triple is one whose machine has no level.
+/// What a name means. Rows, shapes, files and the words of any text give it, and names are written for it, so that a
+/// level isn't lost by what is around a name. A triple is one whose machine has no level.
 #[derive(Clone, Copy, Debug, PartialEq, Eq, Hash)]
 pub struct Sense<'a> {
     /// The canonical triple.
@@ -56,22 +57,9 @@ pub struct Sense<'a> {
     pub level: &'static str,
 }
 
-impl<'a> From<TripleRef<'a>> for Sense<'a> {
-    fn from(triple: TripleRef<'a>) -> Self {
-        Sense { triple, level: "" }
-    }
-}
-
-impl<'a> From<&TripleRef<'a>> for Sense<'a> {
-    fn from(triple: &TripleRef<'a>) -> Self {
-        (*triple).into()
-    }
-}
-
-#[cfg(feature = "alloc")]
-impl<'a> From<&'a target_lexicon::Triple> for Sense<'a> {
-    fn from(triple: &'a target_lexicon::Triple) -> Self {
-        TripleRef::from(triple).into()
+impl<'a, T: Into<TripleRef<'a>>> From<T> for Sense<'a> {
+    fn from(triple: T) -> Self {
+        Sense { triple: triple.into(), level: "" }
     }
 }
 
@@ -82,6 +70,15 @@ pub enum NameError {
     Unknown,
     /// The dialect has the name, but no triple means the same, for this reason.
     WithoutTriple(&'static str),
+}
+
+impl fmt::Display for NameError {
+    fn fmt(&self, f: &mut fmt::Formatter<'_>) -> fmt::Result {
+        match self {
+            NameError::Unknown => f.write_str("Unknown name"),
+            NameError::WithoutTriple(why) => write!(f, "No triple has this name: {why}"),
+        }
+    }
 }
 
 impl Dialect {
@@ -163,8 +160,8 @@ impl Dialect {
         found
     }
 
-    /// What a name of this dialect says that its triple doesn't: that `linux/amd64/v3` of OCI is for a level of x86-64, or what the
-    /// vendor of a target of rustc says. `None` if there is no more, or no such name.
+    /// What a name of this dialect says that its triple doesn't: that `linux/amd64/v3` of OCI is for a level of x86-64,
+    /// or what the vendor of a target of rustc says. `None` if there is no more, or no such name.
     ///
     /// ```
     /// use target_names::Dialect;
@@ -180,8 +177,8 @@ impl Dialect {
         notes.next().map(|it| it.1)
     }
 
-    /// What a name of this dialect means: several triples of a name such as `universal2`, which [`read`](Dialect::read) refuses, that
-    /// of every other name that is [read](Dialect::read_loosely), and none of others.
+    /// What a name of this dialect means: several triples of a name such as `universal2`, which [`read`](Dialect::read)
+    /// refuses, that of every other name that is [read](Dialect::read_loosely), and none of others.
     pub(crate) fn read_each(self, name: &str) -> impl Iterator<Item = Sense<'static>> + Clone {
         let is_tag = self == Dialect::Python;
         let tag = if is_tag { last_tag(name) } else { name };
@@ -289,8 +286,8 @@ impl Dialect {
 
     /// The triple without what the dialect doesn't name: the vendor, which is the usual one of the system; the version
     /// of the system, and how much of that of the architecture isn't stated; where names don't state them, also the C
-    /// library and the floating-point ABI, as in Go, OCI and Python, and in Node except on Linux. Python keeps versions of
-    /// macOS and iOS, with two numbers. The binary format stays.
+    /// library and the floating-point ABI, as in Go, OCI and Python, and in Node except on Linux. Python keeps versions
+    /// of macOS and iOS, with two numbers. The binary format stays.
     ///
     /// ```
     /// use target_lexicon::TripleRef;
@@ -404,8 +401,8 @@ pub(crate) fn is_written(row: &Row) -> bool {
     matches!(row.2, Way::Both | Way::Written)
 }
 
-/// Whether names with a pattern may have a version: it has a place for both numbers, or for the first, if the second is 0; and
-/// the first is one of its system or C library.
+/// Whether names with a pattern may have a version: it has a place for both numbers, or for the first, if the second is
+/// 0; and the first is one of its system or C library.
 pub(crate) fn has_version(major: u16, minor: u8, pattern: &str) -> bool {
     // All ranges are of names with a place for a number.
     let has_places = minor == 0 || star_count(pattern) == 2;

@@ -1,8 +1,12 @@
 //! What a compiler's driver asks of a triple besides the queries. `checks/compare llvm` asks rustc and clang of each of rustc's targets.
 use crate::environment::library_and_abi;
 use crate::rustc_cfg::unlisted_system;
-use crate::{CLibrary, FloatAbi, Signedness};
-use target_lexicon::{Architecture, CDataModel, Environment, OperatingSystem, PointerWidth, TripleRef};
+use crate::shape::version;
+use crate::{ArmProfile, CLibrary, FloatAbi, Signedness};
+use target_lexicon::{
+    Architecture, ArmArchitecture, BinaryFormat, CDataModel, DeploymentTarget, Environment, OperatingSystem,
+    PointerWidth, TripleRef,
+};
 
 /// The size and the alignment of a type of C, in bytes.
 #[derive(Clone, Copy, Debug, PartialEq, Eq, Hash)]
@@ -215,5 +219,67 @@ impl TypeSizes {
             (Some(_), Ok(PointerWidth::U64)) => Some(TypeSizes::in_model(CDataModel::LP64)),
             _ => None,
         }
+    }
+}
+
+/// The answers of [`TargetInfo::arm_version`] and [`TargetInfo::arm_profile`]. `checks/compare llvm` asks LLVM of each.
+pub(crate) const fn arm_version_and_profile(triple: &TripleRef<'_>) -> (Option<u8>, Option<ArmProfile>) {
+    use {ArmArchitecture::*, ArmProfile::*};
+    let Architecture::Arm(sub) = triple.architecture else {
+        return (None, None);
+    };
+    match sub {
+        Armv4 | Armv4t | Thumbv4t => (Some(4), None),
+        Armv5t | Armv5te | Armv5tej | Thumbv5te => (Some(5), None),
+        Armv6 | Armv6j | Armv6k | Armv6z | Armv6kz | Armv6t2 => (Some(6), None),
+        Armv6m | Thumbv6m => (Some(6), Some(Microcontroller)),
+        Armv7 => (Some(7), None),
+        Armv7a | Armv7k | Armv7s | Armv7ve | Thumbv7a | Thumbv7neon => (Some(7), Some(Application)),
+        Armv7r | Armebv7r => (Some(7), Some(RealTime)),
+        Armv7m | Thumbv7em | Thumbv7m => (Some(7), Some(Microcontroller)),
+        Armv8 => (Some(8), None),
+        Armv8a | Armv8_1a | Armv8_2a | Armv8_3a | Armv8_4a | Armv8_5a => (Some(8), Some(Application)),
+        Armv8r => (Some(8), Some(RealTime)),
+        Armv8mBase | Armv8mMain | Thumbv8mBase | Thumbv8mMain => (Some(8), Some(Microcontroller)),
+        _ => (None, None),
+    }
+}
+
+/// The answer of [`TargetInfo::macos_version`]. `checks/compare llvm` asks LLVM of macOS's, and rustc of the oldest ones.
+pub(crate) const fn macos_version(triple: &TripleRef<'_>) -> Option<DeploymentTarget> {
+    let kernel = match triple.operating_system {
+        OperatingSystem::MacOSX(version) => return version,
+        OperatingSystem::Darwin(Some(version)) => version.major,
+        _ => return None,
+    };
+    let (major, minor) = match kernel {
+        0..=3 => return None,
+        4..=19 => (10, kernel as u8 - 4),
+        20..=24 => (kernel - 9, 0),
+        // After macOS 15 comes macOS 26.
+        _ => (kernel.saturating_add(1), 0),
+    };
+    Some(version(major, minor))
+}
+
+/// The answer of [`TargetInfo::object_format`].
+pub(crate) const fn object_format(triple: &TripleRef<'_>) -> BinaryFormat {
+    use OperatingSystem::{Cygwin, Uefi};
+    let implied = triple.default_binary_format();
+    let given = triple.binary_format;
+    match (implied, triple.operating_system, triple.architecture) {
+        _ if !matches!(given, BinaryFormat::Unknown) && given as u8 != implied as u8 => given,
+        (BinaryFormat::Elf, Cygwin | Uefi, _) => BinaryFormat::Coff,
+        (BinaryFormat::Unknown, _, Architecture::Unknown) => BinaryFormat::Unknown,
+        (BinaryFormat::Elf | BinaryFormat::Unknown, _, machine) => wasm_or(BinaryFormat::Elf, machine),
+        _ => implied,
+    }
+}
+
+/// The format of WebAssembly on its architectures, elsewhere this one.
+pub(crate) const fn wasm_or(format: BinaryFormat, architecture: Architecture) -> BinaryFormat {
+    match architecture {
+        Architecture::Wasm32 | Architecture::Wasm64 => BinaryFormat::Wasm,
+        _ => format,
     }
 }

@@ -1,8 +1,11 @@
-//! What each environment says of the C library and of the ABI: the table in which all others look.
-use target_lexicon::{Architecture, Environment, Environment::*};
+//! What each environment says of the C library and of the ABI: the table in which all others look; and what a C library
+//! makes of a triple of Linux or Windows.
+use crate::shape::arm_of_version;
+use crate::ChosenLibc;
+use target_lexicon::{Architecture, ArmArchitecture, Environment, Environment::*, OperatingSystem, TripleRef};
 
-/// Each environment that says something: the C library or toolchain, and the ABI, in rustc's words. Of rustc `gnullvm` is
-/// `gnu`, and `bionic` nothing.
+/// Each environment that says something: the C library or toolchain, and the ABI, in rustc's words. Of rustc `gnullvm`
+/// is `gnu`, and `bionic` nothing.
 const ENVIRONMENTS: [(Environment, &str, &str); 27] = [
     (Android, "bionic", ""),
     (Androideabi, "bionic", "eabi"),
@@ -57,4 +60,40 @@ pub(crate) fn is_on(environment: Environment, machine: Option<Architecture>) -> 
         ((_, "x32"), _) => matches!(machine, Some(X86_64 | X86_64h)),
         _ => true,
     }
+}
+
+impl ChosenLibc {
+    /// Its system, and the usual environment on an architecture.
+    fn environment(self, architecture: Architecture) -> (OperatingSystem, Environment) {
+        let library = match self {
+            ChosenLibc::Msvc => return (OperatingSystem::Windows, Environment::Msvc),
+            ChosenLibc::Mingw => return (OperatingSystem::Windows, Environment::Gnu),
+            ChosenLibc::Gnullvm => return (OperatingSystem::Windows, Environment::GnuLlvm),
+            ChosenLibc::Glibc => "gnu",
+            ChosenLibc::Musl => "musl",
+        };
+        let abi = match architecture {
+            Architecture::Arm(arm) => match arm_of_version(arm) {
+                // Which of the two isn't said.
+                ArmArchitecture::Arm => return (OperatingSystem::Linux, Environment::Unknown),
+                ArmArchitecture::Armv6 | ArmArchitecture::Armv7 | ArmArchitecture::Armv8 => "eabihf",
+                ArmArchitecture::Armv5te => "eabi",
+                _ => "",
+            },
+            Architecture::Mips64(_) => "abi64",
+            _ => "",
+        };
+        let environment = environment_of(library, abi).unwrap_or(Environment::Unknown);
+        (OperatingSystem::Linux, environment)
+    }
+}
+
+/// The answer of [`TargetInfo::with_c_library`].
+pub(crate) fn complete<'a>(triple: &TripleRef<'a>, c_library: ChosenLibc) -> TripleRef<'a> {
+    let (system, environment) = c_library.environment(triple.architecture);
+    let mut completed = *triple;
+    if triple.environment == Environment::Unknown && triple.operating_system == system {
+        completed.environment = environment;
+    }
+    completed
 }

@@ -29,7 +29,7 @@ use target_lexicon::{
 
 /// What words say of a property.
 #[derive(Clone, Copy, Debug, Default, PartialEq, Eq)]
-pub enum Said<T> {
+pub(crate) enum Said<T> {
     /// Nothing.
     #[default]
     Unsaid,
@@ -41,8 +41,7 @@ pub enum Said<T> {
 
 impl<T: Copy + PartialEq> Said<T> {
     /// The one thing that is said.
-    #[must_use]
-    pub fn one(self) -> Option<T> {
+    pub(crate) fn one(self) -> Option<T> {
         match self {
             Said::One(it) => Some(it),
             _ => None,
@@ -64,13 +63,15 @@ impl<T: Copy + PartialEq> Said<T> {
 /// ```
 /// use target_names::Evidence;
 ///
-/// for (text, triple) in [
-///     ("arm64-osx", "aarch64-apple-darwin"),
-///     ("linuxArm64", "aarch64-unknown-linux"),
-///     ("debian-12-armhf", "arm-unknown-linux-gnueabihf"),
-///     ("tool-1.2.3-windows-x86_64.zip", "x86_64-pc-windows"),
+/// for (text, triple, level) in [
+///     ("arm64-osx", "aarch64-apple-darwin", ""),
+///     ("linuxArm64", "aarch64-unknown-linux", ""),
+///     ("debian-12-armhf", "arm-unknown-linux-gnueabihf", ""),
+///     ("tool-1.2.3-windows-x86_64.zip", "x86_64-pc-windows", ""),
+///     ("tool_1.2_linux_amd64_v3", "x86_64-unknown-linux", "v3"),
 /// ] {
-///     assert_eq!(Evidence::of(text).triple().unwrap().to_string(), triple);
+///     let sense = Evidence::of(text).sense().unwrap();
+///     assert_eq!((sense.triple.to_string(), sense.level), (triple.into(), level));
 /// }
 /// for (text, sentence) in [
 ///     ("ubuntu-22.04", "it names a system, and no single machine known here"),
@@ -80,7 +81,7 @@ impl<T: Copy + PartialEq> Said<T> {
 ///     ("linux-x64-foo", "its words say x86_64, linux; here nobody knows `foo`"),
 /// ] {
 ///     let evidence = Evidence::of(text);
-///     assert_eq!((evidence.triple(), evidence.to_string()), (None, sentence.into()));
+///     assert_eq!((evidence.sense(), evidence.to_string()), (None, sentence.into()));
 /// }
 /// assert!(Evidence::of("foo").is_empty());
 /// ```
@@ -99,14 +100,15 @@ pub struct Evidence<'a> {
     pub(crate) floats: Said<FloatAbi>,
     /// A known vendor that isn't the usual one of many systems.
     vendor: Said<&'static str>,
-    system: Said<&'static str>,
+    /// By its known name, or `other`, which no triple has.
+    pub(crate) system: Said<&'static str>,
     library: Said<&'static str>,
     /// What else an environment says, such as `android`, `sim` or `n64`.
     form: Said<&'static str>,
     /// The first word that isn't understood, after the first that says a machine or a system.
     pub(crate) unknown: Option<&'a str>,
     /// Before that, a word isn't understood, as in the name of a program.
-    has_title: bool,
+    pub(crate) has_title: bool,
     /// Before that, and not just before it, a word says a C library, which may be another target's: `sdk_musl.Linux-x86_64`.
     has_library_apart: bool,
 }
@@ -144,9 +146,8 @@ impl<'a> Evidence<'a> {
     fn take(&mut self, word: Range<usize>, said: Option<&'static str>, before: Option<Kind>) -> Option<Kind> {
         let has_begun = self.has_begun();
         let text: &'a str = &self.text[word.clone()];
-        let is_number = text.bytes().all(|it| it.is_ascii_digit());
         let joint = self.text[..word.start].bytes().next_back();
-        if let (Some(Kind::Machine | Kind::System), true, "32" | "64") = (before, is_number, text) {
+        if let (Some(Kind::Machine | Kind::System), "32" | "64") = (before, text) {
             self.width.add(if text == "32" { PointerWidth::U32 } else { PointerWidth::U64 });
             return None;
         }
@@ -187,7 +188,9 @@ impl<'a> Evidence<'a> {
             self.system = Said::Contradicted;
         }
         let is_next = self.library == Said::Unsaid || matches!(before, Some(Kind::Gnu | Kind::Library));
-        self.has_library_apart |= !has_begun && !is_title && !is_next;
+        // The word after the machine or the system is the target's: `musl-tool-linux-arm-musleabihf`.
+        let is_of_target = has_begun && (says(Kind::Gnu) || says(Kind::Library));
+        self.has_library_apart = (self.has_library_apart || !has_begun && !is_title && !is_next) && !is_of_target;
         if !(is_title && may_be_title) {
             said.split(' ').for_each(|it| self.say(it));
         }
@@ -290,14 +293,8 @@ impl<'a> Evidence<'a> {
         has_machine && self.system != Said::Unsaid && self.unknown.is_none() && !self.has_title
     }
 
-    /// Whether a word that isn't understood comes before the first that says a machine or a system.
-    pub(crate) fn has_title(&self) -> bool {
-        self.has_title
-    }
-
     /// The least machine that the words say. A word such as `arm` says none, which may have 32 bits or 64, unless others say which.
-    #[must_use]
-    pub fn machine(&self) -> Said<Architecture> {
+    pub(crate) fn machine(&self) -> Said<Architecture> {
         let arm = Architecture::Arm(ArmArchitecture::Arm);
         let may_be_64 = self.width.allows(PointerWidth::U64);
         let is_arm = |it| matches!(it, Architecture::Arm(_) | Architecture::Aarch64(_));
@@ -306,12 +303,6 @@ impl<'a> Evidence<'a> {
             Said::Unsaid if self.is_any_arm && (self.floats != Said::Unsaid || !may_be_64) => Said::One(arm),
             said => said,
         }
-    }
-
-    /// The system, by its known name, or `other`, which no triple has.
-    #[must_use]
-    pub fn system(&self) -> Said<&'static str> {
-        self.system
     }
 
     /// Whether the words name this, of a tool whose `arm` has 32 bits.
@@ -325,22 +316,7 @@ impl<'a> Evidence<'a> {
         known.sense().map_or(false, is_same)
     }
 
-    /// The triple that the words name: the one that says just what they say. `None` if they say a level of the machine, which no triple
-    /// states: [`sense`](Evidence::sense) has both.
-    #[must_use]
-    pub fn triple(&self) -> Option<TripleRef<'static>> {
-        let Sense { triple, level } = self.sense()?;
-        level.is_empty().then_some(triple)
-    }
-
-    /// What the words name: the triple, and the level of its machine that they say.
-    ///
-    /// ```
-    /// use target_names::Evidence;
-    ///
-    /// let sense = Evidence::of("tool_1.2_linux_amd64_v3").sense().unwrap();
-    /// assert_eq!((sense.triple.to_string().as_str(), sense.level), ("x86_64-unknown-linux", "v3"));
-    /// ```
+    /// What the words name: the triple that says just what they say, and the level of its machine that they say.
     #[must_use]
     pub fn sense(&self) -> Option<Sense<'static>> {
         let level = match self.level {
@@ -410,8 +386,7 @@ impl<'a> Evidence<'a> {
     }
 
     /// Whether the words may be of this triple: it says what they say, and nothing that contradicts them.
-    #[must_use]
-    pub fn allows(&self, triple: &TripleRef<'_>) -> bool {
+    pub(crate) fn allows(&self, triple: &TripleRef<'_>) -> bool {
         let machine = triple.architecture;
         let is_arm = matches!(machine, Architecture::Arm(_) | Architecture::Aarch64(_));
         let has_no_version = match machine {

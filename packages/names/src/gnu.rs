@@ -1,7 +1,7 @@
 //! Strings that are spelled like triples, as GNU's config.sub takes and completes them.
 use crate::buffer::Buffer;
+use crate::driver::wasm_or;
 use crate::environment::library_and_abi;
-use crate::object_format::wasm_or;
 use crate::reading::{is_soft_floats, read};
 use crate::shape::usual_vendor;
 use crate::spelled::{is_like_system, is_of_machine, may_be_versioned};
@@ -110,7 +110,7 @@ fn is_system(part: &str) -> bool {
 
 /// Whether a part is a word for a system in names that no tool has.
 fn is_word_of_system(part: &str) -> bool {
-    part != "none" && Evidence::of(part).system() != Said::Unsaid
+    part != "none" && Evidence::of(part).system != Said::Unsaid
 }
 
 fn is_one_of(names: &[&str], part: &str) -> bool {

@@ -26,7 +26,7 @@ pub enum Mistake<'a> {
     Space,
     /// It is the beginning or the end of names such as this one.
     Part(&'static str),
-    /// It is this name of other dialects, which [`Dialect::all_with`] lists.
+    /// It is this name of other dialects: those in which [`Dialect::read_loosely`] gives a triple.
     OtherTool(&'a str),
     /// It has a path.
     Path,
@@ -58,21 +58,14 @@ impl fmt::Display for Mistake<'_> {
 }
 
 impl Dialect {
-    /// The dialects that have a name, with what files and commands have around it: those in which
-    /// [`read_loosely`](Dialect::read_loosely) gives a triple.
-    ///
-    /// ```
-    /// use target_names::Dialect;
-    ///
-    /// assert!(Dialect::all_with("linux/arm64").eq([Dialect::Go, Dialect::Oci]));
-    /// ```
-    pub fn all_with(name: &str) -> impl Iterator<Item = Dialect> + Clone + '_ {
+    /// The dialects that have a name, with what files and commands have around it.
+    pub(crate) fn all_with(name: &str) -> impl Iterator<Item = Dialect> + Clone + '_ {
         let all = Dialect::ALL.iter().copied();
         all.filter(|dialect| dialect.read_loosely(name).is_ok())
     }
 
-    /// What is wrong with a name that this dialect doesn't have, if it is one of a few mistakes. [`suggestion`](Dialect::suggestion)
-    /// says which name was perhaps meant. Nothing is allocated.
+    /// What is wrong with a name that this dialect doesn't have, if it is one of a few mistakes.
+    /// [`suggestion`](Dialect::suggestion) says which name was perhaps meant. Nothing is allocated.
     ///
     /// ```
     /// use target_names::{Dialect, Mistake};
@@ -120,13 +113,8 @@ impl Dialect {
         matches!(self, Dialect::Go | Dialect::Oci)
     }
 
-    /// The names without a version that the tool is known to have and that mean one triple. Others are read too, by rules: those with
-    /// a version, and other spellings.
-    ///
-    /// ```
-    /// # use target_names::Dialect;
-    /// assert!(Dialect::Debian.names().any(|name| name == "arm64"));
-    /// ```
+    /// The names without a version that the tool is known to have and that mean one triple. Others are read too, by
+    /// rules: those with a version, and other spellings.
     pub fn names(self) -> impl Iterator<Item = &'static str> {
         self.rows_read().map(|row| row.0)
     }
@@ -136,8 +124,8 @@ impl Dialect {
         self.names().find(|it| it.eq_ignore_ascii_case(name))
     }
 
-    /// The name that is in a path or has white space around it. If names have slashes, it ends the path: what follows may be a
-    /// part of another name.
+    /// The name that is in a path or has white space around it. If names have slashes, it ends the path: what follows
+    /// may be a part of another name.
     fn name_inside(self, text: &str) -> Option<&'static str> {
         let text = text.trim();
         if text.len() > LONGEST_PATH {
@@ -151,8 +139,8 @@ impl Dialect {
         found.max_by_key(|name| name.len())
     }
 
-    /// The name that is suggested for an unknown one, of those without a version that [`read`](Dialect::read) knows. Nothing is
-    /// allocated.
+    /// The name that is suggested for an unknown one, of those without a version that [`read`](Dialect::read) knows.
+    /// Nothing is allocated.
     ///
     /// It is the name that is the same but for capital letters, white space around it or a path. Otherwise it is that of the triple
     /// which its words name, by [`Evidence`]: `linux-x64` of Node for `linux-amd64`. Otherwise it is the nearest name, if the unknown
@@ -224,8 +212,8 @@ impl<'a> Hints<'a> {
             return evidence.allows(&triple).then_some(known);
         }
         let spelled = read(name).ok().filter(|it| !it.vendor.is_custom() && !has_number_of_abi(name));
-        let said = evidence.triple().filter(|_| !evidence.has_title());
-        let named = spelled.or(said);
+        let said = evidence.sense().filter(|it| it.level.is_empty() && !evidence.has_title);
+        let named = spelled.or(said.map(|it| it.triple));
         let known = named.and_then(|it| dialect.name_with_floats_of(&it));
         let known = known.or_else(|| dialect.name_of_machine(name));
         let found = known.or_else(|| self.nearest(dialect))?;
@@ -259,8 +247,8 @@ impl<'a> Hints<'a> {
         let found = self.machines_near.get().unwrap_or_else(|| {
             let (mut machines, mut edits) = (Said::Unsaid, usize::MAX);
             let rows = Dialect::ALL.iter().flat_map(|it| it.rows_read());
-            let (name, letters) = (joined(self.name), letters(self.name));
-            for row in rows.filter(|row| may_be_near(row, self.name) && has_letters(row, letters)) {
+            let name = joined(self.name);
+            for row in rows.filter(|row| may_be_near(row, self.name)) {
                 let own = edits_between(name.as_str().as_bytes(), joined(row.0).as_str());
                 let own = own.filter(|it| *it <= edits);
                 let Some(own) = own.filter(|_| self.may_say_machine_of(row)) else {
@@ -284,18 +272,6 @@ fn joined(name: &str) -> Buffer<64> {
     let mut joined = Buffer::new();
     let is_written = name.chars().try_for_each(|it| joined.write_char(if "/_ .".contains(it) { '-' } else { it }));
     is_written.map_or(Buffer::new(), |()| joined)
-}
-
-/// A bit for each letter and digit of a name.
-fn letters(name: &str) -> u32 {
-    let all = name.bytes().filter(u8::is_ascii_alphanumeric);
-    all.fold(0, |bits, byte| bits | 1 << (byte & 31))
-}
-
-/// Whether at most two letters are only in one of both: each takes an edit.
-fn has_letters(row: &Row, letters_of_name: u32) -> bool {
-    let differing = letters(row.0) ^ letters_of_name;
-    (differing & letters_of_name).count_ones() <= 2 && (differing & !letters_of_name).count_ones() <= 2
 }
 
 /// The lengths first: all other names are farther than a misspelling.
@@ -336,8 +312,8 @@ impl fmt::Display for Meant<'_> {
 }
 
 impl<'a> Meant<'a> {
-    /// The name that was perhaps meant by a misspelled one: a triple with another part, or else a name of a tool. All of whose words are
-    /// known is no misspelled name. Nothing is allocated.
+    /// The name that was perhaps meant by a misspelled one: a triple with another part, or else a name of a tool. All
+    /// of whose words are known is no misspelled name. Nothing is allocated.
     ///
     /// ```
     /// use target_names::Meant;
@@ -353,9 +329,9 @@ impl<'a> Meant<'a> {
         let of_triple = Meant::of_triple(word).filter(Meant::is_target);
         of_triple.or_else(|| {
             let evidence = &hints.evidence;
-            let is_known = match (evidence.machine(), evidence.system()) {
+            let is_known = match (evidence.machine(), evidence.system) {
                 (Said::Unsaid, _) => false,
-                (_, Said::Unsaid) => evidence.unknown.is_none() && !evidence.has_title(),
+                (_, Said::Unsaid) => evidence.unknown.is_none() && !evidence.has_title,
                 _ => true,
             };
             if is_known {

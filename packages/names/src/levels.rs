@@ -1,8 +1,8 @@
 //! Levels of machines, in one partial order.
 //!
-//! A level is what programs may use: the instruction sets and extensions of a machine, a bit for each. Of two machines of
-//! one kind the first is at most the second if it has no bit that the second hasn't: the second then runs what is built for
-//! the first. Machines of two kinds, such as those of two byte orders, are never at most each other.
+//! A level is what programs may use: the instruction sets and extensions of a machine, a bit for each. Of two machines
+//! of one kind the first is at most the second if it has no bit that the second hasn't: the second then runs what is
+//! built for the first. Machines of two kinds, such as those of two byte orders, are never at most each other.
 //!
 //! A name is written for a triple only if the triple's level is at most that for which the tool builds: otherwise the name
 //! would mean machines that don't run the program. A name that says no level, such as `arm`, is for all that the tool has.
@@ -172,6 +172,44 @@ powerpc64le powerpc64le@power9 powerpc64le@power10
 riscv64 riscv64imac riscv64gc riscv64@rva22u64 riscv64@rva23u64
 riscv32i riscv32im riscv32ima riscv32imac riscv32imafc riscv32gc";
 
+    /// In each line no machine is at most another one.
+    const APART: &str = "\
+thumbv7m armv7 armv7r
+armv6k armv6t2
+armebv7r armv7r
+mips mipsel
+x86_64 i686
+aarch64@v8.6 aarch64@v9
+thumbv8m.base thumbv7em
+thumbv7em thumbv8m.main
+armv7ve thumbv7neon
+powerpc64 powerpc64le riscv32";
+
+    /// In each line each machine is at most each other one. No machine has a higher level than some number.
+    const SAME: &str = "\
+x86_64 x86_64@v1
+x86_64h x86_64@v3
+powerpc64 powerpc64@power8
+aarch64 aarch64@v8
+aarch64@v8.99 aarch64@v8.4000000000
+riscv64gc riscv64@gc riscv64@rva20u64
+riscv32gc riscv32@gc
+riscv64a23 riscv64@rva23u64
+sparc64 sparcv9
+i586 i686
+arm armv4
+armv4t thumbv4t
+armv5te armv5tej thumbv5te
+armv6 armv6j armv6z
+armv6k armv6kz
+armv7 armv7a thumbv7a
+armv7k armv7s
+armv8 armv8a
+armv6m thumbv6m
+armv7m thumbv7m
+armv8m.base thumbv8m.base
+armv8m.main thumbv8m.main";
+
     #[test]
     fn levels_are_in_one_partial_order() {
         for line in CHAINS.lines() {
@@ -183,57 +221,13 @@ riscv32i riscv32im riscv32ima riscv32imac riscv32imafc riscv32gc";
                 }
             }
         }
-        for (first, second) in [
-            ("thumbv7m", "armv7"),
-            ("armv7", "thumbv7m"),
-            ("armv7r", "armv7"),
-            ("armv6k", "armv6t2"),
-            ("armebv7r", "armv7r"),
-            ("mips", "mipsel"),
-            ("x86_64", "i686"),
-            ("aarch64@v8.6", "aarch64@v9"),
-            ("armv6t2", "armv6k"),
-            ("thumbv8m.base", "thumbv7em"),
-            ("thumbv7em", "thumbv8m.main"),
-            ("armv7ve", "thumbv7neon"),
-            ("thumbv7neon", "armv7ve"),
-            ("powerpc64", "powerpc64le"),
-            ("powerpc64le", "powerpc64"),
-            ("powerpc64", "riscv32"),
-        ] {
-            assert!(!is_at_most(machine(first), machine(second)), "{first} {second}");
-        }
-        for (first, second) in [
-            ("x86_64", "x86_64@v1"),
-            ("x86_64h", "x86_64@v3"),
-            ("powerpc64", "powerpc64@power8"),
-            ("aarch64", "aarch64@v8"),
-            ("riscv64gc", "riscv64@gc"),
-            ("riscv64gc", "riscv64@rva20u64"),
-            ("riscv32gc", "riscv32@gc"),
-            ("riscv64a23", "riscv64@rva23u64"),
-            ("sparc64", "sparcv9"),
-            ("i586", "i686"),
-            ("arm", "armv4"),
-            ("armv4t", "thumbv4t"),
-            ("armv5te", "armv5tej"),
-            ("armv5te", "thumbv5te"),
-            ("armv6", "armv6j"),
-            ("armv6", "armv6z"),
-            ("armv6k", "armv6kz"),
-            ("armv7", "armv7a"),
-            ("armv7", "thumbv7a"),
-            ("armv7k", "armv7s"),
-            ("armv8", "armv8a"),
-            ("armv6m", "thumbv6m"),
-            ("armv7m", "thumbv7m"),
-            ("armv8m.base", "thumbv8m.base"),
-            ("armv8m.main", "thumbv8m.main"),
-            // No machine has a higher level than some number.
-            ("aarch64@v8.99", "aarch64@v8.4000000000"),
-        ] {
-            assert!(is_at_most(machine(first), machine(second)), "{first} {second}");
-            assert!(is_at_most(machine(second), machine(first)), "{second} {first}");
+        for (line, is_same) in APART.lines().map(|it| (it, false)).chain(SAME.lines().map(|it| (it, true))) {
+            let machines: Vec<_> = line.split(' ').map(machine).collect();
+            for (at, one) in machines.iter().enumerate() {
+                for (of, other) in machines.iter().enumerate() {
+                    assert_eq!(is_at_most(*one, *other), is_same || at == of, "{one:?} {other:?}");
+                }
+            }
         }
         let all = known_names(Field::Architecture).iter().map(|it| machine(it));
         for (a, b, c) in all.clone().flat_map(|a| {
@@ -246,29 +240,27 @@ riscv32i riscv32im riscv32ima riscv32imac riscv32imafc riscv32gc";
         }
     }
 
+    /// A machine, that of a name, and after `=` whether the name is for it.
+    const NAMED: &str = "\
+armv7 arm=true
+arm armv7=true
+armv6 arm@armv6=true
+arm arm@armv6=true
+riscv64gc riscv64=true
+riscv64imac riscv64=true
+thumbv7m arm=false
+armv7 armv5te=false
+armv7 arm@armv6=false
+x86_64h x86_64=false
+x86_64@v3 x86_64=false
+riscv64a23 riscv64=false
+riscv64gc riscv64imac=false";
+
     #[test]
     fn names_are_for_machines_that_run_the_program() {
-        let may = |first, second| may_have_name(machine(first), machine(second), true);
-        for (first, second) in [
-            ("armv7", "arm"),
-            ("arm", "armv7"),
-            ("armv6", "arm@armv6"),
-            ("arm", "arm@armv6"),
-            ("riscv64gc", "riscv64"),
-            ("riscv64imac", "riscv64"),
-        ] {
-            assert!(may(first, second), "{first} {second}");
-        }
-        for (first, second) in [
-            ("thumbv7m", "arm"),
-            ("armv7", "armv5te"),
-            ("armv7", "arm@armv6"),
-            ("x86_64h", "x86_64"),
-            ("x86_64@v3", "x86_64"),
-            ("riscv64a23", "riscv64"),
-            ("riscv64gc", "riscv64imac"),
-        ] {
-            assert!(!may(first, second), "{first} {second}");
+        for (row, expected) in NAMED.lines().map(|row| row.split_once('=').unwrap()) {
+            let (first, second) = row.split_once(' ').unwrap();
+            assert_eq!(may_have_name(machine(first), machine(second), true), expected == "true", "{row}");
         }
         // Without a system a name such as `riscv64` is for all of them.
         let may = |first, second| may_have_name(machine(first), machine(second), false);
@@ -276,8 +268,8 @@ riscv32i riscv32im riscv32ima riscv32imac riscv32imafc riscv32gc";
         assert!(!may("riscv64a23", "riscv64imac"));
     }
 
-    /// Each target of rustc as each tool's name, and back: who runs what the names say runs the program, except that some names
-    /// are for all levels of a machine, as each prefix of GNU's compilers is.
+    /// Each target of rustc as each tool's name, and back: who runs what the names say runs the program, except that
+    /// some names are for all levels of a machine, as each prefix of GNU's compilers is.
     #[test]
     fn names_keep_levels_there_and_back() {
         use crate::{CLibrary, Dialect};

@@ -13,21 +13,11 @@
 //! assert_eq!(triple.rustc_cfg().target_env, "gnu");
 //! ```
 //!
-//! A refused string may be a misspelled one:
+//! A refused string, or a custom vendor, may be a misspelled one: [`Suggest`] and [`vendor_suggestion`] say which name
+//! was perhaps meant.
 //!
-//! ```
-//! use target_lexicon::TripleRef;
-//! use target_names::{vendor_suggestion, Suggest};
-//!
-//! let refusal = TripleRef::from_str("x86_64-pc-linxu").unwrap_err();
-//! assert_eq!(refusal.suggestion().unwrap(), "linux");
-//! // A word that nobody knows may be a custom vendor.
-//! let triple = TripleRef::from_str("x86_64-linx").unwrap();
-//! assert_eq!(vendor_suggestion(triple).unwrap(), "linux");
-//! ```
-//!
-//! What names mean is data, from tools that are asked, or from knowledge of their pages; tests try each row. Nothing here is proved: the triples are
-//! those of the crate `target-lexicon-verified`.
+//! What names mean is data, from tools that are asked, or from knowledge of their pages; tests try each row. Nothing
+//! here is proved: the triples are those of the crate `target-lexicon-verified`.
 //!
 //! # Features
 //!
@@ -43,14 +33,10 @@ extern crate alloc;
 #[cfg(feature = "std")]
 extern crate std;
 
-mod apple_versions;
-mod arm;
 mod buffer;
-mod c_library;
 mod dialect;
 mod driver;
 mod environment;
-mod errors;
 mod evidence;
 mod gnu;
 mod hints;
@@ -61,7 +47,6 @@ mod meanings;
 mod multiarch;
 mod name;
 mod named;
-mod object_format;
 #[cfg(feature = "alloc")]
 mod parse_name_error;
 mod platform;
@@ -82,7 +67,8 @@ mod versions;
 
 pub use dialect::{NameError, Sense};
 pub use driver::{TypeLayout, TypeSizes};
-pub use evidence::{Evidence, Said};
+pub use evidence::Evidence;
+use evidence::Said;
 pub use hints::{Meant, Mistake};
 pub use llvm_target::LlvmTarget;
 pub use meanings::{meanings, readers, Meaning, NameOf};
@@ -102,6 +88,16 @@ pub use text::{is_near_name, targets_in, words_in, TargetsIn, Word, WordIs};
 pub use translation::TranslateError;
 pub use verdict::Verdict;
 pub use versions::{VersionOf, Versions};
+
+#[cfg(feature = "std")]
+mod errors {
+    use std::error::Error;
+
+    impl Error for crate::NameError {}
+    impl Error for crate::WriteError {}
+    impl Error for crate::TranslateError {}
+    impl Error for crate::UnknownWord {}
+}
 
 /// The samples of the page are tested.
 #[cfg(all(doctest, feature = "std"))]

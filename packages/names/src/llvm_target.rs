@@ -1,5 +1,5 @@
 //! The string that rustc gives to LLVM for a target. `checks/compare llvm` asks rustc for that of each of its targets.
-use crate::apple_versions::macos_version;
+use crate::driver::macos_version;
 use crate::rustc_cfg::{is_simulator, unlisted_system};
 use core::fmt;
 use target_lexicon::{
@@ -7,8 +7,8 @@ use target_lexicon::{
     Riscv32Architecture, Riscv64Architecture, TripleRef, VendorRef,
 };
 
-/// The string that LLVM and clang take for a target, which is displayed. It is rustc's `llvm-target` for each of its targets that
-/// parses. That of any other triple has the same words for its machine and its system.
+/// The string that LLVM and clang take for a target, which is displayed. It is rustc's `llvm-target` for each of its
+/// targets that parses. That of any other triple has the same words for its machine and its system.
 #[derive(Clone, Copy, Debug, PartialEq, Eq, Hash)]
 pub struct LlvmTarget<'a>(pub(crate) TripleRef<'a>);
 

@@ -94,14 +94,20 @@ impl Dialect {
         Some(found).filter(|it| it.as_ref().map_or(true, may_be))
     }
 
-    /// Of a package, without its scope and version: the longest end that is a platform, after a dash or whole. Without a scope the words
-    /// before it say nothing of a target.
+    /// Of a package, without its scope and version: the longest end that is a platform, after a dash or whole. Without
+    /// a scope the words before it say nothing of a target, and none says another byte order: Node's `ppc64` is
+    /// little-endian.
     fn read_package(self, text: &str) -> Option<Found> {
         let scoped = text.split_once('@').and_then(|it| it.1.split_once('/'));
         let name = scoped.map_or(text, |it| it.1).split(['@', '/']).next()?;
         let (start, found) = self.read_end(name, ['-'; 3])?;
         let says_nothing = || start > 0 && Evidence::of(&name[..start]).is_silent();
-        (scoped.is_some() || found.is_ok() && says_nothing()).then_some(found)
+        let has_order = |it: &Sense<'_>| match Evidence::of(name).machine().one() {
+            Some(said) => said.endianness() == it.triple.architecture.endianness(),
+            None => true,
+        };
+        let is_package = || found.as_ref().map_or(false, has_order) && says_nothing();
+        (scoped.is_some() || is_package()).then_some(found)
     }
 
     /// Where the longest end of a text begins that is a name, after one of these signs or whole, and what it means.
@@ -123,8 +129,8 @@ impl Dialect {
         found.find_map(|it| it.filter(|it| it.1 != Err(NameError::Unknown)))
     }
 
-    /// A port with `_` or a dash instead of the slash. GoReleaser's folders say after it which machine it is, as container images do, and
-    /// what it writes with capitals has container images' other words.
+    /// A port with `_` or a dash instead of the slash. GoReleaser's folders say after it which machine it is, as
+    /// container images do, and what it writes with capitals has container images' other words.
     fn read_port(self, text: &str) -> Option<Found> {
         let (system, machine) = text.split_once(['_', '-'])?;
         let machine = match machine.rsplit_once('_') {
@@ -162,7 +168,7 @@ impl Dialect {
         let (package, architecture) = text.split_once(':')?;
         let is_name = |it: u8| matches!(it, b'a'..=b'z' | b'0'..=b'9' | b'+' | b'-' | b'.');
         let is_package = package.len() > 1 && package.bytes().all(is_name);
-        let is_system = Evidence::of(package).system() != Said::Unsaid;
+        let is_system = Evidence::of(package).system != Said::Unsaid;
         (is_package && !is_system).then(|| self.sense(architecture))
     }
 
@@ -329,7 +335,7 @@ fn may_be_package(before: &str, triple: &TripleRef<'_>) -> bool {
         ["raspbian", "rpi", "rpt"].contains(&word)
     };
     let mut words = before.split(|it: char| !it.is_ascii_alphanumeric());
-    (is_tool || evidence.system() == Said::One("none") || evidence.allows_system(triple))
+    (is_tool || evidence.system == Said::One("none") || evidence.allows_system(triple))
         && evidence.allows_library(triple)
         && !(is_arm && FloatAbi::of(triple).is_none())
         && !(is_v7 && words.any(is_of_raspbian))

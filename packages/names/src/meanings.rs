@@ -61,7 +61,7 @@ pub struct Meaning<'a> {
 /// ```
 pub fn meanings(text: &str) -> impl Iterator<Item = Meaning<'_>> + Clone {
     // A file of pacman's may be MSYS2's too, if that has the machine, of which it has no levels.
-    let has_system = move || Evidence::of(text).system() != Said::Unsaid;
+    let has_system = move || Evidence::of(text).system != Said::Unsaid;
     let may_be_msys2 = move || ["x86_64", "i686", "aarch64"].iter().any(|it| text.contains(it));
     let is_meant = move |dialect: &&Dialect| {
         let is_file = text.contains(".pkg.tar");

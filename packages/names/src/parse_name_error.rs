@@ -30,8 +30,8 @@ impl UnknownWord {
         &self.word
     }
 
-    /// The dialect that was perhaps meant: one that the word begins with, or else one in other letters or with two of its letters
-    /// swapped: `rust` by `rustc`, `dotnet` by `dotent`.
+    /// The dialect that was perhaps meant: one that the word begins with, or else one in other letters or with two of
+    /// its letters swapped: `rust` by `rustc`, `dotnet` by `dotent`.
     #[must_use]
     pub fn suggestion(&self) -> Option<&'static str> {
         if !self.is_dialect {

@@ -14,9 +14,9 @@ use target_lexicon::{Named, Refusal, TextPart, TripleRef};
 /// `cygwin-unknown`. No other known name changes, so what parses without a custom vendor means the same here.
 ///
 /// rpm says with a first part `armv6hl`, `armv7hl` or `armv7hnl`, and Gentoo with a second part `hardfloat`, that
-/// floating-point arguments are in floating-point registers. After them `gnueabi` is `gnueabihf`, and likewise for other C
-/// libraries; `hardfloat` is no vendor. Nor is `softfloat` before `linux`, where the environment says the same: other triples can't state
-/// it, and are refused.
+/// floating-point arguments are in floating-point registers. After them `gnueabi` is `gnueabihf`, and likewise for
+/// other C libraries; `hardfloat` is no vendor. Nor is `softfloat` before `linux`, where the environment says the same:
+/// other triples can't state it, and are refused.
 ///
 /// A second part that is a system which isn't known, such as `macos.11.0`, `linux5.10` or `nuttx`, is no vendor: it is
 /// refused, since a triple without its system would be another target.
@@ -65,8 +65,8 @@ pub(crate) fn is_soft_floats(part: &str) -> bool {
     part == "softfloat"
 }
 
-/// A part of a string that is another spelling of known names, by itself or together with the part before or after it, or a
-/// second part that states no vendor.
+/// A part of a string that is another spelling of known names, by itself or together with the part before or after it,
+/// or a second part that states no vendor.
 #[derive(Clone, Copy, Debug, PartialEq, Eq)]
 pub struct Change<'a> {
     /// The part, as it is in the string.
@@ -79,9 +79,9 @@ pub struct Change<'a> {
 #[derive(Debug, Clone)]
 pub struct ChangedParts<'a>(SpelledParts<'a>);
 
-/// What [`read`] changes in a string: the parts that are other spellings of known names, and these names.
-/// Each of two parts that are other names together is a change: `none` and `unknown` of `arm-none-unknown-eabi`. Nothing
-/// is allocated.
+/// What [`read`] changes in a string: the parts that are other spellings of known names, and these names. Each of two
+/// parts that are other names together is a change: `none` and `unknown` of `arm-none-unknown-eabi`. Nothing is
+/// allocated.
 ///
 /// A string that parses without a custom vendor has no changes. A string that is refused has its changes too, since
 /// what a part spells doesn't depend on that.

@@ -317,21 +317,50 @@ fn words_of_config_sub_are_makers_kernels_and_systems() {
 
 /// Names of which a word says another machine than the whole: little-endian ones of Node.
 const OTHERS: [&str; 5] =
-    ["linux-ppc64", "linux-ppc64-gnu", "linux-ppc64-musl", "linux-ppc64-glibc", "linuxmusl-ppc64"];
+    ["linux-ppc64", "linux-ppc64-musl", "linux-ppc64-gnu", "linux-ppc64-glibc", "linuxmusl-ppc64"];
 
 #[test]
 fn hints_name_the_machine_that_tools_mean() {
     let machine = |it: TripleRef<'_>| (it.endianness().ok(), it.pointer_width().ok());
     let (mut hinted, mut others) = (0, Vec::new());
     for row in Dialect::ALL.iter().flat_map(|dialect| dialect.rows_read()) {
-        let Some(found) = Evidence::of(row.0).triple() else {
+        let Some(found) = Evidence::of(row.0).sense().filter(|it| it.level.is_empty()) else {
             continue;
         };
         hinted += 1;
-        if machine(found) != machine(TripleRef::from_str(row.1).unwrap()) {
+        if machine(found.triple) != machine(TripleRef::from_str(row.1).unwrap()) {
             others.push(row.0);
         }
     }
     assert!(hinted > 500, "{hinted}");
     assert_eq!(others, OTHERS);
+}
+
+/// A text, a triple, and after `=` whether the words may be of it.
+const ALLOWED: &str = "\
+linux-arm aarch64-unknown-linux-gnu=true
+linux-arm arm-unknown-linux-gnueabi=true
+linux-arm armv7-unknown-linux-gnueabihf=false
+linux-armv6 armv7-unknown-linux-gnueabihf=false
+linux-armv7 armv6-unknown-linux-gnueabihf=false
+linux-riscv64 riscv64gc-unknown-linux-gnu=true
+linux-x64 x86_64-unknown-linux-gnux32=false
+linux x86_64-unknown-linux-gnux32=true
+linux-x64-32bit x86_64-unknown-linux-gnux32=true
+linux-x64-32bit x86_64-unknown-linux-gnu=false
+linux-armel arm-unknown-linux=true
+linux-armhf-armel arm-unknown-linux=false
+linux-hf x86_64-unknown-linux=false
+wasi-wasm32 wasm32-wasip1=true
+wasi-wasm32 wasm32-wasip2=false
+linux-x64-gnu x86_64-unknown-linux-musl=false
+linux-x64 x86_64-linux-android=false
+x64 x86_64-linux-android=true";
+
+#[test]
+fn words_may_be_of_triples() {
+    for (row, expected) in ALLOWED.lines().map(|row| row.split_once('=').unwrap()) {
+        let (text, of) = row.split_once(' ').unwrap();
+        assert_eq!(Evidence::of(text).allows(&meaning(of, None)).to_string(), expected, "{row}");
+    }
 }

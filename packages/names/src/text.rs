@@ -37,7 +37,7 @@ use target_lexicon::{Architecture, Field, OperatingSystem, TextPart, TripleRef, 
 /// ```
 /// use target_names::targets_in;
 ///
-/// let found = |text| targets_in(text).map(|it| (it.start(), it.text())).collect::<Vec<_>>();
+/// let found = |text| targets_in(text).map(|it| (it.part.start, it.part.text)).collect::<Vec<_>>();
 /// let file = "targets: # of all\n  - aarch64-apple-darwn\nrun: rustup target add `wasm32-wasip1`\n";
 /// assert_eq!(found(file), [(22, "aarch64-apple-darwn"), (66, "wasm32-wasip1")]);
 /// assert_eq!(found("wasm32-wasip1 (installed)\nfoo"), [(0, "wasm32-wasip1"), (26, "foo")]);
@@ -59,7 +59,7 @@ pub fn targets_in(text: &str) -> TargetsIn<'_> {
 /// ```
 /// use target_names::words_in;
 ///
-/// let found = |text| words_in(text).map(|it| (it.text(), it.is_unclear())).collect::<Vec<_>>();
+/// let found = |text| words_in(text).map(|it| (it.part.text, it.is_unclear)).collect::<Vec<_>>();
 /// assert_eq!(found("platform: [linux/arm46, linux/foo]"), [("linux/arm46", false), ("linux/foo", true)]);
 /// assert_eq!(found("0.5.0\ndist"), []);
 /// ```
@@ -77,9 +77,9 @@ const ENOUGH_ITEMS: usize = 100;
 
 fn is_list_of_targets(words: TargetsIn<'_>) -> bool {
     let (mut items, mut named) = (0, 0);
-    for word in words.take_while(Word::is_item).take(ENOUGH_ITEMS) {
+    for word in words.take_while(|it| it.is_item).take(ENOUGH_ITEMS) {
         items += 1;
-        let says_machine = || Evidence::of(word.text()).machine() != Said::Unsaid;
+        let says_machine = || Evidence::of(word.part.text).machine() != Said::Unsaid;
         named += usize::from(word.is() != WordIs::Unknown && says_machine());
     }
     items > 0 && items <= 2 * named
@@ -175,9 +175,12 @@ pub struct TargetsIn<'a> {
 /// A word of a text.
 #[derive(Clone, Copy, Debug, PartialEq, Eq)]
 pub struct Word<'a> {
-    part: TextPart<'a>,
-    is_item: bool,
-    is_unclear: bool,
+    /// The word, and where it starts in the text, in bytes.
+    pub part: TextPart<'a>,
+    /// Whether it is an item of a list.
+    pub is_item: bool,
+    /// Whether it says something of a target, and it isn't clear that it is one: only [`words_in`] gives such words.
+    pub is_unclear: bool,
 }
 
 /// What a word is.
@@ -192,30 +195,6 @@ pub enum WordIs<'a> {
 }
 
 impl<'a> Word<'a> {
-    /// The word.
-    #[must_use]
-    pub fn text(&self) -> &'a str {
-        self.part.text
-    }
-
-    /// Where it starts in the text, in bytes.
-    #[must_use]
-    pub fn start(&self) -> usize {
-        self.part.start
-    }
-
-    /// Whether it is an item of a list.
-    #[must_use]
-    pub fn is_item(&self) -> bool {
-        self.is_item
-    }
-
-    /// Whether it says something of a target, and it isn't clear that it is one: only [`words_in`] gives such words.
-    #[must_use]
-    pub fn is_unclear(&self) -> bool {
-        self.is_unclear
-    }
-
     /// What it is.
     ///
     /// ```
@@ -228,7 +207,7 @@ impl<'a> Word<'a> {
     /// ```
     #[must_use]
     pub fn is(&self) -> WordIs<'a> {
-        what(self.text())
+        what(self.part.text)
     }
 }
 
@@ -274,7 +253,8 @@ impl<'a> TargetsIn<'a> {
             self.line = after;
             let is_key = is_key(after);
             if is_key {
-                self.is_value = KEYS.iter().any(|key| has(word, key)) && !CFG_OPTIONS.contains(&word);
+                let is_option = word.strip_prefix("target_").map_or(false, |it| CFG_OPTIONS.contains(&it));
+                self.is_value = KEYS.iter().any(|key| has(word, key)) && !is_option;
             }
             let is_rest = word.starts_with(|it: char| "-._".contains(it) || it.is_ascii_digit());
             let is_end = |it: &str| it.ends_with(PATTERN) && is_rest;
@@ -318,17 +298,8 @@ fn trimmed(word: &str) -> &str {
 /// What a key has of which values are targets.
 const KEYS: [&str; 4] = ["target", "triple", "platform", "arch"];
 
-/// Options of rustc's `cfg`, whose values are words for a part of a target.
-const CFG_OPTIONS: [&str; 8] = [
-    "target_abi",
-    "target_arch",
-    "target_endian",
-    "target_env",
-    "target_family",
-    "target_os",
-    "target_pointer_width",
-    "target_vendor",
-];
+/// Options of rustc's `cfg`, whose values are words for a part of a target: what follows `target_`.
+const CFG_OPTIONS: [&str; 8] = ["abi", "arch", "endian", "env", "family", "os", "pointer_width", "vendor"];
 
 /// The signs of patterns and of variables.
 const PATTERN: &[char] = &['$', '*', '%', '<', '>', '{', '}', '?'];
@@ -394,7 +365,7 @@ fn may_be_given(word: &str, is_value: bool) -> bool {
     let evidence = Evidence::of(word);
     let has_parts = || match word.contains(['-', '/']) {
         true => only_machine(word).is_none(),
-        false => may_have_parts && evidence.system() != Said::Unsaid,
+        false => may_have_parts && evidence.system != Said::Unsaid,
     };
     !evidence.is_empty() && (is_value || has_parts())
 }
@@ -440,7 +411,7 @@ fn is_unclear(word: &str) -> bool {
     let evidence = Evidence::of(word);
     let is_runner = RUNNERS.iter().any(|it| word.strip_prefix(it).map_or(false, |it| it.starts_with('-')));
     let has_system = || word.contains('/') || is_like_triple(word);
-    let is_said = evidence.machine() != Said::Unsaid || evidence.system() != Said::Unsaid && has_system();
+    let is_said = evidence.machine() != Said::Unsaid || evidence.system != Said::Unsaid && has_system();
     is_said && !is_runner && name_of(word).is_none()
 }
 

@@ -55,8 +55,8 @@ impl fmt::Display for TranslateError {
 }
 
 impl Dialect {
-    /// The name in this dialect of a triple, or of what a name means, with a C library if one is said: that of the triple
-    /// [`with_c_library`](TargetInfo::with_c_library) returns. Nothing is allocated.
+    /// The name in this dialect of a triple, or of what a name means, with a C library if one is said: that of the
+    /// triple [`with_c_library`](TargetInfo::with_c_library) returns. Nothing is allocated.
     ///
     /// # Errors
     ///
@@ -100,9 +100,10 @@ impl Dialect {
             && self.shape(&completed) != self.shape(triple)
     }
 
-    /// The same, with a version that triples don't have: `manylinux_2_17_x86_64` of glibc 2.17, `musllinux_1_2_aarch64` of musl 1.2,
-    /// `macosx_11_0_arm64` of macOS 11.0, also for `darwin`, or `android_21_x86_64` of Android's API level 21. Where no name of
-    /// the triple states one, or none of its system and C library is said, it is the name without: `win_amd64` of Python.
+    /// The same, with a version that triples don't have: `manylinux_2_17_x86_64` of glibc 2.17, `musllinux_1_2_aarch64`
+    /// of musl 1.2, `macosx_11_0_arm64` of macOS 11.0, also for `darwin`, or `android_21_x86_64` of Android's API level
+    /// 21. Where no name of the triple states one, or none of its system and C library is said, it is the name without:
+    /// `win_amd64` of Python.
     ///
     /// # Errors
     ///
@@ -149,10 +150,10 @@ impl Dialect {
     /// The name in another dialect of what a name of this one means, with a C library if one is said. Nothing is
     /// allocated.
     ///
-    /// It is read [loosely](Dialect::read_loosely), [completed](TargetInfo::with_c_library) and written. The level of the
-    /// machine is kept: `linux/amd64/v3` is `x86_64_v3` of RPM, and `amd64v3` of Debian. Names of Debian, of GNU
-    /// and of rustc state the C library of Linux, and those of Go, OCI and Python don't: from one of the latter to one of the
-    /// former the C library has to be said. So has the ABI of Windows. It changes no name that states one.
+    /// It is read [loosely](Dialect::read_loosely), [completed](TargetInfo::with_c_library) and written. The level of
+    /// the machine is kept: `linux/amd64/v3` is `x86_64_v3` of RPM, and `amd64v3` of Debian. Names of Debian, of GNU
+    /// and of rustc state the C library of Linux, and those of Go, OCI and Python don't: from one of the latter to one
+    /// of the former the C library has to be said. So has the ABI of Windows. It changes no name that states one.
     ///
     /// # Errors
     ///
@@ -181,16 +182,6 @@ impl Dialect {
     /// # Errors
     ///
     /// As those of [`translate`](Dialect::translate); or no name states such a version.
-    ///
-    /// # Examples
-    ///
-    /// ```
-    /// use target_names::{ChosenLibc, Dialect, VersionOf, Versions};
-    ///
-    /// let versions = Versions::none().with(VersionOf::Glibc, 2, 17);
-    /// let tag = Dialect::Oci.translate_with("linux/amd64", Some(ChosenLibc::Glibc), &versions, Dialect::Python);
-    /// assert_eq!(tag.unwrap().as_str(), "manylinux_2_17_x86_64");
-    /// ```
     pub fn translate_with(
         self,
         name: &str,
@@ -291,8 +282,8 @@ impl Dialect {
         }
     }
 
-    /// The reason, by the machines and systems of the dialect's rows. Of the rows that are written one that begins as the
-    /// triple does says more than one that only has its system, and that more than one that only has its machine.
+    /// The reason, by the machines and systems of the dialect's rows. Of the rows that are written one that begins as
+    /// the triple does says more than one that only has its system, and that more than one that only has its machine.
     fn why_rows(self, triple: &TripleRef<'_>) -> WriteError {
         let shape = self.shape(triple);
         let (mut whole, mut bare) = ([0; MAX_LENGTH], [0; MAX_LENGTH]);

@@ -34,14 +34,14 @@ impl<'a> Word<'a> {
     /// ```
     #[must_use]
     pub fn verdict(&self, is_strict: bool, is_meant: impl Fn(&str) -> bool) -> Verdict<'a> {
-        let text = self.text();
+        let text = self.part.text;
         let explanation = TripleRef::explain(text);
         let (own, is) = (explanation.triple, self.is());
         // What isn't spelled like a triple, and says all of one, is a name of some tool: vcpkg's `x64-windows-static`.
         let is_vendor = |it| VendorRef::from_str(it).map_or(false, |it| !it.is_custom());
         let is_understood = || {
             let is_unknown = own.is_err() && is == WordIs::Unknown && !text.split('-').any(is_vendor);
-            is_unknown && Evidence::of(text).triple().is_some()
+            is_unknown && Evidence::of(text).sense().map_or(false, |it| it.level.is_empty())
         };
         let is_known = own.as_ref().map_or(false, |it| !it.vendor.is_custom());
         // GNU takes any vendor.
@@ -57,7 +57,7 @@ impl<'a> Word<'a> {
             (Some(Meaning { of: NameOf::Dialect(_) | NameOf::Spelling, sense: Ok(it) }), _) => {
                 return Verdict::Right(it.triple);
             }
-            _ if (self.is_unclear() || is_understood()) && !is_strict => return Verdict::Unclear,
+            _ if (self.is_unclear || is_understood()) && !is_strict => return Verdict::Unclear,
             (_, WordIs::Misspelled(it)) if it.part.text == text => return Verdict::Unknown,
             _ => {}
         }

@@ -122,6 +122,7 @@ fn of_text(number: usize, text: &str) -> [(&'static str, String); 11] {
     let to = all().nth(number / 2 % 15).unwrap();
     let library = "none glibc musl msvc mingw gnullvm".split(' ').nth(number / 2 % 6).and_then(|it| it.parse().ok());
     let found = read(text);
+    let words = Evidence::of(text).sense().filter(|it| it.level.is_empty());
     let change = |it: Change| format!("{:?}{}", it.part.range(), it.names);
     let of_refusal = |why: Refusal| format!("{why}{:?}{}", why.range(), shown(why.suggestion_in(text)));
     let of_dialect =
@@ -131,9 +132,9 @@ fn of_text(number: usize, text: &str) -> [(&'static str, String); 11] {
         .err()
         .map(|it| format!("{it}{}{}", shown(dialect.mistake(text)), shown(dialect.suggestion(text))));
     let is = |it: Word| match it.is() {
-        WordIs::Name(of) => format!("{}{}{of}", it.start(), it.text()),
-        WordIs::Misspelled(meant) => format!("{}{}{meant}", it.start(), it.text()),
-        WordIs::Unknown => format!("{}{}!", it.start(), it.text()),
+        WordIs::Name(of) => format!("{}{}{of}", it.part.start, it.part.text),
+        WordIs::Misspelled(meant) => format!("{}{}{meant}", it.part.start, it.part.text),
+        WordIs::Unknown => format!("{}{}!", it.part.start, it.part.text),
     };
     let meaning = |it: Meaning| {
         let triple = it.sense.map_or_else(|why| why.to_string(), |it| it.triple.to_string());
@@ -150,7 +151,7 @@ fn of_text(number: usize, text: &str) -> [(&'static str, String); 11] {
         ("read", sum(Some(found.map_or_else(of_refusal, |it| it.to_string())))),
         ("changes", sum(joined(changes(text).map(change)))),
         ("vendor_suggestion", sum(TripleRef::from_str(text).ok().map(|it| shown(vendor_suggestion(it))))),
-        ("evidence", sum(Some(format!("{}{}", Evidence::of(text), shown(Evidence::of(text).triple()))))),
+        ("evidence", sum(Some(format!("{}{}", Evidence::of(text), shown(words.map(|it| it.triple)))))),
         ("meanings", sum(joined(meanings(text).map(meaning)))),
         ("suggestions", sum(joined(all().filter_map(|it| Some(format!("{it}{}", it.suggestion(text)?)))))),
         ("read_loosely", sum(joined(Dialect::ALL.iter().map(of_dialect)))),

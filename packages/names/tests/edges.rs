@@ -154,6 +154,8 @@ armhf-linux-uclibc-foo=its words say arm, hard-float, linux, uclibc; here nobody
 sdk_musl.Linux-x86_64=its words may be of two targets: x86_64, linux, musl
 musl-builder-linux-x64=its words may be of two targets: x86_64, linux, musl
 fd-musl_1.2.0_linux-x64=its words name x86_64-unknown-linux-musl
+musl-tool-linux-arm-musleabihf=its words name arm-unknown-linux-musleabihf
+musl-tool-linux-x64-gnu=no triple says all that its words say: x86_64, linux, several C libraries or ABIs
 openwrt-sdk-23.05_musl.Linux-x86_64=it names several machines
 x86_64-v3-linux=its words name x86_64-unknown-linux of the level v3
 linux-x64-v3=its words name x86_64-unknown-linux";
@@ -165,35 +167,6 @@ fn evidence_is_said_in_a_sentence() {
     }
     let long = Evidence::of(&format!("linux-x64-{}", "q".repeat(SHOWN + 1))).to_string();
     assert!(long.ends_with("qqq...`"), "{long}");
-}
-
-/// A text, a triple, and after `=` whether the words may be of it.
-const ALLOWED: &str = "\
-linux-arm aarch64-unknown-linux-gnu=true
-linux-arm arm-unknown-linux-gnueabi=true
-linux-arm armv7-unknown-linux-gnueabihf=false
-linux-armv6 armv7-unknown-linux-gnueabihf=false
-linux-armv7 armv6-unknown-linux-gnueabihf=false
-linux-riscv64 riscv64gc-unknown-linux-gnu=true
-linux-x64 x86_64-unknown-linux-gnux32=false
-linux x86_64-unknown-linux-gnux32=true
-linux-x64-32bit x86_64-unknown-linux-gnux32=true
-linux-x64-32bit x86_64-unknown-linux-gnu=false
-linux-armel arm-unknown-linux=true
-linux-armhf-armel arm-unknown-linux=false
-linux-hf x86_64-unknown-linux=false
-wasi-wasm32 wasm32-wasip1=true
-wasi-wasm32 wasm32-wasip2=false
-linux-x64-gnu x86_64-unknown-linux-musl=false
-linux-x64 x86_64-linux-android=false
-x64 x86_64-linux-android=true";
-
-#[test]
-fn words_may_be_of_triples() {
-    for (row, expected) in ALLOWED.lines().map(|row| row.split_once('=').unwrap()) {
-        let (text, of) = row.split_once(' ').unwrap();
-        assert_eq!(Evidence::of(text).allows(&triple(of)).to_string(), expected, "{row}");
-    }
 }
 
 /// A name of GNU, and after `=` its triple, or why it has none.
@@ -443,7 +416,7 @@ fn a_long_part_is_shortened() {
 
 #[test]
 fn words_say_whether_they_are_items() {
-    let of = |text| targets_in(text).map(|it| (it.text(), it.is_item())).collect::<Vec<_>>();
+    let of = |text| targets_in(text).map(|it| (it.part.text, it.is_item)).collect::<Vec<_>>();
     assert_eq!(of("linux/amd64, foo"), [("linux/amd64", true), ("foo", true)]);
     assert_eq!(of("build linux/amd64 and foo"), [("linux/amd64", false)]);
 }

@@ -1,5 +1,5 @@
-//! Laws over all strings, tried on generated ones: what is made of the words and separators of names, edited names, and any text.
-//! A string that broke a law is kept in laws.regressions, and tried again first.
+//! Laws over all strings, tried on generated ones: what is made of the words and separators of names, edited names, and
+//! any text. A string that broke a law is kept in laws.regressions, and tried again first.
 use proptest::prelude::*;
 use proptest::sample::select;
 use proptest::test_runner::FileFailurePersistence;
@@ -28,12 +28,12 @@ fn names() -> Vec<String> {
     all.map(|it| it.replace(['*', '+', '!'], "11")).collect()
 }
 
-/// The texts of the rules for parts that are spelled otherwise.
+/// The texts of the rules for parts that are spelled otherwise, and the names that they become.
 fn other_spellings() -> impl Iterator<Item = &'static str> {
-    let rows = include_str!("../elsewhere.tsv").lines();
-    let rows = rows.filter_map(|row| row.split_once('\t'));
+    let rows = include_str!("../elsewhere.tsv").lines().filter_map(|row| row.split_once('\t'));
     let rules = rows.filter(|it| ["first", "second", "hard", "later"].contains(&it.0));
-    rules.map(|it| it.1.split('\t').next().unwrap().trim_end_matches(['*', '+', '!']))
+    let texts = rules.map(|it| it.1.split('\t').next().unwrap());
+    texts.flat_map(|it| it.split(['{', '}', '=', ',', ' '])).map(|it| it.trim_end_matches(['*', '+', '!']))
 }
 
 /// Known names, other spellings, words of names, and words that nobody knows.
@@ -117,8 +117,8 @@ proptest! {
         }
     }
 
-    /// The part that is refused is the first one up to which the names that the parts spell have no place. If there is none, it is the second,
-    /// if that is `softfloat` and the triple of these names states no such thing.
+    /// The part that is refused is the first one up to which the names that the parts spell have no place. If there is
+    /// none, it is the second, if that is `softfloat` and the triple of these names states no such thing.
     #[test]
     fn a_refusal_is_at_the_first_such_part(text in spelled()) {
         let (mut start, mut names) = (0, String::new());

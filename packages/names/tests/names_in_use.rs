@@ -1,8 +1,8 @@
 //! Names from real files of configuration, and what other tools call each; and what the words of names say.
 use std::collections::BTreeSet;
-use target_lexicon::{Architecture, TripleRef};
+use target_lexicon::{Architecture, OperatingSystem, PointerWidth, TripleRef};
 use target_names::{
-    meanings, CLibrary, ChosenLibc, Dialect, Evidence, Meaning, NameError, NameOf, TargetInfo, TranslateError,
+    meanings, CLibrary, ChosenLibc, Dialect, Evidence, Meaning, NameError, NameOf, Sense, TargetInfo, TranslateError,
     VersionOf, Versions, WriteError,
 };
 
@@ -154,10 +154,10 @@ fn answer(name: &str) -> String {
         }
     }
     let evidence = Evidence::of(name);
-    match (triples.is_empty(), whys.is_empty(), evidence.triple()) {
+    match (triples.is_empty(), whys.is_empty(), evidence.sense()) {
         (false, ..) => triples.join(" "),
         (_, false, _) => whys.join(" "),
-        (.., Some(triple)) => format!("?{triple}"),
+        (.., Some(Sense { triple, level: "" })) => format!("?{triple}"),
         _ if evidence.is_empty() => "?".into(),
         _ => format!("?{evidence}"),
     }
@@ -185,62 +185,136 @@ fn names_of_releases_mean_what_their_words_say() {
     assert!(count >= 360, "{count}");
 }
 
-/// What a line of fresh_names.tsv says: a machine, a system, and words for the C library and floating-point arguments.
-fn contradicts(truth: &str, triple: &TripleRef<'_>) -> bool {
+/// Whether an answer says something else than the truth of a name: a machine, a system, and words for the C library, for
+/// floating-point arguments and for pointers of 32 bits. Only the name of a tool may say more of floating-point arguments.
+fn contradicts(truth: &str, triple: &TripleRef<'_>, is_of_tool: bool) -> bool {
+    use OperatingSystem::{Darwin, Freebsd, MacOSX, Unknown, Windows};
     let mut words = truth.split(' ');
     let machine: Architecture = words.next().unwrap().parse().unwrap();
-    let system = words.next().unwrap();
-    let level = |it: &TripleRef<'_>| it.arm_version();
-    let of_truth = TripleRef { architecture: machine, ..*triple };
-    let is_machine = of_truth.rustc_cfg().target_arch == triple.rustc_cfg().target_arch
-        && machine.endianness().ok() == triple.endianness().ok()
-        && of_truth.pointer_width() == triple.pointer_width()
-        && (level(&of_truth).is_none() || level(triple).is_none() || level(&of_truth) == level(triple));
-    let has_system = match system {
-        "darwin" => triple.operating_system.is_like_darwin(),
+    let (system, words) = (words.next().unwrap(), words.collect::<Vec<_>>());
+    let [own, of_truth] = [*triple, TripleRef { architecture: machine, ..*triple }];
+    let levels = [own, of_truth].map(|it| it.arm_version());
+    let is_machine = of_truth.rustc_cfg().target_arch == own.rustc_cfg().target_arch
+        && machine.endianness().ok() == own.endianness().ok()
+        // Windows needs Armv7.
+        && (levels.contains(&None) || levels[0] == levels[1] || own.operating_system == Windows);
+    let width = if words.contains(&"32") { Some(PointerWidth::U32) } else { machine.pointer_width().ok() };
+    let (library, floats) = (own.c_library(), own.float_abi());
+    let is_android = library == Some(CLibrary::Bionic);
+    let has_system = match (system, own.operating_system) {
+        ("darwin", it) => matches!(it, Darwin(_) | MacOSX(_)),
+        (_, Unknown) => is_android,
         // A version of WASI, or of iOS, may be missing.
-        _ => triple.operating_system.to_string().starts_with(system.trim_end_matches("p1")),
+        (_, it) => it.to_string().starts_with(system.trim_end_matches("p1")),
     };
-    let is_of = |library: CLibrary| triple.c_library().map_or(true, |it| it == library);
-    let is_right = |word: &str| match word {
+    let is_always = is_android || matches!(own.operating_system, Freebsd | Windows);
+    let has_floats = floats.map_or(true, |it| is_of_tool || is_always || words.contains(&it.name()));
+    let is_of = |of: CLibrary| library.map_or(true, |it| it == of);
+    let is_right = |word: &&str| match *word {
         "gnu" if system == "windows" => is_of(CLibrary::Mingw),
         "gnu" => is_of(CLibrary::Glibc),
         "musl" => is_of(CLibrary::Musl),
         "msvc" => is_of(CLibrary::Msvc),
-        "android" => is_of(CLibrary::Bionic),
-        floats => triple.float_abi().map_or(true, |it| it.name() == floats),
+        "32" | "android" => true,
+        word => floats.map_or(true, |it| it.name() == word),
     };
-    let is_android = triple.c_library() == Some(CLibrary::Bionic) && !truth.contains("android");
-    !is_machine || !has_system || is_android || !words.all(is_right)
+    let is_whole = is_machine && own.pointer_width().ok() == width && has_system && has_floats;
+    !is_whole || is_android != words.contains(&"android") || !words.iter().all(is_right)
+}
+
+/// What is answered of a name: by tools, by its words, and, if they are asked, by suggestions of tools that don't have
+/// it.
+fn answers(name: &str, is_asked: bool) -> impl Iterator<Item = (String, TripleRef<'_>)> {
+    // To GNU a single word is a machine without a system.
+    let is_tool = |it: NameOf| match it {
+        NameOf::Dialect(Dialect::Gnu) => name.contains('-'),
+        it => matches!(it, NameOf::Dialect(_)),
+    };
+    let tools = meanings(name).filter(move |it| is_tool(it.of));
+    let tools = tools.filter_map(|it| Some((it.of.to_string(), it.sense.ok()?.triple)));
+    let words = Evidence::of(name).sense().map(|it| ("words".to_string(), it.triple));
+    let asked = Dialect::ALL.iter().filter(move |it| is_asked && it.read_loosely(name).is_err());
+    let meant = asked.filter_map(move |it| Some((*it, it.suggestion(name)?)));
+    let meant = meant.filter_map(|(of, it)| Some((format!("{of} {it}"), of.read(it).ok()?)));
+    tools.chain(words).chain(meant)
 }
 
 /// No answer, hint or suggestion says another machine, order, width, ABI or system.
 #[test]
 fn fresh_names_get_no_wrong_answer() {
-    let (mut names, mut answers, mut wrong) = (BTreeSet::new(), 0, Vec::new());
+    let (mut names, mut count, mut wrong) = (BTreeSet::new(), 0, Vec::new());
     for row in rows(include_str!("fresh_names.tsv")) {
         for name in row[1].split(' ') {
             names.insert(name);
-            // To GNU a single word is a machine without a system.
-            let is_tool = |it: NameOf| match it {
-                NameOf::Dialect(Dialect::Gnu) => name.contains('-'),
-                it => matches!(it, NameOf::Dialect(_)),
-            };
-            let tools = meanings(name).filter(|it| is_tool(it.of));
-            let tools = tools.filter_map(|it| Some((it.of.to_string(), it.sense.ok()?.triple)));
-            let words = Evidence::of(name).triple().map(|it| ("words".to_string(), it));
-            let meant = Dialect::ALL.iter().filter_map(|it| Some((*it, it.suggestion(name)?)));
-            let meant = meant.filter(|it| it.0.read_loosely(name).is_err());
-            let meant = meant.filter_map(|it| Some((format!("{} {}", it.0, it.1), it.0.read(it.1).ok()?)));
-            for (of, triple) in tools.chain(words).chain(meant) {
-                answers += 1;
+            for (of, triple) in answers(name, true) {
+                count += 1;
                 let is_several = name.contains("universal") || name.ends_with("_all");
-                if !is_several && (row[0] == "-" || contradicts(row[0], &triple)) {
+                if !is_several && (row[0] == "-" || contradicts(row[0], &triple, of != "words")) {
                     wrong.push(format!("{name}: {of} {triple}, not {}", row[0]));
                 }
             }
         }
     }
     assert!(wrong.is_empty(), "{}", wrong.join("\n"));
-    assert!(names.len() >= 300 && answers >= 400, "{} {answers}", names.len());
+    assert!(names.len() >= 300 && count >= 400, "{} {count}", names.len());
+}
+
+/// Words for machines, and after `=` an architecture of the same family, width and byte order.
+const MACHINES: &str = "amd64=x86_64 x86_64= x64=x86_64 x86=i686 i386=i686 386=i686 ia32=i686 arm64=aarch64 aarch64= \
+    aarch64_be= armv6= armv7= armhf=arm armel=arm armeb= mips= mipsle=mipsel mips64el= mips64-le=mips64el \
+    ppc64=powerpc64 ppc64le=powerpc64le ppc64-le=powerpc64le riscv64= s390x= loong64=loongarch64 sparc64=";
+
+/// Words for systems, and the systems.
+const SYSTEMS: &str = "linux= alpine=linux debian=linux ubuntu=linux android=linux+android darwin= macos=darwin \
+    macOS=darwin osx=darwin mac=darwin windows= win=windows mingw=windows ios= tvos= visionos= freebsd= netbsd= \
+    openbsd= dragonfly= illumos= solaris= fuchsia= haiku= uefi=";
+
+/// Words for C libraries and ABIs, and what they say of floating-point arguments and the width of pointers.
+const ABIS: &str = "= gnu= musl= msvc= hf=hard gnueabihf=hard gnueabi=soft softfloat=soft muslx32=32";
+
+/// Each word of a list, and what is after its `=`, or else the word.
+fn pairs(list: &'static str) -> impl Iterator<Item = (&'static str, &'static str)> {
+    let pairs = list.split(' ').map(|it| it.split_once('=').unwrap());
+    pairs.map(|(word, meaning)| (word, if meaning.is_empty() { word } else { meaning }))
+}
+
+/// Of names made of a system's, a machine's and an ABI's word in the usual ways likewise.
+#[test]
+fn answers_say_what_the_words_say() {
+    let (mut names, mut count, mut wrong) = (0, 0, Vec::new());
+    let words = pairs(SYSTEMS).flat_map(|system| pairs(MACHINES).map(move |machine| (system, machine)));
+    let words = words.flat_map(|(system, machine)| pairs(ABIS).map(move |abi| (system, machine, abi)));
+    for ((system, of_system), (machine, of_machine), (abi, of_abi)) in words {
+        let floats = match (of_abi, machine) {
+            ("hard" | "soft" | "32", _) => of_abi,
+            (_, "armhf") => "hard",
+            (_, "armel") => "soft",
+            _ => "",
+        };
+        for form in "- _ arch-os / .tar.gz .zip .exe".split(' ') {
+            let joined = |words: [&str; 3], sign| words.join(sign).trim_end_matches(sign).to_string();
+            let name = match form {
+                "-" | "_" | "/" => joined([system, machine, abi], form),
+                "arch-os" => joined([machine, system, abi], "-"),
+                _ => format!("tool-1.2.3-{}{form}", joined([system, machine, abi], "-")),
+            };
+            names += 1;
+            // Suggestions take longer: of each machine and system, with some ABIs.
+            let is_asked = ["", "gnueabihf", "muslx32"].contains(&abi) && ["-", "arch-os", "/"].contains(&form);
+            for (of, triple) in answers(&name, is_asked) {
+                count += 1;
+                // Node's machine `ppc64` is little-endian on Linux.
+                let is_little = name.starts_with("linux-ppc64") && triple.architecture == Architecture::Powerpc64le;
+                let own = if is_little { "powerpc64le" } else { of_machine };
+                // Go and others have one name for both ways to pass floating-point arguments.
+                let abi = Some(floats).filter(|it| of == "words" || *it == "32").unwrap_or("");
+                let truth = [own, of_system, abi].join(" ").replace('+', " ").trim_end().to_string();
+                if contradicts(&truth, &triple, of != "words") {
+                    wrong.push(format!("{name}: {of} {triple}, not {truth}"));
+                }
+            }
+        }
+    }
+    assert!(wrong.is_empty(), "{}", wrong.join("\n"));
+    assert!(names > 40_000 && count > 20_000, "{names} {count}");
 }

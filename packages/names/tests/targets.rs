@@ -5,6 +5,7 @@ mod example;
 
 use std::collections::BTreeMap;
 use target_lexicon::TripleRef;
+use target_names::Dialect;
 
 #[test]
 fn each_row_is_what_the_library_answers() {
@@ -12,7 +13,8 @@ fn each_row_is_what_the_library_answers() {
     let lines = example::lines();
     assert!(include_str!("../targets.csv").lines().eq(&lines), "run tools/write");
     let head: Vec<_> = lines[0].split(',').collect();
-    assert!(head.iter().all(|it| schema.contains(&format!("\"{it}\": {{ \"description\""))));
+    let is_described = |it: &&str| schema.contains(&format!("\"{it}\": {{ \"description\""));
+    assert!(head.iter().all(|it| is_described(it) || it.parse::<Dialect>().is_ok()));
     let cell = |line: &str, name: &str| {
         line.split(',').nth(head.iter().position(|it| *it == name).unwrap()).unwrap().to_string()
     };

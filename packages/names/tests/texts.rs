@@ -5,13 +5,13 @@ use target_names::{targets_in, WordIs};
 fn found(text: &str) -> Vec<String> {
     let mut at = 0;
     let words = targets_in(text).map(|word| {
-        assert_eq!(&text[word.start()..][..word.text().len()], word.text());
-        assert!(word.start() >= at, "{text}: the words are in order");
-        at = word.start() + word.text().len();
+        assert_eq!(&text[word.part.start..][..word.part.text.len()], word.part.text);
+        assert!(word.part.start >= at, "{text}: the words are in order");
+        at = word.part.start + word.part.text.len();
         match word.is() {
-            WordIs::Name(_) => word.text().to_string(),
-            WordIs::Misspelled(meant) => format!("{}>{meant}", word.text()),
-            WordIs::Unknown => format!("{}!", word.text()),
+            WordIs::Name(_) => word.part.text.to_string(),
+            WordIs::Misspelled(meant) => format!("{}>{meant}", word.part.text),
+            WordIs::Unknown => format!("{}!", word.part.text),
         }
     });
     words.collect()

@@ -138,7 +138,7 @@ fn a_word_that_is_no_dialect_is_named() {
 fn words_at_the_end_of_a_long_text_say_what_they_say() {
     for length in [15, 16, 64, 255, 256, 1024, 65536] {
         let text = format!("{}-linux-x86_64", "q".repeat(length));
-        let triple = Evidence::of(&text).triple().unwrap();
-        assert_eq!(triple.to_string(), "x86_64-unknown-linux", "{length}");
+        let sense = Evidence::of(&text).sense().unwrap();
+        assert_eq!(sense.triple.to_string(), "x86_64-unknown-linux", "{length}");
     }
 }

@@ -1,5 +1,5 @@
-//! Taking the parts of a string one after the other, of which some are other spellings. Where none is, the answer is that of
-//! [`TripleRef::from_str`], which takes whole strings only.
+//! Taking the parts of a string one after the other, of which some are other spellings. Where none is, the answer is
+//! that of [`TripleRef::from_str`], which takes whole strings only.
 use target_lexicon::{Field, Refusal, TextPart, TripleRef, VendorRef};
 
 /// The first part of a string, and what follows its dash, if it has one.

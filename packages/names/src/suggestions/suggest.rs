@@ -4,8 +4,8 @@ use target_lexicon::{Architecture, Field, Refusal, TripleRef, VendorRef};
 #[cfg(feature = "alloc")]
 use target_lexicon::{ParseError, ParseErrorExt as _, ParseTripleError};
 
-/// The name that was perhaps meant by the refused part of a string: import the trait to ask a [`Refusal`], a `ParseError` or a
-/// `ParseTripleError`. Nothing is allocated.
+/// The name that was perhaps meant by the refused part of a string: import the trait to ask a [`Refusal`], a
+/// `ParseError` or a `ParseTripleError`. Nothing is allocated.
 ///
 /// If other tools spell a known name as the refused part, it is that name. Otherwise it is the nearest one of the expected field or
 /// of a later one, if the part may be a misspelling of it. It never changes the machine, its width and byte order, how
@@ -29,16 +29,16 @@ pub trait Suggest<'a>: Copy {
     #[doc(hidden)]
     fn refused(self) -> (Option<Field>, &'a str);
 
-    /// The name that was perhaps meant. A `ParseTripleError` has the whole string, so it may be an environment of the string's
-    /// architecture too. For the others [`suggestion_in`](Suggest::suggestion_in) suggests it.
+    /// The name that was perhaps meant. A `ParseTripleError` has the whole string, so it may be an environment of the
+    /// string's architecture too. For the others [`suggestion_in`](Suggest::suggestion_in) suggests it.
     #[must_use]
     fn suggestion(self) -> Option<Suggestion<'a>> {
         let (expected, part) = self.refused();
         suggestion(expected?, part)
     }
 
-    /// The name that was perhaps meant in this string, which has the refused part. It may be an environment of the string's
-    /// architecture too.
+    /// The name that was perhaps meant in this string, which has the refused part. It may be an environment of the
+    /// string's architecture too.
     ///
     /// ```
     /// use target_lexicon::TripleRef;
@@ -82,8 +82,8 @@ impl<'a> Suggest<'a> for &'a ParseTripleError {
     }
 }
 
-/// The name that was perhaps meant by a custom vendor: a vendor, or a name of a later field. It may be an environment of the
-/// triple's architecture. For a known vendor it is `None`. Nothing is allocated.
+/// The name that was perhaps meant by a custom vendor: a vendor, or a name of a later field. It may be an environment
+/// of the triple's architecture. For a known vendor it is `None`. Nothing is allocated.
 ///
 /// ```
 /// use target_lexicon::{triple, TripleRef};
@@ -114,7 +114,6 @@ impl PartialEq<str> for Suggestion<'_> {
 }
 
 impl PartialEq<&str> for Suggestion<'_> {
-    /// Whether the suggestion is displayed as this string.
     fn eq(&self, text: &&str) -> bool {
         *self == **text
     }
