@@ -175,7 +175,7 @@ def same(main, other, where):
         text = re.sub(r"\balloc\d+\b", lambda m: statics.get(m[0], "alloc"), text)
         text = re.sub(r"\b(core|alloc|std)::", "std::", text)
         text = re.sub(r"DefId\(\d+:\d+ ~ (\w+)\[\w+\]", r"DefId(\1", text)  # which also depends on rustc's flags
-        text = re.sub(r"(<impl at |\{closure@)\S*?\bsrc/", r"\1src/", text)
+        text = re.sub(r"(<impl at |\{closure@).*?\bsrc/", r"\1src/", text)
         types, impls = read_hir(hir)
         impls = [it for it in impls if it.module != "serde" or it.trait not in SERDE]
         return {m[0] for m in re.finditer(ITEM, text) if m["name"] != "host::HOST" and not re.match(

@@ -177,7 +177,7 @@ class Crate:
 
     def key(self, function):
         """The trait, the type and the name of a function: those of its impl."""
-        m = re.match(r"(.*?)(?:::)?<impl at (\S+:\d+:\d+): \d+:\d+>::(.*)$", function.path)
+        m = re.match(r"(.*?)(?:::)?<impl at (.+?:\d+:\d+): \d+:\d+>::(.*)$", function.path)
         if not m or "{closure#" in m[3]:
             owner, _, name = function.path.rpartition("::")
             return None, owner, name

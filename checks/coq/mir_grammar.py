@@ -257,7 +257,7 @@ class Impl:
 
     def __init__(self, path, crate, block):
         head, _, items = block.partition(" items: [")
-        self.place = re.search(r"^ {16}span: (\S+:\d+:\d+): ", block, re.M)[1]
+        self.place = re.search(r"^ {16}span: (.+?:\d+:\d+): ", block, re.M)[1]
         self.module = path.rpartition("{impl#")[0].removesuffix("::")
         own = re.search(r"^ {24}self_ty: Ty \{\n.*\n.*\n +kind: Path\(\n +Resolved\(\n +None,\n +Path \{\n.*\n +res: "
                         r"Def\(\n +(?:Struct|Enum),\n +" + DEFINED, head, re.M)
