@@ -617,8 +617,9 @@ int LLVMFuzzerTestOneInput(const uint8_t *data, size_t data_size) {
   CHECK((status == LEXICON_NO_SUCH_FIELD) == (word % 7 > 4));
   if (status == LEXICON_OK) CHECK(has_name(word % 7, number) || number == LEXICON_VENDOR_CUSTOM);
   has_name(word % 7, how);
+  static const char *const families[] = {LEXICON_FAMILY_NAMES};
   CHECK((lexicon_status_name(word) == NULL) == (word > LEXICON_NO_ANSWER) &&
-      (lexicon_family_name(word) == NULL) == (word > LEXICON_FAMILY_Z80));
+      (lexicon_family_name(word) == NULL) == (word >= sizeof families / sizeof *families));
   struct lexicon_error error = {word & 15u, how & 15u, word >> 3, NULL};
   try_error(text, size, &error);
   return 0;
