@@ -135,14 +135,15 @@ fn help_of_names(refusal: &Refusal<'_>, target: &str) -> Help {
     let (suggestion, note) = match &refusal.names {
         Names::OfParts(refusal) => (shown(refusal.suggestion_in(target)), None),
         Names::OfVendors(triple) => (shown(vendor_suggestion(triple)), None),
-        Names::OfAll(name) => {
-            let meant = Meant::by(name).map(|it| it.to_string());
+        Names::OfAll(name, near) => {
+            let meant = Meant::by(name).or(*near).map(|it| it.to_string());
             let has = |it: &&Dialect| meant.as_deref() == it.suggestion(name);
             let mistake = Dialect::ALL.iter().find(has).filter(|_| meant.is_some()).and_then(|it| it.mistake(name));
             let mistake = mistake.filter(|it| !matches!(it, Mistake::NoTriple(_)));
             match meant {
                 Some(meant) => (Some(meant), shown(mistake)),
-                None => (None, said(&Evidence::of(name))),
+                // A number that nobody knows may be of the machine, as in `x86_46`: then it isn't the one that is said.
+                None => (None, said(&Evidence::of(name)).filter(|it| !it.trim_end_matches('`').ends_with(char::is_numeric))),
             }
         }
         Names::OfDialect(dialect, name) => {

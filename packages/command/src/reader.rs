@@ -115,7 +115,7 @@ impl Reader {
                 self.unclear.set(self.unclear.get() + 1);
                 Ok(Meant::NoTriple(None))
             }
-            Verdict::Unknown => Err(Refusal::unknown_to_all(text)),
+            Verdict::Unknown(meant) => Err(Refusal::unknown_to_all(text, meant)),
             Verdict::Right(triple) if TripleRef::from_str(text) != Ok(triple) => {
                 Ok(Meant::Triple(self.completed(triple), None))
             }

@@ -7,7 +7,7 @@ use crate::shown::{show, visible, Page};
 use std::fmt;
 use std::io;
 use target_lexicon::{Field, TextPart, TripleRef};
-use target_names::{Dialect, NameError, WriteError, SHOWN};
+use target_names::{Dialect, Meant, NameError, WriteError, SHOWN};
 
 pub struct Refusal<'a> {
     /// Whether the target isn't refused.
@@ -24,7 +24,7 @@ pub struct Refusal<'a> {
 /// Among which names one is suggested. To find it takes longer than all else, so it is found only where it is shown.
 pub enum Names<'a> {
     /// Those of every dialect, and of triples.
-    OfAll(&'a str),
+    OfAll(&'a str, Option<Meant<'a>>),
     OfParts(target_lexicon::Refusal<'a>),
     OfVendors(TripleRef<'a>),
     OfDialect(Dialect, &'a str),
@@ -97,9 +97,9 @@ impl<'a> Refusal<'a> {
         Refusal { reason: Some(reason(error)), ..Refusal::of_all(format!("no name of {dialect} for"), text) }
     }
 
-    /// A name that no tool has.
-    pub fn unknown_to_all(text: &'a str) -> Self {
-        Refusal { names: Names::OfAll(text), ..Refusal::of_all("no tool has the name", text) }
+    /// A name that no tool has, and which was perhaps meant.
+    pub fn unknown_to_all(text: &'a str, meant: Option<Meant<'a>>) -> Self {
+        Refusal { names: Names::OfAll(text, meant), ..Refusal::of_all("no tool has the name", text) }
     }
 }
 

@@ -312,6 +312,11 @@ impl fmt::Display for Meant<'_> {
 }
 
 impl<'a> Meant<'a> {
+    /// With this instead of a part of a word.
+    pub(crate) fn with(word: &'a str, part: TextPart<'a>, suggestion: Suggestion<'a>) -> Self {
+        Meant { word, part, suggestion }
+    }
+
     /// The name that was perhaps meant by a misspelled one: a triple with another part, or else a name of a tool. All
     /// of whose words are known is no misspelled name. Nothing is allocated.
     ///

@@ -47,6 +47,7 @@ mod meanings;
 mod multiarch;
 mod name;
 mod named;
+mod near;
 #[cfg(feature = "alloc")]
 mod parse_name_error;
 mod platform;
@@ -84,7 +85,8 @@ pub use suggestions::{
 };
 pub use table::{ArmProfile, CLibrary, ChosenLibc, Dialect, FloatAbi, Signedness, WriteError};
 pub use target_info::TargetInfo;
-pub use text::{is_near_name, targets_in, words_in, TargetsIn, Word, WordIs};
+pub use near::is_near_name;
+pub use text::{targets_in, words_in, TargetsIn, Word, WordIs};
 pub use translation::TranslateError;
 pub use verdict::Verdict;
 pub use versions::{VersionOf, Versions};

@@ -2,6 +2,7 @@
 use crate::buffer::Buffer;
 use crate::evidence::{only_machine, said};
 use crate::hints::LONGEST_PATH;
+use crate::near::{is_near_name, near};
 use crate::suggestions::{architecture_of, edits_between, known_names, vendor_suggestion};
 use crate::{meanings, Dialect, Evidence, Meaning, Meant, NameOf, Said, Sense};
 use core::fmt::Write;
@@ -46,10 +47,10 @@ use target_lexicon::{Architecture, Field, OperatingSystem, TextPart, TripleRef, 
 pub fn targets_in(text: &str) -> TargetsIn<'_> {
     let lines = text.strip_prefix('\u{feff}').unwrap_or(text);
     let is_list = lines.split('\n').all(|line| items(uncommented(line)).all(is_item));
-    TargetsIn { text, lines, line: "", is_list, is_value: false, is_check: false }
+    TargetsIn { text, lines, line: "", is_list, value: Value::None, is_check: false }
 }
 
-/// The words of a text that a check looks at. Of a *list of targets*, in which at least half of the first items are
+/// The words of a text that a check looks at. Of a *list of targets*, in which more than half of the first items are
 /// names or may be misspelled ones, they are the items. Of any other text, such as a `.gitignore`, they are those of
 /// running text: the names that [`targets_in`] gives, what is [near one](is_near_name), and misspelled triples. Of
 /// other triples with a known vendor, of what has the parts of one and an unknown machine, and of other values of the
@@ -82,80 +83,7 @@ fn is_list_of_targets(words: TargetsIn<'_>) -> bool {
         let says_machine = || Evidence::of(word.part.text).machine() != Said::Unsaid;
         named += usize::from(word.is() != WordIs::Unknown && says_machine());
     }
-    items > 0 && items <= 2 * named
-}
-
-/// Whether a word in lower case is a letter more, less or other, or a swap, away from a name of a tool that has parts.
-/// If all that it says is understood, as of Debian's `freebsd-arc`, it isn't meant as another.
-///
-/// ```
-/// use target_names::is_near_name;
-///
-/// assert!(is_near_name("linux/am6d4") && is_near_name("x86_64-unnown-helenos"));
-/// assert!(!is_near_name("linux/amd46-1") && !is_near_name("linux"));
-/// ```
-#[must_use]
-pub fn is_near_name(word: &str) -> bool {
-    let has_length = (SHORTEST_NEAR - 1..=LONGEST_PATH).contains(&word.len());
-    if !has_length || !word.contains(['-', '/', '_']) || word.contains('.') {
-        return false;
-    }
-    let (evidence, room) = (Evidence::of(word), starred(word));
-    let word = if word.contains('_') { room.as_str() } else { word };
-    let has_parts = |it: &str| it.len() >= SHORTEST_NEAR && it.contains(['-', '/', '_']);
-    let is_near = |name: &str| has_parts(name) && is_one_edit(word.as_bytes(), name.as_bytes());
-    // Of a misspelled name a word is still as it was, or the name has digits.
-    let says_nothing = evidence.is_silent() && !word.bytes().any(|it| it.is_ascii_digit());
-    let may_be = !says_nothing && !evidence.is_understood();
-    may_be && Dialect::ALL.iter().any(|it| it.rows().iter().any(|row| is_near(row.0)))
-}
-
-/// A word with a star for each number between lines, as the rows of Python's names have it: `macosx_*_*_arm64`.
-fn starred(word: &str) -> Buffer<LONGEST_PATH> {
-    let (mut room, last) = (Buffer::new(), word.matches('_').count());
-    for (at, part) in word.split('_').enumerate() {
-        let is_number = (1..last).contains(&at) && part.bytes().all(|it| it.is_ascii_digit());
-        let is_written = write!(room, "{}{}", if at == 0 { "" } else { "_" }, if is_number { "*" } else { part });
-        if is_written.is_err() {
-            return Buffer::new();
-        }
-    }
-    room
-}
-
-/// Shorter names have too many words near them.
-const SHORTEST_NEAR: usize = 8;
-
-/// Whether a word without parts that says nothing is likewise near a name of a machine, where both have a digit:
-/// `amd46`.
-fn is_near_machine(word: &str) -> bool {
-    let has_digit = |it: &str| it.len() > 3 && it.bytes().any(|it| it.is_ascii_digit());
-    let is_near = |name: &str| has_digit(name) && is_one_edit(word.as_bytes(), name.as_bytes());
-    let mut rows = Dialect::ALL.iter().flat_map(|it| it.rows());
-    has_digit(word) && Evidence::of(word).is_empty() && rows.any(|row| is_near(row.0) && only_machine(row.0).is_some())
-}
-
-fn is_one_edit(word: &[u8], name: &[u8]) -> bool {
-    if word.len().abs_diff(name.len()) > 1 {
-        return false;
-    }
-    let start = word.iter().zip(name).take_while(|(one, other)| one == other).count();
-    let is_long = name.iter().filter(|it| !it.is_ascii_alphanumeric()).count() > 1;
-    let (word, (before, name)) = (&word[start..], name.split_at(start));
-    let end = word.iter().rev().zip(name.iter().rev()).take_while(|(one, other)| one == other).count();
-    let letter = u8::is_ascii_lowercase;
-    // With another letter a short word of two is another word, as in `linux-atm`, and so is an identifier, as
-    // `linux_ipc64`.
-    let (is_letter, after) = (|it: &&u8| it.is_ascii_alphanumeric(), &name[name.len() - end..]);
-    let count = |of: &mut dyn Iterator<Item = &u8>| of.take_while(is_letter).count();
-    let of_word = || count(&mut before.iter().rev()) + count(&mut after.iter());
-    let is_of_long_word = || is_long || !before.contains(&b'_') && of_word() > 2;
-    match (&word[..word.len() - end], &name[..name.len() - end]) {
-        ([it], []) | ([], [it]) => letter(it),
-        ([one], [other]) => letter(one) && letter(other) && is_of_long_word(),
-        ([first, second], [one, other]) => (first, second) == (other, one),
-        _ => false,
-    }
+    items < 2 * named
 }
 
 /// The words of a text that are targets: [`targets_in`] returns them.
@@ -166,10 +94,32 @@ pub struct TargetsIn<'a> {
     lines: &'a str,
     line: &'a str,
     is_list: bool,
-    /// Whether a word is the value of a key of which values are targets.
-    is_value: bool,
+    /// What a word is the value of.
+    value: Value,
     /// Whether [`words_in`] returned it.
     is_check: bool,
+}
+
+/// What a word is the value of: of a key whose values are targets, or parts of one.
+#[derive(Clone, Copy, Debug, PartialEq, Eq)]
+enum Value {
+    None,
+    Part,
+    Target,
+}
+
+impl Value {
+    fn of(key: &str, is_check: bool) -> Value {
+        let end = key.rsplit(['/', '.']).next();
+        let is_option = key.strip_prefix("target_").map_or(false, |it| CFG_OPTIONS.contains(&it));
+        match () {
+            _ if KEYS.iter().any(|it| has(key, it)) && !is_option => Value::Target,
+            _ if is_check && (PART_KEYS.iter().any(|it| has(key, it)) || matches!(end, Some("os" | "system"))) => {
+                Value::Part
+            }
+            _ => Value::None,
+        }
+    }
 }
 
 /// A word of a text.
@@ -181,6 +131,7 @@ pub struct Word<'a> {
     pub is_item: bool,
     /// Whether it says something of a target, and it isn't clear that it is one: only [`words_in`] gives such words.
     pub is_unclear: bool,
+    pub(crate) is_value: bool,
 }
 
 /// What a word is.
@@ -195,6 +146,11 @@ pub enum WordIs<'a> {
 }
 
 impl<'a> Word<'a> {
+    /// Whether the word is one edit from a name, and what was perhaps meant.
+    pub(crate) fn near(&self) -> Option<Option<Meant<'a>>> {
+        near(self.part.text, self.is_value)
+    }
+
     /// What it is.
     ///
     /// ```
@@ -221,7 +177,7 @@ impl<'a> Iterator for TargetsIn<'a> {
             if let Some((text, is_unclear)) = found {
                 let start = text.as_ptr() as usize - self.text.as_ptr() as usize;
                 let part = TextPart { text, start };
-                return Some(Word { part, is_item, is_unclear });
+                return Some(Word { part, is_item, is_unclear, is_value: self.value != Value::None });
             }
             if self.lines.is_empty() {
                 return None;
@@ -229,7 +185,9 @@ impl<'a> Iterator for TargetsIn<'a> {
             let (line, rest) = self.lines.split_once('\n').unwrap_or((self.lines, ""));
             self.lines = rest;
             self.line = uncommented(line);
-            self.is_value &= line.trim_start().starts_with(['-', '"', '\'', ']']);
+            if !line.trim_start().starts_with(['-', '"', '\'', ']']) {
+                self.value = Value::None;
+            }
         }
     }
 }
@@ -250,19 +208,23 @@ impl<'a> TargetsIn<'a> {
             let (before, rest) = self.line.split_at(self.line.find(is_of_word)?);
             let end = rest.find(|it| !is_of_word(it)).unwrap_or(rest.len());
             let (word, after) = rest.split_at(end);
-            self.line = after;
+            // An item of YAML is on its own.
+            self.line = if word == "-" { after.trim_start() } else { after };
             let is_key = is_key(after);
             if is_key {
-                let is_option = word.strip_prefix("target_").map_or(false, |it| CFG_OPTIONS.contains(&it));
-                self.is_value = KEYS.iter().any(|key| has(word, key)) && !is_option;
+                self.value = Value::of(word, self.is_check);
+            } else if self.is_check && is_key_of_tool(before, word, after) {
+                self.value = Value::Part;
+                self.line = after[1..].trim_start();
             }
             let is_rest = word.starts_with(|it: char| "-._".contains(it) || it.is_ascii_digit());
             let is_end = |it: &str| it.ends_with(PATTERN) && is_rest;
             if is_end(before) || after.starts_with(PATTERN) && word.ends_with(['-', '.', '_']) {
                 continue;
             }
-            let is_value = self.is_value && !is_key;
-            if !is_value && !word.contains(['-', '/', '_']) {
+            let is_value = self.value == Value::Target && !is_key;
+            let is_part = self.value != Value::None && !is_key && (is_value || is_alone(before, word, after));
+            if !is_part && !word.contains(['-', '/', '_']) {
                 continue;
             }
             let slashes = word.split('/').skip_while(|it| it.len() == word.len());
@@ -272,14 +234,19 @@ impl<'a> TargetsIn<'a> {
                 // What is a target says that the rest is something else: `x86_64-apple-darwin.runner`. A name may be in
                 // that of a program, of which GNU takes any vendor: `aarch64-linux-gnu-gcc`.
                 let is_name = |it: &&str| may_be_given(it, false) && name_of(it).is_some() && is_whole(it);
-                let ends = |it: &'a str| [it.split_once('-').map(|it| it.1), it.rsplit_once('-').map(|it| it.0)];
+                let tool = |it: &'a str| it.rsplit_once('-').map(|it| it.0);
+                let ends = |it: &'a str| [it.split_once('-').map(|it| it.1), tool(it), tool(it).and_then(tool)];
                 let ends = parts.clone().flat_map(ends).flatten().filter(|it| it.matches('-').count() > 1);
-                let near = || ends.clone().find(|it| is_near_name(it) && !is_known(it)).map(|it| (it, false));
+                let near = || ends.clone().find(|it| is_near_name(it)).map(|it| (it, false));
                 if let Some(name) = parts.clone().find(is_name) {
-                    let misspelled = if is_known(name) { None } else { near() };
+                    // Another folder or file of a path may be misspelled.
+                    let is_apart = |it: &&str| !it.contains(name) && !name.contains(it);
+                    let apart = || ends.clone().filter(is_apart).find(|it| is_near_name(it)).map(|it| (it, false));
+                    let misspelled = if is_known(name) { apart() } else { near() };
                     return misspelled.or(Some((name, false)));
                 }
-                let found = parts.find_map(|it| Some((it, clarity(it, is_value)?)));
+                let is_part = is_part && is_alone(before, word, after);
+                let found = parts.find_map(|it| Some((it, clarity(it, is_value, is_part)?)));
                 let is_clear = matches!(found, Some((_, false)));
                 if let Some(found) = found.filter(|_| is_clear).or_else(near).or(found) {
                     return Some(found);
@@ -297,6 +264,9 @@ fn trimmed(word: &str) -> &str {
 
 /// What a key has of which values are targets.
 const KEYS: [&str; 4] = ["target", "triple", "platform", "arch"];
+
+/// What a key has of which values are parts of targets, as `os` is.
+const PART_KEYS: [&str; 4] = ["cpu", "goos", "abi", "processor"];
 
 /// Options of rustc's `cfg`, whose values are words for a part of a target: what follows `target_`.
 const CFG_OPTIONS: [&str; 8] = ["abi", "arch", "endian", "env", "family", "os", "pointer_width", "vendor"];
@@ -319,7 +289,25 @@ fn is_key(after: &str) -> bool {
     let after = after.trim_start_matches(['"', '\'']);
     let value = after.strip_prefix(':');
     let begins = |it: &str| it.starts_with([' ', '\t', '\r', '"', '\'', '[', '{']) || it.is_empty();
-    value.map_or(false, begins) || after.trim_start().starts_with('=')
+    let after = after.trim_start();
+    value.map_or(false, begins) || ["=", ":=", "?=", "+="].iter().any(|it| after.starts_with(it))
+}
+
+/// Whether a word is a key as CMake and Bazel have them: `set(CMAKE_SYSTEM_PROCESSOR arm64)`, `@platforms//cpu:arm64`.
+fn is_key_of_tool(before: &str, word: &str, after: &str) -> bool {
+    let is_variable = |it: u8| it.is_ascii_uppercase() || it == b'_';
+    let is_tools = word.starts_with("CMAKE_") || word.starts_with("VCPKG_");
+    let is_variable = is_tools && word.bytes().all(is_variable);
+    before.ends_with('(') && is_variable && after.starts_with(' ') || word.contains("//") && after.starts_with(':')
+}
+
+/// Whether a word, if it has no digit, is a value on its own, and none of prose.
+fn is_alone(before: &str, word: &str, after: &str) -> bool {
+    let begins =
+        before.is_empty() || before.ends_with(['"', '\'', '`', '=', '[']) || before.ends_with(": ") || before == ", ";
+    let ends = after.trim_end().is_empty() || after.starts_with(['"', '\'', '`', ',', ']', '}', ')']);
+    let has_digit = word.bytes().any(|it| it.is_ascii_digit());
+    has_digit || begins && (ends || before.ends_with('=') && after.starts_with(' '))
 }
 
 /// A line without its comment.
@@ -327,8 +315,10 @@ fn uncommented(line: &str) -> &str {
     let is_space = |it: Option<char>| it.map_or(true, char::is_whitespace);
     let is_comment = |at: usize| {
         let (before, after) = (&line[..at], &line[at + 1..]);
-        before.trim_start().is_empty() && !after.trim_start().starts_with("define ")
-            || is_space(before.chars().next_back()) && is_space(after.chars().next())
+        match before.trim_start() {
+            "" => !after.trim_start().starts_with("define "),
+            _ => is_space(before.chars().next_back()) && is_space(after.chars().next()),
+        }
     };
     let mut signs = line.match_indices('#').map(|it| it.0);
     signs.find(|at| is_comment(*at)).map_or(line, |at| &line[..at])
@@ -382,20 +372,21 @@ fn given(word: &str, is_value: bool) -> Option<WordIs<'_>> {
 }
 
 /// Whether a word that a check looks at is unclear, if it does.
-fn clarity(word: &str, is_value: bool) -> Option<bool> {
+fn clarity(word: &str, is_value: bool, is_part: bool) -> Option<bool> {
     // Prose writes `PowerPC64-linux`, and `i386-win32` is a name to somebody.
     let is_other = || word.matches('-').count() == 1 && word.bytes().any(|it| it.is_ascii_uppercase());
     let is_triple = |it: Meant<'_>| it.part.text != word && !is_other() && !Evidence::of(word).is_understood();
     if let Some(is) = given(word, is_value) {
         let is_clear = match is {
             WordIs::Name(_) => true,
-            WordIs::Misspelled(it) => is_value || is_triple(it) || is_near_name(word),
+            WordIs::Misspelled(it) => {
+                is_value && !Evidence::of(word).is_understood() || is_triple(it) || is_near_name(word)
+            }
             WordIs::Unknown => is_value || is_near_name(word),
         };
         return (is_clear || is_value || word.matches('-').count() > 1).then_some(!is_clear);
     }
-    let is_wrong =
-        || is_of_unknown_environment(word, is_value) || is_near_name(word) || is_value && is_near_machine(word);
+    let is_wrong = || is_of_unknown_environment(word, is_value) || near(word, is_part).is_some();
     if word.len() <= LONGEST_PATH && is_wrong() && !is_known(word) {
         return Some(false);
     }
@@ -447,7 +438,7 @@ fn name_of(word: &str) -> Option<NameOf> {
 }
 
 /// Whether a word is a name of a tool, or a triple or spelled like one, without a custom vendor. GNU takes any vendor.
-fn is_known(word: &str) -> bool {
+pub(crate) fn is_known(word: &str) -> bool {
     let has_known_vendor = |it: Sense<'_>| !it.triple.vendor.is_custom();
     meanings(word).any(|it| match it.of {
         NameOf::Dialect(dialect) => dialect != Dialect::Gnu,

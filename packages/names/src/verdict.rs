@@ -1,8 +1,9 @@
 //! What a check says of a word.
+use crate::Suggest as _;
 use crate::{
-    is_near_name, is_vendor_of_rustc, meanings, vendor_suggestion, Dialect, Evidence, Meaning, NameOf, Word, WordIs,
+    is_vendor_of_rustc, meanings, vendor_suggestion, Dialect, Evidence, Meaning, Meant, NameOf, Sense, Word, WordIs,
 };
-use target_lexicon::{Refusal, Source, TextPart, TripleRef, VendorRef};
+use target_lexicon::{OperatingSystem, Refusal, Source, TextPart, TripleRef, VendorRef};
 
 /// What a check says of a word of [`words_in`](crate::words_in).
 #[derive(Clone, Copy, Debug, PartialEq, Eq)]
@@ -13,8 +14,8 @@ pub enum Verdict<'a> {
     WithoutTriple(Dialect, &'static str),
     /// It may be a target, and isn't understood.
     Unclear,
-    /// It is wrong: no tool has the name.
-    Unknown,
+    /// It is wrong: no tool has the name. It may be that this was meant.
+    Unknown(Option<Meant<'a>>),
     /// It is wrong: as a triple, it is refused.
     Refused(Refusal<'a>),
     /// It is wrong: this part of the triple, a custom vendor, resembles a known name.
@@ -29,7 +30,7 @@ impl<'a> Word<'a> {
     ///
     /// let verdict = |text| words_in(text).map(|it| it.verdict(false, |_| false)).next();
     /// assert!(matches!(verdict("x: x86_64-linux-gnuu"), Some(Verdict::Refused(it)) if it.part.text == "gnuu"));
-    /// assert_eq!(verdict("platform: linux/amd46"), Some(Verdict::Unknown));
+    /// assert!(matches!(verdict("platform: linux/amd46"), Some(Verdict::Unknown(Some(_)))));
     /// assert_eq!(verdict("platform: linux/foo"), Some(Verdict::Unclear));
     /// ```
     #[must_use]
@@ -41,14 +42,18 @@ impl<'a> Word<'a> {
         let is_vendor = |it| VendorRef::from_str(it).map_or(false, |it| !it.is_custom());
         let is_understood = || {
             let is_unknown = own.is_err() && is == WordIs::Unknown && !text.split('-').any(is_vendor);
-            is_unknown && Evidence::of(text).sense().map_or(false, |it| it.level.is_empty())
+            is_unknown && Evidence::of(text).sense().map_or(false, |it| it.level.is_empty()) && self.near().is_none()
         };
         let is_known = own.as_ref().map_or(false, |it| !it.vendor.is_custom());
-        // GNU takes any vendor.
+        // GNU takes any vendor, and versions of systems, as in `i386-gnu0.3`.
+        let says_system = |it: Sense<'_>| it.triple.operating_system != OperatingSystem::Unknown;
+        let is_versioned = |it: Sense<'_>| text.matches('-').count() == 1 && says_system(it);
         let is_of_tool = |it: &Meaning<'_>| match it.of {
             NameOf::Triple => false,
-            NameOf::Dialect(Dialect::Gnu) => own.is_err() && matches!(is, WordIs::Name(_)),
-            NameOf::Dialect(_) | NameOf::Spelling => true,
+            NameOf::Dialect(Dialect::Gnu) if own.is_ok() => it.sense.map_or(false, is_versioned),
+            NameOf::Dialect(Dialect::Gnu) => matches!(is, WordIs::Name(_)) && self.near().is_none(),
+            NameOf::Spelling => it.sense.map_or(true, |it| !it.triple.vendor.is_custom()) || self.near().is_none(),
+            NameOf::Dialect(_) => true,
         };
         match (meanings(text).filter(|_| !is_known).find(is_of_tool), is) {
             (Some(Meaning { of: NameOf::Dialect(dialect), sense: Err(why) }), _) => {
@@ -58,21 +63,25 @@ impl<'a> Word<'a> {
                 return Verdict::Right(it.triple);
             }
             _ if (self.is_unclear || is_understood()) && !is_strict => return Verdict::Unclear,
-            (_, WordIs::Misspelled(it)) if it.part.text == text => return Verdict::Unknown,
+            (_, WordIs::Misspelled(it)) if it.part.text == text => return Verdict::Unknown(Some(it)),
             _ => {}
         }
-        let is_near = || !matches!(is, WordIs::Misspelled(_)) && is_near_name(text);
-        match own {
-            Err(refusal) if refusal.part.start == 0 && is_near() => Verdict::Unknown,
-            Err(refusal) => Verdict::Refused(refusal),
-            Ok(triple) => match (triple.vendor, explanation.sources.vendor) {
+        let near = || if matches!(is, WordIs::Misspelled(_)) { None } else { self.near() };
+        match (own, near()) {
+            (Err(refusal), Some(meant))
+                if refusal.part.start == 0 || meant.is_some() && refusal.suggestion_in(text).is_none() =>
+            {
+                Verdict::Unknown(meant)
+            }
+            (Err(refusal), _) => Verdict::Refused(refusal),
+            (Ok(triple), near) => match (triple.vendor, explanation.sources.vendor) {
                 (VendorRef::Custom(vendor), _) if is_vendor_of_rustc(vendor) || is_meant(vendor) => {
                     Verdict::Right(triple)
                 }
                 (VendorRef::Custom(_), Source::Part(part)) if vendor_suggestion(triple).is_some() => {
                     Verdict::NearVendor(triple, part)
                 }
-                (VendorRef::Custom(_), _) if is_near() => Verdict::Unknown,
+                (VendorRef::Custom(_), _) => near.map_or(Verdict::Right(triple), Verdict::Unknown),
                 _ => Verdict::Right(triple),
             },
         }

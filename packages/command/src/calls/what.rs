@@ -61,7 +61,7 @@ impl<'a> Meanings<'a> {
             Some(sense) if !is_name || has_system(&sense.triple) => what.add(sense, WORDS),
             _ if is_name => {}
             _ if evidence.is_empty() || Meant::by(text).is_some() => {
-                return Err(Refusal::unknown_to_all(text));
+                return Err(Refusal::unknown_to_all(text, None));
             }
             _ => what.known = Some(evidence.to_string()),
         }
