@@ -136,6 +136,7 @@ fn help_of_names(refusal: &Refusal<'_>, target: &str) -> Help {
         Names::OfParts(refusal) => (shown(refusal.suggestion_in(target)), None),
         Names::OfVendors(triple) => (shown(vendor_suggestion(triple)), None),
         Names::OfAll(name, near) => {
+            let is_digit = |it: char| it.is_ascii_digit();
             let meant = Meant::by(name).or(*near).map(|it| it.to_string());
             let has = |it: &&Dialect| meant.as_deref() == it.suggestion(name);
             let mistake = Dialect::ALL.iter().find(has).filter(|_| meant.is_some()).and_then(|it| it.mistake(name));
@@ -143,7 +144,7 @@ fn help_of_names(refusal: &Refusal<'_>, target: &str) -> Help {
             match meant {
                 Some(meant) => (Some(meant), shown(mistake)),
                 // A number that nobody knows may be of the machine, as in `x86_46`: then it isn't the one that is said.
-                None => (None, said(&Evidence::of(name)).filter(|it| !it.trim_end_matches('`').ends_with(char::is_numeric))),
+                None => (None, said(&Evidence::of(name)).filter(|it| !it.trim_end_matches('`').ends_with(is_digit))),
             }
         }
         Names::OfDialect(dialect, name) => {

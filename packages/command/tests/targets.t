@@ -127,9 +127,9 @@ An argument that is the path of a file is a text, in which targets are found. A 
   ::error::unrecognized architecture `foo`
   ! 5 of 8 targets refused
   [1]
-  $ printf 'x86_64-linux\nfoo\n' > '100%:,'; target-lexicon check --format github '100%:,'; rm '100%:,'
+  $ printf 'x86_64-linux\nfoo\navr\n' > '100%:,'; target-lexicon check --format github '100%:,'; rm '100%:,'
   ::error file=100%25%3A%2C,line=2,col=1,endColumn=4::unrecognized architecture `foo`
-  ! 1 of 2 targets refused
+  ! 1 of 3 targets refused
   $ for format in json json-lines human; do target-lexicon settle --format $format rust-toolchain.toml | head -n 1 | cut -c 1-70; done
   [{"target":"wasm32-wasip1","file":"rust-toolchain.toml","line":3,"cano
   {"target":"wasm32-wasip1","file":"rust-toolchain.toml","line":3,"canon
@@ -161,9 +161,9 @@ An unknown environment after a machine and a system is wrong, and so is what is 
   ! words.yml:1:60: error: unrecognized environment `foo`
   ! words.yml:1:72: error: custom vendor `windwos`
   ! words.yml:1:85: error: no tool has the name `x86_64-pcc-cygwin`
+  ! words.yml:3:12: error: no tool has the name `linux/aarch46`
   ! words.yml:3:44: error: no tool has the name `linux/am6d4`
-  ! note: 1 word that may be a target isn't understood: --strict shows each
-  ! 5 of 10 targets refused
+  ! 6 of 10 targets refused
   $ target-lexicon check more.yml | grep -v '^!   '
   ! more.yml:1:12: error: no tool has the name `macsx_11_0_arm64`
   ! more.yml:2:7: error: no tool has the name `amd46`
@@ -197,9 +197,9 @@ Of a folder the files are read, except links and what tools make. A list is what
   ! words.yml:1:72: warning: custom vendor `windwos`
   ! words.yml:1:85: error: no tool has the name `x86_64-pcc-cygwin`
   ! words.yml:2:47: error: no triple means the same as the name of rust `x86_64-unknown-helenos`
+  ! words.yml:3:12: error: no tool has the name `linux/aarch46`
   ! words.yml:3:44: error: no tool has the name `linux/am6d4`
-  ! note: 1 word that may be a target isn't understood: --strict shows each
-  ! 5 of 10 targets refused
+  ! 6 of 10 targets refused
   $ printf 'platform: linux/amd64\n' > one.yml; target-lexicon matrix one.yml | cut -f 1,2
   x86_64-unknown-linux\tlinux/amd64 (esc)
 

@@ -45,12 +45,14 @@ impl<'a> Word<'a> {
             is_unknown && Evidence::of(text).sense().map_or(false, |it| it.level.is_empty()) && self.near().is_none()
         };
         let is_known = own.as_ref().map_or(false, |it| !it.vendor.is_custom());
-        // GNU takes any vendor, and versions of systems, as in `i386-gnu0.3`.
-        let says_system = |it: Sense<'_>| it.triple.operating_system != OperatingSystem::Unknown;
-        let is_versioned = |it: Sense<'_>| text.matches('-').count() == 1 && says_system(it);
+        // GNU takes any vendor, and versions of the Hurd, as in `i386-gnu0.3`.
+        let is_hurd = |it: Sense<'_>| it.triple.operating_system == OperatingSystem::Hurd;
+        let is_versioned = |it: Sense<'_>| text.contains("-gnu0.") && is_hurd(it);
         let is_of_tool = |it: &Meaning<'_>| match it.of {
             NameOf::Triple => false,
-            NameOf::Dialect(Dialect::Gnu) if own.is_ok() => it.sense.map_or(false, is_versioned),
+            NameOf::Dialect(Dialect::Gnu) if own.is_ok() => {
+                text.contains("-gnu0.") && it.sense.map_or(false, is_versioned)
+            }
             NameOf::Dialect(Dialect::Gnu) => matches!(is, WordIs::Name(_)) && self.near().is_none(),
             NameOf::Spelling => it.sense.map_or(true, |it| !it.triple.vendor.is_custom()) || self.near().is_none(),
             NameOf::Dialect(_) => true,
