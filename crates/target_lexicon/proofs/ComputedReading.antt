@@ -14,34 +14,6 @@ use Rattle.target_lexicon.proofs.UniqueReading.{values_unique, refusal_unique, r
 use Rattle.target_lexicon.proofs.{PartLemmas.parts_of-are, PartLemmas.parts_of-some, ReadParts.absent}
 use Rattle.target_lexicon.proofs.{RefusalLemmas.refused_first, RefusalLemmas.left-refused}
 
--- the values that these parts give where this field is expected and those before have these
-abbrev fill : Option Field → Values → List (List ℕ) → Values
-fill expected t [] = finished expected t
-fill expected t (p ∷ ps) = option_map_or (λ f. fill (expected_after f) (with_value f p t) ps) (field_for expected p) t
-
-read-filled : (expected : Option Field) (t : Values) (ps : List (List ℕ)) → left_from expected ps ≡ []
-    → reading_from expected t ps ≡ Ok (fill expected t ps)
-read-filled expected t [] done = refl
-read-filled expected t (p ∷ ps) done =
-    elim (cases_Option (field_for expected p)) [
-      | inl none ↦ absurd (let left = rw none at done in cc)
-      | inr some ↦ rw some.1 (read-filled (expected_after some.0) (with_value some.0 p t) ps (rw some.1 at done))
-    ]
-
--- or the refusal of the first part that is left
-read-left : (l : Field) (t : Values) (ps : List (List ℕ)) (q : List ℕ) (rest : List (List ℕ))
-    → left_from (expected_after l) ps ≡ q ∷ rest → reading_from (expected_after l) t ps
-    ≡ Err (refusal_with (expected_after (last_field l (fields_from (expected_after l) ps))) q)
-read-left l t [] q rest left = cc
-read-left l t (p ∷ ps) q rest left =
-    elim (cases_Option (field_for (expected_after l) p)) [
-      | inl none ↦
-          let all : p ∷ ps ≡ q ∷ rest = (rw none at left) in
-          let same : p ≡ q = cc in
-          rw none (ap (λ (r : List ℕ). Err (refusal_with (expected_after l) r)) same)
-      | inr some ↦ rw some.1 (read-left some.0 (with_value some.0 p t) ps q rest (rw some.1 at left))
-    ]
-
 -- each field has the value of its part, or without one the value before; while the format is open, the implied one
 abbrev Fills : Option Field → Values → Values → List (List ℕ) → List Field → Type 0
 Fills expected t u ps fs =
@@ -85,15 +57,28 @@ fills-next p ps t u (Some x) BinaryFormat found takes (a, v, s, e, f) =
     let is = rw (absent BinaryFormat ps ps) at f in
     (a, v, s, e, value-taken binary_format_of p t.binary_format u.binary_format takes is)
 
-fills : (l : Field) (t : Values) (ps : List (List ℕ)) → left_from (expected_after l) ps ≡ []
-    → Fills (expected_after l) t (fill (expected_after l) t ps) ps (fields_from (expected_after l) ps)
-fills l t [] done = fills-end (expected_after l) t
-fills l t (p ∷ ps) done =
+-- what the function gives of these parts after this field, where those before have these values: all parts fill fields,
+-- or the first one that is left is refused
+abbrev Reads : Field → Values → List (List ℕ) → Result Values Refusal → Type 0
+Reads l t ps (Ok u) =
+    (left_from (expected_after l) ps ≡ []) × Fills (expected_after l) t u ps (fields_from (expected_after l) ps)
+Reads l t ps (Err x) =
+    (q : List ℕ) × (rest : List (List ℕ)) × (left_from (expected_after l) ps ≡ q ∷ rest)
+    × (x ≡ refusal_with (expected_after (last_field l (fields_from (expected_after l) ps))) q)
+
+reads-next : (l : Field) (t : Values) (p : List ℕ) (ps : List (List ℕ)) (f : Field) (found : Result Values Refusal)
+    → field_for (expected_after l) p ≡ Some f → Reads f (with_value f p t) ps found → Reads l t (p ∷ ps) found
+reads-next l t p ps f (Ok u) takes (done, h) =
+    rw takes (done, fills-next p ps t u (expected_after l) f takes (field-after l p f takes).1 h)
+reads-next l t p ps f (Err x) takes h = rw takes h
+
+reads : (l : Field) (t : Values) (ps : List (List ℕ)) → Reads l t ps (reading_from (expected_after l) t ps)
+reads l t [] = (refl, fills-end (expected_after l) t)
+reads l t (p ∷ ps) =
     elim (cases_Option (field_for (expected_after l) p)) [
-      | inl none ↦ absurd (let left = rw none at done in cc)
+      | inl none ↦ rw none (p, ps, rw none refl, rw none refl)
       | inr some ↦
-          rw some.1 (fills-next p ps t _ (expected_after l) some.0 some.1 (field-after l p some.0 some.1).1
-          (fills some.0 (with_value some.0 p t) ps (rw some.1 at done)))
+          rw some.1 (reads-next l t p ps some.0 _ some.1 (reads some.0 (with_value some.0 p t) ps))
     ]
 
 -- what holds for a string: the function gives what it reads as, or how it is refused
@@ -105,30 +90,25 @@ module _ (text p : List ℕ) (ps : List (List ℕ)) (ordinary : special_values t
   is_refused : (x : Refusal) → IsRefusal (p ∷ ps) x → IsRefusedAs text x
   is_refused x h = (ordinary, (parts_of text, parts_of-are text, rw are h))
 
-  by_left : parses_as Architecture p ≡ true → (left : List (List ℕ)) → left_from (Some Vendor) ps ≡ left
-      → Holds text (reading_from (Some Vendor) (with_value Architecture p unknown_values) ps)
-  by_left takes [] done =
-      let t = with_value Architecture p unknown_values in
-      let u = fill (Some Vendor) t ps in
-      let found : field_for (Some Architecture) p ≡ Some Architecture = rw takes refl in
-      let h = fills-next p ps unknown_values u (Some Architecture) Architecture found takes
-      (fills Architecture t ps done) in
+  by_result : parses_as Architecture p ≡ true → (found : Result Values Refusal)
+      → Reads Architecture (with_value Architecture p unknown_values) ps found → Holds text found
+  by_result takes (Ok u) (done, read) =
+      let first : field_for (Some Architecture) p ≡ Some Architecture = rw takes refl in
+      let h = fills-next p ps unknown_values u (Some Architecture) Architecture first takes read in
       let holds : HoldsParts (p ∷ ps) (Architecture ∷ fields_from (Some Vendor) ps) u =
       record { architecture = h.0; vendor = h.1; operating_system = h.2; environment = h.3; binary_format = h.4 } in
-      rw (read-filled (Some Vendor) t ps done)
-      (rw ordinary (
+      rw ordinary (
         parts_of text,
         parts_of-are text,
         rw are (Architecture ∷ fields_from (Some Vendor) ps, greedy-least p ps takes done, holds),
-      ))
-  by_left takes (q ∷ rest) left =
-      rw (read-left Architecture (with_value Architecture p unknown_values) ps q rest left)
-      (is_refused _ (left-refused p ps q rest takes left))
+      )
+  by_result takes (Err x) (q, rest, left, is) = rw is (is_refused _ (left-refused p ps q rest takes left))
 
   parts-hold : Holds text (reading_of_parts (p ∷ ps))
   parts-hold =
       elim (cases_Bool (parses_as Architecture p)) [
-        | inl takes ↦ rw takes (by_left takes (left_from (Some Vendor) ps) refl)
+        | inl takes ↦
+            rw takes (by_result takes _ (reads Architecture (with_value Architecture p unknown_values) ps))
         | inr skips ↦ rw skips (is_refused _ (refused_first p ps skips))
       ]
 

@@ -1,5 +1,6 @@
 -- A map. The proof of a function, such as the law `round_is_normal_step`, is in the folder of its file and name,
--- laws/round_is_normal_step, and cites lemmas of the files here. Begin there, and go from lemma to lemma.
+-- laws/round_is_normal_step, and cites lemmas of the files here; or the function's attribute `tactic` names its lemma,
+-- as that of the law `model_width` does. Begin there, and go from lemma to lemma.
 --
 -- Parsing, as the least placement: PartLemmas (a string's parts), NamesAcross (names of one field, parsed as another),
 -- GreedyPlacement, RefusalLemmas, UniqueReading, ComputedReading (one outcome, which the function `reading` gives).
