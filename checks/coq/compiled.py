@@ -9,6 +9,7 @@ import tempfile
 from pathlib import Path
 
 import bridge
+import derived
 import mir
 import shipped
 from mir_grammar import ITEM, Unknown, close, read_hir, split
@@ -34,9 +35,9 @@ PRINTED = ["rerun-if-env-changed=TARGET_LEXICON_HOST", "rustc-check-cfg=cfg(core
 ATTRIBUTES = "allow automatically_derived coverage doc forbid inline macro_export must_use no_std non_exhaustive " \
              "prelude_import repr rustfmt warn".split()
 # Why functions aren't written, or proved to be those of the source: all of some traits, and these.
-UNSAID = ("std::Debug", "std::Hash", "std::Ord", "std::PartialOrd", "std::Clone", "std::Eq", "std::Error")
+UNSAID = ("std::Debug", "std::Eq", "std::Error")
+OF_MIR = ("std::Clone", "std::Hash", "std::Ord", "std::PartialOrd")  # the source isn't translated for these: Traits.v
 SERDE = ("std::Serialize", "std::Deserialize")
-COMPARED = ("std::Hash", "std::Ord", "std::PartialOrd")  # of these, with upstream's
 LEFT_OUT = {
     **{f"proved::{it}::host": "the host is that of the build" for it in (
         "triple::Triple", "architecture::Architecture", "vendor::Vendor", "operating_system::OperatingSystem",
@@ -53,6 +54,10 @@ OWNED = """Definition mir_CustomVendor_as_str (fuel : nat) (v1 : RsCustomVendor)
 match v1 with
 | (RsCustomVendor__Static x'1) =>
 Some x'1 end.
+""", """Definition mir_CustomVendor__Clone__clone (fuel : nat) (v1 : RsCustomVendor) : option RsCustomVendor :=
+match v1 with
+| (RsCustomVendor__Static x'1) =>
+Some (RsCustomVendor__Static x'1) end.
 """
 
 
@@ -139,13 +144,12 @@ def all_of(crate):
     """Writes all functions. Returns why some aren't written."""
     unwritten = {}
     for it in crate.all():
-        if it.key[0] in UNSAID and it.key[0] not in COMPARED:
+        if it.key[0] in UNSAID:
             continue
         try:
             crate.write(it)
         except Unknown as why:
-            if it.key[0] not in UNSAID:
-                unwritten[path(it)] = str(why)
+            unwritten[path(it)] = str(why)
     return unwritten
 
 
@@ -158,9 +162,9 @@ def same_without_alloc(root, crate, known):
     other = crate_of(main, known)
     if unknown := {*all_of(other)} - {*LEFT_OUT}:
         raise Untranslated(f"{min(unknown)} isn't known without the feature `alloc`")
-    ours, others = ({re.sub(r"\bbb\d+_", "bb_", code): title for title, _, code in it.out} for it in (crate, other))
-    for code, title in others.items():
-        if code not in ours and code != OWNED:
+    ours = {code for _, _, code in crate.out}
+    for title, _, code in other.out:
+        if code not in ours and code not in OWNED:
             raise Untranslated(f"{title} is another function without the feature `alloc`")
 
 
@@ -336,11 +340,12 @@ def written(root, folder, translated):
     made = bridge.Bridge(crate, texts["Code"] + texts["Configured"])
     put("Same_mir", made.write())
     put("Compiled", made.theorems(theorems, proofs) + RANGE)
+    put("Derived", derived.write(crate, made.projections))
     lines = ["function\tdefinition\tlemma\ttheorems"]
     for title, it, _ in crate.out:
         if it and not title.endswith("_pure"):
             lemma, of = made.lemmas.get(title, ("", ""))
-            if not lemma and it.key[0] not in UNSAID:
+            if not lemma and it.key[0] not in OF_MIR:
                 unwritten[path(it)] = "no function of the source is equal to it"
             lines.append("\t".join([path(it), title, lemma, " ".join(made.used.get(of, []))]))
     for it, why in unwritten.items():
@@ -348,4 +353,5 @@ def written(root, folder, translated):
             raise Untranslated(f"{why} (in {it})")
         lines.append(f"{it}\t\t\tnot proved: {LEFT_OUT[it]}")
     folder.joinpath("mir.tsv").write_text("\n".join(lines) + "\n", encoding="utf-8")
-    return {f"mir_{it}": None for it in (*theorems, "versions_in_range")}
+    orders = re.findall(r"^Theorem (\w+)", HERE.joinpath("mir/Orders.v").read_text(encoding="utf-8"), re.M)
+    return dict.fromkeys([*(f"mir_{it}" for it in (*theorems, "versions_in_range")), *derived.SAID, *orders])

@@ -8,7 +8,7 @@ from collections import namedtuple
 
 from mir import BITS, TEXTS, Unknown, arguments, of_call, referred, split, strip
 from mir_grammar import Function, close
-from mir_std import CLOSED, EQUAL, FED, GENERIC, ITERATORS, STD
+from mir_std import CLOSED, EQUAL, FED, GENERIC, ITERATORS, ORDERS, STD
 
 Con = namedtuple("Con", "name args")  # a constructor of values; "tuple", "branching" and a closure aren't Coq's
 Mut = namedtuple("Mut", "cell path")  # a mutable borrow
@@ -286,7 +286,7 @@ class Body:
             return self.aggregate(what, [self.operand(part, env) for part in it[2]])
         if what == "std::fmt::Error":
             return "tt"
-        if m := re.search(r"::(\w+)::promoted\[(\d+)\]$", what):
+        if m := re.search(r"::(\w+)(?:::<H>)?::promoted\[(\d+)\]$", what):
             return self.promoted(m[1], m[2])
         if what in self.crate.constants:
             return self.inline(self.crate.constants[what])
@@ -368,7 +368,7 @@ class Body:
             return value
         if kind == "Transmute" and (m := re.fullmatch(r"std::ptr::NonNull<(.*)>", of)) and to == f"*const {m[1]}":
             return value
-        if kind != "IntToInt" or of not in BITS or to not in BITS:
+        if kind != "IntToInt" or of not in BITS and not isinstance(value, Tag) or to not in BITS:
             raise Unknown(f"a cast from {of} to {to}")
         narrow = {"u8": 8, "u16": 16, "u32": 32}
         if of == to or of in narrow and narrow[of] <= narrow.get(to, 32):
@@ -408,7 +408,14 @@ class Body:
             return self.own(*self.captures(self.read(values[0], env), values[1], env), [], env)
         if trait == "std::Hash" and name == "hash" and types[1] in ("&mut H", "&mut __H"):
             return self.hashed(strip(owner), values, types, env)
+        if trait == "std::Clone" and owner.startswith("std::option::Option<"):
+            it = self.crate.find((trait, *arguments(owner), name))
+            return self.emit(f"option_clone ({self.crate.write(it)} fuel) {self.code(self.read(values[0], env))}")
+        if trait == "std::Ord" and name == "cmp":
+            return self.emit(self.compared(strip(owner), *[self.code(self.read(it, env)) for it in values]))
         plain = without_generics(path)
+        if plain == "std::mem::discriminant":
+            return self.code(Tag(values[0], operands[0][1]))
         if plain.startswith("std::fmt::") and (it := self.formatted(plain, path, values, env)):
             return it
         if form := GENERIC.get(plain) or STD.get(re.sub(r"^<\[u8; \d+\]", "<[u8]", path)):
@@ -479,21 +486,42 @@ class Body:
             return f"(fst {name})"
 
     def hashed(self, type, values, types, env):
-        """The crate's hash, or std's: of a number, a string, or an option, which is its discriminant, and the value."""
+        """The crate's hash, or std's."""
         if it := self.crate.find(("std::Hash", type, "hash")):
             return self.own(it, values, types, env)
-        value, fed = (self.code(self.read(it, env)) for it in values)
-        if type in FED:
-            new = f"(feed by_{type} {value if type == 'str' else f'[{value}]'} {fed})"
-        elif type.startswith("std::option::Option<") and (
-                it := self.crate.find(("std::Hash", strip(arguments(type)[0]), "hash"))):
-            hashed = f"{self.crate.write(it)} fuel it (feed by_isize [1] {fed})"
-            new = self.emit(f"(match {value} with None => Some (feed by_isize [0] {fed}) | Some it => "
-                            f"match {hashed} with Some it => Some (snd it) | None => None end end)")
-        else:
-            raise Unknown(f"the hash of {type}")
-        self.store(*values[1], self.named(new, "fed"), env)
+        fed = self.emit(self.fed(type, *[self.code(self.read(it, env)) for it in values]), "fed")
+        self.store(*values[1], fed, env)
         return "tt"
+
+    def fed(self, type, value, fed):
+        """What a hasher is fed by the crate's hash, or by std's of a number, a string or what has cases: an option."""
+        if it := self.crate.find(("std::Hash", strip(type), "hash")):
+            return f"(option_map snd ({self.crate.write(it)} fuel {value} {fed}))"
+        if type in FED:
+            return f"(Some (feed by_{type} {value if type == 'str' else f'[{value}]'} {fed}))"
+        if type.startswith("std::mem::Discriminant<"):
+            return self.fed("isize", value, fed)
+        if not re.match(r"std::(option::Option|result::Result)<", type):
+            raise Unknown(f"the hash of {type}")
+        first, second = (f"(feed by_isize [{i}] {fed})" for i in range(2))
+        of, *other = arguments(type)
+        if not other:
+            return f"(match {value} with None => Some {first} | Some it => {self.fed(of, 'it', second)} end)"
+        return f"(match {value} with Result__Ok it => {self.fed(of, 'it', first)} " \
+               f"| Result__Err it => {self.fed(*other, 'it', second)} end)"
+
+    def compared(self, type, x, y):
+        """The crate's order, or std's: an option, which is none for a panic."""
+        if it := self.crate.find(("std::Ord", strip(type), "cmp")):
+            return f"({self.crate.write(it)} fuel {x} {y})"
+        if of := ORDERS.get(strip(type)):
+            return f"(Some ({of} {x} {y}))"
+        if type.startswith("std::option::Option<"):
+            return f"(option_cmp (λ x y, {self.compared(arguments(type)[0], 'x', 'y')}) {x} {y})"
+        if not type.startswith("("):
+            raise Unknown(f"the order of {type}")
+        parts = [self.compared(*it) for it in zip(split(type[1:-1]), *[self.parts(it, type).args for it in (x, y)])]
+        return f"(in_turn [{'; '.join(parts)}])"
 
     def captures(self, closure, arguments, env):
         """A closure's function, and the values of its parameters."""
@@ -567,6 +595,8 @@ class Body:
             env[n], env[f"*{n}" if is_mutable else n] = Mut(f"*{n}", ()), f"v{n}"
         if self.f.result == "()":
             env[0] = "tt"
+        elif self.types.declared.get(self.f.result) == []:  # a value of no parts, which nothing sets
+            env[0] = Con(f"Build_{self.types.title(self.f.result)}", [])
         if self.f.captured:
             env[1] = Con("{closure}", [Mut(n, ()) if type.startswith("&mut &mut ") else env[n]
                                        for n, type in self.f.captured])
@@ -622,7 +652,7 @@ class Body:
             names, changed = self.varying(it, among, env)
             inner = {k: v for k, v in env.items() if k not in changed} | {n: self.new(f"v{n}".replace("*", ""))
                                                                          for n in names}
-            title = self.new(f"bb{it}_")
+            title = self.new("block")
             binders = "".join(f" ({inner[n]} : {self.types.coq(self.type_at(n))})" for n in names) or " (_ : unit)"
             code = f"λ{binders},\n{self.block(it, inner, joins)}"
             as_let = f"let {title} := {code} in\n", ""

@@ -24,7 +24,9 @@ STD = {
         "<&str as std::convert::Into<std::string::String>>::into",
         "<std::string::String as std::convert::Into<std::borrow::Cow<str>>>::into",
         "<std::string::String as std::convert::From<&str>>::from",
-        "<str as std::borrow::ToOwned>::to_owned",
+        "<str as std::borrow::ToOwned>::to_owned", "<std::string::String as std::clone::Clone>::clone",
+        "<std::boxed::Box<std::string::String> as std::clone::Clone>::clone",
+        "<std::boxed::Box<str> as std::clone::Clone>::clone",
         # numbers of a wider type
         "<u64 as std::convert::From<u32>>::from", "<u64 as std::convert::From<u8>>::from",
         "<usize as std::convert::From<u16>>::from",
@@ -54,14 +56,13 @@ STD = {
     "<[u8] as std::ops::Index<std::ops::RangeTo<usize>>>::index": "? between {0} 0 {1}",
     "<[u8] as std::ops::Index<std::ops::RangeFrom<usize>>>::index": "? between {0} {1} (length {0})",
 }
-# Orders of numbers.
-STD |= {f"<{it} as std::cmp::{of}>::{name}": form for it in ("u8", "u16") for of, name, form in (
-    ("Ord", "cmp", "(N.compare {0} {1})"), ("PartialOrd", "partial_cmp", "(Some (N.compare {0} {1}))"))}
+STD |= {f"<{it} as std::cmp::PartialOrd>::partial_cmp": "(Some (N.compare {0} {1}))" for it in ("u8", "u16")}
 STD |= {f"std::slice::<impl [u8]>::{it}::<{n}>": f"({it} {n} {{0}})" for it in ("first_chunk", "last_chunk")
         for n in (4, 8)}
 STD |= {f"std::str::<impl str>::parse::<u{n}>": f"(parse_unsigned {2 ** n - 1} {{0}})" for n in (8, 16)}
+ORDERS = {"str": "bytes_cmp", "bool": "Bool.compare", "u8": "N.compare", "u16": "N.compare"}
 # The types whose hash is one call of a hasher.
-FED = ("u8", "u16", "isize", "str")
+FED = ("u8", "u16", "usize", "isize", "str")
 # These iterators are the lists of what is left.
 ITERATORS = ("<std::str::Split<char> as std::iter::Iterator>::next", "<std::str::Chars as std::iter::Iterator>::next")
 # These take a closure, and some use up an iterator.

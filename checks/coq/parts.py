@@ -6,13 +6,14 @@ from pathlib import Path
 
 import compiled
 import definitions
+import derived
 import shipped
 import source
 from reading import Untranslated
 
 COQ = Path(__file__).resolve().parent
 # The files that are written, and that checks/coq has none of.
-WRITTEN = "Specs Code Configured Source Same Mir Same_mir Compiled UpstreamMir Pairs".split()
+WRITTEN = "Specs Code Configured Source Same Mir Same_mir Compiled Derived UpstreamMir Pairs".split()
 # Each part, in order: the parts that it needs; its files in order, whose names are their own in all parts but that of
 # Configured; and the function of the root and the folder that writes the files that aren't in checks/coq, and returns
 # each theorem with the Coq name of its statement, or none.
@@ -21,7 +22,7 @@ for part, (_, proofs) in shipped.CONFIGURATIONS.items():
     needed = ["definitions"] + ["rust"] * (part != "rust")
     PARTS[part] = needed, ["Rust", "Std", "Code", "Configured", *proofs], functools.partial(shipped.write, part=part)
     if part == "rust":
-        PARTS["mir"] = (needed + ["rust"], "Mir Bridge Same_mir Compiled".split(), compiled.write)
+        PARTS["mir"] = (needed + ["rust"], "Mir Bridge Same_mir Compiled Traits Derived Orders".split(), compiled.write)
         PARTS["source"] = (needed + ["rust"], "Source Halves Same".split(), source.write)
 
 
@@ -43,12 +44,12 @@ def text(folder, file):
 
 def told(root, part, name):
     """Where the statement of a theorem is; and the first sentence of its comment, or the calls that it is of."""
-    if part == "mir":  # the theorems of the source
+    if part == "mir" and name.startswith("mir_"):  # a theorem of the source
         return "", ""
     title = definitions.PROPOSITIONS.get(name, "").rpartition(".")[2]
     forms = {".v": f"Theorem {name} :", ".rt": f"pub fn {name}(", ".antt": f"pub record {title} :"}
     for file in (*root.glob("crates/*/src/laws.rt"), *root.glob("crates/*/specs/*.antt"),
-                 *(it for of in ("rust", "upstream") for it in (COQ / of / f"{it}.v" for it in PARTS[part][1])
+                 *(it for of in ("rust", "mir", "upstream") for it in (COQ / of / f"{it}.v" for it in PARTS[part][1])
                    if it.exists())):
         before, found, _ = file.read_text(encoding="utf-8").partition("\n" + forms[file.suffix])
         if found:
@@ -58,6 +59,8 @@ def told(root, part, name):
             calls = ", ".join(it[0] for it in rows if it[-1] == name)
             place = file.relative_to(root if file.is_relative_to(root) else COQ.parents[1])
             return f"{place}:{before.count(chr(10)) + 2}", ": ".join(filter(None, (sentence, calls)))
+    if name in derived.SAID:
+        return "checks/coq/derived.py", derived.SAID[name]
     return "checks/coq/source.py", "each function of crates is that of packages/rust/src/proved"
 
 

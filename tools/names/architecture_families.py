@@ -263,5 +263,7 @@ def coq_lists(table):
         "families by a row": [line for it in each(
             "  Lemma {type}_by_a_row :\n    rt_{type}_from_str text = Some (rs_{type}_from_str text).\n"
             "  Proof. sub rt_{type}_from_str. Qed.") for line in it.split("\n")],
+        "the orders of families in Coq": each(
+            "  OrdersByName {word}_name mir_{type}__Ord__cmp mir_{type}__PartialOrd__partial_cmp ∧"),
         "the strings of families": each("  (∀ x, rs_{type}_into_str x = {word}_name x) ∧"),
     }
