@@ -75,7 +75,7 @@ mod extensions; // the calls of upstream's types that upstream lacks, as traits
 mod fields; // `from_str` of the types with few names, by comparisons
 mod hash; // the hash of a borrowed vendor, which is the owned one's
 mod host; // the target of the build
-mod order; // `Ord`, which isn't proved
+mod order; // `Ord`, by keys
 #[cfg(feature = "alloc")]
 mod owned; // what allocates, which there may fail and here doesn't return then
 #[cfg(feature = "alloc")]
