@@ -143,77 +143,41 @@ mod tests {
     extern crate std;
     use super::*;
     use crate::evidence::has_no_level;
-    use std::vec::Vec;
+    use std::{string::ToString as _, vec::Vec};
 
     fn machine(text: &str) -> Machine<'_> {
         let (name, level) = text.split_once('@').unwrap_or((text, ""));
         (name.parse().unwrap_or_else(|_| panic!("{name}")), level)
     }
 
-    /// In each line each machine is at most the next one, which isn't at most it.
+    /// Between two commas each machine is at most the next one, which isn't at most it.
     const CHAINS: &str = "\
-armv4 armv4t armv5t armv5te armv6 armv6k armv7 armv7ve armv7k armv8 armv8.1a armv8.2a armv8.3a armv8.4a armv8.5a
-armv7 thumbv7neon armv7k
-armv6 armv6t2 armv7
-armv7 thumbv7neon armv8
-armv7 armv7@neon armv8
-thumbv6m thumbv7m thumbv7em
-thumbv6m thumbv8m.base thumbv8m.main
-thumbv7m thumbv8m.main
-armv7r armv8r
-armeb armebv7r
-thumbeb armebv7r
-arm armv4t
-x86_64 x86_64@v2 x86_64@v3 x86_64@v4
-x86_64@v2 x86_64h x86_64@v4
-i386 i586
-aarch64 aarch64@v8.1 aarch64@v8.5 aarch64@v9 aarch64@v9.2
-powerpc64le powerpc64le@power9 powerpc64le@power10
-riscv64 riscv64imac riscv64gc riscv64@rva22u64 riscv64@rva23u64
-riscv32i riscv32im riscv32ima riscv32imac riscv32imafc riscv32gc";
+    armv4 armv4t armv5t armv5te armv6 armv6k armv7 armv7ve armv7k armv8 armv8.1a armv8.2a armv8.3a armv8.4a armv8.5a, \
+    armv7 thumbv7neon armv7k, armv6 armv6t2 armv7, armv7 thumbv7neon armv8, armv7 armv7@neon armv8, \
+    thumbv6m thumbv7m thumbv7em, thumbv6m thumbv8m.base thumbv8m.main, thumbv7m thumbv8m.main, armv7r armv8r, \
+    armeb armebv7r, thumbeb armebv7r, arm armv4t, x86_64 x86_64@v2 x86_64@v3 x86_64@v4, \
+    x86_64@v2 x86_64h x86_64@v4, i386 i586, aarch64 aarch64@v8.1 aarch64@v8.5 aarch64@v9 aarch64@v9.2, \
+    powerpc64le powerpc64le@power9 powerpc64le@power10, \
+    riscv64 riscv64imac riscv64gc riscv64@rva22u64 riscv64@rva23u64, \
+    riscv32i riscv32im riscv32ima riscv32imac riscv32imafc riscv32gc";
 
-    /// In each line no machine is at most another one.
+    /// Between two commas no machine is at most another one.
     const APART: &str = "\
-thumbv7m armv7 armv7r
-armv6k armv6t2
-armebv7r armv7r
-mips mipsel
-x86_64 i686
-aarch64@v8.6 aarch64@v9
-thumbv8m.base thumbv7em
-thumbv7em thumbv8m.main
-armv7ve thumbv7neon
-powerpc64 powerpc64le riscv32";
+        thumbv7m armv7 armv7r, armv6k armv6t2, armebv7r armv7r, mips mipsel, x86_64 i686, aarch64@v8.6 aarch64@v9, \
+        thumbv8m.base thumbv7em, thumbv7em thumbv8m.main, armv7ve thumbv7neon, powerpc64 powerpc64le riscv32";
 
-    /// In each line each machine is at most each other one. No machine has a higher level than some number.
+    /// Between two commas each machine is at most each other one. No machine has a higher level than some number.
     const SAME: &str = "\
-x86_64 x86_64@v1
-x86_64h x86_64@v3
-powerpc64 powerpc64@power8
-aarch64 aarch64@v8
-aarch64@v8.99 aarch64@v8.4000000000
-riscv64gc riscv64@gc riscv64@rva20u64
-riscv32gc riscv32@gc
-riscv64a23 riscv64@rva23u64
-sparc64 sparcv9
-i586 i686
-arm armv4
-armv4t thumbv4t
-armv5te armv5tej thumbv5te
-armv6 armv6j armv6z
-armv6k armv6kz
-armv7 armv7a thumbv7a
-armv7k armv7s
-armv8 armv8a
-armv6m thumbv6m
-armv7m thumbv7m
-armv8m.base thumbv8m.base
-armv8m.main thumbv8m.main";
+        x86_64 x86_64@v1, x86_64h x86_64@v3, powerpc64 powerpc64@power8, aarch64 aarch64@v8, \
+        aarch64@v8.99 aarch64@v8.4000000000, riscv64gc riscv64@gc riscv64@rva20u64, riscv32gc riscv32@gc, \
+        riscv64a23 riscv64@rva23u64, sparc64 sparcv9, i586 i686, arm armv4, armv4t thumbv4t, \
+        armv5te armv5tej thumbv5te, armv6 armv6j armv6z, armv6k armv6kz, armv7 armv7a thumbv7a, armv7k armv7s, \
+        armv8 armv8a, armv6m thumbv6m, armv7m thumbv7m, armv8m.base thumbv8m.base, armv8m.main thumbv8m.main";
 
     #[test]
     fn levels_are_in_one_partial_order() {
-        for line in CHAINS.lines() {
-            let chain: Vec<_> = line.split(' ').map(machine).collect();
+        for chain in CHAINS.split(", ") {
+            let chain: Vec<_> = chain.split(' ').map(machine).collect();
             for (at, low) in chain.iter().enumerate() {
                 for high in &chain[at + 1..] {
                     assert!(is_at_most(*low, *high), "{low:?} {high:?}");
@@ -221,8 +185,9 @@ armv8m.main thumbv8m.main";
                 }
             }
         }
-        for (line, is_same) in APART.lines().map(|it| (it, false)).chain(SAME.lines().map(|it| (it, true))) {
-            let machines: Vec<_> = line.split(' ').map(machine).collect();
+        let (apart, same) = (APART.split(", ").map(|it| (it, false)), SAME.split(", ").map(|it| (it, true)));
+        for (machines, is_same) in apart.chain(same) {
+            let machines: Vec<_> = machines.split(' ').map(machine).collect();
             for (at, one) in machines.iter().enumerate() {
                 for (of, other) in machines.iter().enumerate() {
                     assert_eq!(is_at_most(*one, *other), is_same || at == of, "{one:?} {other:?}");
@@ -240,27 +205,19 @@ armv8m.main thumbv8m.main";
         }
     }
 
-    /// A machine, that of a name, and after `=` whether the name is for it.
+    /// Whether a name is for a machine, and after `=` machines with those of names.
     const NAMED: &str = "\
-armv7 arm=true
-arm armv7=true
-armv6 arm@armv6=true
-arm arm@armv6=true
-riscv64gc riscv64=true
-riscv64imac riscv64=true
-thumbv7m arm=false
-armv7 armv5te=false
-armv7 arm@armv6=false
-x86_64h x86_64=false
-x86_64@v3 x86_64=false
-riscv64a23 riscv64=false
-riscv64gc riscv64imac=false";
+true=armv7 arm, arm armv7, armv6 arm@armv6, arm arm@armv6, riscv64gc riscv64, riscv64imac riscv64
+false=thumbv7m arm, armv7 armv5te, armv7 arm@armv6, x86_64h x86_64, x86_64@v3 x86_64, riscv64a23 riscv64, \
+    riscv64gc riscv64imac";
 
     #[test]
     fn names_are_for_machines_that_run_the_program() {
-        for (row, expected) in NAMED.lines().map(|row| row.split_once('=').unwrap()) {
-            let (first, second) = row.split_once(' ').unwrap();
-            assert_eq!(may_have_name(machine(first), machine(second), true), expected == "true", "{row}");
+        for (expected, rows) in NAMED.lines().map(|line| line.split_once('=').unwrap()) {
+            for (first, second) in rows.split(", ").map(|row| row.split_once(' ').unwrap()) {
+                let may = may_have_name(machine(first), machine(second), true);
+                assert_eq!(may.to_string(), expected, "{first} {second}");
+            }
         }
         // Without a system a name such as `riscv64` is for all of them.
         let may = |first, second| may_have_name(machine(first), machine(second), false);
@@ -273,7 +230,6 @@ riscv64gc riscv64imac=false";
     #[test]
     fn names_keep_levels_there_and_back() {
         use crate::{CLibrary, Dialect};
-        use std::string::ToString as _;
         let (mut kept, mut unstated) = (0, 0);
         for target in Dialect::Rust.names() {
             let own = Dialect::Rust.sense(target).unwrap();

@@ -14,6 +14,7 @@ fn names_have_the_width_that_is_asked_for() {
     let (dialect, library, floats) = (Dialect::Go, CLibrary::Glibc, FloatAbi::Hard);
     let padded = format!("{dialect:>6}|{library:^7}|{name:>7}|{floats:6}|");
     assert_eq!(padded, "    go| glibc |  amd64|hard  |");
+    assert_eq!(format!("{name:?}"), "\"amd64\"");
 }
 
 #[test]
@@ -121,6 +122,7 @@ fn a_word_that_is_no_dialect_is_named() {
     assert_eq!(of("docker").unwrap(), Dialect::Oci);
     let error = of("golang").unwrap_err().downcast::<UnknownWord>().unwrap();
     assert_eq!((error.word(), error.suggestion()), ("golang", Some("go")));
+    assert_eq!("golang".parse::<ChosenLibc>().unwrap_err().suggestion(), None);
     let meant = |word: &str| word.parse::<Dialect>().unwrap_err().suggestion();
     assert_eq!(["rustc", "Debian", "dotent", "x"].map(meant), [Some("rust"), Some("debian"), Some("dotnet"), None]);
     assert!([" go", "go ", "Go", ""].into_iter().all(|it| of(it).is_err()));
