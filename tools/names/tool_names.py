@@ -23,7 +23,7 @@ RULES = {"machine": {"order": "MachineRule::Order", "version": "MachineRule::Ver
 COLUMNS = {"why": ["the name of a reason", "the reason"], "note": ["the name of a note", "the note"],
            "refusal": ["a constant", "the reason"],
            "reason": ["a variant of `WriteError`", "the reason"],
-           "versions": ["the start or end of names", "the least number", "the most", "what it is"],
+           "versions": ["the starts or ends of names", "the least number", "the most", "what it is"],
            "source": ["a source", "its version", "Debian's package", "a file, a command in backquotes or an address",
                       "the day"], "from": ["a source"]}
 
@@ -190,7 +190,7 @@ def add_line(found, last, word, cells):
         least, most, about = rest
         if not (least + most).isdigit():
             raise Mistake(f"the least and the most number are in digits, not `{least}` and `{most}`")
-        found.versions.append((first, int(least), int(most), about))
+        found.versions += [(text, int(least), int(most), about) for text in first.split(", ")]
     elif word == "source":
         if first in found.sources:
             raise Mistake(f"the source {first} is there already")
