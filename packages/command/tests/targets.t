@@ -33,7 +33,7 @@ A refused target is shown, with its place if it is a line. A byte order mark and
 
 Dashes and quotes of a word processor have their form in ASCII:
 
-  $ target-lexicon settle '“x86_64‑linux–gnu”' | tail -n 1
+  $ for call in settle what; do target-lexicon $call '“x86_64‑linux–gnu”' | tail -n 1; done | uniq
   !   note: with the dashes and quotes of ASCII it is `x86_64-linux-gnu`
 
 What was answered stays if another file isn't there:
@@ -152,8 +152,9 @@ An unknown environment after a machine and a system is wrong, and so is what is 
   > x86_64-apple-darwin.runner = "qemu"
   > END
   $ cat > more.yml << 'END'
-  > platform: [macsx_11_0_arm64, x64-windows-static]
-  > arch: amd46
+  > platform: [macsx_11_0_arm64, x64-windows-static, irix-mips3, sun4, Win64i...]
+  > arch: [amd46, systemd]
+  > //go:build arm64be
   > run: aarch64-linu-gnu-gcc i386-win32 projects/linux-atm i?86-linux PowerPC64-linux i686-inux
   > END
   $ target-lexicon check words.yml | grep -v '^!   '
@@ -166,9 +167,9 @@ An unknown environment after a machine and a system is wrong, and so is what is 
   ! 6 of 10 targets refused
   $ target-lexicon check more.yml | grep -v '^!   '
   ! more.yml:1:12: error: no tool has the name `macsx_11_0_arm64`
-  ! more.yml:2:7: error: no tool has the name `amd46`
-  ! more.yml:3:14: error: custom vendor `linu`
-  ! more.yml:3:84: error: no tool has the name `i686-inux`
+  ! more.yml:2:8: error: no tool has the name `amd46`
+  ! more.yml:4:14: error: custom vendor `linu`
+  ! more.yml:4:84: error: no tool has the name `i686-inux`
   ! note: 1 word that may be a target isn't understood: --strict shows each
   ! 4 of 5 targets refused
 

@@ -298,7 +298,9 @@ fn is_key_of_tool(before: &str, word: &str, after: &str) -> bool {
     let is_variable = |it: u8| it.is_ascii_uppercase() || it == b'_';
     let is_tools = word.starts_with("CMAKE_") || word.starts_with("VCPKG_");
     let is_variable = is_tools && word.bytes().all(is_variable);
-    before.ends_with('(') && is_variable && after.starts_with(' ') || word.contains("//") && after.starts_with(':')
+    // At the start of a line it is a comment, such as `//go:build`.
+    let is_label = word.contains("//") && !before.is_empty() && after.starts_with(':');
+    before.ends_with('(') && is_variable && after.starts_with(' ') || is_label
 }
 
 /// Whether a word, if it has no digit, is a value on its own, and none of prose.
@@ -307,7 +309,7 @@ fn is_alone(before: &str, word: &str, after: &str) -> bool {
         before.is_empty() || before.ends_with(['"', '\'', '`', '=', '[']) || before.ends_with(": ") || before == ", ";
     let ends = after.trim_end().is_empty() || after.starts_with(['"', '\'', '`', ',', ']', '}', ')']);
     let has_digit = word.bytes().any(|it| it.is_ascii_digit());
-    has_digit || begins && (ends || before.ends_with('=') && after.starts_with(' '))
+    !word.ends_with('.') && (has_digit || begins && (ends || before.ends_with('=') && after.starts_with(' ')))
 }
 
 /// A line without its comment.
