@@ -47,7 +47,9 @@ impl Helper {
             return help.clone();
         }
         let Help { suggestion, note } = help_of_names(refusal, target.text);
-        let note = note.or_else(|| if refusal.has_reason() { None } else { self.note(target) });
+        let plain = ascii_form(target.text.trim());
+        let plain = plain.map(|it| format!("with the dashes and quotes of ASCII it is `{it}`"));
+        let note = plain.or(note).or_else(|| if refusal.has_reason() { None } else { self.note(target) });
         let note = self.triple_note(target.text, refusal, note);
         let help = Help { suggestion, note };
         if self.remembered.len() < REMEMBERED
@@ -81,9 +83,6 @@ impl Helper {
         };
         if of_other_tools.is_some() {
             return of_other_tools;
-        }
-        if let Some(plain) = ascii_form(text) {
-            return Some(format!("with the dashes and quotes of ASCII it is `{plain}`"));
         }
         let note = match target.place {
             _ if text.contains('\0') && !self.has_zero_bytes => {

@@ -266,10 +266,11 @@ A C library that changes nothing is noted, unless nothing is answered or asked:
   !   linux/amd46
   !   ^^^^^^^^^^^ did you mean `linux/amd64`?
   [1]
-  $ target-lexicon what --json amd64 | jq -c '.[] | .meanings[0].canonical, .meanings[0].tools[0], .without_triple'
-  "x86_64-unknown-linux-gnu"
-  "debian"
+  $ target-lexicon what --json amd64 x86_64 | jq -c '.[] | (.meanings[0] | [.canonical, .tools[0]]), .without_triple'
+  ["x86_64-unknown-linux-gnu","debian"]
   {"go":"a machine without a system","oci":"half of a platform: containerd adds that of the host"}
+  ["x86_64-unknown-linux-gnu","rpm"]
+  {"debian":"Debian's name is amd64; in Termux it is Android's"}
   $ target-lexicon what sunos-x64
   sunos-x64
     is a name of node without a triple: two systems: Solaris and illumos

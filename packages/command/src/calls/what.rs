@@ -60,11 +60,12 @@ impl<'a> Meanings<'a> {
             _ if what.is_certain() => {}
             Some(sense) if !is_name || has_system(&sense.triple) => what.add(sense, WORDS),
             _ if is_name => {}
-            _ if evidence.is_empty() || Meant::by(text).is_some() => {
+            _ if evidence.is_empty() || !text.is_ascii() || Meant::by(text).is_some() => {
                 return Err(Refusal::unknown_to_all(text, None));
             }
             _ => what.known = Some(evidence.to_string()),
         }
+        what.meanings.sort_by_key(|it| it.0.triple.operating_system == OperatingSystem::None_); // bare metal is last
         Ok(what)
     }
 
@@ -138,6 +139,7 @@ impl Answer for Meanings<'_> {
             for dialect in written() {
                 match dialect.write_with(*sense, self.libc) {
                     Ok(name) => show!(page, "    ", padded(dialect, 8), name, "\n")?,
+                    Err(_) if tools.contains(&dialect.name()) => {}
                     Err(error) => {
                         let (why, tool) = (reason(error), dialect.name());
                         match unnamed.iter_mut().find(|(it, _)| *it == why) {
