@@ -50,48 +50,38 @@ fn names_in_use_lead_to_other_tools() {
     assert!(in_use >= 150 && 150 * helped >= 145 * in_use, "{helped} of {in_use}");
 }
 
-/// Tags of wheels, whose version is that of the system or C library, by its name; or why there is none. One is asked for only where a
-/// name that states one means the triple: that of FreeBSD means none with musl. Of a triple that has a version none is asked for.
+/// Tags of wheels, whose version is that of the system or C library, by its name, or why there is none; and after `=`
+/// triples with versions. One is asked for only where a name that states one means the triple: that of FreeBSD means
+/// none with musl. Of a triple that has a version none is asked for.
 const TAGS: &str = "\
-x86_64-unknown-linux-gnu glibc:2.17,macos:11.0 manylinux_2_17_x86_64
-aarch64-unknown-linux-gnu glibc:2.17 manylinux_2_17_aarch64
-x86_64-unknown-linux-musl musl:1.2,glibc:2.17 musllinux_1_2_x86_64
-aarch64-unknown-linux-musl musl:1.2 musllinux_1_2_aarch64
-armv7-unknown-linux-gnueabihf glibc:2.17 manylinux_2_17_armv7l
-x86_64-apple-darwin macos:11.0,ios:17.0 macosx_11_0_x86_64
-x86_64-apple-darwin macos:10.9 macosx_10_9_x86_64
-aarch64-apple-darwin macos:11.0 macosx_11_0_arm64
-aarch64-apple-ios ios:17.0,macos:11.0 ios_17_0_arm64_iphoneos
-x86_64-linux-android android:21.0,glibc:2.17 android_21_x86_64
-x86_64-unknown-freebsd freebsd:14.1 freebsd_14_1_RELEASE_amd64
-x86_64-pc-windows-msvc glibc:2.17 win_amd64
-aarch64-pc-windows-msvc windows:10240.0 win_arm64
-i686-pc-windows-msvc glibc:2.17 win32
-x86_64-pc-windows macos:11.0 win_amd64
-aarch64-apple-darwin macos:2.17 OtherVersion
-aarch64-unknown-linux-musl musl:11.0 OtherVersion
-x86_64-unknown-linux-gnu glibc:1.2 OtherVersion
-x86_64-unknown-linux-gnu glibc:0.0 OtherVersion
-aarch64-linux-android android:0.0 OtherVersion
-x86_64-unknown-linux glibc:2.17 NeedsCLibrary
-x86_64-unknown-linux macos:11.0 linux_x86_64
-x86_64-unknown-linux-gnu musl:1.2,macos:11.0 linux_x86_64
-aarch64-apple-darwin glibc:2.17 NeedsVersion
-x86_64-unknown-freebsd glibc:2.17 NeedsVersion
-aarch64-apple-ios macos:11.0,glibc:2.17 NeedsVersion
-aarch64-unknown-freebsd - NeedsVersion
-aarch64-unknown-freebsd-musl - OnlyReadNames
-wasm32-unknown-emscripten - OnlyReadNames
-x86_64-apple-darwin - NeedsVersion
-aarch64-apple-ios - NeedsVersion
-x86_64-apple-ios17.2-sim - Simulator";
+manylinux_2_17_x86_64=x86_64-unknown-linux-gnu glibc:2.17,macos:11.0
+manylinux_2_17_aarch64=aarch64-unknown-linux-gnu glibc:2.17
+musllinux_1_2_x86_64=x86_64-unknown-linux-musl musl:1.2,glibc:2.17
+musllinux_1_2_aarch64=aarch64-unknown-linux-musl musl:1.2
+manylinux_2_17_armv7l=armv7-unknown-linux-gnueabihf glibc:2.17
+macosx_11_0_x86_64=x86_64-apple-darwin macos:11.0,ios:17.0
+macosx_10_9_x86_64=x86_64-apple-darwin macos:10.9
+macosx_11_0_arm64=aarch64-apple-darwin macos:11.0
+ios_17_0_arm64_iphoneos=aarch64-apple-ios ios:17.0,macos:11.0
+android_21_x86_64=x86_64-linux-android android:21.0,glibc:2.17
+freebsd_14_1_RELEASE_amd64=x86_64-unknown-freebsd freebsd:14.1
+win_amd64=x86_64-pc-windows-msvc glibc:2.17, x86_64-pc-windows macos:11.0
+win_arm64=aarch64-pc-windows-msvc windows:10240.0
+win32=i686-pc-windows-msvc glibc:2.17
+OtherVersion=aarch64-apple-darwin macos:2.17, aarch64-unknown-linux-musl musl:11.0, \
+    x86_64-unknown-linux-gnu glibc:1.2, x86_64-unknown-linux-gnu glibc:0.0, aarch64-linux-android android:0.0
+NeedsCLibrary=x86_64-unknown-linux glibc:2.17
+linux_x86_64=x86_64-unknown-linux macos:11.0, x86_64-unknown-linux-gnu musl:1.2,macos:11.0
+NeedsVersion=aarch64-apple-darwin glibc:2.17, x86_64-unknown-freebsd glibc:2.17, \
+    aarch64-apple-ios macos:11.0,glibc:2.17, aarch64-unknown-freebsd -, x86_64-apple-darwin -, aarch64-apple-ios -
+OnlyReadNames=aarch64-unknown-freebsd-musl -, wasm32-unknown-emscripten -
+Simulator=x86_64-apple-ios17.2-sim -";
 
 #[test]
 fn tags_of_wheels_have_the_version_of_the_system_or_c_library() {
-    for row in TAGS.lines() {
-        let [text, version, expected] = row.split(' ').collect::<Vec<_>>()[..] else {
-            panic!("{row}");
-        };
+    let rows = TAGS.lines().map(|line| line.split_once('=').unwrap());
+    for (expected, row) in rows.flat_map(|(expected, rows)| rows.split(", ").map(move |row| (expected, row))) {
+        let (text, version) = row.split_once(' ').unwrap();
         let triple = TripleRef::from_str(text).unwrap();
         let mut versions = Versions::none();
         for version in version.split(',').filter(|it| *it != "-") {
