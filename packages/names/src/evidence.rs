@@ -482,16 +482,10 @@ impl fmt::Display for Evidence<'_> {
             (Said::Contradicted, _) => return f.write_str("it names several machines"),
             _ if self.is_other_machine => return f.write_str("it names a machine that no triple has"),
             (Said::Unsaid, Said::Unsaid) if !self.is_any_arm => return f.write_str("it names nothing known here"),
-            (Said::Unsaid, Said::Unsaid) => {
-                return f.write_str("it names an Arm of 32 or of 64 bits, and no system");
-            }
-            (Said::Unsaid, _) => {
-                return f.write_str("it names a system, and no single machine known here");
-            }
+            (Said::Unsaid, Said::Unsaid) => return f.write_str("it names an Arm of 32 or of 64 bits, and no system"),
+            (Said::Unsaid, _) => return f.write_str("it names a system, and no single machine known here"),
             (_, Said::Contradicted) => return f.write_str("it names several systems"),
-            (_, Said::Unsaid) if self.unknown.is_none() => {
-                return f.write_str("it names a machine, and no system");
-            }
+            (_, Said::Unsaid) if self.unknown.is_none() => return f.write_str("it names a machine, and no system"),
             _ if is_other => return f.write_str("it names a machine, and a system that no triple has"),
             (_, Said::Unsaid) => return f.write_str("it names a machine, and no system known here"),
             _ if self.unknown.is_some() => "its words say",

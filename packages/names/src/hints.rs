@@ -50,9 +50,7 @@ impl fmt::Display for Mistake<'_> {
             }
             Mistake::Path => f.write_str("it has a path"),
             Mistake::Part(name) => write!(f, "it is a part of a name, such as `{name}`"),
-            Mistake::NoTriple(refusal) => {
-                write!(f, "as a triple: {}", visible(refusal).shortened())
-            }
+            Mistake::NoTriple(refusal) => write!(f, "as a triple: {}", visible(refusal).shortened()),
         }
     }
 }

@@ -7,7 +7,7 @@
 //! A name is written for a triple only if the triple's level is at most that for which the tool builds: otherwise the name
 //! would mean machines that don't run the program. A name that says no level, such as `arm`, is for all that the tool has.
 use crate::suggestions::known_names;
-use target_lexicon::{Architecture, ArmArchitecture, Field, Named as _};
+use target_lexicon::{Architecture, ArmArchitecture, Endianness, Field, Named as _};
 
 /// An architecture, and a level of it that no triple states, such as `v3` of x86-64, or nothing.
 pub(crate) type Machine<'a> = (Architecture, &'a str);
@@ -60,9 +60,7 @@ fn level_of((architecture, word): Machine<'_>) -> (Architecture, u32) {
         Riscv32(_) => (Riscv32(Bits32::Riscv32), extensions(architecture.name())),
         Riscv64(Bits64::Riscv64a23) => (Riscv64(Bits64::Riscv64), first(8)),
         Riscv64(_) => (Riscv64(Bits64::Riscv64), extensions(architecture.name())),
-        Arm(arm) if matches!(arm.endianness(), target_lexicon::Endianness::Big) => {
-            (Arm(ArmArchitecture::Armeb), arm_level(arm))
-        }
+        Arm(arm) if arm.endianness() == Endianness::Big => (Arm(ArmArchitecture::Armeb), arm_level(arm)),
         Arm(arm) => (Arm(ArmArchitecture::Arm), arm_level(arm)),
         other => (other, 0),
     };

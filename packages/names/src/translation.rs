@@ -203,6 +203,7 @@ impl Dialect {
 
     /// Why a triple without a name has none.
     fn why_unnamed(self, triple: &TripleRef<'_>) -> WriteError {
+        use OperatingSystem::{Darwin, MacOSX, Wasi, IOS};
         if !self.rows().iter().any(is_written) {
             return WriteError::OnlyRead;
         }
@@ -211,13 +212,7 @@ impl Dialect {
         }
         let why = self.why_rows(triple);
         // Where no row has the system, only another name of it may help, or another version.
-        let has_other_name = matches!(
-            triple.operating_system,
-            OperatingSystem::Wasi
-                | OperatingSystem::Darwin(_)
-                | OperatingSystem::MacOSX(_)
-                | OperatingSystem::IOS(Some(_))
-        );
+        let has_other_name = matches!(triple.operating_system, Wasi | Darwin(_) | MacOSX(_) | IOS(Some(_)));
         let is_unknown = matches!(why, WriteError::NoSystem | WriteError::NoMachineOnAnySystem);
         if is_unknown && !has_other_name {
             return why;

@@ -149,23 +149,14 @@ fn strings_for_llvm_are_those_of_rustc() {
     }
 }
 
-const LINES: &str = "\
-target_abi=\"\"
-target_arch=\"wasm32\"
-target_endian=\"little\"
-target_env=\"\"
-target_family=\"unix\"
-target_family=\"wasm\"
-target_os=\"emscripten\"
-target_pointer_width=\"32\"
-target_vendor=\"unknown\"
-unix
-";
+/// Lines of rustc, with `'` for each `"` and a space for the end of each.
+const LINES: &str = "target_abi='' target_arch='wasm32' target_endian='little' target_env='' target_family='unix' \
+    target_family='wasm' target_os='emscripten' target_pointer_width='32' target_vendor='unknown' unix ";
 
 #[test]
 fn lines_are_those_of_rustc() {
     let emscripten = parsed("wasm32-unknown-emscripten").rustc_cfg();
-    assert_eq!(emscripten.to_string(), LINES);
+    assert_eq!(emscripten.to_string(), LINES.replace('\'', "\"").replace(' ', "\n"));
     let options = TripleRef::unknown().rustc_cfg().to_string();
     assert!(!options.contains("endian") && !options.contains("width"));
 }
