@@ -67,9 +67,9 @@ export const toolNames = (lexicon, text, { triple, level, tools }, libcs) =>
   level === null ? namesAndReasons(lexicon, completed(triple, libcs), libcs)
     : namesAtLevel(lexicon, text, triple, tools[0], libcs);
 
-/** What a name means: each triple at a level, with those that mean it, and the reasons of those that mean none. */
+/** What a name means: each triple at a level, bare metal last, with who means it; and the reasons of who mean none. */
 export function meaningsOf({ Triple, meanings }, text) {
-  const found = new Map(), withoutTriple = {};
+  const found = new Map(), withoutTriple = {}, isBare = ({ triple }) => Number(triple.operatingSystem === "none");
   for (const { dialect, triple, reason, level } of meanings(text)) {
     if (triple === null) withoutTriple[dialect] = reason;
     else {
@@ -77,7 +77,7 @@ export function meaningsOf({ Triple, meanings }, text) {
       found.set(key, { triple, level, tools: [...found.get(key)?.tools ?? [], tool] });
     }
   }
-  return { found: [...found.values()], withoutTriple };
+  return { found: [...found.values()].sort((one, other) => isBare(one) - isBare(other)), withoutTriple };
 }
 
 /** Of what a name means; `libcs` are the chosen C libraries, of Linux and of Windows. */
