@@ -69,9 +69,11 @@ WORK = os.environ["WORK"]  # a folder that is closed to others, as .ci/isolated 
 BUILT, CARGO_HOME, WASM = f"{WORK}/built", f"{WORK}/cargo", f"{WORK}/rust"
 
 # Each step: what it is for, its command, the tools without which it isn't run, and the rooms that it reads, if it isn't
-# always run. What is neither a page nor in a room is read by each. The halves are what is proved, and what is around
-# it, of which the rows run at the same time. The second row of the latter has what is built for others.
-ROOM = re.compile(r"crates/|packages/(\w+)/|checks/(coq|upstream|comparisons)/|docs/|[A-Z]+\.md$")
+# always run. A package's page is a room of its own. What is neither a page nor in a room is read by each. The halves
+# are what is proved, and what is around it, of which the rows run at the same time. The second row of the latter has
+# what is built for others.
+ROOM = re.compile(
+    r"crates/|packages/(?:(\w+/README\.md)$|(\w+)/)|checks/(coq|upstream|comparisons)/|docs/|[A-Z]+\.md$")
 FIRST = [
     ("lists of names and the Rust source are what they are made from; what was reviewed of the statement is as it "
      "was", "tools/write --check", "rustfmt"),
@@ -84,14 +86,14 @@ FIRST = [
 PROOFS = ("all proofs, must-fail edits, tests and proved programs", "rt ci", "rt", "crates")
 ROWS = {"proved": [[PROOFS], [
     ("Coq proves the laws of the definitions, and of the Rust source, which is the proved source and what rustc "
-     "compiles; twelve edits of them, others on each day, are refused at their lemmas; bad input",
+     "compiles; six edits of them, others on each day, are refused at their lemmas; bad input",
      'checks/theorem mir source no_alloc ${UPSTREAM:+upstream "$UPSTREAM"} --keep "$WORK/theorem" && '
-     'checks/coq/edits "$WORK/theorem" 12 && checks/coq/test', "cargo coqc rustc",
+     'checks/coq/edits "$WORK/theorem" 6 && checks/coq/test', "cargo coqc rustc",
      "crates rust coq"),
 ], [
     ("the Rust crate, as its users build it: tests, samples of the documentation, public surface, features, "
      "a dependent",
-     "packages/rust/test", "cargo", "rust coq"),
+     "packages/rust/test", "cargo", "rust rust/README.md coq"),
     ("the definitions, as Coq extracts them, say what upstream and the Rust crate answer; bad input",
      "checks/specification quick && checks/upstream/extracted/test", "cargo coqc ocamlopt",
      "crates rust coq upstream"),
@@ -102,35 +104,37 @@ ROWS = {"proved": [[PROOFS], [
 ]], "around": [[
     ("the crate of other tools' names: each row, shape and rule, laws over generated strings, samples of the "
      "documentation, the schema of the table",
-     "packages/names/test", "cargo", "rust names"),
+     "packages/names/test", "cargo", "rust names names/README.md"),
     ("the command `target-lexicon`: arguments, output and statuses", "packages/command/test", "cargo cram3 jq",
      "rust names command"),
     ("the library for C, header, packages and samples, as C and C++ users have them", "packages/c/test", "cargo cc",
-     "rust names c"),
+     "rust names c c/README.md"),
 ], [
     ("the command `target-lexicon`, and a program to compare with, are built for the next steps",
      'packages/command/tests/folders "$WORK/command" only && '
      'cd "$WORK/command/packages/target/release" && cp lines target-lexicon "$BUILT/bin"', "cargo"),
     ("the library for C is built and installed for the next steps", 'checks/gate/planted packages/c/install "$BUILT"',
-     "cargo cc", "rust names c command python comparisons"),
+     "cargo cc", "rust names c command python python/README.md comparisons"),
     ("what other tools say of names and targets; suggestions keep the machine",
      "checks/compare elsewhere && checks/compare llvm && checks/compare suggestions", "cargo cc",
      "rust names c comparisons"),
     ("the Python package: each answer, wheels, types, samples",
      'packages/python/test "$BUILT/lib/libtarget_lexicon.so" "$BUILT/bin/lines"',
-     "cargo cc hatchling", "rust names c python"),
+     "cargo cc hatchling", "rust names c python python/README.md"),
     ("a list of misspelled names takes at most ten times as long as one of right names",
      'packages/command/tests/cost "$BUILT/bin/target-lexicon"', "cargo valgrind", "rust names command"),
     ("the module, the package and the page for JavaScript are built",
-     'checks/gate/planted packages/javascript/build --out "$WORK/web"', "cargo wasm32", "rust names c javascript"),
+     'checks/gate/planted packages/javascript/build --out "$WORK/web"', "cargo wasm32",
+     "rust names c javascript javascript/README.md"),
     ("the page and the package for JavaScript answer as the command does, in Node and in a browser",
      'packages/javascript/test "$WORK/web" --command "$BUILT/bin/target-lexicon"', "cargo wasm32",
-     "rust names c javascript"),
+     "rust names c javascript javascript/README.md"),
 ], [
-    ("Debian's packages are built, and lintian finds no error", "checks/gate/planted packages/debian/build debian -d",
-     "cargo cc dpkg-buildpackage", "rust names c command python debian"),
+    ("Debian's packages are built, and lintian finds no error",
+     "DEB_BUILD_OPTIONS=noopt checks/gate/planted packages/debian/build debian -d", "cargo cc dpkg-buildpackage",
+     "rust names c command python debian"),
     ("what is released is made, and works in clean folders", "umask 077; checks/gate/planted tools/release release",
-     "cargo cc", "rust names c command python javascript"),
+     "cargo cc", "rust rust/README.md names c command python javascript"),
 ]]}
 LAST = {"proved": [
     ("each allocation fails in turn", "checks/gate/fail_allocations", "rt cc", "crates"),
@@ -166,7 +170,7 @@ def changed():
         if listed.returncode:
             parser.error(f"git: {listed.stderr.strip()}")
         rooms += map(ROOM.match, listed.stdout.splitlines())
-    return {it[1] or it[2] or it[0].strip("/") for it in rooms} if all(rooms) else None
+    return {it[1] or it[2] or it[3] or it[0].strip("/") for it in rooms} if all(rooms) else None
 
 
 def missing():

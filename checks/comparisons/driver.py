@@ -2,6 +2,7 @@
 say, the rules of packages/names/examples/linkers.rs with rustc's, versions of macOS with LLVM's, and what the
 sample driver in C says of clang's triples with clang."""
 import concurrent.futures
+import functools
 import re
 import shutil
 import subprocess
@@ -71,6 +72,7 @@ def check_versions(report, targets, asked):
                  if theirs[string]["machine"] != "-"))
 
 
+@functools.cache
 def macros_of(target):
     """The macros that clang defines; none if it doesn't know the target."""
     ran = subprocess.run(["clang", "-target", target, "-dM", "-E", "-x", "c", "/dev/null"], capture_output=True,

@@ -1,6 +1,6 @@
 """Asks what the Rust crate suggests for edits of one letter and of two letters of each known name, of each name of a
-dialect, and of rustc's targets: it must have its place, and keep machine, width, byte order and float ABI. Of two
-letters only some edits are asked."""
+dialect, and of rustc's targets: it must have its place, and keep machine, width, byte order and float ABI. Only letters
+are put that some name has there, and three others; of two letters only some edits are asked."""
 import subprocess
 
 import built

@@ -1,7 +1,7 @@
 //! What is suggested for edits of names: each line of the input is a field, a dialect or `triple`, a name, and the
-//! triple that the name means; or `word`, another name of an architecture, and its triple. Of each name every edit of
-//! one letter is asked, and some of two. A suggestion must have its place, and keep machine, width, byte order and
-//! float ABI: those of the name, or of a machine that the edited name states by its whole word.
+//! triple that the name means; or `word`, another name of an architecture, and its triple. Of each name edits of one
+//! letter are asked, and some of two. A suggestion must have its place, and keep machine, width, byte order and float
+//! ABI: those of the name, or of a machine that the edited name states by its whole word.
 use std::collections::{BTreeMap, BTreeSet, HashMap};
 use std::thread;
 use target_lexicon::{Architecture, Endianness, PointerWidth, Triple, TripleExt as _, TripleRef};
@@ -10,6 +10,8 @@ use target_names::{Dialect, FloatAbi, NameError, Suggest as _, TargetInfo};
 /// After which edits of one letter another letter is edited, and which of these edits are asked: each so many-th.
 const CONTINUED: usize = 197;
 const ASKED: usize = 31;
+/// The letters that are put at each place.
+const ANYWHERE: [char; 3] = ['q', '7', '_'];
 
 type Said = (String, Option<PointerWidth>, Option<Endianness>, Option<FloatAbi>);
 
@@ -18,17 +20,47 @@ fn said(triple: &TripleRef) -> Said {
     (triple.rustc_cfg().target_arch.to_string(), width, order, triple.float_abi())
 }
 
-/// Calls for each edit of one letter.
-fn edits(name: &[char], letters: &BTreeSet<char>, each: &mut impl FnMut(Vec<char>)) {
-    for at in 0..=name.len() {
-        let (before, after) = name.split_at(at);
-        for letter in letters {
-            each([before, &[*letter], after].concat());
-            if let Some((_, rest)) = after.split_first() {
-                each([before, &[*letter], rest].concat());
+/// The letters that are put at a place. Nearer to another name are only edits with a letter that this name has there,
+/// and so next to the same two letters; any other one does as those that are put anywhere.
+#[derive(Default)]
+struct Letters {
+    after: HashMap<[char; 2], BTreeSet<char>>,
+    before: HashMap<[char; 2], BTreeSet<char>>,
+}
+
+impl Letters {
+    fn of<'a>(names: impl IntoIterator<Item = &'a str>) -> Letters {
+        let mut letters = Letters::default();
+        for name in names {
+            for it in format!("\0\0{name}\0\0").chars().collect::<Vec<_>>().windows(3) {
+                letters.after.entry([it[0], it[1]]).or_default().insert(it[2]);
+                letters.before.entry([it[1], it[2]]).or_default().insert(it[0]);
             }
         }
+        letters
+    }
+
+    fn between(&self, before: &[char], after: &[char]) -> BTreeSet<char> {
+        let at = |it: Option<&char>| it.copied().unwrap_or('\0');
+        let mut last = before.iter().rev();
+        let last = [at(last.next()), at(last.next())];
+        let found = [self.after.get(&[last[1], last[0]]), self.before.get(&[at(after.first()), at(after.get(1))])];
+        let found = found.into_iter().flatten().flatten().filter(|it| **it != '\0');
+        ANYWHERE.iter().chain(found).copied().collect()
+    }
+}
+
+/// Calls for each edit of one letter.
+fn edits(name: &[char], letters: &Letters, each: &mut impl FnMut(Vec<char>)) {
+    for at in 0..=name.len() {
+        let (before, after) = name.split_at(at);
+        for letter in letters.between(before, after) {
+            each([before, &[letter], after].concat());
+        }
         if let Some((_, rest)) = after.split_first() {
+            for letter in letters.between(before, rest) {
+                each([before, &[letter], rest].concat());
+            }
             each([before, rest].concat());
         }
     }
@@ -90,7 +122,7 @@ struct Found {
 }
 
 /// Asks the edits of a name with this meaning.
-fn ask_edits(words: &HashMap<&str, Said>, kind: &str, letters: &BTreeSet<char>, name: &str, means: &Said) -> Found {
+fn ask_edits(words: &HashMap<&str, Said>, kind: &str, letters: &Letters, name: &str, means: &Said) -> Found {
     let mut found = Found::default();
     let mut ask = |edited: &[char]| {
         let text: String = edited.iter().collect();
@@ -137,12 +169,16 @@ pub fn check(input: &str) {
         }
     }
     let processors = thread::available_parallelism().map_or(1, usize::from);
+    let names_of = |kind: &str| kinds[kind].iter().map(|it| it.0).collect::<Vec<_>>();
+    // Where a field is misspelled, the names of the others are near too.
+    let of_triples = kinds.keys().filter(|it| it.parse::<Dialect>().is_err()).flat_map(|it| names_of(it));
+    let of_triples = Letters::of(of_triples);
     for (kind, names) in &kinds {
-        let mut letters: BTreeSet<char> = names.iter().flat_map(|it| it.0.chars()).collect();
-        letters.extend(['q', '7', '_']);
+        let letters = kind.parse::<Dialect>().ok().map(|_| Letters::of(names_of(kind)));
+        let letters = letters.as_ref().unwrap_or(&of_triples);
         let share = |from: usize| -> Vec<Found> {
             let names = names.iter().skip(from).step_by(processors);
-            names.map(|(name, means)| ask_edits(&words, kind, &letters, name, means)).collect()
+            names.map(|(name, means)| ask_edits(&words, kind, letters, name, means)).collect()
         };
         let found: Vec<Found> = thread::scope(|scope| {
             let share = &share;

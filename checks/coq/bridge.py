@@ -6,7 +6,7 @@ from reading import Untranslated
 
 HEAD = """(* Written by checks/theorem. *)
 Require Import Kit Specs Rust Code Configured Mir Bridge.
-Ltac simp ::= cbv beta iota zeta delta [fst snd negb andb orb set_at shl_in shr_in result_eqb {projections}].
+Ltac simp ::= cbv beta iota zeta delta [fst snd negb andb orb set_at shr_in result_eqb {projections}].
 """
 # The proofs that don't go by the tactic.
 BY_HAND = {"mir_short_word": "destruct v1 as [|a [|b [|c [|d xs]]]]; [vm_compute; reflexivity..|]; "

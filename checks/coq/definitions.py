@@ -72,7 +72,10 @@ class Coq:
 
     def __init__(self, root=ROOT):
         self.names, self.code = Names(root), code_types(root)
-        self.laws = {name: law for crate in CRATES for name, law in Laws(crate, root).definitions.items()}
+        laws = [law for crate in CRATES for law in Laws(crate, root).definitions.values()]
+        self.laws = {law.name: law for law in laws}
+        if second := next((law for law in laws if law is not self.laws[law.name]), None):
+            raise Untranslated(f"{second.place()}: {second.name}: another crate has a law of this name")
         self.titles, self.done, self.out = {}, set(), []
         self.records, self.types_of = {}, {}  # the fields of each record of values; the types of variables
 

@@ -7,6 +7,7 @@ Require Import Kit Specs Rust Code Configured Finite Triple Mir Same_mir Traits.
 Ltac evaluate ::= cbv beta iota zeta delta [fst snd option_map {projections}]; cbn [app tl].
 """
 SAID = {"clones_right": "a clone is the value",
+        "vendors_by_name": "an owned vendor is the known one of its name, or the custom one of its text",
         "hashes_right": "values that are equal by `==` feed a hasher the same, and others don't, whatever follows"}
 # What the values of types that own a vendor stand for; those of others stand for themselves.
 STANDS_FOR = {"CustomVendor": "rs_CustomVendor_as_str", "Vendor": "owned_vendor_value", "Triple": "triple_values",
@@ -33,6 +34,16 @@ def all_of(name, forms):
     lemmas = "".join(f"(conj {it} " for it in list(forms)[:-1])
     return f"Theorem {name} :\n  " + "\n  ∧ ".join(forms.values()) + \
         f".\nProof. exact {lemmas}{list(forms)[-1]}{')' * (len(forms) - 1)}. Qed.\n"
+
+
+def vendors_by_name(constructors):
+    """The theorem that without which the values of owned vendors could be those of others."""
+    arms = "".join(f"\n  | {it} => RsVendorRef__Known {it[2:].replace('Vendor', 'KnownVendor', 1)}"
+                   for it, count in constructors["RsVendor"] if not count)
+    texts = " | ".join(f"{it} text" for it, _ in constructors["RsCustomVendor"])
+    return "Theorem vendors_by_name : ∀ n v, mir_Vendor_as_vendor_ref n v = Some (match v with" + arms + \
+        f"\n  | RsVendor__Custom it => RsVendorRef__Custom (match it with {texts} => text end) end)." \
+        "\nProof. intros n []; try reflexivity. match goal with it : RsCustomVendor |- _ => now destruct it end. Qed.\n"
 
 
 def write(crate, projections):
@@ -79,4 +90,5 @@ def write(crate, projections):
             f"Lemma hashes_{of} : Hashes {equal} {title}.\n"
             f"Proof. hashes fed_{of} hash_{of} feeds_{of} equal_{of} same_{of}. Qed.")
         hashes[f"hashes_{of}"] = f"Hashes {equal} {title}"
-    return "\n".join([*out, all_of("clones_right", clones), all_of("hashes_right", hashes)])
+    return "\n".join([*out, all_of("clones_right", clones), all_of("hashes_right", hashes),
+                      vendors_by_name(crate.types.constructors)])

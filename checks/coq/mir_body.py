@@ -6,9 +6,9 @@ changes behind one. A `&mut` is the place that it borrows."""
 import re
 from collections import namedtuple
 
-from mir import BITS, TEXTS, Unknown, arguments, of_call, referred, split, strip
-from mir_grammar import Function, close
-from mir_std import CLOSED, EQUAL, FED, GENERIC, ITERATORS, ORDERS, STD
+from mir_grammar import Function, Unknown, close, split, within
+from mir_std import CLOSED, EQUAL, FED, GENERIC, ORDERS, STD
+from mir_types import BITS, TEXTS, arguments, of_call, referred, strip
 
 Con = namedtuple("Con", "name args")  # a constructor of values; "tuple", "branching" and a closure aren't Coq's
 Mut = namedtuple("Mut", "cell path")  # a mutable borrow
@@ -16,7 +16,6 @@ Slice = namedtuple("Slice", "cell path low high")  # one of a range of bytes
 Checked = namedtuple("Checked", "code")  # a result and whether it overflows
 Tag = namedtuple("Tag", "value place")  # a discriminant
 BITWISE = {"BitAnd": "N.land", "BitOr": "N.lor", "BitXor": "N.lxor"}
-Shown = namedtuple("Shown", "code")  # what `format_args!` has: an argument's code, or that of all pieces
 COMPARE = {"Eq": "({0} == {1})", "Ne": "(negb ({0} == {1}))", "Lt": "({0} <? {1})", "Le": "({0} <=? {1})",
            "Gt": "({1} <? {0})", "Ge": "({1} <=? {0})"}
 TAGS = {"comparison": {255: ("Lt", 0), 0: ("Eq", 0), 1: ("Gt", 0)}}
@@ -44,6 +43,8 @@ def without_generics(path):
 
 
 class Body:
+    generic, std, closed = GENERIC, STD, CLOSED
+
     def __init__(self, crate, function, pure):
         self.crate, self.types, self.f, self.pure = crate, crate.types, function, pure
         self.blocks, self.fresh, self.loops, self.before = function.blocks(), 0, [], []
@@ -261,7 +262,7 @@ class Body:
 
     def type_of(self, operand):
         if operand[0] not in ("copy", "move"):
-            return {"number": operand[-1], "word": operand[-1], "text": "&str"}.get(operand[0], "?")
+            return operand[-1] if operand[0] in ("number", "word", "text") else "?"
         local, steps = operand[1]
         type = self.f.types[local]
         for it in steps:
@@ -294,7 +295,7 @@ class Body:
 
     def inline(self, constant):
         is_body = isinstance(constant, Function)
-        return Body(self.crate, constant, True).whole() if is_body else self.operand(constant, {})
+        return self.crate.Body(self.crate, constant, True).whole() if is_body else self.operand(constant, {})
 
     def promoted(self, name, number):
         """A constant that rustc took out of this function."""
@@ -304,8 +305,6 @@ class Body:
         return self.inline(it)
 
     def aggregate(self, path, args, names=None):
-        if path.startswith("{closure@"):
-            return Con(path, args)
         if m := re.match(r"std::option::Option(?:::<.*>)?::(None|Some)$", path):
             return Con(m[1], args)
         if m := re.match(r"std::result::Result(?:::<.*>)?::(Ok|Err)$", path):
@@ -350,10 +349,7 @@ class Body:
         if kind == "tuple":
             return Con("tuple", [self.operand(part, env) for part in what])
         if kind == "array":
-            items = [self.operand(part, env) for part in what]
-            if items and all(isinstance(it, Shown) for it in items):
-                return Con("tuple", items)
-            return "[" + "; ".join(map(self.code, items)) + "]"
+            return "[" + "; ".join(self.code(self.operand(part, env)) for part in what) + "]"
         if kind == "repeat":
             return f"(List.repeat {self.code(self.operand(what, env))} {it[2]}%nat)"
         if kind == "aggregate":
@@ -386,8 +382,8 @@ class Body:
             return Checked(f"{name[:3].lower()}_in {BITS[type]} {x} {y}")
         if name in ("Div", "Rem") and type in BITS and y.isdigit() and int(y):
             return f"({x} {'/' if name == 'Div' else 'mod'} {y})"
-        if name in ("Shl", "Shr") and self.type_of(left) in BITS:
-            return self.emit(f"{name.lower()}_in {BITS[self.type_of(left)]} {x} {y}", "n")
+        if name == "Shr" and self.type_of(left) in BITS:
+            return self.emit(f"shr_in {BITS[self.type_of(left)]} {x} {y}", "n")
         if name in BITWISE and type in BITS:
             return f"({BITWISE[name]} {x} {y})"
         if name == "BitOr" and type == "bool":
@@ -404,8 +400,6 @@ class Body:
             return self.own(it, values, types, env)
         if trait == "std::Into" and owner.startswith("impl Into<"):
             return values[0]  # the parameter is what this returns
-        if trait in ("std::Fn", "std::FnMut", "std::FnOnce") and owner.startswith("{closure@"):
-            return self.own(*self.captures(self.read(values[0], env), values[1], env), [], env)
         if trait == "std::Hash" and name == "hash" and types[1] in ("&mut H", "&mut __H"):
             return self.hashed(strip(owner), values, types, env)
         if trait == "std::Clone" and owner.startswith("std::option::Option<"):
@@ -416,20 +410,14 @@ class Body:
         plain = without_generics(path)
         if plain == "std::mem::discriminant":
             return self.code(Tag(values[0], operands[0][1]))
-        if plain.startswith("std::fmt::") and (it := self.formatted(plain, path, values, env)):
-            return it
-        if form := GENERIC.get(plain) or STD.get(re.sub(r"^<\[u8; \d+\]", "<[u8]", path)):
+        if form := self.generic.get(plain) or self.std.get(re.sub(r"^<\[u8; \d+\]", "<[u8]", path)):
             code = form.format(*[self.code(self.read(it, env)) for it in values])
             # A number is an ASCII character.
             if plain.endswith(("::split_once", "::split")) and operands[1][0] != "number":
                 raise Unknown("a split at a character that isn't known")
             return self.emit(code[2:]) if code[0] == "?" else code
-        if plain in ITERATORS:
-            name = self.named(self.code(self.read(values[0], env)), "left")
-            self.store(*values[0], f"(tl {name})", env)
-            return f"(hd_error {name})"
-        if plain in CLOSED:
-            code = CLOSED[plain].format(self.code(self.read(values[0], env)), self.closure(values[1]))
+        if plain in self.closed:
+            code = self.closed[plain].format(self.code(self.read(values[0], env)), self.closure(values[1]))
             if isinstance(values[0], Mut):
                 env.pop(values[0].cell)  # what is left of the iterator isn't known
             return code
@@ -458,33 +446,6 @@ class Body:
             return "tt"
         raise Unknown(f"the call of {path}")
 
-    def formatted(self, plain, path, values, env):
-        """What std's macros of formatting call, for strings, numbers and the crate's types without options."""
-        if plain == "std::fmt::rt::Argument::new_display":
-            type, value = strip(path[path.index("new_display::<") + 14:-1]), self.code(self.read(values[0], env))
-            if type in TEXTS or type in BITS:
-                return Shown(f"text_piece {value if type in TEXTS else f'(decimal {value})'}")
-            if it := self.crate.find(("std::Display", type, "fmt")):
-                return Shown(f"{self.crate.write(it)} fuel {value}")
-        elif plain == "std::fmt::Arguments::new":  # a template: a length and its bytes, 192 for an argument, and 0
-            template, pieces, arguments = [*map(int, values[0][1:-1].split("; "))], [], [*values[1].args]
-            while template[0]:
-                size = template.pop(0)
-                if size != 192 and size > 127:
-                    raise Unknown(f"the option {size} of formatting")
-                pieces.append(arguments.pop(0).code if size == 192 else
-                              f"text_piece [{'; '.join(map(str, template[:size]))}]")
-                template = template[0 if size == 192 else size:]
-            if len(template) > 1 or arguments:
-                raise Unknown("the end of a template of formatting")
-            return Shown(f"write_pieces [{'; '.join(pieces)}]")
-        elif plain == "std::fmt::format":
-            return self.emit(f"displayed ({values[0].code} (formatter_of []))")
-        elif plain == "std::fmt::Formatter::write_fmt":
-            name = self.emit(f"{values[1].code} {self.code(self.read(values[0], env))}")
-            self.store(*values[0], f"(snd {name})", env)
-            return f"(fst {name})"
-
     def hashed(self, type, values, types, env):
         """The crate's hash, or std's."""
         if it := self.crate.find(("std::Hash", type, "hash")):
@@ -499,8 +460,9 @@ class Body:
             return f"(option_map snd ({self.crate.write(it)} fuel {value} {fed}))"
         if type in FED:
             return f"(Some (feed by_{type} {value if type == 'str' else f'[{value}]'} {fed}))"
-        if type.startswith("std::mem::Discriminant<"):
-            return self.fed("isize", value, fed)
+        if m := re.fullmatch(r"std::mem::Discriminant<(.*)>", type):  # a number, of its type in the own hash
+            own = self.crate.find(("std::Hash", m[1], "hash"))
+            return self.fed(own.types[int(re.search(r"_(\d+) = discriminant\(\(\*_1\)\)", own.text)[1])], value, fed)
         if not re.match(r"std::(option::Option|result::Result)<", type):
             raise Unknown(f"the hash of {type}")
         first, second = (f"(feed by_isize [{i}] {fed})" for i in range(2))
@@ -522,15 +484,6 @@ class Body:
             raise Unknown(f"the order of {type}")
         parts = [self.compared(*it) for it in zip(split(type[1:-1]), *[self.parts(it, type).args for it in (x, y)])]
         return f"(in_turn [{'; '.join(parts)}])"
-
-    def captures(self, closure, arguments, env):
-        """A closure's function, and the values of its parameters."""
-        it = self.crate.closure(closure.name)
-        if len(it.captured) != len(closure.args):
-            raise Unknown(f"what {closure.name} captures")
-        captured = [self.read(value, env) if type.startswith("&mut &mut ") else value
-                    for (_, type), value in zip(it.captured, closure.args)]
-        return it, captured + arguments.args
 
     def own(self, it, values, types, env):
         """A call of a function of the crate."""
@@ -557,10 +510,10 @@ class Body:
     def closure(self, value):
         """A closure that captures nothing, as a function of Coq."""
         it = self.crate.closure(value.name)
-        if it.captured or len(it.parameters) != 1:
-            raise Unknown(f"what {value.name} captures")
+        if len(it.parameters) != 1:
+            raise Unknown(f"the arguments of {value.name}")
         name = self.new("given")  # which is no name in the body
-        return f"(λ {name}, {Body(self.crate, it, True).block(0, {it.parameters[0][0]: name}, {})})"
+        return f"(λ {name}, {self.crate.Body(self.crate, it, True).block(0, {it.parameters[0][0]: name}, {})})"
 
     def equality(self, path, owner, name, types, values, env):
         """`==`, or `!=` by `==`: a type's own, or std's of the types' in it."""
@@ -589,6 +542,10 @@ class Body:
 
     # ---- blocks
     def whole(self):
+        return self.block(0, self.begun(), {})
+
+    def begun(self):
+        """The variables at the beginning."""
         env = {n: Con(type, []) for n, type in self.f.types.items() if type.startswith("{closure@")}
         for n, type in self.f.parameters:
             is_mutable = type.startswith("&mut ")
@@ -597,10 +554,7 @@ class Body:
             env[0] = "tt"
         elif self.types.declared.get(self.f.result) == []:  # a value of no parts, which nothing sets
             env[0] = Con(f"Build_{self.types.title(self.f.result)}", [])
-        if self.f.captured:
-            env[1] = Con("{closure}", [Mut(n, ()) if type.startswith("&mut &mut ") else env[n]
-                                       for n, type in self.f.captured])
-        return self.block(0, env, {})
+        return env
 
     def none(self):
         if self.pure:
@@ -655,11 +609,14 @@ class Body:
             title = self.new("block")
             binders = "".join(f" ({inner[n]} : {self.types.coq(self.type_at(n))})" for n in names) or " (_ : unit)"
             code = f"λ{binders},\n{self.block(it, inner, joins)}"
-            as_let = f"let {title} := {code} in\n", ""
-            joined.append((f"local ({code}) (λ {title},\n", ")") if self.crate.local else as_let)
+            joined.append(self.joined(title, code))
             joins = {**joins, it: (title, names, len(self.loops))}
         self.before += joined
         return self.end(end, env, joins)
+
+    def joined(self, title, code):
+        """The code before and after what goes on to a block that several go on to."""
+        return f"let {title} := {code} in\n", ""
 
     def loop(self, b, env, joins):
         self.none()
@@ -744,11 +701,9 @@ class Body:
             return f"if {code} then {branch(cases.get(1, other))}\nelse {branch(cases.get(0, other))}"
         if type not in BITS and type != "char":
             raise Unknown(f"a switch of {type}")
-        if type == "char" and any(n > 127 for n in cases if n != "otherwise"):
-            raise Unknown("a character that isn't ASCII")
         found = branch(other)
         for n, b in reversed([it for it in cases.items() if it[0] != "otherwise"]):
-            found = f"if {code} == {n} then {branch(b)}\nelse {found}"
+            found = f"if {code} == {within(n, type)} then {branch(b)}\nelse {found}"
         return found
 
     def match(self, tag, targets, other, env, joins):

@@ -22,8 +22,7 @@ def depths(text):
             i += 1 + (text[i] == "\\")
             continue
         if text[i:i + 2] in ("->", "=>"):
-            i += 2
-            continue
+            raise Unknown(f"brackets of {text}")
         depth -= text[i] in CLOSE
         yield i, depth
         depth += text[i] in OPEN
@@ -91,21 +90,20 @@ def place(text):
     return local, steps
 
 
-ESCAPES = {"n": 10, "t": 9, "r": 13, "0": 0, '"': 34, "'": 39, "\\": 92}
+ESCAPES = {"n": "\n", "t": "\t", "r": "\r", "0": "\0", '"': '"', "'": "'", "\\": "\\"}
 
 
 def text_bytes(text):
-    found, i = b"", 0
-    while i < len(text):
-        if text[i] != "\\":
-            found, i = found + text[i].encode(), i + 1
-        elif text[i + 1] == "x":
-            found, i = found + bytes([int(text[i + 2:i + 4], 16)]), i + 4
-        elif text[i + 1] in ESCAPES:
-            found, i = found + bytes([ESCAPES[text[i + 1]]]), i + 2
-        else:
-            raise Unknown(f"the escape of {text}")
-    return found
+    parts = re.findall(r"\\x(..)|\\(.)|([^\\]+)", text, re.S)
+    return b"".join(bytes.fromhex(code) or (plain or ESCAPES[escape]).encode() for code, escape, plain in parts)
+
+
+def within(number, type):
+    """A number that a type has whatever the target: a `usize` may have 32 bits, and of other characters than ASCII's
+    only that they are greater is known."""
+    if number >= {"usize": 2 ** 32, "isize": 2 ** 31, "char": 128}.get(type, number + 1):
+        raise Unknown(f"{number} of a {type}")
+    return number
 
 
 def operand(text):
@@ -116,13 +114,14 @@ def operand(text):
         raise Unknown(f"the operand {text}")
     text = text[6:]
     if m := re.fullmatch(r"(\d+)_(u8|u16|u32|u64|usize|isize)", text):
-        return "number", int(m[1]), m[2]
+        return "number", within(int(m[1]), m[2]), m[2]
     if m := re.fullmatch(r"'([ -&(-\[\]-~])'", text):
         return "number", ord(m[1]), "char"
     if text in ("true", "false", "()"):
         return "word", {"()": "tt"}.get(text, text), "()" if text == "()" else "bool"
-    if m := re.fullmatch(r'b?"((?:[^"\\]|\\.)*)"', text):
-        return "text", text_bytes(m[1])
+    if m := re.fullmatch(r'(b?)"((?:[^"\\]|\\.)*)"', text):
+        found = text_bytes(m[2])
+        return "text", found, f"&[u8; {len(found)}]" if m[1] else "&str"
     if m := re.fullmatch(r"ZeroSized: (\{closure@.*\})", text):
         return "closure", m[1]
     if m := re.fullmatch(r"\{(alloc\d+): .*\}|<static\(DefId\(\S+ ~ \w+\[\w+\]::([\w:]+)\)\)>", text):
@@ -195,7 +194,6 @@ class Function:
 
     def __init__(self, path, parameters, result, text):
         self.path, self.result, self.text, self.promoted, self.title = path, clean(result), text, {}, None
-        self.captured = []  # of a closure
         found = [re.fullmatch(r"_(\d+): (.*)", it, re.S) for it in split(parameters)]
         self.parameters = [(int(m[1]), clean(m[2])) for m in found]
         locals = re.findall(r"^ *let (?:mut )?_(\d+): (.*);$", text, re.M)
@@ -278,6 +276,8 @@ def std_trait(path):
 # A pattern that is neither a literal nor a variant: rustc computes its value.
 PATTERN = re.compile(r"PatExpr \{\n.*\n.*\n +kind: (?!Lit \{|Path\(\n +Resolved\(\n +None,\n +Path \{\n.*\n +res: "
                      r"Def\(\n +Ctor\()")
+# What a path is of: a constant or an alias of std, which could be the target's, is none.
+NAMED = "AssocFn Ctor Enum Fn Macro Mod Struct Trait Variant".split()
 KINDS = "Const Enum ExternCrate Fn Impl Macro Mod Static Struct Trait TyAlias Type Use".split()
 
 
@@ -300,6 +300,9 @@ def read_hir(text):
         if kind[1] == "Use" and (to := re.search(r" Single\(\n +(\w+)#", block)) and to[1] != "_":
             if {*re.findall(r" DefId\(\S+ ~ \S+::(\w+)\),", block.partition(" segments: ")[0])} - {to[1]}:
                 raise Unknown(f"an import under another name, {to[1]}")
+        for of, at in re.findall(r" Def\(\n +(\w+)\b(?:.*\n)+? +DefId\(\d+:\d+ ~ ([\w:\[\]]+)", block):
+            if of not in NAMED and not at.startswith(f"{crate}[") and not re.fullmatch(r"core\[\w+\]::fmt::Result", at):
+                raise Unknown(f"{at}, which could be another one for another target")
         if kind[1] == "TyAlias":
             aliases.append(path)
         if kind[1] == "Enum":

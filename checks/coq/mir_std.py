@@ -3,13 +3,10 @@ Rust.v and Kit.v have these functions of Coq."""
 
 # By their path without arguments of generics, which may be any.
 GENERIC = {
-    "std::hint::must_use": "{0}",
     "std::boxed::Box::new": "{0}",
     "std::option::Option::is_some": "(option_is_some {0})",
     "std::option::Option::is_none": "(option_is_none {0})",
     "std::option::Option::ok_or": "(ok_or {0} {1})",
-    "std::option::Option::unwrap": "? {0}",
-    "std::result::Result::is_ok": "(result_is_ok {0})",
     "std::bool::<impl bool>::then_some": "(then_some {0} {1})",
 }
 # By their whole path.
@@ -18,13 +15,12 @@ STD = {
     **dict.fromkeys((
         "std::str::<impl str>::as_bytes", "std::slice::<impl [u8]>::iter",
         "std::string::String::as_str", "<std::string::String as std::ops::Deref>::deref",
-        "<std::borrow::Cow<str> as std::ops::Deref>::deref",
         "<&str as std::convert::Into<std::boxed::Box<str>>>::into",
         "<&str as std::convert::Into<std::borrow::Cow<str>>>::into",
         "<&str as std::convert::Into<std::string::String>>::into",
         "<std::string::String as std::convert::Into<std::borrow::Cow<str>>>::into",
         "<std::string::String as std::convert::From<&str>>::from",
-        "<str as std::borrow::ToOwned>::to_owned", "<std::string::String as std::clone::Clone>::clone",
+        "<std::string::String as std::clone::Clone>::clone",
         "<std::boxed::Box<std::string::String> as std::clone::Clone>::clone",
         "<std::boxed::Box<str> as std::clone::Clone>::clone",
         # numbers of a wider type
@@ -37,14 +33,9 @@ STD = {
     "std::str::<impl str>::strip_prefix::<&str>": "(strip_prefix {0} {1})",
     "std::str::<impl str>::split_once::<char>": "(split_once {0} {1})",
     "std::str::<impl str>::get::<std::ops::Range<usize>>": "(str_get {0} {1})",
-    "std::str::<impl str>::starts_with::<&str>": "(starts_with N.eqb {0} {1})",
-    "std::str::<impl str>::split::<char>": "(slice_split (λ c, c == {1}) {0})",
-    "std::str::<impl str>::chars": "(chars {0})",
     "std::str::from_utf8": "? from_utf8 {0}",
     "std::slice::<impl [u8]>::split_first": "(split_first {0})",
     "std::num::<impl u8>::is_ascii_lowercase": "(u8_is_ascii_lowercase {0})",
-    "std::char::methods::<impl char>::is_ascii_lowercase": "(u8_is_ascii_lowercase {0})",
-    "std::char::methods::<impl char>::is_ascii_digit": "(char_is_ascii_digit {0})",
     "std::num::<impl u64>::from_le_bytes": "(from_le_bytes {0})",
     "std::num::<impl u32>::from_le_bytes": "(from_le_bytes {0})",
     "std::num::<impl u64>::wrapping_mul": "(wrapping_mul 64 {0} {1})",
@@ -63,12 +54,8 @@ STD |= {f"std::str::<impl str>::parse::<u{n}>": f"(parse_unsigned {2 ** n - 1} {
 ORDERS = {"str": "bytes_cmp", "bool": "Bool.compare", "u8": "N.compare", "u16": "N.compare"}
 # The types whose hash is one call of a hasher.
 FED = ("u8", "u16", "usize", "isize", "str")
-# These iterators are the lists of what is left.
-ITERATORS = ("<std::str::Split<char> as std::iter::Iterator>::next", "<std::str::Chars as std::iter::Iterator>::next")
-# These take a closure, and some use up an iterator.
-CLOSED = {"std::result::Result::map_err": "(map_err {1} {0})",
-          "<std::str::Chars as std::iter::Iterator>::any": "(existsb {1} {0})",
-          "<std::slice::Iter<u8> as std::iter::Iterator>::position": "(position {1} {0})",
+# These take a closure, and use up an iterator.
+CLOSED = {"<std::slice::Iter<u8> as std::iter::Iterator>::position": "(position {1} {0})",
           "<std::slice::Iter<u8> as std::iter::Iterator>::all": "(forallb {1} {0})"}
 # The equality of std's types.
 EQUAL = {"()": "(λ _ _ : unit, true)", "str": "bytes_eq", "std::string::String": "bytes_eq"}

@@ -23,7 +23,7 @@ for part, (_, proofs) in shipped.CONFIGURATIONS.items():
     PARTS[part] = needed, ["Rust", "Std", "Code", "Configured", *proofs], functools.partial(shipped.write, part=part)
     if part == "rust":
         PARTS["mir"] = (needed + ["rust"], "Mir Bridge Same_mir Compiled Traits Derived Orders".split(), compiled.write)
-        PARTS["source"] = (needed + ["rust"], "Source Halves Same".split(), source.write)
+        PARTS["source"] = (needed + ["rust"], "Keys Source Halves Same".split(), source.write)
 
 
 def ordered(parts):

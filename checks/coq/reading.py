@@ -345,6 +345,12 @@ def code_types(root=ROOT):
     return found
 
 
+LAW = re.compile(
+    r"^pub fn (?P<name>\w+)\((?P<of>[^)]*)\)\n(?P<ensures>.*?)^\{(?:\}|\n.*?^\})$|"
+    r"^ghost (?P<use>use [^;\n]*);|^(?:pub )?use [^;]*;", re.M | re.S)
+ENSURES = re.compile(r"\s*ensures (?:\w+ )?\{(.*?)\}(?=\s*ensures |\s*\Z)", re.S)
+
+
 class Laws(Module):
     """The laws of a crate: what the functions of its laws.rt ensure. One with several parts is all of these."""
 
@@ -353,13 +359,20 @@ class Laws(Module):
         self.path, self.file = ("Rattle", crate, "laws"), relative(file, root)
         self.definitions, self.constructors, self.uses, self.typed = {}, {}, {}, {}
         text = re.sub(r"^ *//.*", "", file.read_text(encoding="utf-8"), flags=re.M)
-        for line in re.findall(r"^ghost (use .*);", text, re.M):
-            self.read_use(re.match(FORMS["use"], line), 0)
-        for it in re.finditer(r"^pub fn (\w+)\((.*?)\)\n(.*?)^\{", text, re.M | re.S):
-            parts = [" ".join(part.split())
-                     for part in re.findall(r"ensures (?:\w+ )?\{(.*?)\}(?=\s*(?:ensures|\Z))", it[3], re.S)]
-            law = self.definitions[it[1]] = Definition(self, it[1], "Type 0")
-            law.chunks.append(f"{it[1]} = " + (" × ".join(f"({part})" for part in parts) if len(parts) > 1
-                                               else parts[0]))
-            law.lines.append(text.count("\n", 0, it.start()) + 1)
-            law.is_of_code = bool(it[2]) or "⟦" in it[3]
+        for it in LAW.finditer(text):
+            if it["use"]:
+                self.read_use(re.match(FORMS["use"], it["use"]), 0)
+            elif it["name"]:
+                self.read_law(it, text.count("\n", 0, it.start("name")) + 1)
+        left = LAW.sub(lambda it: "\n" * it[0].count("\n"), text)
+        if it := re.search(r"^.*\S.*", left, re.M):
+            raise Untranslated(f"{self.file}:{left[:it.start()].count(chr(10)) + 1}: this isn't understood: {it[0]}")
+
+    def read_law(self, it, line):
+        parts = [f"({' '.join(part.split())})" for part in ENSURES.findall(it["ensures"])]
+        if ENSURES.sub("", it["ensures"]).strip() or not parts or it["name"] in self.definitions:
+            raise Untranslated(f"{self.file}:{line}: {it['name']} isn't a law of its own, that only ensures something")
+        law = self.definitions[it["name"]] = Definition(self, it["name"], "Type 0")
+        law.chunks.append(f"{law.name} = {' × '.join(parts)}")
+        law.lines.append(line)
+        law.is_of_code = bool(it["of"]) or "⟦" in it["ensures"]

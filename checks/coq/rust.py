@@ -36,7 +36,6 @@ PATTERNS = {"strip_prefix": STR, "split_once": T("char")}  # the types of their 
 SAME = {("slice", "iter"): None, ("str", "as_bytes"): BYTES, ("str", "as_str"): STR, ("str", "into"): STR,
         ("str", "to_string"): STR}
 
-WRAPPING = ("wrapping_mul", "wrapping_sub")
 
 def bits(name):
     return "usize_bits" if name == "usize" else WIDTH[name]
@@ -613,7 +612,7 @@ class Body:
                 return self.ex(args[0], env, lambda more, _: k(f"(saturating_add {bits(type[1])} {code} {more})", type))
             if kind == "number" and name == "trailing_zeros":
                 return k(f"(trailing_zeros {bits(type[1])} {code})", T("u32"))
-            if kind == "number" and name in WRAPPING:
+            if kind == "number" and name == "wrapping_mul":
                 return self.ex(args[0], env, lambda more, _: k(f"({name} {bits(type[1])} {code} {more})", type))
             if kind == "slice" and name in ("first_chunk", "last_chunk"):
                 return k(f"({name} {generic[1]} {code})", OPTION(type))

@@ -48,26 +48,27 @@ def check(crate, problems, left_out):
             raise Untranslated(f"{owner}::{name} is left out, and could be written")
 
 
-# What of the crate's manifest decides what its source means: the edition, that lib.rs is the library, and which features
+# The manifest's tables, and what of each decides what the source means: the edition, the library, and which features
 # come together.
-MANIFEST = {
-    'edition = ".*"': 'edition = "2021"',
-    r"\[lib\]\n(?:[^\[].*\n)*": '[lib]\nname = "target_lexicon"\n',
-    r"\[dependencies\]\n(?:[^\[].*\n)*": '[dependencies]\nserde = { version = "1.0", optional = true }\n',
-    "alloc = .*": "alloc = []", "std = .*": 'std = ["alloc"]',
-}
-TABLES = "[workspace] [package] [package.metadata.docs.rs] [lib] [dependencies] [features]".split()
+TABLES = {"workspace": {}, "package": {"edition": '"2021"'}, "package.metadata.docs.rs": {},
+          "lib": {"name": '"target_lexicon"'}, "dependencies": {"serde": '{ version = "1.0", optional = true }'},
+          "features": {"alloc": "[]", "std": '["alloc"]', "serde_support": '["dep:serde", "std"]'}}
+VALUE = r'"[^"\\]*"|\[(?:"[^"\\]*"(?:, )?)*\]|\{ version = "1.0", optional = true \}'
 
 
 def check_manifest(root):
-    manifest = re.sub(r"\n+", "\n", root.joinpath("packages/rust/Cargo.toml").read_text(encoding="utf-8"))
-    for form, wanted in MANIFEST.items():
-        if re.findall(rf"^{form}", manifest, re.M) != [wanted]:
-            raise Untranslated(f"packages/rust/Cargo.toml has not only {wanted!r}")
-    lines = re.findall(r"^[^#\n].*", manifest, re.M)
-    for it in lines[:1] + [it for it in lines if not re.match(r"(?!build\b)[\w-]+ = ", it)]:
-        if it not in TABLES:
+    found = {}
+    for it in re.findall(r"^[^#\n].*", root.joinpath("packages/rust/Cargo.toml").read_text(encoding="utf-8"), re.M):
+        if it[0] == "[" and it[1:-1] in {*TABLES} - {*found}:
+            found[it[1:-1]] = table = {}
+        elif found and (m := re.fullmatch(rf"(?!build )([\w-]+) = ({VALUE})", it)):  # else it could go on, or be nested
+            table[m[1]] = m[2]
+        else:
             raise Untranslated(f"packages/rust/Cargo.toml has {it}")
+    for it, wanted in TABLES.items():
+        table = found.get(it, {})
+        if {**table, **wanted} != table or it in ("lib", "dependencies") and table != wanted:
+            raise Untranslated(f"packages/rust/Cargo.toml has not only {wanted} in [{it}]")
 
 
 def read(root, features):

@@ -9,7 +9,7 @@ from reading import Untranslated, families
 from rust import translate
 from rust_grammar import Parser
 from rust_types import Crate
-from shipped import check, configurations, put, texts, titles
+from shipped import HERE, check, configurations, put, texts, titles
 
 # Of the proved source: files that don't become Rust; functions that aren't translated, since they return what the kit's
 # allocator does, and that have no function of this name in Rust; and those that have another name there.
@@ -62,8 +62,8 @@ class Proved(Parser):
 
 def write(root, folder):
     """Writes Source.v, the proved source, and Same.v, which says that each function is that of Code.v. Returns that."""
-    files = "Kit Specs Rust Code Configured".split()
-    known = "".join(folder.joinpath(f"{it}.v").read_text(encoding="utf-8") for it in files)
+    files = *(folder / f"{it}.v" for it in "Kit Specs Rust Code Configured".split()), HERE / "rust/Keys.v"
+    known = "".join(it.read_text(encoding="utf-8") for it in files)
     folders = [root / f"crates/{it}/src" for it in ("lexicon_fields", "target_lexicon")]
     files = [it for of in folders for it in sorted(of.rglob("*.rt")) if it.stem not in NOT_ERASED]
     rust = root / "packages/rust/src"
@@ -80,7 +80,7 @@ def write(root, folder):
         others[f"rt_{it}"] = f"rs_{it}"
     code, problems = translate(crate, known, titles(known), others)
     check(crate, problems, SOURCE_LEFT_OUT)
-    ours = titles(put(folder, "Source", "Kit Specs Rust Code Configured", "crates", code))
+    ours = titles(put(folder, "Source", "Kit Specs Rust Keys Code Configured", "crates", code))
     same = {it: REPLACED.get(it[3:], ("{} = {}", "reflexivity")) for it in ours if it in others}
     statements = {it: statement.format(it, others[it]) for it, (statement, _) in same.items()}
     proofs = [f"Lemma same_{it[3:]} : {statements[it]}. Proof. {proof}. Qed." for it, (_, proof) in same.items()]

@@ -223,7 +223,7 @@ def antt_lists(table):
             variants(it).removeprefix("pub ") for it in table.families
             if it.variant in {*WITH_QUERIES, *families_with(table, "order", "width")}],
         "each family reads back": [f"architecture_of-name {it} = refl" for it in first],
-        "each family is short": [f"architecture-is_short {it} = refl" for it in first],
+        "each family is short": [f"returns-clause-architecture c {it} = leb-true _ _ refl" for it in first],
         "the law of names of each family": [
             f"{it.word} = part-read_back architecture.{it.variant} spec.as_{it.word} (λ _. refl);"
             for it in table.families],

@@ -219,14 +219,15 @@ def code(table, standing):
     """The lists of rules in the code, and the answers to the goals of their arms. `standing` has the text of each list
     as it stands."""
     lists = {name: write(Code(table, standing.get(name, ""))) for name, write in IN_CODE.items()}
-    return lists | {"each arm of the formats": answers(lists["the formats of systems"], "implied_format"),
-                    "each arm of the conventions": answers(lists["the conventions of systems"], "convention_on")}
+    # The kit names the goal of an arm that has an answer by its first variant.
+    goals = lambda name: re.findall(r"(?:^|[,{}]\s)\s*\w+::(\w+)[^=,{}]*=>\s(?!match)", "\n".join(lists[name]))
+    return lists | {"each arm of the formats": answers(goals("the formats of systems"), "implied_format"),
+                    "each arm of the conventions": answers(goals("the conventions of systems"), "convention_on")}
 
 
-def answers(arms, unfolded):
-    """The proofs of the arms that have an answer, whose goals the kit names by their first variants."""
-    found = re.findall(r"(?:^|[,{}]\s)\s*\w+::(\w+)[^=,{}]*=>\s(?!match)", "\n".join(arms))
-    lines = [line for it in found for line in (
+def answers(goals, unfolded):
+    """The proofs of the arms of a `match`, in each of which the definition computes."""
+    lines = [line for it in goals for line in (
         f"pub returns-in-{it} : goal.returns-in-{it}", f"unfolding {unfolded}", f"returns-in-{it} c = search rules", "")]
     return lines[:-1]
 

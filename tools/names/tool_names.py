@@ -14,7 +14,7 @@ OTHERS = {"other-machine": "architecture", "other-system": "operating_system", "
 # The rules of a dialect: for each field of `Rules` its value for each choice. The first choice goes without saying. A
 # dialect may have other names too.
 RULES = {"machine": {"order": "MachineRule::Order", "version": "MachineRule::Version", "rustc": "MachineRule::Rustc",
-                     "alpine": "MachineRule::Alpine", "packages": "MachineRule::Packages"},
+                     "alpine": "MachineRule::Alpine", "i686": "MachineRule::I686", "packages": "MachineRule::Packages"},
          "abi": {"kept": "AbiRule::Kept", "dropped": "AbiRule::Dropped", "linux": "AbiRule::KeptOnLinux",
                  "windows": "AbiRule::KeptOnLinuxAndWindows", "systems": "AbiRule::KeptOnSystems"},
          **{word: {"no": "false", "yes": "true"} for word in ("versions", "tags", "spelled", "platforms", "itself")}}
@@ -219,15 +219,15 @@ def check_no_name(words, names):
             raise Mistake(f"the list is of what has no name, but tools/names/names.tsv has `{word}`: say what it means")
 
 
-def is_known_by_now(name, reason, known):
-    """Whether the reason is that a name isn't known, and the table of names has it."""
+def is_known_by_now(name, why, reason, known):
+    """Whether the reason is that a name isn't known, and the table of names has it. `why` is the reason's name."""
     words = re.split("[-/ ]", name) if re.search("[-/ ]", name) else name.split("_")
     if "architecture is no known name" in reason:
         return any(it in known[""] and it != "unknown" for it in words)
     if re.search("(system|environment) is no known name", reason):
         return all(it in known["-"] for it in words[1:2] * (len(words) == 2) + words[2:])
     system = re.fullmatch(r"triples have no system (\w+)\b.*", reason)
-    return bool(system) and system[1] in known["-"]
+    return (system[1] if system else why) in known["-"]
 
 
 def add_row(found, cells, known, cited):
@@ -241,7 +241,7 @@ def add_row(found, cells, known, cited):
         raise Mistake("a row has a triple and ways, or `-` for both, and the name of a reason as its note")
     if ways == "-" and "".join(note) not in found.whys:
         raise Mistake(f"the note is the name of a line `# why`, not `{''.join(note)}`: {', '.join(found.whys)}")
-    if ways == "-" and is_known_by_now(name, found.whys[note[0]], known):
+    if ways == "-" and is_known_by_now(name, note[0], found.whys[note[0]], known):
         raise Mistake(
             f"`{name}` has no triple for this reason: {found.whys[note[0]]}. But tools/names/names.tsv has it: "
                       "write the triple, or another reason")

@@ -1,7 +1,7 @@
 -- Strings that parse as a system: they have no dash, the system's version is in range, and its name is at most 4 bytes
 -- longer.
 use Rattle.lexicon_fields.proofs.Common
-use Common.{◌&&◌, ◌++◌, ◌+◌, ◌<◌, ◌^◌, ◌∙◌, ◌∷◌, ◌≡◌, ◌≤◌, Bool, IfSome, List, None, Option, Some, [], ap, arith, cond}
+use Common.{◌&&◌, ◌++◌, ◌+◌, ◌<◌, ◌^◌, ◌∙◌, ◌∷◌, ◌≡◌, ◌≤◌, Bool, IfSome, List, Option, Some, [], ap, arith, cond}
 use Common.{drop, false, is_none, length, nat_eq, nat_le, option_and_then, refl, rules, subst, sym, take, true, ℕ}
 use Common.{and_parts, leb-true, ltb-true, length-append, MatchOption-at_some, cond_some, bytes_eq-Decides, decimal}
 use Common.{list_all, HasVersionInRange, IsVersionInRange, Pair, dash, is_dash_free, named_values, darwin_like_system}
@@ -17,7 +17,7 @@ use Rattle.lexicon_fields.specs.Version.{piece_number_within, version_of_numbers
 use Rattle.lexicon_fields.specs.OperatingSystem.{fixed_operating_systems, text_after_prefix, system_with_version}
 use Rattle.lexicon_fields.specs.OperatingSystem.{system_version}
 use Rattle.lexicon_fields.proofs.LookUpLemmas.{value_named-all, holds-if_read, option_map-holds, option_and_then-holds}
-use Rattle.lexicon_fields.proofs.LookUpLemmas.{option_or-holds, all-dash_free}
+use Rattle.lexicon_fields.proofs.LookUpLemmas.{option_or-holds, none_is, all-dash_free}
 use Rattle.lexicon_fields.proofs.VersionsReadBack.{digits_model}
 
 is_dash_free-append : (s t : List ℕ) → is_dash_free s ≡ true → is_dash_free t ≡ true → is_dash_free (s ++ t) ≡ true
@@ -72,11 +72,11 @@ pub length-version : (v : DeploymentTarget)
     → length (version_name v) ≡ length (decimal v.major) + length (decimal v.minor) + length (decimal v.patch) + 2
 length-version v = simp length-append (omega arith)
 
-pub version-short : (v : DeploymentTarget) → IsVersionInRange v → length (version_name v) ≤ 13
-version-short v (major, minor, patch) =
+pub numbers-short : (v : DeploymentTarget) → IsVersionInRange v
+    → length (decimal v.major) + length (decimal v.minor) + length (decimal v.patch) + 2 ≤ 13
+numbers-short v (major, minor, patch) =
     omega (
       arith,
-      length-version v,
       length-decimal-le 5 v.major (omega arith) (omega (arith, major)) (omega (arith, major)),
       length-decimal-le 3 v.minor (omega arith) (omega (arith, minor)) (omega (arith, minor)),
       length-decimal-le 3 v.patch (omega arith) (omega (arith, patch)) (omega (arith, patch)),
@@ -137,9 +137,9 @@ suffix-read (c ∷ cs) = option_map-holds _ _ Some (version_of (c ∷ cs)) (vers
 text_after_prefix-read : (prefix text : List ℕ) → IfSome (text_after_prefix prefix text) (λ rest. text ≡ prefix ++ rest)
 text_after_prefix-read prefix text = holds-if_read _ (text_after_prefix prefix text) (λ rest is.
     let begins = cond_some (starts_with nat_eq text prefix) (drop (length prefix) text) rest is in
-    let prefix_key : prefix ≡ take (length prefix) text =
+    let front : prefix ≡ take (length prefix) text =
     (bytes_eq-Decides prefix (take (length prefix) text)).0 begins.0 in
-    sym (take-append-drop (length prefix) text) ∙ ap (λ xs. xs ++ drop (length prefix) text) (sym prefix_key)
+    sym (take-append-drop (length prefix) text) ∙ ap (λ xs. xs ++ drop (length prefix) text) (sym front)
     ∙ ap (λ xs. prefix ++ xs) begins.1)
 
 abbrev IsSystemRead : List ℕ → OperatingSystem → Type 0
@@ -183,10 +183,6 @@ darwin_like_system-read (row ∷ rows) text are =
     option_or-holds _ _ (darwin_like_system rows text) (prefixed-read row text are.0)
     (darwin_like_system-read rows text are.1)
 
-no_version-in_range : (version : Option DeploymentTarget) → is_none version ≡ true → IfSome version IsVersionInRange
-no_version-in_range None none = tt
-no_version-in_range (Some v) none = absurd cc
-
 -- a system with a fixed name has no version
 fixed-read : (text : List ℕ) → IfSome (fixed_operating_system_of text) (IsSystemRead text)
 unfolding fixed_operating_system_of
@@ -196,8 +192,8 @@ fixed-read text = holds-if_read _ (fixed_operating_system_of text) (λ s is.
     && nat_le (length (operating_system_name pair.1)) (length pair.0))
     (named_values operating_system_name fixed_operating_systems) text s refl is in
     let parts = and_parts _ (nat_le (length (operating_system_name s)) (length text)) test in
-    let prefix_key = and_parts (is_dash_free text) (is_none (system_version s)) parts.0 in
-    (prefix_key.0, no_version-in_range (system_version s) prefix_key.1, omega (arith, leb-true _ _ parts.1)))
+    let dash_free = and_parts (is_dash_free text) (is_none (system_version s)) parts.0 in
+    (dash_free.0, rw (none_is (system_version s) dash_free.1) tt, omega (arith, leb-true _ _ parts.1)))
 
 prefixes : ArePrefixes darwin_prefixes
 prefixes = search rules
@@ -209,10 +205,3 @@ operating_system-read text s is =
     MatchOption-at_some _ (IsSystemRead text) s is
     (option_or-holds _ (fixed_operating_system_of text) (darwin_like_system darwin_prefixes text) (fixed-read text)
     (darwin_like_system-read darwin_prefixes text prefixes))
-
-pub version_in_range : (text : List ℕ) (s : OperatingSystem) → operating_system_of text ≡ Some s → HasVersionInRange s
-version_in_range text s is = (operating_system-read text s is).1
-
-pub operating_system-max_growth : (text : List ℕ) (s : OperatingSystem) → operating_system_of text ≡ Some s
-    → length (operating_system_name s) ≤ length text + 4
-operating_system-max_growth text s is = (operating_system-read text s is).2

@@ -21,6 +21,16 @@ prefix_key_below (suc k) (x ∷ xs) h =
       prefix_key_below k xs (λ i. h (suc i)),
     )
 
+-- of two strings the one with the smaller first byte has the smaller key
+first_byte_decides : (k x y : ℕ) (xs ys : List ℕ) → AreBytes xs → x < y
+    → prefix_key_of (suc k) (x ∷ xs) < prefix_key_of (suc k) (y ∷ ys)
+first_byte_decides k x y xs ys h less =
+    omega (
+      arith,
+      prefix_key_below k xs h,
+      mul-le-mul_right {m = x + 1} {n = y} (256 ^ k) (omega (arith, less)),
+    )
+
 is_less : (x y : ℕ) → x < y → nat_cmp x y ≡ Less
 is_less x y h = sym (nat_cmp_is x y Less h)
 
@@ -40,14 +50,7 @@ less_by_key (suc k) (x ∷ xs) (y ∷ ys) p q h = elim (cases_order x y) [
       (omega (arith, h, ap (λ n. n * 256 ^ k) same)))
   | inr other ↦ elim other [
     | inl less ↦ rw (is_less x y less) refl
-    | inr more ↦
-        absurd (omega (
-          arith,
-          h,
-          prefix_key_below k ys (λ i. q (suc i)),
-          mul-le-mul_right {m = y + 1} {n = x} (256 ^ k)
-              (omega (arith, more)),
-        ))
+    | inr more ↦ absurd (omega (arith, h, first_byte_decides k y x ys xs (λ i. q (suc i)) more))
   ]
 ]
 
@@ -71,22 +74,8 @@ same_heads : (k : ℕ) (x y : ℕ) (xs ys : List ℕ) → AreBytes (x ∷ xs) �
 same_heads k x y xs ys p q h = elim (cases_order x y) [
   | inl same ↦ (same, omega (arith, h, ap (λ n. n * 256 ^ k) same))
   | inr other ↦ elim other [
-    | inl less ↦
-        absurd (omega (
-          arith,
-          h,
-          prefix_key_below k xs (λ i. p (suc i)),
-          mul-le-mul_right {m = x + 1} {n = y} (256 ^ k)
-              (omega (arith, less)),
-        ))
-    | inr more ↦
-        absurd (omega (
-          arith,
-          h,
-          prefix_key_below k ys (λ i. q (suc i)),
-          mul-le-mul_right {m = y + 1} {n = x} (256 ^ k)
-              (omega (arith, more)),
-        ))
+    | inl less ↦ absurd (omega (arith, h, first_byte_decides k x y xs ys (λ i. p (suc i)) less))
+    | inr more ↦ absurd (omega (arith, h, first_byte_decides k y x ys xs (λ i. q (suc i)) more))
   ]
 ]
 
@@ -131,8 +120,4 @@ prefix_key_of_ends s head tail x y h some few first last number rest =
     by_length (a ∷ b ∷ c ∷ d ∷ e ∷ f ∷ []) h some few = omega (arith, h 0, h 1, h 2, h 3, h 4, h 5)
     by_length (a ∷ b ∷ c ∷ d ∷ e ∷ f ∷ g ∷ []) h some few = omega (arith, h 0, h 1, h 2, h 3, h 4, h 5, h 6)
     by_length (a ∷ b ∷ c ∷ d ∷ e ∷ f ∷ g ∷ i ∷ []) h some few = omega (arith, h 0, h 1, h 2, h 3, h 4, h 5, h 6, h 7)
-    by_length (a ∷ b ∷ c ∷ d ∷ e ∷ f ∷ g ∷ i ∷ j ∷ more) h some few = absurd (omega (arith, few))
-    by_length (a ∷ b ∷ c ∷ []) h some few = absurd (omega (arith, some))
-    by_length (a ∷ b ∷ []) h some few = absurd (omega (arith, some))
-    by_length (a ∷ []) h some few = absurd (omega (arith, some))
-    by_length [] h some few = absurd (omega (arith, some))
+    by_length _ h some few = absurd (omega (arith, some, few))

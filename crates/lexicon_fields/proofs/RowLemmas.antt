@@ -53,14 +53,11 @@ row_text-exists : (s : List ℕ) → is_row_text s ≡ true → has_row s ≡ tr
 unfolding row_texts architecture_of known_vendor_of fixed_operating_system_of environment_of binary_format_of
 row_text-exists s found = row_text-passes has_row s refl found
 
-row_text-found : (i : ℕ) → i < row_count → is_row_text (row_text i) ≡ true
-unfolding is_row_text
-row_text-found i below =
-    list_any_at (bytes_eq (row_text i)) row_texts i [] (omega (arith, length-row_texts))
-    ((bytes_eq-Decides (row_text i) (row_text i)).1 refl)
-
 pub row-exists : (i : ℕ) → i < row_count → has_row (row_text i) ≡ true
-row-exists i below = row_text-exists (row_text i) (row_text-found i below)
+unfolding is_row_text
+row-exists i below =
+    row_text-exists (row_text i) (list_any_at (bytes_eq (row_text i)) row_texts i []
+    (omega (arith, length-row_texts)) ((bytes_eq-Decides (row_text i) (row_text i)).1 refl))
 
 -- the row with a string
 row_text-at : (s : List ℕ) → is_row_text s ≡ true → (i : ℕ) × (i < row_count) × (row_text i ≡ s)

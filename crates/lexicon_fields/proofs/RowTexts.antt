@@ -50,10 +50,10 @@ rises_from_144 k from to = rises_within 144 (row_count - 145) refl k from (omega
 
 rises : (k : ℕ) → k + 1 < row_count → rises_at k ≡ true
 rises k below = elim (cases_lt k 96) [
-  | inl prefix_key ↦ elim (cases_lt k 48) [
+  | inl front ↦ elim (cases_lt k 48) [
     | inl lt ↦ rises_from_0 k (omega arith) lt
     | inr ge ↦
-        rises_from_48 k (omega arith) prefix_key
+        rises_from_48 k (omega arith) front
   ]
   | inr back ↦ elim (cases_lt k 144) [
     | inl lt ↦ rises_from_96 k (omega arith) lt

@@ -55,48 +55,39 @@ unfolding steps_among
 among-some most low size text order some is = let not_none : (size == 0) ≡ false =
     ne_eqb size 0 (λ none. omega (arith, some, none)) in rw (not_none, is) refl
 
-module _ (old new low size : ℕ) (text : List ℕ) where
-  half : (most : ℕ) → size < 2 ^ (suc most) → size / 2 < 2 ^ most
-  half most enough = omega (arith, enough, pow-suc 2 most)
-
-  less : (most : ℕ) → 0 < size → size < 2 ^ most → new + steps_among most low size text ≡ old + search_steps text
-      → slice_cmp nat_cmp (row_text (low + size / 2)) text ≡ Less
-      → IsOnTheWay old (new + 1) (low + (size - size / 2)) (size / 2) text
-  less zero some enough left is = absurd (omega (arith, some, enough))
-  less (suc most) some enough left is =
-      record {
-        most = most;
-        enough = half most enough;
-        left = omega (arith, left, among-some most low size text Less some is);
-      }
-
-  greater : (most : ℕ) → 0 < size → size < 2 ^ most → new + steps_among most low size text ≡ old + search_steps text
-      → slice_cmp nat_cmp (row_text (low + size / 2)) text ≡ Greater → IsOnTheWay old (new + 1) low (size / 2) text
-  greater zero some enough left is = absurd (omega (arith, some, enough))
-  greater (suc most) some enough left is =
-      record {
-        most = most;
-        enough = half most enough;
-        left = omega (arith, left, among-some most low size text Greater some is);
-      }
-
-  equal : (most : ℕ) → 0 < size → size < 2 ^ most → new + steps_among most low size text ≡ old + search_steps text
-      → slice_cmp nat_cmp (row_text (low + size / 2)) text ≡ Equal → new + 1 ≡ old + search_steps text
-  equal zero some enough left is = absurd (omega (arith, some, enough))
-  equal (suc most) some enough left is = omega (arith, left, among-some most low size text Equal some is)
-
 module _ (old new later low size : ℕ) (text : List ℕ) (way : IsOnTheWay old new low size text) where
+  -- after the row in the middle, whose order this is, a half is left
+  abbrev IsCompared : Ordering → Type 0
+  IsCompared order = (most : ℕ) × (size / 2 < 2 ^ most)
+      × (new + 1 + steps_after order (steps_among most (low + (size - size / 2)) (size / 2) text)
+      (steps_among most low (size / 2) text) ≡ old + search_steps text)
+
+  compared : (order : Ordering) → 0 < size → slice_cmp nat_cmp (row_text (low + size / 2)) text ≡ order
+      → IsCompared order
+  compared order some is = by_most way.most way.enough way.left
+    where
+      by_most : (most : ℕ) → size < 2 ^ most → new + steps_among most low size text ≡ old + search_steps text
+          → IsCompared order
+      by_most zero enough left = absurd (omega (arith, some, enough))
+      by_most (suc most) enough left = (
+        most,
+        omega (arith, enough, pow-suc 2 most),
+        omega (arith, left, among-some most low size text order some is),
+      )
+
   pub on-the-way-less : 0 < size → later ≡ new + 1 → slice_cmp nat_cmp (row_text (low + size / 2)) text ≡ Less
       → IsOnTheWay old later (low + (size - size / 2)) (size / 2) text
-  on-the-way-less some one is = rw one (less old new low size text way.most some way.enough way.left is)
+  on-the-way-less some one is = let it = compared Less some is in
+      record { most = it.0; enough = it.1; left = omega (arith, it.2, one) }
 
   pub on-the-way-greater : 0 < size → later ≡ new + 1 → slice_cmp nat_cmp (row_text (low + size / 2)) text ≡ Greater
       → IsOnTheWay old later low (size / 2) text
-  on-the-way-greater some one is = rw one (greater old new low size text way.most some way.enough way.left is)
+  on-the-way-greater some one is = let it = compared Greater some is in
+      record { most = it.0; enough = it.1; left = omega (arith, it.2, one) }
 
   pub found-there : 0 < size → later ≡ new + 1 → slice_cmp nat_cmp (row_text (low + size / 2)) text ≡ Equal
       → later ≡ old + search_steps text
-  found-there some one is = one ∙ equal old new low size text way.most some way.enough way.left is
+  found-there some one is = omega (arith, (compared Equal some is).2, one)
 
   pub none-left : size ≡ 0 → new ≡ old + search_steps text
   none-left none =

@@ -35,19 +35,12 @@ admitted_is text =
     (free_is (known_vendor_of text) (architecture_of text) (fixed_operating_system_of text)
     (darwin_like_system darwin_prefixes text) (environment_of text) (binary_format_of text))
 
-row_not_admitted : (text : List ℕ) → has_row text ≡ true → is_admitted text ≡ false
-row_not_admitted text exists = rw (admitted_is text, exists) refl
-
 -- how a string parses as a vendor
 
 -- one with a row: only as the known vendor of that name
 pub row_read : (text : List ℕ) → has_row text ≡ true → option_map Known (known_vendor_of text) ≡ vendor_of text
 unfolding vendor_of
-row_read text exists = rw (row_not_admitted text exists) (sym (option_or-none _))
-
-unknown_text-refused : (text : List ℕ) → known_vendor_of text ≡ None → is_admitted text ≡ false → vendor_of text ≡ None
-unfolding vendor_of
-unknown_text-refused text none refused = rw (none, refused) refl
+row_read text exists = rw (admitted_is text, exists) (sym (option_or-none _))
 
 formless_not_admitted : (text : List ℕ) → has_vendor_form text ≡ false → is_admitted text ≡ false
 unfolding is_admitted
@@ -64,9 +57,9 @@ known_form text (Some v) is formless =
     ∙ formless in cc)
 
 pub formless_read : (text : List ℕ) → has_vendor_form text ≡ false → vendor_of text ≡ None
+unfolding vendor_of
 formless_read text formless =
-    unknown_text-refused text (known_form text (known_vendor_of text) refl formless)
-    (formless_not_admitted text formless)
+    rw (known_form text (known_vendor_of text) refl formless, formless_not_admitted text formless) refl
 
 -- a string without a row: as a custom vendor, if it parses as no system and has the form of a vendor
 pub without_row_read : (text : List ℕ) → has_row text ≡ false

@@ -1,30 +1,74 @@
 -- The greedy placement: each part is assigned to the first remaining field that it parses as.
-use Rattle.target_lexicon.proofs.Common.{◌+◌, ◌<◌, ◌∷◌, ◌≡◌, ◌≢◌, ◌≤◌, ◌⊎◌, List, None, Option, Some, [], arith, get_or}
-use Rattle.target_lexicon.proofs.Common.{inl, inr, map, refl, subst, suc, take, true, zero, ℕ, cases_Bool}
-use Rattle.target_lexicon.proofs.Common.{option_map_or, IfSome, Field, Vendor, field_number, parses_as, field_for}
-use Rattle.target_lexicon.proofs.Common.{open_fields, HasPlacement, IsLeastPlacement, expected_after}
-use Rattle.std.proofs.lemmas.Option.{IfSome_then}
+use Rattle.target_lexicon.proofs.Common.{◌∙◌, ◌+◌, ◌<◌, ◌∷◌, ◌≡◌, ◌≢◌, ◌≤◌, ◌⊎◌, List, None, Option, Some, [], ap}
+use Rattle.target_lexicon.proofs.Common.{arith, get_or, inl, inr, length, map, refl, subst, suc, sym, take, true, zero}
+use Rattle.target_lexicon.proofs.Common.{ℕ, cases_Bool, IfSome, Field, Vendor, field_number, parses_as, field_for}
+use Rattle.target_lexicon.proofs.Common.{open_fields, with_value, HasPlacement, IsLeastPlacement, NotGiven, PlacedPart}
+use Rattle.target_lexicon.proofs.Common.{SourceValues, placed_from, expected_after, Values, unknown_values}
+use Rattle.std.proofs.{lemmas.Option.IfSome_then, lemmas.List.take-map}
 use Rattle.std.specs.{List.AllZip, List.Sorted.IsStrictlyIncreasing}
+use Rattle.target_lexicon.specs.Explanation.{FromPart, same_sources, with_source}
 use Rattle.target_lexicon.specs.Field.{Architecture, OperatingSystem, Environment, BinaryFormat}
 use Rattle.target_lexicon.specs.{Laws.HasOneLeastPlacement, Parsing.IsPlacement, Parsing.AreNotAfter}
 use Rattle.target_lexicon.specs.{GreedyReading.first_field}
 
 -- the parts parse as these fields, which strictly increase and all come after `last`
-abbrev pub IsPlacedAfter : Field → List (List ℕ) → List Field → Type 0
-IsPlacedAfter last [] [] = Unit {0}
-IsPlacedAfter last [] (f ∷ fs) = ⊥
-IsPlacedAfter last (p ∷ ps) [] = ⊥
-IsPlacedAfter last (p ∷ ps) (f ∷ fs) =
-    (field_number last < field_number f) × (parses_as f p ≡ true) × IsPlacedAfter f ps fs
+abbrev IsPlacedAfter : Field → List (List ℕ) → List Field → Type 0
+IsPlacedAfter last parts fields =
+    IsStrictlyIncreasing (map field_number (last ∷ fields)) × AllZip (λ p f. parses_as f p ≡ true) parts fields
 
--- the fields that these parts fill where this one is expected, and the parts that are left
-abbrev pub fields_from : Option Field → List (List ℕ) → List Field
-fields_from expected [] = []
-fields_from expected (p ∷ ps) = option_map_or (λ f. f ∷ fields_from (expected_after f) ps) (field_for expected p) []
+abbrev pub strings_of : List PlacedPart → List (List ℕ)
+strings_of parts = map (λ (part : PlacedPart). part.text) parts
 
-abbrev pub left_from : Option Field → List (List ℕ) → List (List ℕ)
-left_from expected [] = []
-left_from expected (p ∷ ps) = option_map_or (λ f. left_from (expected_after f) ps) (field_for expected p) (p ∷ ps)
+pub texts-placed : (start : ℕ) (ps : List (List ℕ)) → strings_of (placed_from start ps) ≡ ps
+texts-placed start [] = refl
+texts-placed start (p ∷ ps) = ap (λ qs. p ∷ qs) (texts-placed (start + length p + 1) ps)
+
+pub cases_Option : {A : Type 0} (o : Option A) → (o ≡ None) ⊎ ((x : A) × (o ≡ Some x))
+cases_Option None = inl refl
+cases_Option (Some x) = inr (x, refl)
+
+-- how far a string is read: the field that is expected, and the values and sources so far
+pub record State : Type 0 where
+  pub expected : Option Field
+  pub values : Values
+  pub sources : SourceValues
+
+abbrev pub start : State
+start = record { expected = Some Architecture; values = unknown_values; sources = same_sources NotGiven }
+
+-- after a part that fills this field
+abbrev pub after : Field → PlacedPart → State → State
+after f p a = record {
+  expected = expected_after f;
+  values = with_value f p.text a.values;
+  sources = with_source f (FromPart p) a.sources;
+}
+
+-- the reader: from this state on, the first parts fill these fields, each the first open one that it parses as, which
+-- leads to the second state and leaves the other parts
+pub data Fills : State → List Field → List PlacedPart → State → List PlacedPart → Type 0 where
+  Stop : {a : State} {ps : List PlacedPart} → Fills a [] ps a ps
+  Take : {a b : State} {f : Field} {fs : List Field} {p : PlacedPart} {ps left : List PlacedPart}
+      → field_for a.expected p.text ≡ Some f → Fills (after f p a) fs ps b left → Fills a (f ∷ fs) (p ∷ ps) b left
+
+-- no part is left, or one that fills no field
+abbrev pub IsEnd : State → List PlacedPart → Type 0
+IsEnd b [] = Unit {0}
+IsEnd b (p ∷ left) = field_for b.expected p.text ≡ None
+
+-- how parts are read as far as they fill fields
+abbrev pub Run : State → List PlacedPart → Type 0
+Run a ps = (fs : List Field) × (b : State) × (left : List PlacedPart) × Fills a fs ps b left × IsEnd b left
+
+pub run : (a : State) (ps : List PlacedPart) → Run a ps
+run a [] = ([], a, [], Stop, tt)
+run a (p ∷ ps) =
+    elim (cases_Option (field_for a.expected p.text)) [
+      | inl none ↦ ([], a, p ∷ ps, Stop, none)
+      | inr some ↦
+          let rest = run (after some.0 p a) ps in
+          (some.0 ∷ rest.0, rest.1, rest.2, Take some.1 rest.3, rest.4)
+    ]
 
 -- the fields after `last`, in order
 abbrev Follows : Field → List Field → Type 0
@@ -37,10 +81,6 @@ open-follows Vendor = (refl, (refl, (refl, refl)))
 open-follows OperatingSystem = (refl, (refl, refl))
 open-follows Environment = (refl, refl)
 open-follows BinaryFormat = refl
-
-pub cases_Option : {A : Type 0} (o : Option A) → (o ≡ None) ⊎ ((x : A) × (o ≡ Some x))
-cases_Option None = inl refl
-cases_Option (Some x) = inr (x, refl)
 
 field_number-bound : (f : Field) → field_number f ≤ 4
 field_number-bound Architecture = omega arith
@@ -55,7 +95,7 @@ field_number-injective Environment Environment e = refl
 field_number-injective BinaryFormat BinaryFormat e = refl
 field_number-injective f g e = cc
 
--- a list without its first number, and with another before it
+-- numbers without the first, with another before it, and with a lower one in its place
 increasing-tail : (n : ℕ) (ns : List ℕ) → IsStrictlyIncreasing (n ∷ ns) → IsStrictlyIncreasing ns
 increasing-tail n ns up k h =
     let next : suc k + 1 ≡ suc (k + 1) = omega arith in
@@ -67,54 +107,25 @@ increasing-cons m n ns first up (suc k) h =
     let next : suc (k + 1) ≡ suc k + 1 = omega arith in
     subst (λ i. get_or (n ∷ ns) k 0 < get_or (m ∷ (n ∷ ns)) i 0) next (up k (omega (arith, h)))
 
--- the others of a placement are placed after its first field
-placed-others : (l : Field) (ps : List (List ℕ)) (fs : List Field) → IsStrictlyIncreasing (map field_number (l ∷ fs))
-    → AllZip (λ p f. parses_as f p ≡ true) ps fs → IsPlacedAfter l ps fs
-placed-others l [] [] up parsed = tt
-placed-others l (p ∷ ps) (f ∷ fs) up parsed = (
-  up 0 (omega arith),
-  parsed.0,
-  placed-others f ps fs (increasing-tail (field_number l) (map field_number (f ∷ fs)) up) parsed.1,
-)
-placed-others l _ _ up parsed = absurd parsed
-
-placed-increasing : (l : Field) (ps : List (List ℕ)) (fs : List Field) → IsPlacedAfter l ps fs
-    → IsStrictlyIncreasing (map field_number (l ∷ fs))
-placed-increasing l [] [] w = λ k h. absurd (omega (arith, h))
-placed-increasing l (p ∷ ps) (f ∷ fs) w =
-    increasing-cons (field_number l) (field_number f) (map field_number fs) w.0 (placed-increasing f ps fs w.2)
-placed-increasing l _ _ w = absurd w
-
-placed-parsed : (l : Field) (ps : List (List ℕ)) (fs : List Field) → IsPlacedAfter l ps fs
-    → AllZip (λ p f. parses_as f p ≡ true) ps fs
-placed-parsed l [] [] w = tt
-placed-parsed l (p ∷ ps) (f ∷ fs) w = (w.1, placed-parsed f ps fs w.2)
-placed-parsed l _ _ w = absurd w
+increasing-lower : (m n : ℕ) (ns : List ℕ) → m ≤ n → IsStrictlyIncreasing (n ∷ ns) → IsStrictlyIncreasing (m ∷ ns)
+increasing-lower m n [] h up k within = absurd (omega (arith, within))
+increasing-lower m n (o ∷ ns) h up k within =
+    increasing-cons m o ns (omega (arith, h, up 0 (omega arith))) (increasing-tail n (o ∷ ns) up) k within
 
 -- a placement begins with the architecture, and the others are placed after it
 placement-first : (p : List ℕ) (ps : List (List ℕ)) (f : Field) (fs : List Field) → IsPlacement (p ∷ ps) (f ∷ fs)
-    → (f ≡ Architecture) × (parses_as f p ≡ true) × IsPlacedAfter f ps fs
-placement-first p ps f fs w = let first = w.first in (cc, w.parsed.0, placed-others f ps fs w.increasing w.parsed.1)
-
-placement-of : (p : List ℕ) (ps : List (List ℕ)) (fs : List Field) → parses_as Architecture p ≡ true
-    → IsPlacedAfter Architecture ps fs
-    → IsPlacement (p ∷ ps) (Architecture ∷ fs)
-placement-of p ps fs takes w =
-    record {
-      first = refl;
-      increasing = placed-increasing Architecture ps fs w;
-      parsed = (takes, placed-parsed Architecture ps fs w);
-    }
+    → (f ≡ Architecture) × (parses_as Architecture p ≡ true) × IsPlacedAfter Architecture ps fs
+placement-first p ps f fs w =
+    let first = w.first in
+    let is : f ≡ Architecture = cc in (
+      is,
+      subst (λ k. parses_as k p ≡ true) is w.parsed.0,
+      (subst (λ k. IsStrictlyIncreasing (map field_number (k ∷ fs))) is w.increasing, w.parsed.1),
+    )
 
 no-placement : (fs : List Field) → IsPlacement [] fs → ⊥
 no-placement [] w = let first = w.first in cc
 no-placement (f ∷ fs) w = w.parsed
-
--- a field after another that isn't the next one is after the next one
-weaken : (l k : Field) (ps : List (List ℕ)) (gs : List Field) → field_number k ≤ field_number l → IsPlacedAfter l ps gs
-    → IsPlacedAfter k ps gs
-weaken l k (p ∷ ps) (g ∷ gs) h w = (omega (arith, w.0), w.1, w.2)
-weaken l k _ _ h w = w
 
 -- the first of the fields after `last` that takes a part comes after `last`, and no later than another that takes it
 first-after : (l : Field) (fs : List Field) (p : List ℕ) → Follows l fs
@@ -143,25 +154,35 @@ pub field-after : (l : Field) (p : List ℕ) (f : Field) → field_for (expected
     → (field_number l < field_number f) × (parses_as f p ≡ true)
 field-after l p f is = rw is at (first-after l (open_fields (expected_after l)) p (open-follows l))
 
-fields-placed : (l : Field) (ps : List (List ℕ)) → left_from (expected_after l) ps ≡ []
-    → IsPlacedAfter l ps (fields_from (expected_after l) ps)
-fields-placed l [] done = tt
-fields-placed l (p ∷ ps) done =
-    elim (cases_Option (field_for (expected_after l) p)) [
-      | inl none ↦ absurd (let left = rw none at done in cc)
-      | inr some ↦ let it = field-after l p some.0 some.1 in
-          rw some.1 (it.0, it.1, fields-placed some.0 ps (rw some.1 at done))
-    ]
+-- parts that fill fields are placed, if none is left
+filled-placed : (l : Field) {a b : State} {fs : List Field} {ps : List PlacedPart} → a.expected ≡ expected_after l
+    → Fills a fs ps b [] → IsPlacedAfter l (strings_of ps) fs
+filled-placed l is Stop = (λ k h. absurd (omega (arith, h)), tt)
+filled-placed l is (Take {f = f} {fs = fs} {p = p} found w) =
+    let it = field-after l p.text f (rw is at found) in
+    let rest = filled-placed f refl w in
+    (increasing-cons (field_number l) (field_number f) (map field_number fs) it.0 rest.0, (it.1, rest.1))
 
--- a placement after `last` is no earlier than the greedy one, which then assigns every part
-fields-least : (l : Field) (ps : List (List ℕ)) (gs : List Field) → IsPlacedAfter l ps gs
-    → (left_from (expected_after l) ps ≡ []) × AreNotAfter (fields_from (expected_after l) ps) gs
-fields-least l [] [] w = (refl, tt)
-fields-least l (p ∷ ps) (g ∷ gs) w =
-    let first = first-least l (open_fields (expected_after l)) p g (open-follows l) w.0 w.1 in
-    let rest = fields-least first.0 ps gs (weaken g first.0 ps gs first.2 w.2) in
-    rw first.1 (rest.0, (first.2, rest.1))
-fields-least l _ _ w = absurd w
+-- a placement after `last` is no earlier than the fields that are filled, and then no part is left
+filled-first : (l : Field) {a b : State} {fs : List Field} {ps left : List PlacedPart} → a.expected ≡ expected_after l
+    → Fills a fs ps b left → IsEnd b left → (gs : List Field) → IsPlacedAfter l (strings_of ps) gs
+    → (left ≡ []) × AreNotAfter fs gs
+filled-first l is (Stop {ps = []}) end [] w = (refl, tt)
+filled-first l is (Stop {ps = p ∷ ps}) end (g ∷ gs) (up, (parses, parsed)) =
+    let first = first-least l (open_fields (expected_after l)) p.text g (open-follows l) (up 0 (omega arith)) parses in
+    absurd (let none = rw is at end in let some = first.1 in cc)
+filled-first l is Stop end _ w = absurd w.1
+filled-first l is (Take found v) end [] w = absurd w.1
+filled-first l is (Take {f = f} {p = p} {ps = ps} found v) end (g ∷ gs) (up, (parses, parsed)) =
+    let first = first-least l (open_fields (expected_after l)) p.text g (open-follows l) (up 0 (omega arith)) parses in
+    let some = rw is at found in
+    let also = first.1 in
+    let same : first.0 ≡ f = cc in
+    let least : field_number f ≤ field_number g = (rw same at first.2) in
+    let others = increasing-tail (field_number l) (map field_number (g ∷ gs)) up in
+    let rest = filled-first f refl v end gs
+    (increasing-lower (field_number f) (field_number g) (map field_number gs) least others, parsed) in
+    (rest.0, (least, rest.1))
 
 -- two lists of fields, neither after the other, are the same
 pub AreNotAfter-antisymmetric : (fs gs : List Field) → AreNotAfter fs gs → AreNotAfter gs fs → fs ≡ gs
@@ -172,56 +193,84 @@ AreNotAfter-antisymmetric (f ∷ fs) (g ∷ gs) a b =
     cc
 AreNotAfter-antisymmetric _ _ a b = absurd a
 
--- a prefix of a placement
-placed-prefix : (n : ℕ) (l : Field) (ps : List (List ℕ)) (gs : List Field) → IsPlacedAfter l ps gs
-    → IsPlacedAfter l (take n ps) (take n gs)
-placed-prefix zero l ps gs w = tt
-placed-prefix (suc n) l (p ∷ ps) (g ∷ gs) w = (w.0, w.1, placed-prefix n g ps gs w.2)
-placed-prefix (suc n) l [] [] w = tt
-placed-prefix (suc n) l _ _ w = absurd w
+-- where the architecture is expected, a part fills no other field
+pub first-is : (p : List ℕ) (f : Field) → field_for (Some Architecture) p ≡ Some f
+    → (f ≡ Architecture) × (parses_as Architecture p ≡ true)
+first-is p f found =
+    elim (cases_Bool (parses_as Architecture p)) [
+      | inl takes ↦ let is : Some Architecture ≡ Some f = (rw takes at found) in (cc, takes)
+      | inr skips ↦ absurd (let none = rw skips at found in cc)
+    ]
 
-pub placement_prefix : (n : ℕ) (ps : List (List ℕ)) → HasPlacement ps → HasPlacement (take (suc n) ps)
-placement_prefix n [] (fs, w) = absurd (no-placement fs w)
-placement_prefix n (p ∷ ps) ([], w) = absurd w.parsed
-placement_prefix n (p ∷ ps) (f ∷ fs, w) =
-    let v = placement-first p ps f fs w in
-    let takes : parses_as Architecture p ≡ true = subst (λ k. parses_as k p ≡ true) v.0 v.1 in
-    let from : IsPlacedAfter Architecture ps fs = subst (λ k. IsPlacedAfter k ps fs) v.0 v.2 in
-    (Architecture ∷ take n fs, placement-of p (take n ps) (take n fs) takes (placed-prefix n Architecture ps fs from))
+-- from the start, no placement is earlier than the fields that are filled, and then no part is left
+pub start-first : {b : State} {fs : List Field} {ps left : List PlacedPart} → Fills start fs ps b left → IsEnd b left
+    → (gs : List Field) → IsPlacement (strings_of ps) gs → (left ≡ []) × AreNotAfter fs gs
+start-first (Stop {ps = []}) end gs w = absurd (no-placement gs w)
+start-first (Stop {ps = p ∷ ps}) end [] w = absurd w.parsed
+start-first (Stop {ps = p ∷ ps}) end (g ∷ gs) w =
+    let takes = (placement-first p.text (strings_of ps) g gs w).1 in
+    absurd (let none = rw takes at end in cc)
+start-first (Take found v) end [] w = absurd w.parsed
+start-first (Take {f = f} {p = p} {ps = ps} found v) end (g ∷ gs) w =
+    let is = first-is p.text f found in
+    let others = (placement-first p.text (strings_of ps) g gs w).2 in
+    let rest = filled-first Architecture (ap expected_after is.0) v end gs others in
+    (rest.0, (omega (arith, ap field_number is.0), rest.1))
 
--- the greedy placement of parts that begin with an architecture, if no part is left
-pub greedy-least : (p : List ℕ) (ps : List (List ℕ)) → parses_as Architecture p ≡ true → left_from (Some Vendor) ps ≡ []
-    → IsLeastPlacement (p ∷ ps) (Architecture ∷ fields_from (Some Vendor) ps)
-greedy-least p ps takes done =
-    record { placed = placement-of p ps _ takes (fields-placed Architecture ps done); least = least_of }
-  where
-    least_of : (others : List Field) → IsPlacement (p ∷ ps) others
-        → AreNotAfter (Architecture ∷ fields_from (Some Vendor) ps) others
-    least_of [] w = absurd w.parsed
-    least_of (g ∷ gs) w = let v = placement-first p ps g gs w in
-        (omega arith, (fields-least Architecture ps gs (subst (λ k. IsPlacedAfter k ps gs) v.0 v.2)).1)
-
--- parts with a placement have the greedy one
-pub greedy-finds : (p : List ℕ) (ps : List (List ℕ)) → HasPlacement (p ∷ ps) → (parses_as Architecture p ≡ true)
-    × (left_from (Some Vendor) ps ≡ [])
-greedy-finds p ps ([], w) = absurd w.parsed
-greedy-finds p ps (g ∷ gs, w) =
-    let v = placement-first p ps g gs w in (
-      subst (λ k. parses_as k p ≡ true) v.0 v.1,
-      (fields-least Architecture ps gs (subst (λ k. IsPlacedAfter k ps gs) v.0 v.2)).0,
-    )
+-- all parts of a string that fill fields are their least placement
+pub filled-least : {b : State} {fs : List Field} {ps : List PlacedPart} → ps ≢ [] → Fills start fs ps b []
+    → IsLeastPlacement (strings_of ps) fs
+filled-least some Stop = absurd (some refl)
+filled-least some (Take {f = f} {fs = fs} {p = p} {ps = ps} found v) =
+    let is = first-is p.text f found in
+    let placed = filled-placed Architecture (ap expected_after is.0) v in
+    record {
+      placed = rw is.0 (record { first = refl; increasing = placed.0; parsed = (is.1, placed.1) });
+      least = λ gs other. (start-first (Take found v) tt gs other).1;
+    }
 
 pub least-unique : (ps : List (List ℕ)) (fs gs : List Field) → IsLeastPlacement ps fs → IsLeastPlacement ps gs → fs ≡ gs
 least-unique ps fs gs a b = AreNotAfter-antisymmetric fs gs (a.least gs b.placed) (b.least fs a.placed)
+
+-- the parts of a placement fill fields
+placed-filled : (ps : List PlacedPart) → HasPlacement (strings_of ps)
+    → (fs : List Field) × (b : State) × Fills start fs ps b []
+placed-filled ps (gs, w) =
+    let it = run start ps in
+    (it.0, it.1, subst (λ left. Fills start it.0 ps it.1 left) (start-first it.3 it.4 gs w).0 it.3)
+
+pub least-filled : (ps : List PlacedPart) (fs : List Field) → ps ≢ [] → IsLeastPlacement (strings_of ps) fs
+    → (b : State) × Fills start fs ps b []
+least-filled ps fs some least =
+    let found = placed-filled ps (fs, least.placed) in
+    let same = least-unique (strings_of ps) found.0 fs (filled-least some found.2) least in
+    (found.1, subst (λ gs. Fills start gs ps found.1 []) same found.2)
+
+-- the first of these parts
+pub filled-take : (n : ℕ) {a b : State} {fs : List Field} {ps : List PlacedPart} → Fills a fs ps b []
+    → (c : State) × Fills a (take n fs) (take n ps) c []
+filled-take zero {a = a} w = (a, Stop)
+filled-take (suc n) {a = a} Stop = (a, Stop)
+filled-take (suc n) (Take found w) = let rest = filled-take n w in (rest.0, Take found rest.1)
+
+-- the first parts, as strings
+pub first-strings : (n : ℕ) (ps : List PlacedPart) → take n (strings_of ps) ≡ strings_of (take n ps)
+first-strings n ps = take-map (λ (p : PlacedPart). p.text) n ps
+
+-- a prefix of a placement
+pub placement_prefix : (n : ℕ) (ps : List (List ℕ)) → HasPlacement ps → HasPlacement (take (suc n) ps)
+placement_prefix n [] (fs, w) = absurd (no-placement fs w)
+placement_prefix n (p ∷ ps) some =
+    let same = texts-placed 0 (p ∷ ps) in
+    let found = placed-filled (placed_from 0 (p ∷ ps)) (subst HasPlacement (sym same) some) in
+    subst HasPlacement (sym (first-strings (suc n) (placed_from 0 (p ∷ ps))) ∙ ap (take (suc n)) same)
+    (take (suc n) found.0, (filled-least (λ is. cc) (filled-take (suc n) found.2).1).placed)
 
 -- if there is a placement, there is a least one
 pub placement_least : (ps : List (List ℕ)) → HasPlacement ps → HasOneLeastPlacement ps
 placement_least [] (fs, w) = absurd (no-placement fs w)
 placement_least (p ∷ ps) some =
-    let found = greedy-finds p ps some in
-    let least = greedy-least p ps found.0 found.1 in
-    record {
-      fields = Architecture ∷ fields_from (Some Vendor) ps;
-      least = least;
-      only = λ others h. least-unique _ _ _ h least;
-    }
+    let same = texts-placed 0 (p ∷ ps) in
+    let found = placed-filled (placed_from 0 (p ∷ ps)) (subst HasPlacement (sym same) some) in
+    let least = subst (λ texts. IsLeastPlacement texts found.0) same (filled-least (λ is. cc) found.2) in
+    record { fields = found.0; least = least; only = λ others h. least-unique _ _ _ h least }

@@ -1,43 +1,41 @@
 -- Printed strings are at most so much longer than the string that was parsed, and the canonical form makes no string
 -- longer.
 use Rattle.target_lexicon.proofs.Common
-use Common.{◌&&◌, ◌+◌, ◌<◌, ◌^◌, ◌||◌, ◌∙◌, ◌∷◌, ◌≡◌, ◌≢◌, ◌≤◌, Bool, List, None, Option, Some, [], ap, arith, false}
-use Common.{inl, inr, is_some, length, nat_le, not, refl, subst, suc, sym, true, true≢false, zero, ℕ, and-false}
-use Common.{and_parts, not-true, length-append, join_with_byte, MatchOption, slice_get, unwrap_or, architecture_name}
+use Common.{HasSystemOf, inl, inr, ◌&&◌, ◌+◌, ◌<◌, ◌^◌, ◌||◌, ◌∙◌, ◌∷◌, ◌≡◌, ◌≢◌, ◌≤◌, Bool, List, None, Option, Some}
+use Common.{[], ap, arith, false, length, nat_le, not, refl, subst, suc, sym, true, true≢false, zero, ℕ, and-false}
+use Common.{and_parts, not-true, length-append, join_with_byte, slice_get, unwrap_or, architecture_name}
 use Common.{architecture_of, omits_system, binary_format_name, binary_format_of, environment_name, environment_of, dash}
 use Common.{operating_system_name, operating_system_of, vendor_name, vendor_of, Unknown, HasFieldsOf, HasSpecialFields}
-use Common.{HasSystemOf, HidesNewlib, PrintsTheEspIdfString, ShowsOnlyNone, Field, field_number, parses_as, field_for}
-use Common.{open_fields, default_binary_format, implied_format, elf_if_unknown, normal_step, step_of, ArePartsOf}
-use Common.{HoldsParts, IsLeastPlacement, IsValueOf, PartsParseAs, expected_after, part_at, cons_if, shown_names}
-use Common.{shows_binary_format, shows_environment, shows_operating_system, shows_unknowns, shows_vendor, string_of}
-use Common.{SpecialRow, implies_newlib, special_string, special_triple, special_values, Architecture, BinaryFormat}
-use Common.{Environment, Known, OperatingSystem, Values, VendorValue, omits_unknown_system, is_same_format}
-use Common.{is_unknown_vendor, values}
+use Common.{HidesNewlib, PrintsTheEspIdfString, ShowsOnlyNone, Field, field_number, parses_as, field_for, open_fields}
+use Common.{default_binary_format, implied_format, elf_if_unknown, normal_step, step_of, PlacedPart, placed_from}
+use Common.{HoldsParts, IsLeastPlacement, IsValueOf, expected_after, part_at, cons_if, shown_names, shows_binary_format}
+use Common.{shows_environment, shows_operating_system, shows_unknowns, shows_vendor, string_of, SpecialRow}
+use Common.{implies_newlib, special_string, special_triple, Architecture, BinaryFormat, Environment, Known}
+use Common.{OperatingSystem, Values, VendorValue, omits_unknown_system, is_same_format, is_unknown_vendor, values}
 use Rattle.std.proofs.{lemmas.Bool.leb-true, Math.Bool.or-true}
 use Rattle.target_lexicon.specs.{ImpliedFormat.wasm_or_elf, FixedPoints.PrintedStringsGrowAtMost}
 use Rattle.target_lexicon.specs.{FixedPoints.CanonicalStringsGrowAtMost, FixedPoints.RefusedPartsDoNotGrow}
 use Rattle.target_lexicon.specs.{Printing.architecture_implies_format, Printing.environment_implies_format}
 use Rattle.target_lexicon.specs.{Printing.is_none_or_unknown, Printing.shows_implied_format, Printing.text_with}
-use Rattle.target_lexicon.proofs.GreedyPlacement.{cases_Option, fields_from, first-least, greedy-finds, greedy-least}
-use Rattle.target_lexicon.proofs.GreedyPlacement.{least-unique, left_from, open-follows}
-use Rattle.target_lexicon.proofs.SpecialRows.{RowFacts, row_of_fields, row_of_system, row_of_text, fields_of_special}
-use Rattle.target_lexicon.proofs.SpecialRows.{prints_row}
+use Rattle.target_lexicon.proofs.GreedyPlacement.{cases_Option, Fills, State, Stop, Take, after, first-is, first-least}
+use Rattle.target_lexicon.proofs.GreedyPlacement.{least-filled, open-follows, start, strings_of, texts-placed}
+use Rattle.target_lexicon.proofs.SpecialRows.{RowFacts, row_of_fields, row_of_system, prints_row, string_cases}
 use Rattle.target_lexicon.proofs.PrintingLemmas.{names_after_system, printed_names}
-use Rattle.target_lexicon.proofs.{NamesAcross.environment_of-format, ReadParts.absent}
-use Rattle.target_lexicon.proofs.{RoundTrips.is_same_format-is, RoundTrips.without_system, StepCases.step_cases}
-use Rattle.target_lexicon.proofs.{StepCases.alone-shows, SpecialRows.no_special, SpecialRows.special_system}
+use Rattle.target_lexicon.proofs.{NamesAcross.environment_of-format, RoundTrips.is_same_format-is}
+use Rattle.target_lexicon.proofs.{RoundTrips.without_system, StepCases.step_cases, StepCases.alone-shows}
+use Rattle.target_lexicon.proofs.{ReadValues.read-holds}
+use Rattle.target_lexicon.proofs.ReadParts.{absent, absent-none}
 use Rattle.lexicon_fields.specs.Laws.{TextsAreNames, NamesGrowAtMost, NamesAreShort, max_name_length}
 use Rattle.lexicon_fields.specs.{Architecture.architecture_texts, Vendor.known_vendor_name}
 use Rattle.lexicon_fields.proofs.LookUpLemmas.{value_named-all}
 use Rattle.target_lexicon.specs.declared.exception.RoundTripException.TheVariants as exceptions
-use Rattle.target_lexicon.specs.Values.architecture
 use Rattle.target_lexicon.specs.Values.operating_system
 use Rattle.target_lexicon.specs.Values.environment
 use Rattle.target_lexicon.specs.Values.binary_format
 use Rattle.target_lexicon.specs.Field as field
 
 -- the number of bytes of the parts, each with a dash
-abbrev weight : List (List ℕ) → ℕ
+abbrev pub weight : List (List ℕ) → ℕ
 weight [] = 0
 weight (part ∷ parts) = suc (length part) + weight parts
 
@@ -47,14 +45,15 @@ weight-joined part [] = omega arith
 weight-joined part (next ∷ parts) =
     omega (arith, weight-joined next parts, length-append part (dash ∷ join_with_byte dash (next ∷ parts)))
 
-weight-cons_if : (b : Bool) (part : List ℕ) (parts : List (List ℕ))
+pub weight-cons_if : (b : Bool) (part : List ℕ) (parts : List (List ℕ))
     → weight (cons_if b part parts) ≤ suc (length part) + weight parts
 weight-cons_if true part parts = omega arith
 weight-cons_if false part parts = omega arith
 
-weight-hidden : (b : Bool) (part : List ℕ) (parts : List (List ℕ))
-    → weight (cons_if (b && false) part parts) ≡ weight parts
-weight-hidden b part parts = rw and-false refl
+pub weight-split : (b : Bool) (part : List ℕ) (parts : List (List ℕ))
+    → weight (cons_if b part parts) ≡ weight (cons_if b part []) + weight parts
+weight-split true part parts = omega arith
+weight-split false part parts = omega arith
 
 weight-parts : (t : Values) (b : Bool) → weight (shown_names b t)
     ≤ suc (length (architecture_name t.architecture))
@@ -71,7 +70,8 @@ weight-parts t b =
           (names_after_system b t),
     )
 
-weight-shown : (t : Values) (b : Bool) → weight (shown_names b t) ≡ suc (length (join_with_byte dash (shown_names b t)))
+pub weight-shown : (t : Values) (b : Bool)
+    → weight (shown_names b t) ≡ suc (length (join_with_byte dash (shown_names b t)))
 unfolding shown_names
 weight-shown t b = weight-joined _ _
 
@@ -87,20 +87,16 @@ sizes_at parts fields =
     + (size_of (part_at field.Environment parts fields) + size_of (part_at field.BinaryFormat parts fields))))
 
 -- each part is that of a field
-weight-next : (p : List ℕ) (ps : List (List ℕ)) (f : Field)
-    → weight ps ≡ sizes_at ps (fields_from (expected_after f) ps)
-    → weight (p ∷ ps) ≡ sizes_at (p ∷ ps) (f ∷ fields_from (expected_after f) ps)
-weight-next p ps field.Vendor is = omega (arith, is, ap size_of (absent field.Vendor ps ps))
-weight-next p ps f is = omega (arith, is, ap size_of (absent f ps ps))
+weight-next : (p : List ℕ) (ps : List (List ℕ)) (f : Field) (fs : List Field) → part_at f ps fs ≡ None
+    → weight ps ≡ sizes_at ps fs → weight (p ∷ ps) ≡ sizes_at (p ∷ ps) (f ∷ fs)
+weight-next p ps field.Vendor fs none is = omega (arith, is, ap size_of none)
+weight-next p ps f fs none is = omega (arith, is, ap size_of none)
 
-weight-fields : (l : Field) (ps : List (List ℕ)) → left_from (expected_after l) ps ≡ []
-    → weight ps ≡ sizes_at ps (fields_from (expected_after l) ps)
-weight-fields l [] done = omega arith
-weight-fields l (p ∷ ps) done =
-    elim (cases_Option (field_for (expected_after l) p)) [
-      | inl none ↦ absurd (let left = rw none at done in cc)
-      | inr some ↦ rw some.1 (weight-next p ps some.0 (weight-fields some.0 ps (rw some.1 at done)))
-    ]
+weight-filled : {a b : State} {fs : List Field} {ps : List PlacedPart} → Fills a fs ps b []
+    → weight (strings_of ps) ≡ sizes_at (strings_of ps) fs
+weight-filled Stop = omega arith
+weight-filled (Take {f = f} {fs = fs} {p = p} {ps = ps} found w) =
+    weight-next p.text (strings_of ps) f fs (absent f f (strings_of ps) refl (omega arith) w) (weight-filled w)
 
 -- the name of a field's value, which grows at most so
 value-growth : {A : Type 0} (name : A → List ℕ) (find : List ℕ → Option A) (unfilled : A) (bytes : ℕ) (growth : A → ℕ)
@@ -172,16 +168,10 @@ weight-row t b row is facts = omega (arith, facts.short, weight-shown t b, at_le
 
 special-short : (t : Values) (b : Bool) (n : ℕ) → length (join_with_byte dash (shown_names b t)) ≤ n
     → length (unwrap_or (special_string t) (join_with_byte dash (shown_names b t))) ≤ n
-special-short t b n short = by_special (special_string t) refl
-  where
-    by_special : (special : Option (List ℕ)) → special_string t ≡ special
-        → length (unwrap_or special (join_with_byte dash (shown_names b t))) ≤ n
-    by_special None is = short
-    by_special (Some text) is =
-        let at = row_of_fields t (fields_of_special t (ap is_some is)) in
-        let of : special_string t ≡ Some at.0.text = prints_row t at.0 at.1 at.2 in
-        let same : text ≡ at.0.text = cc in
-        rw same (omega (arith, short, weight-row t b at.0 at.1 at.2))
+special-short t b n short = elim (string_cases t) [
+  | inl none ↦ rw none short
+  | inr at ↦ rw (prints_row t at.0 at.1 at.2) (omega (arith, short, weight-row t b at.0 at.1 at.2))
+]
 
 unknown-environment : parses_as field.Environment (binary_format_name binary_format.Unknown) ≡ true
 unfolding parses_as
@@ -204,14 +194,12 @@ unknown-next l p ps field.BinaryFormat fs near found later last none =
 unknown-next l p ps field.Environment fs near found later last none = cc
 unknown-next l p ps f fs near found later last none = later (omega arith) last none
 
-unknown-last : (l : Field) (ps : List (List ℕ)) → field_number l < 3
-    → HasUnknownLast ps (fields_from (expected_after l) ps)
-unknown-last l [] near = λ last none. cc
-unknown-last l (p ∷ ps) near =
-    elim (cases_Option (field_for (expected_after l) p)) [
-      | inl left ↦ rw left (λ last none. cc)
-      | inr some ↦ rw some.1 (unknown-next l p ps some.0 _ near some.1 (unknown-last some.0 ps))
-    ]
+unknown-last : (l : Field) {a b : State} {fs : List Field} {ps left : List PlacedPart} → a.expected ≡ expected_after l
+    → field_number l < 3 → Fills a fs ps b left → HasUnknownLast (strings_of ps) fs
+unknown-last l is near (Stop {ps = ps}) =
+    λ last none. let other = absent-none field.BinaryFormat (strings_of ps) in cc
+unknown-last l is near (Take {f = f} {fs = fs} {p = p} {ps = ps} found w) =
+    unknown-next l p.text (strings_of ps) f fs near (rw is at found) (λ later. unknown-last f refl later w)
 
 module _ (formats : TextsAreNames binary_format_name binary_format_of)
     (environments : TextsAreNames environment_name environment_of)
@@ -307,11 +295,12 @@ module _ (formats : TextsAreNames binary_format_name binary_format_of)
   abbrev GrowsAtMost : List ℕ → Values → Type 0
   GrowsAtMost text t = length (string_of t) ≤ length text + 22
 
-  by_fields : (p : List ℕ) (ps : List (List ℕ)) (t : Values) → left_from (Some field.Vendor) ps ≡ []
-      → HoldsParts (p ∷ ps) (field.Architecture ∷ fields_from (Some field.Vendor) ps) t
-      → GrowsAtMost (join_with_byte dash (p ∷ ps)) t
+  by_fields : (p : PlacedPart) (ps : List PlacedPart) (fs : List Field) (b : State) (t : Values)
+      → Fills (after field.Architecture p start) fs ps b []
+      → HoldsParts (strings_of (p ∷ ps)) (field.Architecture ∷ fs) t
+      → GrowsAtMost (join_with_byte dash (strings_of (p ∷ ps))) t
   unfolding string_of
-  by_fields p ps t done holds =
+  by_fields p ps fs b t filled holds =
       special-short t (shows_unknowns t) _ (omega (
         arith,
         value-growth vendor_name vendor_of (Known Unknown) 0 (λ _. 8)
@@ -320,38 +309,40 @@ module _ (formats : TextsAreNames binary_format_name binary_format_of)
             holds.vendor,
         value-growth operating_system_name operating_system_of operating_system.Unknown 4 system_growth systems
             (λ s. (system_growth-within s).0) (omega arith) _ t.operating_system holds.operating_system,
-        after_system-growth formats environments architectures p t _ _ (shows_unknowns t) refl holds.architecture
-            holds.environment holds.binary_format (unknown-last field.Architecture ps (omega arith)),
+        after_system-growth formats environments architectures p.text t _ _ (shows_unknowns t) refl holds.architecture
+            holds.environment holds.binary_format (unknown-last field.Architecture refl (omega arith) filled),
         weight-parts t (shows_unknowns t),
         weight-shown t (shows_unknowns t),
-        weight-joined p ps,
-        weight-next p ps field.Architecture (weight-fields field.Architecture ps done),
+        weight-joined p.text (strings_of ps),
+        weight-next p.text (strings_of ps) field.Architecture fs
+            (absent field.Architecture field.Architecture (strings_of ps) refl (omega arith) filled)
+            (weight-filled filled),
       ))
 
-  by_placement : (parts : List (List ℕ)) (fs : List Field) (t : Values) → parts ≢ [] → IsLeastPlacement parts fs
-      → HoldsParts parts fs t → GrowsAtMost (join_with_byte dash parts) t
-  by_placement [] fs t some least holds = absurd (some refl)
-  by_placement (p ∷ ps) fs t some least holds =
-      let found = greedy-finds p ps (fs, least.placed) in
-      let same = least-unique (p ∷ ps) fs _ least (greedy-least p ps found.0 found.1) in
-      by_fields p ps t found.1 (subst (λ gs. HoldsParts (p ∷ ps) gs t) same holds)
+  by_filled : (ps : List PlacedPart) (fs : List Field) (b : State) (t : Values) → ps ≢ [] → Fills start fs ps b []
+      → HoldsParts (strings_of ps) fs t → GrowsAtMost (join_with_byte dash (strings_of ps)) t
+  by_filled ps fs b t some (Stop) holds = absurd (some refl)
+  by_filled ps fs b t some (Take {f = f} {fs = gs} {p = p} {ps = qs} found w) holds =
+      let is = (first-is p.text f found).0 in
+      by_fields p qs gs b t (subst (λ g. Fills (after g p start) gs qs b []) is w)
+      (subst (λ g. HoldsParts (strings_of (p ∷ qs)) (g ∷ gs) t) is holds)
 
   row-grows : (row : SpecialRow) → RowFacts row → GrowsAtMost row.text (special_triple row)
   unfolding string_of
   row-grows row facts = rw (facts.prints environment.Newlib binary_format.Elf) (omega arith)
 
-  by_special : (text : List ℕ) (t : Values) (o : Option Values) → special_values text ≡ o
-      → MatchOption o ((parts : List (List ℕ)) × ArePartsOf text parts × PartsParseAs parts t) (λ values. t ≡ values)
-      → GrowsAtMost text t
-  by_special text t None is (parts, are, (fs, least, holds)) =
-      subst (λ (x : List ℕ). GrowsAtMost x t) are.joined (by_placement parts fs t are.some least holds)
-  by_special text t (Some u) is same =
-      let at = row_of_text text u is in
-      subst (GrowsAtMost text) (sym (same ∙ at.2))
-      (subst (λ (x : List ℕ). GrowsAtMost x (special_triple at.0)) (sym at.1) (row-grows at.0 at.3))
+  by_placement : (parts : List (List ℕ)) (fs : List Field) (t : Values) → parts ≢ [] → IsLeastPlacement parts fs
+      → HoldsParts parts fs t → GrowsAtMost (join_with_byte dash parts) t
+  by_placement parts fs t some least holds =
+      let same = texts-placed 0 parts in
+      let placed = placed_from 0 parts in
+      let more : placed ≢ [] = λ none. some (sym same ∙ ap strings_of none) in
+      let filled = least-filled placed fs more (subst (λ ps. IsLeastPlacement ps fs) (sym same) least) in
+      subst (λ ps. GrowsAtMost (join_with_byte dash ps) t) same
+      (by_filled placed fs filled.0 t more filled.1 (subst (λ ps. HoldsParts ps fs t) (sym same) holds))
 
   pub printed_max_growth : PrintedStringsGrowAtMost
-  printed_max_growth text t reads = by_special text t (special_values text) refl reads
+  printed_max_growth = read-holds GrowsAtMost row-grows by_placement
 
 -- a refused part is a part of the string
 
@@ -375,26 +366,22 @@ DoesNotGrow u t = length (string_of u) ≤ length (string_of t)
 by_weight : (u t : Values) → special_string u ≡ special_string t → weight (printed_names u) ≤ weight (printed_names t)
     → DoesNotGrow u t
 unfolding string_of
-by_weight u t special lighter = rw special (by_option (special_string t))
-  where
-    by_option : (o : Option (List ℕ)) → length (unwrap_or o (join_with_byte dash (printed_names u)))
-        ≤ length (unwrap_or o (join_with_byte dash (printed_names t)))
-    by_option (Some text) = omega arith
-    by_option None = omega (arith, weight-shown u (shows_unknowns u), weight-shown t (shows_unknowns t))
-
-row-does_not_grow : (t : Values) (row : SpecialRow) → HasFieldsOf row t → RowFacts row
-    → DoesNotGrow (step_of (Some exceptions.PrintsAsSpecial) t) t
-unfolding string_of
-row-does_not_grow t row is facts =
-    let u = step_of (Some exceptions.PrintsAsSpecial) t in
-    let of_u : HasFieldsOf row u = record {
-      architecture = is.architecture;
-      system = record { vendor = is.system.vendor; operating_system = is.system.operating_system };
-    } in
-    rw (prints_row u row of_u facts, prints_row t row is facts) (omega arith)
+by_weight u t special lighter = elim (cases_Option (special_string t)) [
+  | inl none ↦
+      rw (special, none) (omega (arith, weight-shown u (shows_unknowns u), weight-shown t (shows_unknowns t), lighter))
+  | inr some ↦ rw (special, some.1) (omega arith)
+]
 
 special-does_not_grow : (t : Values) → HasSpecialFields t → DoesNotGrow (step_of (Some exceptions.PrintsAsSpecial) t) t
-special-does_not_grow t has = let at = row_of_fields t has in row-does_not_grow t at.0 at.1 at.2
+unfolding string_of
+special-does_not_grow t has =
+    let at = row_of_fields t has in
+    let u = step_of (Some exceptions.PrintsAsSpecial) t in
+    let of_u : HasFieldsOf at.0 u = record {
+      architecture = at.1.architecture;
+      system = record { vendor = at.1.system.vendor; operating_system = at.1.system.operating_system };
+    } in
+    rw (prints_row u at.0 of_u at.2, prints_row t at.0 at.1 at.2) (omega arith)
 
 esp-does_not_grow : (t : Values) → PrintsTheEspIdfString t
     → DoesNotGrow (step_of (Some exceptions.PrintsTheEspIdfString) t) t
@@ -402,49 +389,46 @@ unfolding string_of shown_names shows_vendor shows_operating_system shows_enviro
     special_string implies_newlib
 esp-does_not_grow t is = rw is (omega arith)
 
+-- the names of a triple with the vendor and the system of a row, if the environment isn't shown
+row-names : (a : Architecture) (row : SpecialRow) (e : Environment) (f : BinaryFormat) → RowFacts row
+    → shows_environment (values a (Known row.vendor) row.operating_system e f) ≡ false
+    → shown_names false (values a (Known row.vendor) row.operating_system e f)
+    ≡ architecture_name a ∷ known_vendor_name row.vendor ∷ operating_system_name row.operating_system
+    ∷ cons_if (not (is_same_format f binary_format.Elf) || false) (binary_format_name f) []
+unfolding shown_names shows_vendor shows_operating_system shows_binary_format
+row-names a row e f facts hidden =
+    rw (
+      facts.vendor,
+      hidden,
+      facts.implied a e,
+      facts.operating_system,
+      system_shown a row.operating_system facts.operating_system,
+      and-false (not (architecture_implies_format a)),
+    ) refl
+
 row-lighter : (a : Architecture) (row : SpecialRow) → RowFacts row → (f : BinaryFormat)
     → weight (printed_names (values a (Known row.vendor) row.operating_system environment.Unknown (elf_if_unknown f)))
     ≤ weight (printed_names (values a (Known row.vendor) row.operating_system environment.Newlib f))
-unfolding shown_names shows_vendor shows_operating_system shows_environment shows_binary_format
+unfolding shows_environment
 row-lighter a row facts binary_format.Unknown =
     rw (
-      facts.vendor,
-      facts.newlib,
-      facts.implied a environment.Unknown,
-      facts.implied a environment.Newlib,
-      facts.operating_system,
-      system_shown a row.operating_system facts.operating_system,
-      and-false (not (architecture_implies_format a)),
+      row-names a row environment.Unknown binary_format.Elf facts refl,
+      row-names a row environment.Newlib binary_format.Unknown facts (rw facts.newlib refl),
     ) (omega arith)
-row-lighter a row facts binary_format.Elf =
+row-lighter a row facts f =
     rw (
-      facts.vendor,
-      facts.newlib,
-      facts.implied a environment.Unknown,
-      facts.implied a environment.Newlib,
-      facts.operating_system,
-      system_shown a row.operating_system facts.operating_system,
-      and-false (not (architecture_implies_format a)),
-    ) (omega arith)
-row-lighter a row facts _ =
-    rw (
-      facts.vendor,
-      facts.newlib,
-      facts.implied a environment.Unknown,
-      facts.implied a environment.Newlib,
-      system_shown a row.operating_system facts.operating_system,
+      row-names a row environment.Unknown f facts refl,
+      row-names a row environment.Newlib f facts (rw facts.newlib refl),
     ) (omega arith)
 
-lighter-by : (t : Values) (f : BinaryFormat) (row : SpecialRow) → HasSystemOf row t → RowFacts row → t.binary_format ≡ f
-    → t.environment ≡ environment.Newlib
+lighter-by : (t : Values) (row : SpecialRow) → HasSystemOf row t → RowFacts row → t.environment ≡ environment.Newlib
     → weight (printed_names (step_of (Some exceptions.HidesNewlib) t)) ≤ weight (printed_names t)
-lighter-by t f row is facts format newlib =
-    rw (format, newlib, is.vendor, is.operating_system) (row-lighter t.architecture row facts f)
+lighter-by t row is facts newlib =
+    rw (newlib, is.vendor, is.operating_system) (row-lighter t.architecture row facts t.binary_format)
 
-newlib-lighter : (t : Values) (f : BinaryFormat) → t.binary_format ≡ f → HidesNewlib t
+newlib-lighter : (t : Values) → HidesNewlib t
     → weight (printed_names (step_of (Some exceptions.HidesNewlib) t)) ≤ weight (printed_names t)
-newlib-lighter t f format is =
-    let at = row_of_system t is.system in lighter-by t f at.0 at.1 at.2 format is.environment
+newlib-lighter t is = let at = row_of_system t is.system in lighter-by t at.0 at.1 at.2 is.environment
 
 -- on an architecture that omits an unknown system
 alone-lighter : (a : Architecture) (v : VendorValue) (f : BinaryFormat) → omits_system a ≡ true
@@ -471,29 +455,24 @@ alone-lighter a v f omits =
     ))
 
 no_string : (t : Values) → is_none_or_unknown t.operating_system ≡ true → special_string t ≡ None
-no_string t without = by_option (special_string t)
-    (no_special t (λ special. true≢false (sym without ∙ special_system t special)))
-  where
-    by_option : (o : Option (List ℕ)) → is_some o ≡ false → o ≡ None
-    by_option None is = refl
-    by_option (Some text) is = absurd (true≢false is)
-
-alone-does_not_grow : (a : Architecture) (v : VendorValue) (f : BinaryFormat) → omits_system a ≡ true
-    → DoesNotGrow (values a v operating_system.None_ environment.Unknown f)
-    (values a v operating_system.Unknown environment.None f)
-alone-does_not_grow a v f omits =
-    by_weight _ _ (no_string _ refl ∙ sym (no_string _ refl)) (alone-lighter a v f omits)
+no_string t without = elim (string_cases t) [
+  | inl none ↦ none
+  | inr at ↦
+      let known : is_none_or_unknown t.operating_system ≡ false = (rw (at.1.system.operating_system)
+      at.2.operating_system) in absurd (true≢false (sym without ∙ known))
+]
 
 none-does_not_grow : (t : Values) → ShowsOnlyNone t → DoesNotGrow (step_of (Some exceptions.ShowsOnlyNone) t) t
 none-does_not_grow t is =
     rw (is.operating_system, is.environment)
-    (alone-does_not_grow t.architecture t.vendor t.binary_format is.architecture)
+    (by_weight _ _ (no_string _ refl ∙ sym (no_string _ refl))
+    (alone-lighter t.architecture t.vendor t.binary_format is.architecture))
 
 step-does_not_grow : (t : Values) → DoesNotGrow (normal_step t) t
 unfolding special_string
 step-does_not_grow t = step_cases (λ u. DoesNotGrow u t) t
     (λ is. special-does_not_grow t is.fields)
-    (λ is. by_weight (step_of (Some exceptions.HidesNewlib) t) t refl (newlib-lighter t t.binary_format refl is))
+    (λ is. by_weight (step_of (Some exceptions.HidesNewlib) t) t refl (newlib-lighter t is))
     (esp-does_not_grow t)
     (none-does_not_grow t) (λ _. omega arith)
 
@@ -505,7 +484,10 @@ canonical_max_growth printed text t reads =
 pub text_with-short : (b : Bool) (t : Values) → NamesAreShort architecture_name → NamesAreShort environment_name
     → NamesAreShort binary_format_name → length (operating_system_name t.operating_system) ≤ max_name_length
     → (special_string t ≡ None → length (vendor_name t.vendor) < 2 ^ 63) → length (text_with b t) < 2 ^ 64
-text_with-short b t architecture environment binary_format system vendor = by_special (special_string t) refl
+text_with-short b t architecture environment binary_format system vendor = elim (string_cases t) [
+  | inl none ↦ rw none (omega (arith, names-short, vendor none))
+  | inr at ↦ rw (prints_row t at.0 at.1 at.2) (omega (arith, at.2.bound))
+]
   where
     names : List ℕ
     names = join_with_byte dash (shown_names b t)
@@ -523,11 +505,3 @@ text_with-short b t architecture environment binary_format system vendor = by_sp
       binary_format t.binary_format,
       system,
     )
-
-    by_special : (special : Option (List ℕ)) → special_string t ≡ special → length (unwrap_or special names) < 2 ^ 64
-    by_special None is = omega (arith, names-short, vendor is)
-    by_special (Some text) is =
-        let at = row_of_fields t (fields_of_special t (ap is_some is)) in
-        let of : special_string t ≡ Some at.0.text = prints_row t at.0 at.1 at.2 in
-        let same : text ≡ at.0.text = cc in
-        rw same (omega (arith, at.2.bound))

@@ -1,11 +1,10 @@
 -- A map. The proof of a function, such as the law `round_is_normal_step`, is in the folder of its file and name,
--- laws/round_is_normal_step, and cites lemmas of the files here; or the function's attribute `tactic` names its lemma,
--- as that of the law `model_width` does. Begin there, and go from lemma to lemma.
+-- laws/round_is_normal_step, and cites lemmas of the files here. Begin there, and go from lemma to lemma.
 --
--- Parsing, as the least placement: PartLemmas (a string's parts), NamesAcross (names of one field, parsed as another),
--- GreedyPlacement, RefusalLemmas, UniqueReading, ComputedReading (one outcome, which the function `reading` gives).
--- Parsing, as the code does it: ReadParts (part by part), SourceLemmas (the source of each field). All parsed triples:
--- ReadValues, Vendors.
+-- Parsing: PartLemmas (a string's parts), NamesAcross (names of one field, parsed as another), GreedyPlacement (the
+-- reader, `Fills`, and the least placement), ReadParts (what the reader gives, or how it refuses), UniqueReading,
+-- ComputedReading (one outcome, which the function `reading` gives), SourceLemmas (sources are in the string).
+-- All parsed triples: ReadValues, Vendors.
 -- Printing: PrintingLemmas (pieces), Upstream, Lengths, WordLengths (how long strings and words are).
 -- Round trips: SpecialRows (facts of each special string), StepCases (facts of each exception), RoundTrips (the shown
 -- parts parse as the normal step), TextRoundTrips (so does the string), FixedPointLemmas (which triples the step leaves
@@ -28,7 +27,6 @@ pub mod PrintingLemmas
 pub mod QueriesKept
 pub mod ReadParts
 pub mod ReadValues
-pub mod RefusalLemmas
 pub mod RoundCall
 pub mod RoundTrips
 pub mod SameValues

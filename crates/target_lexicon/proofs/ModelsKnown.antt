@@ -1,6 +1,6 @@
 -- The data models of triples.
-use Rattle.target_lexicon.proofs.Common.{◌∙◌, ◌≡◌, ◌⊎◌, Bool, None, Option, Some, ap, cond, false, inl, inr, is_none}
-use Rattle.target_lexicon.proofs.Common.{refl, true, true≢false, option_map, U32, convention_on, data_model}
+use Rattle.target_lexicon.proofs.Common.{cases_Bool, ◌∙◌, ◌≡◌, ◌⊎◌, None, Option, Some, ap, false, inl, inr, is_none}
+use Rattle.target_lexicon.proofs.Common.{refl, true≢false, option_map, U32, convention_on, data_model}
 use Rattle.target_lexicon.proofs.Common.{pointer_width, Architecture, OperatingSystem, Values}
 use Rattle.target_lexicon.specs.declared.calling_convention.CallingConvention.{CallingConvention}
 use Rattle.target_lexicon.specs.declared.data_model.CDataModel.{CDataModel}
@@ -26,12 +26,10 @@ off_llp64 Wasm64 c m h = cc
 off_llp64 _ c m h = by_convention_64 c m h
 
 at_64 : (a : Architecture) (s : OperatingSystem) (m : CDataModel) → model_64 a s ≡ Some m → (m ≡ LLP64) ⊎ (m ≡ LP64)
-at_64 a s m h = by_system (has_llp64 s) h
-  where
-    by_system : (b : Bool) → cond b (Some LLP64) (other_model_64 a (convention_on a s)) ≡ Some m
-        → (m ≡ LLP64) ⊎ (m ≡ LP64)
-    by_system true is = inl cc
-    by_system false is = inr (off_llp64 a (convention_on a s) m is)
+at_64 a s m h = elim (cases_Bool (has_llp64 s)) [
+  | inl is ↦ inl (let same : Some LLP64 ≡ Some m = (rw is at h) in cc)
+  | inr is ↦ inr (off_llp64 a (convention_on a s) m (rw is at h))
+]
 
 -- the one model of 32-bit pointers
 
@@ -44,11 +42,10 @@ off_ilp32 Wasm32 c m h = cc
 off_ilp32 _ c m h = by_convention_32 c m h
 
 at_32 : (a : Architecture) (s : OperatingSystem) (m : CDataModel) → model_32 a s ≡ Some m → m ≡ ILP32
-at_32 a s m h = by_system (has_ilp32 s) h
-  where
-    by_system : (b : Bool) → cond b (Some ILP32) (other_model_32 a (convention_on a s)) ≡ Some m → m ≡ ILP32
-    by_system true is = cc
-    by_system false is = off_ilp32 a (convention_on a s) m is
+at_32 a s m h = elim (cases_Bool (has_ilp32 s)) [
+  | inl is ↦ let same : Some ILP32 ≡ Some m = (rw is at h) in cc
+  | inr is ↦ off_ilp32 a (convention_on a s) m (rw is at h)
+]
 
 -- a model has the pointer width by which it is chosen, and is one of three
 chosen : (w : Option PointerWidth) (a : Architecture) (s : OperatingSystem) (m : CDataModel)

@@ -1,21 +1,20 @@
 -- A string has exactly one list of parts.
-use Rattle.target_lexicon.proofs.Common.{◌++◌, ◌+◌, ◌-◌, ◌<◌, ◌||◌, ◌∙◌, ◌∷◌, ◌≡◌, ◌≢◌, Bool, List, [], ap, arith, drop}
-use Rattle.target_lexicon.proofs.Common.{false, get_or, inl, inr, length, nat_eq, not, refl, sym, take, true, ℕ}
-use Rattle.target_lexicon.proofs.Common.{and_parts, cases_Bool, join_with_byte, ◌==◌, dash, ArePartsOf, parts_of}
+use Rattle.target_lexicon.proofs.Common.{not-true, ◌++◌, ◌+◌, ◌-◌, ◌<◌, ◌∙◌, ◌∷◌, ◌≡◌, ◌≢◌, List, [], ap, arith, drop}
+use Rattle.target_lexicon.proofs.Common.{false, get_or, inl, inr, length, nat_eq, refl, sym, take, true, ℕ, and_parts}
+use Rattle.target_lexicon.proofs.Common.{cases_Bool, join_with_byte, ◌==◌, dash, ArePartsOf, parts_of}
 use Rattle.std.specs.List.{list_all, list_any, onto_first, before_first, after_first, slice_range, position_or_len}
-use Rattle.std.proofs.lemmas.Bool.{ne_eqb, eq-eqb}
+use Rattle.std.proofs.lemmas.Bool.{or_parts, ne_eqb, eq-eqb}
 use Rattle.std.proofs.lemmas.List.Sums.{fails_before_first, position_or_len_is}
-use Rattle.std.proofs.lemmas.List.Splits.{join_with_byte-slice_split, slice_split_first, slice_split_none}
+use Rattle.std.proofs.lemmas.List.Splits.{length-slice_split, join_with_byte-slice_split, slice_split_first}
+use Rattle.std.proofs.lemmas.List.Splits.{slice_split_none}
 use Rattle.lexicon_fields.specs.Names.{is_dash_free}
 
 -- the first byte of a string without dashes is no dash, and the rest has none
 dash_free-parts : (b : ℕ) (bs : List ℕ) → is_dash_free (b ∷ bs) ≡ true
     → (nat_eq b dash ≡ false) × (is_dash_free bs ≡ true)
-dash_free-parts b bs free = by_head (nat_eq b dash) (list_any (λ c. c == dash) bs) free
-  where
-    by_head : (dash rest : Bool) → not (dash || rest) ≡ true → (dash ≡ false) × (not rest ≡ true)
-    by_head true rest free = absurd cc
-    by_head false rest free = (refl, free)
+dash_free-parts b bs free =
+    let apart = or_parts (nat_eq b dash) (list_any (λ c. c == dash) bs) (not-true _ free) in
+    (apart.0, rw (apart.1) refl)
 
 parts_of-one : (bs : List ℕ) → is_dash_free bs ≡ true → parts_of bs ≡ bs ∷ []
 parts_of-one [] free = refl
@@ -46,17 +45,8 @@ parts_of-free (b ∷ bs) =
       | inr other ↦ rw other (onto_first-free b (parts_of bs) other (parts_of-free bs))
     ]
 
-onto_first-some : (b : ℕ) (ps : List (List ℕ)) → onto_first b ps ≢ []
-onto_first-some b [] e = cc
-onto_first-some b (p ∷ ps) e = cc
-
 pub parts_of-some : (bs : List ℕ) → parts_of bs ≢ []
-parts_of-some [] e = cc
-parts_of-some (b ∷ bs) e =
-    elim (cases_Bool (nat_eq b dash)) [
-      | inl dash ↦ let h = rw dash at e in cc
-      | inr other ↦ onto_first-some b (parts_of bs) (rw other at e)
-    ]
+parts_of-some bs none = absurd (omega (arith, length-slice_split (λ b. b == dash) bs, ap length none))
 
 pub parts_of-are : (text : List ℕ) → ArePartsOf text (parts_of text)
 parts_of-are text = record {

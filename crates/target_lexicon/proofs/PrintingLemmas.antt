@@ -11,7 +11,6 @@ use Rattle.lexicon_fields.specs.OperatingSystem.{system_version, version_suffix}
 use Rattle.lexicon_fields.specs.declared.deployment_target.DeploymentTarget.{DeploymentTarget}
 use Rattle.target_lexicon.specs.{Values.is_unknown_environment, Values.is_newlib, Private.name_piece}
 use Rattle.target_lexicon.specs.{Printing.text_with}
-use Rattle.target_lexicon.specs.Values.architecture
 use Rattle.target_lexicon.specs.Values.operating_system
 use Rattle.target_lexicon.specs.Values.environment
 

@@ -1,15 +1,14 @@
 -- The normal step keeps the answers of the four queries.
-use Rattle.target_lexicon.proofs.Common.{◌∙◌, ◌≡◌, Bool, None, Option, Some, ap, cond, false, refl, sym, true, omits_system}
-use Rattle.target_lexicon.proofs.Common.{U32, PrintsAsSpecial, normal_step, convention_on, data_model, pointer_width}
-use Rattle.target_lexicon.proofs.Common.{Architecture, BinaryFormat, Environment, OperatingSystem, Values, VendorValue}
-use Rattle.target_lexicon.proofs.Common.{values}
+use Rattle.target_lexicon.proofs.Common.{cases_Bool, inl, inr, ◌∙◌, ◌≡◌, None, Option, Some, ap, refl, sym, true}
+use Rattle.target_lexicon.proofs.Common.{omits_system, U32, PrintsAsSpecial, normal_step, convention_on, data_model}
+use Rattle.target_lexicon.proofs.Common.{pointer_width, Architecture, BinaryFormat, Environment, OperatingSystem}
+use Rattle.target_lexicon.proofs.Common.{Values, VendorValue, values}
 use Rattle.target_lexicon.specs.{Queries.is_ilp32, Queries.model_of_width, QueryLaws.HaveSameAnswers}
 use Rattle.target_lexicon.specs.Queries.{other_model_32, other_model_64, wasm_convention}
 use Rattle.lexicon_fields.specs.declared.pointer_width.PointerWidth.{PointerWidth}
 use Rattle.lexicon_fields.specs.declared.pointer_width.PointerWidth.TheVariants.{U64}
 use Rattle.lexicon_fields.specs.ArchitectureQueries.{architecture_width}
 use Rattle.target_lexicon.proofs.{SpecialRows.row_of_fields, StepCases.step_cases, StepCases.alone-shows}
-use Rattle.target_lexicon.specs.Values.architecture
 use Rattle.target_lexicon.specs.Values.operating_system
 use Rattle.target_lexicon.specs.Values.environment
 
@@ -29,11 +28,8 @@ alike_by_width a v w s e d f g same = record {
 -- on an architecture of 32 bits every environment has pointers of 32 bits
 narrow_width : (t : Values) → architecture_width t.architecture ≡ Some U32 → pointer_width t ≡ Some U32
 unfolding pointer_width
-narrow_width t narrow = rw narrow (by_test (is_ilp32 t.environment))
-  where
-    by_test : (b : Bool) → cond b (Some U32) (Some U32) ≡ Some U32
-    by_test true = refl
-    by_test false = refl
+narrow_width t narrow =
+    rw narrow (elim (cases_Bool (is_ilp32 t.environment)) [ inl is ↦ rw is refl | inr is ↦ rw is refl ])
 
 special-narrow : (t : Values) → PrintsAsSpecial t → architecture_width t.architecture ≡ Some U32
 special-narrow t special = let at = row_of_fields t special.fields in rw (at.1.architecture) at.2.narrow

@@ -1,151 +1,288 @@
--- What is left of the parts of a string goes on as all of them began.
+-- The parts of a string are read one after the other. Where they end, and at a part that fills no field, this gives
+-- what the string reads as, or how it is refused.
 use Rattle.target_lexicon.proofs.Common
-use Common.{◌++◌, ◌+◌, ◌∙◌, ◌∷◌, ◌≡◌, ◌≢◌, ◌≤◌, List, None, Option, Some, [], ap, append_assoc, arith, false, inl, inr}
-use Common.{length, map, nat_eq, refl, sym, true, ℕ, IfSome, MatchOption, Implied, NotGiven, PlacedPart}
-use Common.{SourceValues, placed_from, sources_at, sources_of, Field, field_number, parses_as, field_for}
-use Common.{reading_from, reading_of_parts, with_value, expected_after, part_at, Values, unknown_values, values_of_ref}
+use Common.{◌++◌, ◌∙◌, ◌∷◌, ◌≡◌, ◌≢◌, ◌≤◌, List, None, Option, Some, [], ap, arith, false, inl, inr, is_some}
+use Common.{length, nat_eq, refl, subst, suc, sym, take, true, ℕ, cases_Bool, false≢true, MatchOption, slice_get}
+use Common.{unwrap_or, Implied, IsRefusedAfter, NotGiven, PlacedPart, SourceValues, placed_from, sources_at, sources_of}
+use Common.{Field, Vendor, field_number, parses_as, field_for, open_fields, reading_from, architecture_of}
+use Common.{binary_format_of, environment_of, operating_system_of, vendor_of, default_binary_format, HasPlacement}
+use Common.{HoldsParts, IsLeastPlacement, IsRefusal, IsValueOf, ParsesAs, expected_after, last_field, part_at, parts_of}
+use Common.{refusal_with, special_values, Known, Unknown, Values, values_of_ref}
+use Rattle.std.proofs.{lemmas.List.take-take, lemmas.Option.slice_get-map}
 use Rattle.target_lexicon.specs.declared.reading.Reading.{Reading}
-use Rattle.target_lexicon.specs.Explanation.{SourceValue, FromPart, same_sources, source_at, source_values, with_source}
-use Rattle.target_lexicon.specs.GreedyReading.{HasFilled, IsTaken, finished_sources}
-use Rattle.target_lexicon.proofs.GreedyPlacement.{cases_Option, field-after, fields_from, left_from}
-use Rattle.target_lexicon.specs.Field as field
+use Rattle.target_lexicon.specs.Explanation.{AreInString, AreFieldsOf, AreSourcesOf, FromPart, SourceValue, source_at}
+use Rattle.target_lexicon.specs.Explanation.{source_values, with_source}
+use Rattle.target_lexicon.specs.GreedyReading.{HasFilled, IsTaken, finished, finished_sources, first_field}
+use Rattle.target_lexicon.specs.Parsing.{IsExpectedAfter, IsPlacement}
+use Rattle.target_lexicon.specs.Field.{Architecture, OperatingSystem, Environment, BinaryFormat}
+use Rattle.target_lexicon.specs.Values.architecture
+use Rattle.target_lexicon.specs.Values.operating_system
+use Rattle.target_lexicon.specs.Values.environment
+use Rattle.target_lexicon.proofs.GreedyPlacement.{Fills, State, Stop, Take, after, field-after, filled-least}
+use Rattle.target_lexicon.proofs.GreedyPlacement.{first-strings, placement_prefix, start, start-first, strings_of}
+use Rattle.target_lexicon.proofs.GreedyPlacement.{texts-placed}
+use Rattle.target_lexicon.proofs.PartLemmas.{parts_of-are, parts_of-some}
+use Rattle.target_lexicon.proofs.SourceLemmas.{all-sources-in, placed-in}
 
-abbrev pub strings_of : List PlacedPart → List (List ℕ)
-strings_of parts = map (λ (part : PlacedPart). part.text) parts
-
-pub texts-placed : (start : ℕ) (ps : List (List ℕ)) → strings_of (placed_from start ps) ≡ ps
-texts-placed start [] = refl
-texts-placed start (p ∷ ps) = ap (λ qs. p ∷ qs) (texts-placed (start + length p + 1) ps)
-
-pub placed-some : (start : ℕ) (ps : List (List ℕ)) → ps ≢ [] → placed_from start ps ≢ []
-placed-some start [] some e = some refl
-placed-some start (p ∷ ps) some e = cc
-
--- all parts, of which the first is an architecture or isn't
-pub all-fields : (p : List ℕ) (ps : List (List ℕ)) → parses_as field.Architecture p ≡ true
-    → fields_from (Some field.Architecture) (p ∷ ps) ≡ field.Architecture ∷ fields_from (Some field.Vendor) ps
-all-fields p ps takes = rw takes refl
-
-pub all-left : (p : List ℕ) (ps : List (List ℕ)) → parses_as field.Architecture p ≡ true
-    → left_from (Some field.Architecture) (p ∷ ps) ≡ left_from (Some field.Vendor) ps
-all-left p ps takes = rw takes refl
-
-pub no-fields : (p : List ℕ) (ps : List (List ℕ)) → parses_as field.Architecture p ≡ false
-    → (fields_from (Some field.Architecture) (p ∷ ps) ≡ []) × (left_from (Some field.Architecture) (p ∷ ps) ≡ p ∷ ps)
-no-fields p ps skips = rw skips (refl, refl)
-
--- a field has no part in a placement of later fields
-absent-after : {A : Type 0} (f l : Field) (xs : List A) (ps : List (List ℕ)) → field_number f ≤ field_number l
-    → part_at f xs (fields_from (expected_after l) ps) ≡ None
-absent-after f l [] ps h = refl
-absent-after f l (x ∷ xs) [] h = refl
-absent-after f l (x ∷ xs) (p ∷ ps) h =
-    elim (cases_Option (field_for (expected_after l) p)) [
-      | inl none ↦ rw none refl
-      | inr some ↦
-          let later = (field-after l p some.0 some.1).0 in
-          let other : nat_eq (field_number some.0) (field_number f) ≡ false = grind (arith, h, later) in
-          rw (some.1, other) (absent-after f some.0 xs ps (omega (arith, h, later)))
-    ]
-
-pub absent : {A : Type 0} (f : Field) (xs : List A) (ps : List (List ℕ))
-    → part_at f xs (fields_from (expected_after f) ps) ≡ None
-absent f xs ps = absent-after f f xs ps (omega arith)
+-- one more part that fills a field
+pub filled-next : {a b : State} {f : Field} {fs : List Field} {p : PlacedPart} {ps left : List PlacedPart}
+    → Fills a fs ps b (p ∷ left) → field_for b.expected p.text ≡ Some f
+    → Fills a (fs ++ (f ∷ [])) ps (after f p b) left
+filled-next Stop found = Take found Stop
+filled-next (Take first w) found = Take first (filled-next w found)
 
 -- these sources, and those of the parts that are assigned to these fields
-abbrev merged_sources : SourceValues → List PlacedPart → List Field → SourceValues
-merged_sources s parts fields =
-    source_values (source_at s.architecture field.Architecture parts fields)
-    (source_at s.vendor field.Vendor parts fields)
-    (source_at s.operating_system field.OperatingSystem parts fields)
-    (source_at s.environment field.Environment parts fields)
-    (source_at s.binary_format field.BinaryFormat parts fields)
+abbrev merged : SourceValues → List PlacedPart → List Field → SourceValues
+merged s parts fields =
+    source_values (source_at s.architecture Architecture parts fields) (source_at s.vendor Vendor parts fields)
+    (source_at s.operating_system OperatingSystem parts fields) (source_at s.environment Environment parts fields)
+    (source_at s.binary_format BinaryFormat parts fields)
 
--- the sources, with this one for a format that is still open
-abbrev with_format : SourceValue → Option Field → SourceValues → SourceValues
-with_format unfilled None s = s
-with_format unfilled (Some x) s = with_source field.BinaryFormat unfilled s
+merged-none : (s : SourceValues) (ps : List PlacedPart) → s ≡ merged s ps []
+merged-none s [] = refl
+merged-none s (p ∷ ps) = refl
 
-sources-next : (unfilled : SourceValue) (x f : Field) (s : SourceValues) (p : PlacedPart) (ps : List PlacedPart)
-    → merged_sources (with_format unfilled (expected_after f) (with_source f (FromPart p) s)) ps
-    (fields_from (expected_after f) (strings_of ps))
-    ≡ merged_sources (with_format unfilled (Some x) s) (p ∷ ps) (f ∷ fields_from (expected_after f) (strings_of ps))
-sources-next unfilled x field.Architecture s p ps = rw (absent field.Architecture ps (strings_of ps)) refl
-sources-next unfilled x f s p ps = rw (absent f ps (strings_of ps)) refl
+merged-next : (f : Field) (s : SourceValues) (fs : List Field) (p : PlacedPart) (ps : List PlacedPart)
+    → part_at f ps fs ≡ None → merged (with_source f (FromPart p) s) ps fs ≡ merged s (p ∷ ps) (f ∷ fs)
+merged-next Architecture s fs p ps none = rw none refl
+merged-next f s fs p ps none = rw none refl
 
--- while a field is open, the format has no source yet
-abbrev pub HasOpenFormat : Option Field → SourceValues → Type 0
-HasOpenFormat expected s = IfSome expected (λ _. s.binary_format ≡ NotGiven)
+pub absent-none : {A : Type 0} (f : Field) (xs : List A) → part_at f xs [] ≡ None
+absent-none f [] = refl
+absent-none f (x ∷ xs) = refl
 
-format-next : (x f : Field) (s : SourceValues) (p : PlacedPart) → HasOpenFormat (Some x) s
-    → HasOpenFormat (expected_after f) (with_source f (FromPart p) s)
-format-next x field.BinaryFormat s p is = tt
-format-next x f s p is = is
+-- a field has no part where later ones are filled
+pub absent : {A : Type 0} (f l : Field) (xs : List A) {a b : State} {fs : List Field} {ps left : List PlacedPart}
+    → a.expected ≡ expected_after l → field_number f ≤ field_number l → Fills a fs ps b left → part_at f xs fs ≡ None
+absent f l xs is h Stop = absent-none f xs
+absent f l [] is h (Take found w) = refl
+absent f l (x ∷ xs) is h (Take {f = g} {p = p} found w) =
+    let later = (field-after l p.text g (rw is at found)).0 in
+    let other : nat_eq (field_number g) (field_number f) ≡ false = grind (arith, h, later) in
+    rw other (absent f g xs refl (omega (arith, h, later)) w)
 
--- what is left of the parts of a string goes on as all of them began
-pub record GoesOn (expected : Option Field) (t : Values) (s : SourceValues) (left parts : List PlacedPart) : Type 0
-  where
-    pub outcome : reading_from expected t (strings_of left) ≡ reading_of_parts (strings_of parts)
-    pub unread : left_from expected (strings_of left) ≡ left_from (Some field.Architecture) (strings_of parts)
-    pub sources : (unfilled : SourceValue)
-        → merged_sources (with_format unfilled expected s) left (fields_from expected (strings_of left))
-        ≡ sources_at unfilled parts (fields_from (Some field.Architecture) (strings_of parts))
-    pub format : HasOpenFormat expected s
-    pub before : List PlacedPart
-    pub end : parts ≡ before ++ left
+-- the sources, if what completes them keeps those that come from parts
+sources-filled : (complete : Option Field → SourceValues → SourceValues)
+    → ((e : Option Field) (f : Field) (p : PlacedPart) (s : SourceValues) → field_for e p.text ≡ Some f
+    → complete (expected_after f) (with_source f (FromPart p) s) ≡ with_source f (FromPart p) (complete e s))
+    → {a b : State} {fs : List Field} {ps left : List PlacedPart} → Fills a fs ps b left
+    → complete b.expected b.sources ≡ merged (complete a.expected a.sources) ps fs
+sources-filled complete keeps Stop = merged-none _ _
+sources-filled complete keeps (Take {a = a} {f = f} {fs = fs} {p = p} {ps = ps} found w) =
+    sources-filled complete keeps w
+    ∙ ap (λ (s : SourceValues). merged s ps fs) (keeps a.expected f p a.sources found)
+    ∙ merged-next f (complete a.expected a.sources) fs p ps (absent f f ps refl (omega arith) w)
 
-pub goes_on-first : (expected : Option Field) (t : Values) (s : SourceValues) (parts : List PlacedPart) → parts ≢ []
-    → expected ≡ Some field.Architecture → t ≡ unknown_values → s ≡ same_sources NotGiven
-    → GoesOn expected t s parts parts
-goes_on-first expected t s [] some e v w = absurd (some refl)
-goes_on-first expected t s (p ∷ ps) some e v w =
-    rw (e, v, w) (record {
-      outcome = refl;
-      unread = refl;
-      sources = λ unfilled. refl;
-      format = refl;
-      before = [];
-      end = refl;
-    })
+finished-keeps : (e : Option Field) (f : Field) (p : PlacedPart) (s : SourceValues) → field_for e p.text ≡ Some f
+    → finished_sources (expected_after f) (with_source f (FromPart p) s)
+    ≡ with_source f (FromPart p) (finished_sources e s)
+finished-keeps None f p s found = absurd cc
+finished-keeps (Some x) BinaryFormat p s found = refl
+finished-keeps (Some x) f p s found = refl
 
-abbrev pub AllGoesOn : Reading → List PlacedPart → List PlacedPart → Type 0
-AllGoesOn it left parts = GoesOn it.expected (values_of_ref it.triple) (sources_of it.sources) left parts
+-- each value is that of the part from which it comes, or that of an unfilled field; of a format that is still open
+-- nothing is known yet
+abbrev text_of : SourceValue → Option (List ℕ)
+text_of (FromPart p) = Some p.text
+text_of _ = None
 
-module _ (p : PlacedPart) (ps parts : List PlacedPart) (f : Field) where
-  filled-next : (expected : Option Field) (t u : Values) (s w : SourceValues) (next : Option Field)
-      → field_for expected p.text ≡ Some f → GoesOn expected t s (p ∷ ps) parts
-      → next ≡ expected_after f → u ≡ with_value f p.text t → w ≡ with_source f (FromPart p) s
-      → GoesOn next u w ps parts
-  filled-next None t u s w next found on e v x = absurd cc
-  filled-next (Some y) t u s w next found on e v x = rw (e, v, x) (record {
-    outcome = rw found at on.outcome;
-    unread = rw found at on.unread;
-    sources = λ unfilled. sources-next unfilled y f s p ps ∙ (rw found at on.sources unfilled);
-    format = format-next y f s p on.format;
-    before = on.before ++ (p ∷ []);
-    end = on.end ∙ sym (append_assoc on.before (p ∷ []) ps);
-  })
+abbrev AreFrom : State → Type 0
+AreFrom a =
+    IsValueOf architecture_of architecture.Unknown (text_of a.sources.architecture) a.values.architecture
+    × IsValueOf vendor_of (Known Unknown) (text_of a.sources.vendor) a.values.vendor
+    × IsValueOf operating_system_of operating_system.Unknown (text_of a.sources.operating_system)
+    a.values.operating_system
+    × IsValueOf environment_of environment.Unknown (text_of a.sources.environment) a.values.environment
+    × MatchOption a.expected (IsValueOf binary_format_of (default_binary_format a.values)
+    (text_of a.sources.binary_format) a.values.binary_format) (λ _. Unit {0})
 
-pub goes_on-next : (p : PlacedPart) (ps parts : List PlacedPart) (old new : Reading) → AllGoesOn old (p ∷ ps) parts
-    → IsTaken p old new → AllGoesOn new ps parts
-goes_on-next p ps parts old new on taken = by_field (field_for old.expected p.text) refl taken
+first-parses : (fs : List Field) (p : List ℕ) (f : Field) → first_field fs p ≡ Some f → parses_as f p ≡ true
+first-parses [] p f found = absurd cc
+first-parses (g ∷ gs) p f found =
+    elim (cases_Bool (parses_as g p)) [
+      | inl takes ↦ let is : Some g ≡ Some f = (rw takes at found) in cc
+      | inr skips ↦ first-parses gs p f (rw skips at found)
+    ]
+
+is-some : {A : Type 0} (o : Option A) (x : A) → is_some o ≡ true → o ≡ Some (unwrap_or o x)
+is-some None x is = absurd (false≢true is)
+is-some (Some y) x is = refl
+
+from-next : (f : Field) (p : PlacedPart) (a : State) → parses_as f p.text ≡ true → AreFrom a → AreFrom (after f p a)
+unfolding parses_as
+from-next Architecture p a is (x, v, s, e, f) = (is-some (architecture_of p.text) _ is, v, s, e, tt)
+from-next Vendor p a is (x, v, s, e, f) = (x, is-some (vendor_of p.text) _ is, s, e, tt)
+from-next OperatingSystem p a is (x, v, s, e, f) = (x, v, is-some (operating_system_of p.text) _ is, e, tt)
+from-next Environment p a is (x, v, s, e, f) = (x, v, s, is-some (environment_of p.text) _ is, tt)
+from-next BinaryFormat p a is (x, v, s, e, f) = (x, v, s, e, is-some (binary_format_of p.text) _ is)
+
+from-filled : {a b : State} {fs : List Field} {ps left : List PlacedPart} → Fills a fs ps b left → AreFrom a → AreFrom b
+from-filled Stop from = from
+from-filled (Take {a = a} {f = f} {p = p} found w) from =
+    from-filled w (from-next f p a (first-parses (open_fields a.expected) p.text f found) from)
+
+-- where no part is left
+abbrev finish : State → State
+finish b = record {
+  expected = None;
+  values = finished b.expected b.values;
+  sources = finished_sources b.expected b.sources;
+}
+
+from-finished : (e : Option Field) (t : Values) (s : SourceValues)
+    → AreFrom (record { expected = e; values = t; sources = s })
+    → AreFrom (finish (record { expected = e; values = t; sources = s }))
+from-finished None t s from = from
+from-finished (Some x) t s (a, v, o, e, f) = (a, v, o, e, refl)
+
+text-at : (unfilled : SourceValue) → text_of unfilled ≡ None → (f : Field) (ps : List PlacedPart) (fs : List Field)
+    → text_of (source_at unfilled f ps fs) ≡ part_at f (strings_of ps) fs
+text-at unfilled none f [] fs = none
+text-at unfilled none f (p ∷ ps) [] = none
+text-at unfilled none f (p ∷ ps) (g ∷ gs) =
+    elim (cases_Bool (nat_eq (field_number g) (field_number f))) [
+      | inl here ↦ rw here refl
+      | inr later ↦ rw later (text-at unfilled none f ps gs)
+    ]
+
+from-holds : (fs : List Field) (ps : List PlacedPart) (t : Values)
+    → AreFrom (record { expected = None; values = t; sources = sources_at Implied ps fs })
+    → HoldsParts (strings_of ps) fs t
+from-holds fs ps t (a, v, s, e, f) = record {
+  architecture = rw (← text-at NotGiven refl Architecture ps fs) a;
+  vendor = rw (← text-at NotGiven refl Vendor ps fs) v;
+  operating_system = rw (← text-at NotGiven refl OperatingSystem ps fs) s;
+  environment = rw (← text-at NotGiven refl Environment ps fs) e;
+  binary_format = rw (← text-at Implied refl BinaryFormat ps fs) f;
+}
+
+-- the first of the parts that are left, and those before it
+filled-get : {a b : State} {fs : List Field} {p : PlacedPart} {ps left : List PlacedPart}
+    → Fills a fs ps b (p ∷ left) → slice_get ps (length fs) ≡ Some p
+filled-get Stop = refl
+filled-get (Take found w) = filled-get w
+
+filled-before : {a b : State} {fs : List Field} {ps left : List PlacedPart} → Fills a fs ps b left
+    → Fills a fs (take (length fs) ps) b []
+filled-before Stop = Stop
+filled-before (Take found w) = Take found (filled-before w)
+
+filled-up_to : {a b : State} {fs : List Field} {p : PlacedPart} {ps left : List PlacedPart}
+    → Fills a fs ps b (p ∷ left) → Fills a fs (take (suc (length fs)) ps) b (p ∷ [])
+filled-up_to Stop = Stop
+filled-up_to (Take found w) = Take found (filled-up_to w)
+
+filled-last : (l : Field) {a b : State} {fs : List Field} {ps left : List PlacedPart} → a.expected ≡ expected_after l
+    → Fills a fs ps b left → b.expected ≡ expected_after (last_field l fs)
+filled-last l is Stop = is
+filled-last l is (Take {f = f} found w) = filled-last f refl w
+
+before-least : {b : State} {f : Field} {fs : List Field} {p : PlacedPart} {ps left : List PlacedPart}
+    → Fills start (f ∷ fs) (p ∷ ps) b left → IsLeastPlacement (take (length (f ∷ fs)) (strings_of (p ∷ ps))) (f ∷ fs)
+before-least {f = f} {fs = fs} {p = p} {ps = ps} w =
+    subst (λ texts. IsLeastPlacement texts (f ∷ fs)) (sym (first-strings (length (f ∷ fs)) (p ∷ ps)))
+    (filled-least (λ is. cc) (filled-before w))
+
+before-expected : {b : State} {fs : List Field} {ps left : List PlacedPart} → Fills start fs ps b left
+    → IsExpectedAfter (take (length fs) (strings_of ps)) b.expected
+before-expected Stop = refl
+before-expected (Take {f = f} {fs = fs} found w) = (f, (fs, before-least (Take found w), filled-last f refl w))
+
+before-fields : {b : State} {fs : List Field} {ps left : List PlacedPart} → Fills start fs ps b left
+    → AreFieldsOf (take (length fs) (strings_of ps)) fs
+before-fields Stop = refl
+before-fields (Take found w) = before-least (Take found w)
+
+before-placed : {b : State} {fs : List Field} {ps left : List PlacedPart} → Fills start fs ps b left
+    → (k : ℕ) → suc k ≤ length fs → HasPlacement (take (suc k) (strings_of ps))
+before-placed Stop k h = absurd (omega (arith, h))
+before-placed (Take {f = f} {fs = fs} {p = p} {ps = ps} found w) k h =
+    subst HasPlacement (take-take (suc k) (length (f ∷ fs)) (strings_of (p ∷ ps)) h)
+    (placement_prefix k (take (length (f ∷ fs)) (strings_of (p ∷ ps)))
+    (f ∷ fs, (before-least (Take found w)).placed))
+
+-- how these parts are refused, and the fields that are filled before
+record IsStopped (texts : List (List ℕ)) (all : List PlacedPart) (e : Option Field) (p : PlacedPart)
+    (fields : List Field) : Type 0 where
+  refusal : IsRefusal texts (refusal_with e p.text)
+  earlier : AreFieldsOf (take refusal.count texts) fields
+  refused : slice_get all refusal.count ≡ Some p
+
+stopped : {b : State} {fs : List Field} {p : PlacedPart} {all left : List PlacedPart}
+    → Fills start fs all b (p ∷ left) → field_for b.expected p.text ≡ None
+    → IsStopped (strings_of all) all b.expected p fs
+stopped {b = b} {fs = fs} {p = p} {all = all} w none = record {
+  refusal = record {
+    count = length fs;
+    refused = slice_get-map (λ (q : PlacedPart). q.text) all (length fs) ∙ rw (filled-get w) refl;
+    unplaced = λ (gs, other).
+        let same = first-strings (suc (length fs)) all in
+        let bad = (start-first (filled-up_to w) none gs (subst (λ texts. IsPlacement texts gs) same other)).0 in cc;
+    placed = λ k h. before-placed w k (omega (arith, h));
+    expected = before-expected w;
+  };
+  earlier = before-fields w;
+  refused = filled-get w;
+}
+
+-- all parts of the string; some of them are read, and these are left
+abbrev pub all_of : List ℕ → List PlacedPart
+all_of text = placed_from 0 (parts_of text)
+
+abbrev pub HasRead : List ℕ → State → List PlacedPart → Type 0
+HasRead text b left = (fs : List Field) × Fills start fs (all_of text) b left
+
+abbrev pub state_of : Reading → State
+state_of it =
+    record { expected = it.expected; values = values_of_ref it.triple; sources = sources_of it.sources }
+
+pub taken-read : (text : List ℕ) (p : PlacedPart) (left : List PlacedPart) (old new : Reading)
+    → HasRead text (state_of old) (p ∷ left) → IsTaken p old new → HasRead text (state_of new) left
+taken-read text p left old new (fs, w) is = by_field (field_for old.expected p.text) refl is
   where
     by_field : (o : Option Field) → field_for old.expected p.text ≡ o → MatchOption o ⊥ (λ f. HasFilled f p old new)
-        → AllGoesOn new ps parts
+        → HasRead text (state_of new) left
     by_field None found is = absurd is
-    by_field (Some f) found is =
-        filled-next p ps parts f old.expected _ _ _ _ new.expected found on is.expected is.values is.sources
+    by_field (Some f) found is = rw (is.expected, is.values, is.sources) (fs ++ (f ∷ []), filled-next w found)
 
--- the sources at the end, and at a part that is refused
-pub read-sources : (expected : Option Field) (t : Values) (s : SourceValues) (parts : List PlacedPart)
-    → GoesOn expected t s [] parts
-    → finished_sources expected s ≡ sources_at Implied parts (fields_from (Some field.Architecture) (strings_of parts))
-read-sources None t s parts on = on.sources Implied
-read-sources (Some x) t s parts on = on.sources Implied
+module _ (text : List ℕ) (b : State) where
+  pub text-read : special_values text ≡ None → HasRead text b []
+      → ParsesAs text (finish b).values × AreSourcesOf text (finish b).sources
+      × AreInString text (finish b).sources
+  text-read ordinary (fs, w) =
+      let same = texts-placed 0 (parts_of text) in
+      let some : all_of text ≢ [] = λ is. parts_of-some text (sym same ∙ ap strings_of is) in
+      let least = subst (λ texts. IsLeastPlacement texts fs) same (filled-least some w) in
+      let sources = sources-filled finished_sources finished-keeps w in
+      let from = from-finished b.expected b.values b.sources (from-filled w (refl, refl, refl, refl, tt)) in
+      let holds = subst (λ texts. HoldsParts texts fs (finish b).values) same
+      (from-holds fs (all_of text) (finish b).values
+      (subst (λ s. AreFrom (record { expected = None; values = (finish b).values; sources = s })) sources from)) in
+      rw ordinary (
+        (parts_of text, parts_of-are text, (fs, least, holds)),
+        (parts_of text, parts_of-are text, (fs, least, sources)),
+        subst (AreInString text) (sym sources)
+            (all-sources-in text Implied (all_of text) fs tt (placed-in text (parts_of text) (parts_of-are text))),
+      )
 
-pub refused-sources : (expected : Option Field) (t : Values) (s : SourceValues) (p : PlacedPart)
-    (ps parts : List PlacedPart) → GoesOn expected t s (p ∷ ps) parts → field_for expected p.text ≡ None
-    → s ≡ sources_at NotGiven parts (fields_from (Some field.Architecture) (strings_of parts))
-refused-sources None t s p ps parts on none = on.sources NotGiven
-refused-sources (Some x) t s p ps parts on none =
-    ap (λ (format : SourceValue). with_source field.BinaryFormat format s) on.format ∙ (rw none at on.sources NotGiven)
+  pub text-refused : (p : PlacedPart) (left : List PlacedPart) → HasRead text b (p ∷ left)
+      → field_for b.expected p.text ≡ None → IsRefusedAfter text (refusal_with b.expected p.text) b.sources p
+  text-refused p left (fs, w) none =
+      let at = subst (λ texts. IsStopped texts (all_of text) b.expected p fs) (texts-placed 0 (parts_of text))
+      (stopped w none) in (
+        parts_of text,
+        parts_of-are text,
+        record {
+          refusal_holds = at.refusal;
+          fields = fs;
+          earlier = at.earlier;
+          sources = sources-filled (λ e s. s) (λ e f p s found. refl) w;
+          refused = at.refused;
+        },
+      )
+
+-- the function `reading_from` goes on in the same way
+pub reading-filled : {a b : State} {fs : List Field} {ps left : List PlacedPart} → Fills a fs ps b left
+    → reading_from a.expected a.values (strings_of ps) ≡ reading_from b.expected b.values (strings_of left)
+reading-filled Stop = refl
+reading-filled (Take found w) = rw found (reading-filled w)

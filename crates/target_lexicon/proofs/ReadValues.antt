@@ -1,23 +1,30 @@
 -- Facts about all parsed triples: the vendor is plain, and the version in range.
-use Rattle.target_lexicon.proofs.Common.{◌∙◌, ◌≡◌, List, None, Option, Some, refl, subst, sym, true, ℕ, MatchOption}
-use Rattle.target_lexicon.proofs.Common.{HasVersionInRange, operating_system_of, is_plain, vendor_of, Unknown, Field}
-use Rattle.target_lexicon.proofs.Common.{ArePartsOf, HoldsParts, IsValueOf, ParsesAs, PartsParseAs, SpecialRow}
-use Rattle.target_lexicon.proofs.Common.{special_triple, special_values, Known, OperatingSystem, Values, VendorValue}
+use Rattle.target_lexicon.proofs.Common.{[], ◌≢◌, IsLeastPlacement, dash, join_with_byte, ◌∙◌, ◌≡◌, List, None, Option}
+use Rattle.target_lexicon.proofs.Common.{Some, refl, subst, sym, true, ℕ, MatchOption, HasVersionInRange}
+use Rattle.target_lexicon.proofs.Common.{operating_system_of, is_plain, vendor_of, Unknown, Field, ArePartsOf}
+use Rattle.target_lexicon.proofs.Common.{HoldsParts, IsValueOf, ParsesAs, PartsParseAs, SpecialRow, special_triple}
+use Rattle.target_lexicon.proofs.Common.{special_values, Known, OperatingSystem, Values, VendorValue}
 use Rattle.target_lexicon.specs.Laws.{ReadVendorsArePlain}
 use Rattle.target_lexicon.proofs.{SpecialRows.RowFacts, SpecialRows.row_of_text, Vendors.vendor-plain}
 use Rattle.target_lexicon.specs.Values.operating_system
 
 -- a fact about the triples of special strings, and about all triples from parts, holds for all parsed triples
-read-holds : (P : Values → Type 0) → ((row : SpecialRow) → RowFacts row → P (special_triple row))
-    → ((parts : List (List ℕ)) (fields : List Field) (t : Values) → HoldsParts parts fields t → P t)
-    → (text : List ℕ) (t : Values) → ParsesAs text t → P t
+pub read-holds : (P : List ℕ → Values → Type 0)
+    → ((row : SpecialRow) → RowFacts row → P row.text (special_triple row))
+    → ((parts : List (List ℕ)) (fields : List Field) (t : Values) → parts ≢ [] → IsLeastPlacement parts fields
+    → HoldsParts parts fields t → P (join_with_byte dash parts) t)
+    → (text : List ℕ) (t : Values) → ParsesAs text t → P text t
 read-holds P of_row held text t reads = by_special (special_values text) refl reads
   where
     by_special : (special : Option Values) → special_values text ≡ special
         → MatchOption special ((parts : List (List ℕ)) × ArePartsOf text parts × PartsParseAs parts t)
-        (λ values. t ≡ values) → P t
-    by_special None is (parts, are, (fields, least, holds)) = held parts fields t holds
-    by_special (Some s) is same = let at = row_of_text text s is in subst P (sym (same ∙ at.2)) (of_row at.0 at.3)
+        (λ values. t ≡ values) → P text t
+    by_special None is (parts, are, (fields, least, holds)) =
+        subst (λ (x : List ℕ). P x t) are.joined (held parts fields t are.some least holds)
+    by_special (Some s) is same =
+        let at = row_of_text text s is in
+        subst (P text) (sym (same ∙ at.2))
+        (subst (λ (x : List ℕ). P x (special_triple at.0)) (sym at.1) (of_row at.0 at.3))
 
 -- the vendor is plain
 
@@ -28,8 +35,8 @@ placed-plain (Some part) v is = vendor-plain part v is
 
 pub read_plain : ReadVendorsArePlain
 read_plain =
-    read-holds (λ t. is_plain t.vendor ≡ true) (λ row facts. refl)
-    (λ parts fields t holds. placed-plain _ t.vendor holds.vendor)
+    read-holds (λ text t. is_plain t.vendor ≡ true) (λ row facts. refl)
+    (λ parts fields t some least holds. placed-plain _ t.vendor holds.vendor)
 
 -- the version of the system is in range
 
@@ -42,5 +49,5 @@ module _ (version-in_range : (text : List ℕ) (s : OperatingSystem) → operati
 
   pub read_in_range : (text : List ℕ) (t : Values) → ParsesAs text t → HasVersionInRange t.operating_system
   read_in_range =
-      read-holds (λ t. HasVersionInRange t.operating_system) (λ row facts. facts.in_range)
-      (λ parts fields t holds. placed-in_range _ t.operating_system holds.operating_system)
+      read-holds (λ text t. HasVersionInRange t.operating_system) (λ row facts. facts.in_range)
+      (λ parts fields t some least holds. placed-in_range _ t.operating_system holds.operating_system)

@@ -8,7 +8,7 @@ use Common.{PrintsTheEspIdfString, ShowsOnlyNone, parses_as, reading_from, readi
 use Common.{default_binary_format, implied_format, elf_if_unknown, normal_step, step_of, cons_if, shown_names}
 use Common.{shows_binary_format, shows_environment, shows_operating_system, shows_unknowns, shows_vendor, Refusal}
 use Common.{SpecialRow, implies_newlib, special_string, Architecture, BinaryFormat, Environment, Known, OperatingSystem}
-use Common.{Values, VendorValue, omits_unknown_system, is_same_format, is_unknown_vendor, unknown_values, values}
+use Common.{Values, VendorValue, is_same_format, is_unknown_vendor, unknown_values, values}
 use Rattle.target_lexicon.specs.{Printing.omits_unknown_vendor, ImpliedFormat.wasm_or_elf}
 use Rattle.std.proofs.lemmas.Bool.{or_parts, not-false}
 use Rattle.std.proofs.Math.Bool.{or-true}
@@ -20,7 +20,6 @@ use Rattle.target_lexicon.proofs.SpecialRows.{RowFacts, special_of_fields, syste
 use Rattle.target_lexicon.proofs.SpecialRows.{special_system, newlib_system, no_newlib}
 use Rattle.target_lexicon.proofs.StepCases.{step_cases, outside-fixed, only_none-step, alone-shows}
 use Rattle.target_lexicon.specs.declared.exception.RoundTripException.TheVariants as exceptions
-use Rattle.target_lexicon.specs.Values.architecture
 use Rattle.target_lexicon.specs.Values.operating_system
 use Rattle.target_lexicon.specs.Values.environment
 use Rattle.target_lexicon.specs.Values.binary_format
@@ -340,18 +339,6 @@ module _ (names : NamesAreRead) where
   module _ (a : Architecture) (v : VendorValue) (s : OperatingSystem) (e : Environment) (f : BinaryFormat)
       (plain : is_plain v ≡ true) (range : HasVersionInRange s)
       (none : special_string (values a v s e f) ≡ None) (apart : ¬ PrintsTheEspIdfString (values a v s e f)) where
-    alone-by : omits_system a ≡ true → s ≡ operating_system.Unknown
-        → shows_unknowns (values a v s e f) ≡ false → Rounds false (values a v s e f)
-    alone-by omits is_s hidden = rw is_s (alone-round a omits v e f plain (rw is_s at hidden))
-
-    upstream-round : (b : Bool) → shows_operating_system (values a v s e f) ≡ b
-        → shows_unknowns (values a v s e f) ≡ false → Rounds false (values a v s e f)
-    unfolding shown_names
-    upstream-round true shown hidden = rw shown (after_system a v s e f _ _ plain range
-        (tail-round a v s e f none hidden apart (shown_system (values a v s e f) shown)))
-    upstream-round false none_shown hidden = let is = hidden_system a v s e f none_shown in
-        alone-by is.1 is.0 hidden
-
     -- an unknown environment and an unknown format, both shown, change nothing
     unknowns-step : (e ≡ environment.Unknown) × (f ≡ binary_format.Unknown)
         → normal_step (values a v s e f) ≡ values a v s e f
@@ -360,15 +347,21 @@ module _ (names : NamesAreRead) where
         (λ is. absurd (apart is))
         (λ is. absurd (let only_none = is.environment in cc)) (λ outside. refl)
 
-    unknowns-round : (e ≡ environment.Unknown) × (f ≡ binary_format.Unknown) → Rounds true (values a v s e f)
-    unfolding shown_names
-    unknowns-round is =
-        after_system a v s e f _ _ plain range (shown-read a v s e f true ∙ ap Ok (sym (unknowns-step is)))
+    tail : (b : Bool) → shows_unknowns (values a v s e f) ≡ b → (b || shows_operating_system (values a v s e f)) ≡ true
+        → reading_from (Some field.Environment) (unread a v s) (names_after_system b (values a v s e f))
+        ≡ Ok (normal_step (values a v s e f))
+    tail true unknowns shown =
+        shown-read a v s e f true ∙ ap Ok (sym (unknowns-step (are_unknown a v s e f unknowns)))
+    tail false unknowns shown = tail-round a v s e f none unknowns apart (shown_system (values a v s e f) shown)
 
-    parts_by : (b : Bool) → shows_unknowns (values a v s e f) ≡ b → Rounds b (values a v s e f)
-    parts_by true shown = unknowns-round (are_unknown a v s e f shown)
-    parts_by false hidden = upstream-round _ refl hidden
+    parts_by : (b c : Bool) → shows_unknowns (values a v s e f) ≡ b
+        → (b || shows_operating_system (values a v s e f)) ≡ c → Rounds b (values a v s e f)
+    unfolding shown_names
+    parts_by b true unknowns shown = rw shown (after_system a v s e f _ _ plain range (tail b unknowns shown))
+    parts_by true false unknowns hidden = absurd (true≢false hidden)
+    parts_by false false unknowns hidden =
+        let is = hidden_system a v s e f hidden in rw is.0 (alone-round a is.1 v e f plain (rw is.0 at unknowns))
 
     -- if no special string is printed, the shown parts parse as the step
     pub parts-round : reading_of_parts (printed_names (values a v s e f)) ≡ Ok (normal_step (values a v s e f))
-    parts-round = parts_by (shows_unknowns (values a v s e f)) refl
+    parts-round = parts_by (shows_unknowns (values a v s e f)) _ refl refl

@@ -1,14 +1,15 @@
 -- Facts of the special strings, one after the other. All that other lemmas know of these strings is here, so that they
 -- say "each row".
 use Rattle.target_lexicon.proofs.Common
-use Common.{◌+◌, ◌<◌, ◌^◌, ◌∙◌, ◌∷◌, ◌≡◌, ◌≤◌, Bool, Err, List, Ok, Option, Result, Some, [], ap, arith}
-use Common.{cond, false, inl, inr, is_some, length, map, refl, sym, true, ℕ, cases_Bool, false≢true, bytes_eq-Decides}
-use Common.{bytes_eq, architecture_name, architecture_of, binary_format_of, environment_of, HasVersionInRange}
+use Common.{◌+◌, ◌<◌, ◌^◌, ◌∙◌, ◌∷◌, ◌≡◌, ◌≤◌, Bool, Err, List, Ok, Option, Result, Some, [], ap, arith, cond, false}
+use Common.{inl, inr, is_some, length, map, refl, sym, true, ℕ, cases_Bool, false≢true, bytes_eq-Decides, bytes_eq}
+use Common.{architecture_name, architecture_of, binary_format_of, environment_of, HasVersionInRange}
 use Common.{fixed_operating_system_of, operating_system_name, operating_system_of, is_admitted, known_vendor_of}
 use Common.{vendor_of, U32, HasFieldsOf, HasSpecialFields, HasSystemOf, is_custom_esp, parses_as, reading_of_parts}
 use Common.{implied_format, parts_of, Refusal, SpecialRow, implies_newlib, special_string, special_triple}
 use Common.{special_values, Architecture, BinaryFormat, Environment, Known, OperatingSystem, Values, VendorValue}
-use Common.{is_unknown_vendor, values}
+use Common.{is_unknown_vendor, values, ◌⊎◌, None}
+use Rattle.target_lexicon.proofs.GreedyPlacement.{cases_Option}
 use Rattle.lexicon_fields.specs.{Names.value_named, Vendor.known_vendor_name, ArchitectureQueries.architecture_width}
 use Rattle.target_lexicon.specs.{SpecialStrings.special_rows, SpecialStrings.special_pair, ExceptionFacts.SomeRow}
 use Rattle.target_lexicon.specs.{Printing.is_none_or_unknown}
@@ -148,7 +149,15 @@ pub no_special : (t : Values) → ¬ HasSpecialFields t → is_some (special_str
 no_special t other =
     elim (cases_Bool (is_some (special_string t))) [ inl is ↦ absurd (other (fields_of_special t is)) | inr is ↦ is ]
 
--- and vendor and system of a row if and only if they imply `Newlib`
+-- a triple prints no special string, or that of a row
+pub string_cases : (t : Values)
+    → (special_string t ≡ None) ⊎ ((row : SpecialRow) × HasFieldsOf row t × RowFacts row)
+string_cases t = elim (cases_Option (special_string t)) [
+  | inl none ↦ inl none
+  | inr some ↦ inr (row_of_fields t (fields_of_special t (ap is_some some.1)))
+]
+
+-- vendor and system are those of a row if and only if they imply `Newlib`
 
 pub system_of_newlib : (t : Values) → implies_newlib t.vendor t.operating_system ≡ true
     → SomeRow (λ row. HasSystemOf row t) special_rows

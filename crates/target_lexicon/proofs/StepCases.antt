@@ -6,8 +6,8 @@ use Common.{sym, true, ℕ, and-false, and_parts, cases_Bool, false≢true, byte
 use Common.{binary_format_of, environment_of, fixed_operating_system_of, operating_system_of, is_admitted, is_plain}
 use Common.{known_vendor_of, HasSpecialFields, HidesNewlib, PrintsAsSpecial, PrintsTheEspIdfString, ShowsOnlyNone}
 use Common.{RoundTripException, exception, is_custom_esp, normal_step, step_of, implies_newlib, special_string}
-use Common.{Architecture, BinaryFormat, Custom, Environment, OperatingSystem, Values, VendorValue}
-use Common.{omits_unknown_system, is_same_format, values}
+use Common.{Architecture, BinaryFormat, Custom, Environment, OperatingSystem, Values, VendorValue, omits_unknown_system}
+use Common.{is_same_format, values}
 use Rattle.target_lexicon.specs.ExceptionFacts.{HasNewlibAndElf, VendorIsNotPlain, ExceptionsAreFactsOfFields}
 use Rattle.target_lexicon.specs.{Values.is_newlib, Values.is_none_environment, Exceptions.has_newlib_and_elf}
 use Rattle.target_lexicon.specs.{Printing.architecture_implies_format, Queries.wasm_convention}
@@ -191,21 +191,18 @@ vendor-exception t is = outside-exception t (exception t) (facts t) (record {
 facts_if : (t : Values) (found : Option RoundTripException) → exception t ≡ found → FactsOf found t
 facts_if t found is = subst (λ (o : Option RoundTripException). FactsOf o t) is (facts t)
 
--- a triple of the last exception, or of none, is outside
-none-outside : (t : Values) → exception t ≡ None → IsOutside t
-none-outside t found = record {
-  special = λ is. let bad = special-exception t is in cc;
-  newlib = λ is. let bad = newlib-exception t is in cc;
-  esp = λ is. let bad = esp-exception t is in cc;
-  none = λ is. let bad = only_none-exception t is in cc;
-}
+-- the exceptions that change a triple
+abbrev changes : Option RoundTripException → Bool
+changes None = false
+changes (Some exceptions.VendorIsNotPlain) = false
+changes _ = true
 
-last-outside : (t : Values) → exception t ≡ Some exceptions.VendorIsNotPlain → IsOutside t
-last-outside t found = record {
-  special = λ is. let bad = special-exception t is in cc;
-  newlib = λ is. let bad = newlib-exception t is in cc;
-  esp = λ is. let bad = esp-exception t is in cc;
-  none = λ is. let bad = only_none-exception t is in cc;
+unchanged-outside : (t : Values) → changes (exception t) ≡ false → IsOutside t
+unchanged-outside t is = record {
+  special = λ other. false≢true (sym is ∙ ap changes (special-exception t other));
+  newlib = λ other. false≢true (sym is ∙ ap changes (newlib-exception t other));
+  esp = λ other. false≢true (sym is ∙ ap changes (esp-exception t other));
+  none = λ other. false≢true (sym is ∙ ap changes (only_none-exception t other));
 }
 
 pub exceptions_are_facts : ExceptionsAreFactsOfFields
@@ -214,11 +211,14 @@ exceptions_are_facts t = record {
   newlib = (facts_if t _, newlib-exception t);
   esp = (facts_if t _, esp-exception t);
   only_none = (facts_if t _, only_none-exception t);
-  vendor = (λ found. record { vendor = facts_if t _ found; others = (last-outside t found).none }, vendor-exception t);
+  vendor = (
+    λ found. record { vendor = facts_if t _ found; others = (unchanged-outside t (ap changes found)).none },
+    vendor-exception t,
+  );
 }
 
 pub none-plain_outside : (t : Values) → exception t ≡ None → (is_plain t.vendor ≡ true) × IsOutside t
-none-plain_outside t found = (facts_if t None found, none-outside t found)
+none-plain_outside t found = (facts_if t None found, unchanged-outside t (ap changes found))
 
 -- the step, by the exception
 
@@ -237,8 +237,8 @@ step_cases P t special newlib esp none outside = by_exception (exception t) refl
     by_exception (Some exceptions.HidesNewlib) is = newlib (facts_if t _ is)
     by_exception (Some exceptions.PrintsTheEspIdfString) is = esp (facts_if t _ is)
     by_exception (Some exceptions.ShowsOnlyNone) is = none (facts_if t _ is)
-    by_exception (Some exceptions.VendorIsNotPlain) is = outside (last-outside t is)
-    by_exception None is = outside (none-outside t is)
+    by_exception (Some exceptions.VendorIsNotPlain) is = outside (unchanged-outside t (ap changes is))
+    by_exception None is = outside (unchanged-outside t (ap changes is))
 
 -- the step of one exception, and outside
 

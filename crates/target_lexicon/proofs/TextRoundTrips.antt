@@ -1,20 +1,18 @@
 -- The printed string of a triple with a plain vendor reads as its normal step.
 use Rattle.target_lexicon.proofs.Common
-use Common.{◌∙◌, ◌∷◌, ◌≡◌, ◌⊎◌, Bool, List, None, Ok, Option, Some, [], ap, codes, false, inl, inr, is_some, refl}
+use Common.{◌∷◌, ◌||◌, ◌∙◌, ◌≡◌, ◌⊎◌, Bool, List, None, Ok, Option, Some, [], ap, codes, false, inl, inr, is_some, refl}
 use Common.{subst, sym, true, true≢false, ℕ, cases_Bool, false≢true, join_with_byte, architecture_name}
-use Common.{binary_format_name, environment_name, HasVersionInRange, dash, operating_system_name, is_plain, HasFieldsOf}
+use Common.{binary_format_name, environment_name, HasVersionInRange, dash, operating_system_name, is_plain}
 use Common.{HasSpecialFields, PrintsTheEspIdfString, RoundTripException, exception, is_custom_esp, parses_as}
 use Common.{RoundIsNormalStep, reading, reading_of_parts, implied_format, elf_if_unknown, normal_step, step_of}
 use Common.{ParsesAs, parts_of, cons_if, shown_names, shows_binary_format, shows_environment, shows_operating_system}
-use Common.{shows_unknowns, shows_vendor, string_of, SpecialRow, implies_newlib, special_string, special_triple}
-use Common.{special_values, Architecture, BinaryFormat, Custom, Environment, OperatingSystem, Values, VendorValue}
-use Common.{values}
+use Common.{shows_unknowns, shows_vendor, string_of, implies_newlib, special_string, special_triple, special_values}
+use Common.{Architecture, BinaryFormat, Custom, Environment, OperatingSystem, Values, VendorValue, values}
 use Rattle.std.specs.List.{list_all}
 use Rattle.target_lexicon.specs.{Exceptions.has_newlib_and_elf, GreedyReading.reading_unless_special}
 use Rattle.lexicon_fields.specs.{Names.is_dash_free, Vendor.is_custom}
-use Rattle.target_lexicon.proofs.SpecialRows.{RowFacts, is_known_to_print, prints_row, row_of_fields, row_of_system}
-use Rattle.target_lexicon.proofs.SpecialRows.{row_of_text, fields_of_special, special_of_fields, no_special}
-use Rattle.target_lexicon.proofs.SpecialRows.{special_system}
+use Rattle.target_lexicon.proofs.SpecialRows.{is_known_to_print, prints_row, row_of_fields, row_of_system, row_of_text}
+use Rattle.target_lexicon.proofs.SpecialRows.{fields_of_special, special_of_fields, no_special, special_system}
 use Rattle.target_lexicon.proofs.StepCases.{both-is, esp-is, special-own, special-exception, step_cases, is_esp}
 use Rattle.target_lexicon.proofs.{ComputedReading.reading_computed, NamesAcross.NamesAreRead}
 use Rattle.target_lexicon.proofs.{PartLemmas.parts_of-joined, PrintingLemmas.printed_names, RoundTrips.parts-round}
@@ -51,18 +49,13 @@ special-step t has = elim (cases_Bool (has_newlib_and_elf t)) [
       (special-exception t (record { fields = has; others = λ is. false≢true (sym other ∙ rw (is.0, is.1) refl) }))
 ]
 
-row-round : (t : Values) (row : SpecialRow) → HasFieldsOf row t → RowFacts row
-    → normal_step t ≡ step_of (Some exceptions.PrintsAsSpecial) t → reading (string_of t) ≡ Ok (normal_step t)
-unfolding reading string_of
-row-round t row is facts step =
-    let of : special_triple row ≡ step_of (Some exceptions.PrintsAsSpecial) t =
-    same_values _ _ (sym is.architecture) (sym is.system.vendor) (sym is.system.operating_system) refl refl in
-    rw (prints_row t row is facts, facts.parses) (ap Ok (of ∙ sym step))
-
 special-round : (t : Values) → HasSpecialFields t → reading (string_of t) ≡ Ok (normal_step t)
+unfolding reading string_of
 special-round t has =
     let at = row_of_fields t has in
-    row-round t at.0 at.1 at.2 (special-step t has)
+    let of : special_triple at.0 ≡ step_of (Some exceptions.PrintsAsSpecial) t =
+    same_values _ _ (sym at.1.architecture) (sym at.1.system.vendor) (sym at.1.system.operating_system) refl refl in
+    rw (prints_row t at.0 at.1 at.2, at.2.parses) (ap Ok (of ∙ sym (special-step t has)))
 
 -- the triple that prints another's special string
 
@@ -129,20 +122,13 @@ module _ (names : NamesAreRead) (a : Architecture) (v : VendorValue) (s : Operat
   joined-parts : (b : Bool) → let parts = shown_names b (values a v s e f) in
       parts_of (join_with_byte dash parts) ≡ parts
   unfolding shown_names
-  joined-parts true = parts_of-join (architecture_name a) _ (names.architecture.name_dash_free a tt)
+  joined-parts b = parts_of-join (architecture_name a) _ (names.architecture.name_dash_free a tt)
       (cons_if-free (shows_vendor (values a v s e f)) _ _ (names.vendor.name_dash_free v plain)
-      (rw (
-        names.operating_system.name_dash_free s range,
-        names.environment.name_dash_free e tt,
-        names.binary_format.name_dash_free f tt,
-      ) refl))
-  joined-parts false = parts_of-join (architecture_name a) _ (names.architecture.name_dash_free a tt)
-      (cons_if-free (shows_vendor (values a v s e f)) _ _ (names.vendor.name_dash_free v plain)
-      (cons_if-free (shows_operating_system (values a v s e f)) (operating_system_name s)
+      (cons_if-free (b || shows_operating_system (values a v s e f)) (operating_system_name s)
       _ (names.operating_system.name_dash_free s range)
-      (cons_if-free (shows_environment (values a v s e f)) (environment_name e)
+      (cons_if-free (b || shows_environment (values a v s e f)) (environment_name e)
       _ (names.environment.name_dash_free e tt)
-      (cons_if-free (shows_binary_format (values a v s e f)) (binary_format_name f) []
+      (cons_if-free (b || shows_binary_format (values a v s e f)) (binary_format_name f) []
       (names.binary_format.name_dash_free f tt) refl))))
 
   shown-round : reading (string_of (values a v s e f)) ≡ Ok (normal_step (values a v s e f))

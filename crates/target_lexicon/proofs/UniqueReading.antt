@@ -79,10 +79,8 @@ refusal_unique text x y h r = same_refusal (parts_of text) x y (refusal_at text 
 
 -- a string that is refused doesn't read
 pub read_not_refused : (text : List ℕ) (t : Values) → ParsesAs text t → IsRefused text → ⊥
-read_not_refused text t h (refusal, r) = by_parts (rw (r.0) at h)
-  where
-    by_parts : (parts : List (List ℕ)) × ArePartsOf text parts × PartsParseAs parts t → ⊥
-    by_parts (parts, are, (fs, least, holds)) =
-        let at = refusal_at text refusal r in
-        at.unplaced (placement_prefix at.count (parts_of text)
-        (subst HasPlacement (parts-only text parts are) (fs, least.placed)))
+read_not_refused text t h (refusal, r) =
+    let at = refusal_at text refusal r in
+    let read : (parts : List (List ℕ)) × ArePartsOf text parts × PartsParseAs parts t = (rw (r.0) at h) in
+    at.unplaced (placement_prefix at.count (parts_of text)
+    (subst HasPlacement (parts-only text read.0 read.1) (read.2.0, read.2.1.placed)))

@@ -1,51 +1,36 @@
 -- If an unknown environment and an unknown format are shown, the string is longer than upstream's.
 use Rattle.target_lexicon.proofs.Common
-use Common.{◌∙◌, ◌∷◌, ◌≡◌, ◌≢◌, Bool, List, None, Option, Some, [], ap, arith, codes, false, length, refl, sym, true}
-use Common.{true≢false, ℕ, and_parts, not-true, length-append, join_with_byte, architecture_name, dash}
-use Common.{operating_system_name, vendor_name, default_binary_format, cons_if, shown_names, shows_binary_format}
-use Common.{shows_environment, shows_operating_system, shows_unknowns, shows_vendor, string_of, upstream_string_of}
-use Common.{special_string, Architecture, BinaryFormat, OperatingSystem, Values, VendorValue, is_same_format, values}
-use Rattle.std.proofs.lemmas.List.{append_cancel_left}
+use Common.{◌∷◌, ◌≡◌, ◌≢◌, Bool, List, None, Option, Some, [], ap, arith, false, length, refl, true, true≢false, ℕ}
+use Common.{and_parts, not-true, join_with_byte, dash, operating_system_name, vendor_name, binary_format_name}
+use Common.{environment_name, default_binary_format, cons_if, shown_names, shows_binary_format, shows_environment}
+use Common.{shows_operating_system, shows_unknowns, shows_vendor, string_of, upstream_string_of, special_string}
+use Common.{Architecture, BinaryFormat, OperatingSystem, Values, VendorValue, is_same_format, values}
 use Rattle.target_lexicon.specs.Printing.{HasUnimpliedUnknowns, OnlyUnknownsDifferFromUpstream}
-use Rattle.target_lexicon.proofs.{PrintingLemmas.dashed, PrintingLemmas.dashed_joined, RoundTrips.are_unknown}
+use Rattle.target_lexicon.proofs.Lengths.{weight-cons_if, weight-shown, weight-split}
+use Rattle.target_lexicon.proofs.{RoundTrips.are_unknown}
 use Rattle.target_lexicon.specs.Values.environment
 use Rattle.target_lexicon.specs.Values.binary_format
 
--- the same part before two lists changes nothing
-same_parts : (b : Bool) (part : List ℕ) (ps qs : List (List ℕ))
-    → dashed (cons_if b part ps) ≡ dashed (cons_if b part qs) → dashed ps ≡ dashed qs
-unfolding dashed
-same_parts true part ps qs same = append_cancel_left (dash ∷ part) (dashed ps) (dashed qs) same
-same_parts false part ps qs same = same
-
-same_first : (part : List ℕ) (ps qs : List (List ℕ)) → join_with_byte dash (part ∷ ps) ≡ join_with_byte dash (part ∷ qs)
-    → dashed ps ≡ dashed qs
-same_first part ps qs same =
-    append_cancel_left part (dashed ps) (dashed qs) (dashed_joined part ps ∙ same ∙ sym (dashed_joined part qs))
-
-abbrev unknown : List ℕ
-unknown = codes "unknown"
-
--- two more unknown parts, or one
-growth_tail : (b c : Bool) (system : List ℕ)
-    → dashed (system ∷ unknown ∷ unknown ∷ []) ≢ dashed (cons_if b system (cons_if c unknown []))
-unfolding dashed
-growth_tail true true system same = let rest =
-    append_cancel_left (dash ∷ system) (dashed (unknown ∷ unknown ∷ [])) (dashed (unknown ∷ [])) same in cc
-growth_tail true false system same = let rest =
-    append_cancel_left (dash ∷ system) (dashed (unknown ∷ unknown ∷ [])) [] same in cc
-growth_tail false true system same =
-    absurd (omega (arith, ap length same, length-append system (dashed (unknown ∷ unknown ∷ []))))
-growth_tail false false system same = cc
-
+-- two more parts, or at most one of them
 other_names : (a : Architecture) (v : VendorValue) (s : OperatingSystem) → let t =
     values a v s environment.Unknown binary_format.Unknown in
     join_with_byte dash (shown_names true t) ≢ join_with_byte dash (shown_names false t)
 unfolding shown_names shows_environment
 other_names a v s same =
     let t = values a v s environment.Unknown binary_format.Unknown in
-    growth_tail (shows_operating_system t) (shows_binary_format t) (operating_system_name s)
-    (same_parts (shows_vendor t) (vendor_name v) _ _ (same_first (architecture_name a) _ _ same))
+    let format = cons_if (shows_binary_format t) (binary_format_name binary_format.Unknown) [] in
+    let unknowns = environment_name environment.Unknown ∷ binary_format_name binary_format.Unknown ∷ [] in
+    omega (
+      arith,
+      ap length same,
+      weight-shown t true,
+      weight-shown t false,
+      weight-split (shows_vendor t) (vendor_name v) (operating_system_name s ∷ unknowns),
+      weight-split (shows_vendor t) (vendor_name v)
+          (cons_if (shows_operating_system t) (operating_system_name s) format),
+      weight-cons_if (shows_operating_system t) (operating_system_name s) format,
+      weight-cons_if (shows_binary_format t) (binary_format_name binary_format.Unknown) [],
+    )
 
 unknowns_shown : (i : BinaryFormat) → i ≢ binary_format.Unknown → is_same_format binary_format.Unknown i ≡ false
 unknowns_shown binary_format.Unknown other = absurd (other refl)

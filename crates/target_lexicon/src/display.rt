@@ -34,7 +34,6 @@ impl fmt::Display for TripleRef<'_> {
     ghost styled_output = { λ it _. Some (spec.string_of (values_of_ref it)) };
 
     #[inline(always)]
-    #[tactic(auto, unfolding(crate::specs::Printing::string_of))]
     fn fmt<W: fmt::Write>(&self, f: &mut fmt::Formatter<W>) -> fmt::Result {
         self.pieces(self.shows_unknowns()).fmt(f)
     }
@@ -82,7 +81,6 @@ impl<'a> TripleRef<'a> {
     ghost use Rattle.target_lexicon.specs.Pieces.{pieces_text};
 
     /// The printed string. `Err` if the allocation for it fails.
-    #[tactic(auto, unfolding(crate::specs::Printing::string_of))]
     pub fn to_text(&self, alloc: Global) -> Result<String, AllocError>
         ensures { IfOk result (λ text.
             string_bytes text ≡ spec.string_of (values_of_ref self.now)) }
@@ -94,7 +92,6 @@ impl<'a> TripleRef<'a> {
     }
 
     /// The string that upstream prints for the triple, as [`Triple::to_upstream_text`] says.
-    #[tactic(auto, unfolding(crate::specs::Printing::upstream_string_of))]
     pub fn to_upstream_text(&self, alloc: Global) -> Result<String, AllocError>
         ensures { IfOk result
             (λ text. string_bytes text ≡ spec.upstream_string_of (values_of_ref self.now)) }
@@ -115,7 +112,6 @@ impl<'a> TripleRef<'a> {
     /// assert_eq!(rt; (length, bytes), ("x86_64-unknown-linux".len(), [0; 8]));
     /// ```
     // In Rust: #[inline].
-    #[tactic(auto, unfolding(crate::specs::Printing::string_of))]
     pub fn write_to(&self, out: &mut [u8]) -> usize
         ensures { IsWritten (spec.string_of (values_of_ref self.now)) out.old out.new result }
     {
@@ -126,7 +122,6 @@ impl<'a> TripleRef<'a> {
 
     /// Writes the string that upstream prints for the triple, as [`TripleRef::write_to`] writes the printed one.
     // Not in Rust.
-    #[tactic(auto, unfolding(crate::specs::Printing::upstream_string_of))]
     pub fn write_upstream_to(&self, out: &mut [u8]) -> usize
         ensures { IsWritten (spec.upstream_string_of (values_of_ref self.now))
             out.old out.new result }
@@ -171,7 +166,6 @@ impl<'a> TripleRef<'a> {
 
     /// Whether the vendor is shown: unless it is unknown, and the triple omits an unknown one.
     #[inline(always)]
-    #[tactic(auto, unfolding(crate::specs::Printing::shows_vendor))]
     fn shows_vendor(&self) -> bool
         ensures { result ≡ spec.shows_vendor (values_of_ref self.now) }
     {
@@ -242,7 +236,6 @@ impl<'a> TripleRef<'a> {
     }
 
     /// Whether the environment is shown: unless it is unknown, or a `Newlib` that vendor and system imply.
-    #[tactic(auto, unfolding(crate::specs::Printing::shows_environment))]
     fn shows_environment(&self) -> bool
         ensures { result ≡ spec.shows_environment (values_of_ref self.now) }
     {
@@ -256,7 +249,6 @@ impl<'a> TripleRef<'a> {
     /// Whether the binary format is shown: if it isn't the implied one. Without a system a known one always is, except
     /// on some architectures and in some environments.
     #[inline(always)]
-    #[tactic(auto, unfolding(crate::specs::Printing::shows_binary_format, crate::specs::ImpliedFormat::implied_format))]
     fn shows_binary_format(&self) -> bool
         ensures { result ≡ spec.shows_binary_format (values_of_ref self.now) }
     {

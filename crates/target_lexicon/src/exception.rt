@@ -65,7 +65,6 @@ impl TripleRef<'_> {
     /// assert_eq!(rt; triple.round_trip_exception(), Some(RoundTripException::HidesNewlib));
     /// ```
     #[must_use]
-    #[tactic(auto, unfolding(crate::specs::Exceptions::exception))]
     pub fn round_trip_exception(&self) -> Option<RoundTripException>
         ensures { result ≡ spec.exception (values_of_ref self.now) }
     {

@@ -72,7 +72,6 @@ pub fn every_string_has_one_outcome()
 
 /// The function `reading` of the definitions gives the triple that a string parses as, or how it is refused. So a
 /// proof can compute the result for a string.
-#[tactic(auto, using(crate::proofs::ComputedReading::reading_computed))]
 pub fn reading_is_computed()
     ensures { ReadingIsComputed }
 {}
@@ -84,7 +83,6 @@ pub fn results_are_computed()
 {}
 
 /// Every triple that a string parses as has a plain vendor.
-#[tactic(auto, using(crate::proofs::ReadValues::read_plain))]
 pub fn read_vendors_are_plain()
     ensures { ReadVendorsArePlain }
 {}
@@ -97,7 +95,6 @@ pub fn versions_are_in_range(operating_system: OperatingSystem)
 
 /// Every triple that a string parses as has a plain vendor, and a version in range if its system has one. So the laws
 /// of round trips apply to it.
-#[tactic(auto, using(crate::proofs::ReadValues::read_plain, crate::proofs::ReadValues::read_in_range))]
 pub fn read_triples_are_plain()
     ensures { ParsedTriplesArePlain }
 {
@@ -151,13 +148,11 @@ pub fn refusals_are_equal_by_value()
 {}
 
 /// If a triple has a data model, the pointers of the model have as many bits as those of the triple.
-#[tactic(auto, using(crate::proofs::ModelsKnown::model_pointers))]
 pub fn model_width()
     ensures { ModelWidth }
 {}
 
 /// No triple has the data model `LP32` or `ILP64`.
-#[tactic(auto, using(crate::proofs::ModelsKnown::one_of_three))]
 pub fn no_rare_model()
     ensures { (t : Values) →
         (data_model t ≢ Some CDataModel.LP32) × (data_model t ≢ Some CDataModel.ILP64) }
@@ -202,7 +197,6 @@ pub fn exceptions_are_facts_of_fields()
 
 /// A triple comes back (it is printed and parsed again as itself) if and only if none of the five exceptions applies,
 /// also if its vendor is not plain. The name calls an exception a family.
-#[tactic(auto, using(crate::proofs::FixedPointLemmas::fixed_exactly_outside))]
 pub fn fixed_exactly_outside_families()
     ensures { FixedExactlyOutsideExceptions }
 {
@@ -218,14 +212,12 @@ pub fn round_is_normal_step()
 
 /// A second normal step changes none: one round trip gives the canonical form. The name is from upstream's rules of
 /// printing, by which it changes one.
-#[tactic(auto, using(crate::proofs::SettleLemmas::second_changes_none))]
 pub fn second_step_changes_one()
     ensures { OneStepSettles }
 {}
 
 /// The canonical form of a triple with a plain vendor comes back, and no other canonical form of such a triple has its
 /// string. So the string serves as a key.
-#[tactic(auto, using(crate::proofs::SettleLemmas::canonical_are_keys))]
 pub fn canonical_strings_are_keys()
     ensures { CanonicalStringsAreKeys }
 {
@@ -250,7 +242,6 @@ pub fn round_trips_are_known()
 
 /// The printed string of a triple differs from upstream's if and only if environment and format are unknown, another
 /// format is implied, and no special string is printed.
-#[tactic(auto, using(crate::proofs::Upstream::only_unknowns_differ))]
 pub fn only_unknowns_differ_from_upstream()
     ensures { OnlyUnknownsDifferFromUpstream }
 {}

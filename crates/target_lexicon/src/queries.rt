@@ -36,7 +36,6 @@ impl TripleRef<'_> {
     ///
     /// `()` if the width is that of the architecture, which is `Unknown`.
     // In Rust: pub(crate), known_pointer_width.
-    #[tactic(auto, unfolding(crate::specs::Queries::pointer_width))]
     pub const fn pointer_width(&self) -> Result<PointerWidth, ()>
         ensures answer { MatchesLookup (spec.pointer_width (values_of_ref self.now)) result }
         ensures refusal { IsErr result
@@ -118,7 +117,6 @@ impl TripleRef<'_> {
     ///
     /// `()` if no model is known.
     // In Rust: pub(crate), const, known_data_model.
-    #[tactic(auto, unfolding(crate::specs::Queries::data_model))]
     pub fn data_model(&self) -> Result<CDataModel, ()>
         ensures { MatchesLookup (spec.data_model (values_of_ref self.now)) result }
     {

@@ -111,7 +111,6 @@ impl<'a> Reading<'a> {
 impl<'a> TripleRef<'a> {
     /// Gives the first open field that the string parses as its value, and returns the field.
     #[inline(always)]
-    #[tactic(auto, unfolding(crate::specs::Field::parses_as))]
     fn set_open_field(&mut self, text: &'a str, expected: Field) -> Option<Field>
         ensures field { result ≡ field_for (Some expected) text.entry.now }
         ensures set { IfSome result (λ it. values_of_ref self.new

@@ -45,7 +45,6 @@ impl Triple {
     /// - `PrintsTheEspIdfString`: the vendor becomes `Espressif`, environment and format become `Newlib` and `Elf`.
     /// - `ShowsOnlyNone`: the system becomes `None_`, and the environment `Unknown`.
     // Not in Rust.
-    #[tactic(auto, using(crate::proofs::TextRoundTrips::round_by_step))]
     pub fn normal(self) -> Triple
         requires { is_plain (vendor_value self.vendor) ≡ true }
         ensures step { values_of result ≡ spec.normal_step (values_of self) }
@@ -117,7 +116,6 @@ impl<'a> TripleRef<'a> {
 
     /// The triple that the printed string parses as, as [`Triple::normal`] says. The vendor must be plain.
     // Not in Rust.
-    #[tactic(auto, using(crate::proofs::TextRoundTrips::round_by_step))]
     pub fn normal(self) -> TripleRef<'a>
         requires { is_plain (ref_value self.vendor) ≡ true }
         ensures step { values_of_ref result ≡ spec.normal_step (values_of_ref self.entry) }
@@ -150,7 +148,6 @@ impl<'a> TripleRef<'a> {
     #[must_use]
     #[doc(hidden)]
     #[inline(always)]
-    #[tactic(auto, unfolding(crate::specs::NormalStep::normal_step))]
     pub fn step(mut self) -> TripleRef<'a>
         ensures step { values_of_ref result ≡ spec.normal_step (values_of_ref self.entry) }
         ensures vendor { (result.vendor ≡ self.entry.vendor)

@@ -14,7 +14,6 @@ use lexicon_fields::{ArmArchitecture, Riscv32Architecture};
 
 impl<'a> TripleRef<'a> {
     /// The triple of a special string.
-    #[tactic(auto, unfolding(crate::specs::SpecialStrings::special_values))]
     pub(crate) fn from_special_string(text: &str) -> Option<TripleRef<'a>>
         ensures { option_map values_of_ref result ≡ spec.special_values text.now }
     {
@@ -40,7 +39,6 @@ impl<'a> TripleRef<'a> {
     }
 
     /// The special string that the triple prints, if any. Environment and format don't matter.
-    #[tactic(auto, unfolding(crate::specs::SpecialStrings::special_string))]
     pub(crate) fn special_string(&self) -> Option<&'static str>
         ensures { option_map {U = List ℕ} (λ text. text.now) result
             ≡ spec.special_string (values_of_ref self.now) }
@@ -63,7 +61,6 @@ impl<'a> TripleRef<'a> {
     }
 
     /// Whether vendor and system are those of a special string: they imply the environment `Newlib`.
-    #[tactic(auto, unfolding(crate::specs::SpecialStrings::implies_newlib))]
     pub(crate) fn implies_newlib(&self) -> bool
         ensures { result ≡ spec.implies_newlib (ref_value self.now.vendor)
             self.now.operating_system }

@@ -31,8 +31,7 @@ pub use Rattle.triples.specs.Run.{Gives, HasFailed, IsReadWhole, IsUnfailed, Onl
 pub use Rattle.triples.specs.Run.{Takes, TakesBeginning, Use, use_of}
 pub use Rattle.triples.specs.declared.mode.Mode.TheVariants.{Json, Matrix, Print, Settle, Show}
 pub use Rattle.triples.specs.{Facts.facts_of, Facts.text_with_facts, JsonOutput.IsJsonAnswer}
-pub use Rattle.triples.specs.{JsonOutput.IsJsonInputErrorOf, RunLaws.IsWritten, RunLaws.RunGives, Streams.calls}
-pub use Rattle.triples.specs.{Streams.inner, Streams.moved, declared.counted.Counted.Counted}
+pub use Rattle.triples.specs.{JsonOutput.IsJsonInputErrorOf, RunLaws.IsWritten, RunLaws.RunGives}
 pub use Rattle.triples.specs.{declared.filter_error.FilterError.FilterError, declared.line_mode.LineMode.LineMode}
 pub use Rattle.triples.specs.{declared.mode.Mode.Mode, declared.run_error.RunError.RunError, declared.trace.Trace.Trace}
 pub use base.{Fml.flft, Fml.ftrue, Logic.emp, Logic.fst∗, Logic.via}
@@ -40,9 +39,9 @@ pub use borrow.Rule.Slice.PartMut.{put_mid}
 pub use contract.Running.{tables}
 pub use denote.Triple.Walked.{Goes-ref, Stays, ends_at, says, stay_ref, walk_of}
 pub use denote.{Exit.yes, RattleType.owns, Ref.MutRef, Ref.mut_Tells, Ref.mut_vals, Shadow.pure_i, Signature.plain}
-pub use denote.{Steps.closes, Steps.nothing, Steps.opens, Triple.Entry.alive}
+pub use denote.{Steps.closes, Steps.opens, Triple.Entry.alive}
 pub use mir.{Syntax.named, Val.Val, Val.vnil, Val.vstruct, Val.vunit}
-pub use types.Kit.{ !, done, feq_i, frame, fsplit3, group, join, keep, move, qed, raw, split, suffices}
+pub use types.Kit.{ !, done, feq_i, frame, fsplit3, join, keep, move, qed, raw, split, suffices}
 pub use types.Kit.{‵, ◌$◌, ◌∵◌, ◌⊛◌}
 pub use types.{ByLocal.alloc_all, ByLocal.free_all, ByLocal.look_at, ByLocal.pass_all, ByLocal.sets, Part.agg}
 pub use types.{Run.enter, Run.no_more, Run.of_opd, Run.returns, Run.unit_lit}

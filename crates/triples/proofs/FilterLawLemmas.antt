@@ -1,15 +1,17 @@
 -- The laws of what a filter writes and how it ends.
-use Rattle.triples.proofs.Common.{◌++◌, ◌-◌, ◌<◌, ◌^◌, ◌↔◌, ◌∙◌, ◌∷◌, ◌≡◌, AllByRecursion, AllZip, Answer, AreAnswers}
+use Rattle.triples.proofs.Common.{◌++◌, ◌-◌, ◌<◌, ◌^◌, ◌↔◌, ◌∙◌, ◌∷◌, ◌≡◌, AllByRecursion, AllZip, Answer}
 use Rattle.triples.proofs.Common.{AreFilterAnswers, Bool, Err, EveryStringHasOneOutcome, FilterError, IsAnswer}
 use Rattle.triples.proofs.Common.{IsFilterAnswer, IsLineOutput, IsOutput, IsUtf8, IsUtf8-from_is_utf8, LineMode, List}
 use Rattle.triples.proofs.Common.{Ok, Refused, Result, Shown, Takes, Use, [], ap, arith, cases_lt, codes}
 use Rattle.triples.proofs.Common.{complete_lines, false, inl, inr, is_utf8, is_utf8-from_IsUtf8, length, lines_of}
 use Rattle.triples.proofs.Common.{not_utf8, refl, refusal_line, shown_by, subst, sym, too_long, true, written_lines, ℕ}
+use Rattle.triples.specs.Filter.{FilterEnds}
 use Rattle.triples.specs.FilterLaws.{ErrorsOfFiltersAreExact, EveryInputIsFiltered, FilterGives, FiltersAgreeWithRuns}
-use Rattle.triples.specs.FilterLaws.{FiltersEndOneWay, run_mode}
+use Rattle.triples.specs.FilterLaws.{FiltersEndOneWay, HasExactFilterErrors, run_mode}
 use Rattle.triples.specs.declared.line_mode.LineMode.TheVariants.{Print, Show, Settle}
-use Rattle.triples.proofs.UseLemmas.{input-is, input-within, not-both}
-use Rattle.triples.proofs.{LineLemmas.lines-utf8, UniqueOutputs.answer-unique}
+use Rattle.triples.proofs.UseLemmas.{input-is, input-within, no-failure, not-both}
+use Rattle.triples.proofs.LineLemmas.{lines-utf8}
+use Rattle.triples.proofs.UniqueOutputs.{answer-unique, zip-some, zip-unique}
 use Rattle.triples.specs.declared.filter_error.FilterError.TheVariants as filter_error
 
 -- the one answer to a line
@@ -65,97 +67,90 @@ module _ (one : EveryStringHasOneOutcome) (mode : LineMode) (size : ℕ) where
     }
   ]
 
-  all-answers : List (List ℕ) → List Answer
-  all-answers [] = []
-  all-answers (line ∷ lines) = (one-answer line).answer ∷ all-answers lines
-
-  all-are : (lines : List (List ℕ)) → AllZip (IsFilterAnswer mode size) lines (all-answers lines)
-  unfolding all-answers
-  all-are [] = tt
-  all-are (line ∷ lines) = ((one-answer line).is, all-are lines)
-
-  all-only : (lines : List (List ℕ)) (others : List Answer) → AllZip (IsFilterAnswer mode size) lines others
-      → others ≡ all-answers lines
-  unfolding all-answers
-  all-only [] [] are = refl
-  all-only [] (other ∷ others) are = absurd are
-  all-only (line ∷ lines) [] are = absurd are
-  all-only (line ∷ lines) (other ∷ others) are =
-      ap (λ (a : Answer). a ∷ others) ((one-answer line).only other are.0)
-      ∙ ap (λ (rest : List Answer). (one-answer line).answer ∷ rest) (all-only lines others are.1)
-
 pub every_input_is_filtered : EveryStringHasOneOutcome → EveryInputIsFiltered
-every_input_is_filtered one mode size lines = record {
-  output = written_lines (all-answers one mode size lines);
-  is = (all-answers one mode size lines, all-are one mode size lines, refl);
-  only = λ other is. is.2 ∙ ap written_lines (all-only one mode size lines is.0 is.1);
-}
+every_input_is_filtered one mode size lines =
+    let each = one-answer one mode size in
+    let all = zip-some {R = IsFilterAnswer mode size} (λ line. let it = each line in (it.answer, it.is)) lines in
+    record {
+      output = written_lines all.0;
+      is = (all.0, all.1, refl);
+      only = λ other is.
+          is.2
+          ∙ ap written_lines
+          (zip-unique (λ (line : List ℕ) (x y : Answer) (a : IsFilterAnswer mode size line x)
+          (b : IsFilterAnswer mode size line y). (each line).only x a ∙ sym ((each line).only y b)) lines is.0 all.0
+          is.1 all.1);
+    }
 
--- each line of UTF-8 is UTF-8
-module _ (mode : LineMode) (size : ℕ) where
-  to-run : (lines : List (List ℕ)) (answers : List Answer) → AllByRecursion IsUtf8 lines
-      → AllByRecursion (λ line. length line < size) lines
-      → AllZip (IsFilterAnswer mode size) lines answers → AreAnswers (shown_by mode) lines answers
-  to-run [] [] utf8 short are = tt
-  to-run [] (answer ∷ answers) utf8 short are = absurd are
-  to-run (line ∷ lines) [] utf8 short are = absurd are
-  to-run (line ∷ lines) (answer ∷ answers) utf8 short are =
-      (are.0.text short.0 utf8.0, to-run lines answers utf8.1 short.1 are.1)
+-- partners by another relation, where the elements have two properties
+zip-map : {A B : Type 0} {R S : A → B → Type 0} {P Q : A → Type 0} → ((a : A) (b : B) → P a → Q a → R a b → S a b)
+    → (us : List A) (bs : List B) → AllByRecursion P us → AllByRecursion Q us → AllZip R us bs → AllZip S us bs
+zip-map to [] [] p q are = tt
+zip-map to [] (b ∷ bs) p q are = absurd are
+zip-map to (a ∷ us) [] p q are = absurd are
+zip-map to (a ∷ us) (b ∷ bs) p q are = (to a b p.0 q.0 are.0, zip-map to us bs p.1 q.1 are.1)
 
-  from-run : (lines : List (List ℕ)) (answers : List Answer) → AllByRecursion IsUtf8 lines
-      → AllByRecursion (λ line. length line < size) lines
-      → AreAnswers (shown_by mode) lines answers → AllZip (IsFilterAnswer mode size) lines answers
-  from-run [] [] utf8 short are = tt
-  from-run [] (answer ∷ answers) utf8 short are = absurd are
-  from-run (line ∷ lines) [] utf8 short are = absurd are
-  from-run (line ∷ lines) (answer ∷ answers) utf8 short are = (
-    fitting-answer mode size line answer short.0 (λ not. absurd (not utf8.0)) (λ _. are.0),
-    from-run lines answers utf8.1 short.1 are.1,
-  )
-
-  -- the run of the same name
-  as-run : (mode' : LineMode) (input output : List ℕ)
-      → IsLineOutput (shown_by mode') (lines_of input) output ↔ IsOutput (run_mode mode') input output
-  as-run Print input output = (λ is. is, λ is. is)
-  as-run Show input output = (λ is. is, λ is. is)
-  as-run Settle input output = (λ is. is, λ is. is)
+-- the run of the same name
+as-run : (mode : LineMode) (input output : List ℕ)
+    → IsLineOutput (shown_by mode) (lines_of input) output ↔ IsOutput (run_mode mode) input output
+as-run Print input output = (λ is. is, λ is. is)
+as-run Show input output = (λ is. is, λ is. is)
+as-run Settle input output = (λ is. is, λ is. is)
 
 pub filters_agree_with_runs : FiltersAgreeWithRuns
 filters_agree_with_runs mode size input output utf8 short =
     let lines = lines_of input in
     let each = lines-utf8 input utf8 in
-    let same = as-run mode size mode input output in (
-      λ is. same.0 (is.0, to-run mode size lines is.0 each short is.1, is.2),
-      λ is. (let it = same.1 is in (it.0, from-run mode size lines it.0 each short it.1, it.2)),
+    let same = as-run mode input output in (
+      λ is. same.0 (
+        is.0,
+        zip-map (λ (line : List ℕ) (answer : Answer) (utf8 : IsUtf8 line) (less : length line < size)
+            (it : IsFilterAnswer mode size line answer). it.text less utf8) lines is.0 each short is.1,
+        is.2,
+      ),
+      λ is. (let it = same.1 is in (
+        it.0,
+        zip-map (λ (line : List ℕ) (answer : Answer) (utf8 : IsUtf8 line) (less : length line < size)
+            (it : IsAnswer (shown_by mode) line answer).
+            fitting-answer mode size line answer less (λ not. absurd (not utf8)) (λ _. it)) lines it.0 each short it.1,
+        it.2,
+      )),
     )
 
+failures-exact : (reader writer : Use) (input answers output : List ℕ) (result : Result (Unit {0}) FilterError)
+    → FilterEnds reader writer input answers output result → HasExactFilterErrors reader writer result
+failures-exact reader writer input answers output (Ok _) ends =
+    record { read = no-failure reader (λ bad. cc) ends.0.2; write = no-failure writer (λ bad. cc) ends.1.1 }
+failures-exact reader writer input answers output (Err filter_error.Read) ends =
+    record { read = (λ _. ends.0, λ _. refl); write = no-failure writer (λ bad. cc) ends.1 }
+failures-exact reader writer input answers output (Err filter_error.Write) ends =
+    record { read = no-failure reader (λ bad. cc) ends.0; write = (λ _. ends.1, λ _. refl) }
+failures-exact reader writer input answers output (Err filter_error.Endless) ends =
+    record { read = no-failure reader (λ bad. cc) ends.0; write = no-failure writer (λ bad. cc) ends.3 }
+
 pub errors_of_filters_are_exact : ErrorsOfFiltersAreExact
-errors_of_filters_are_exact mode size reader writer result ends = record { read = ends.read; write = ends.write }
+errors_of_filters_are_exact mode size reader writer result ends =
+    failures-exact reader writer ends.input ends.answers ends.output result ends.by_result
 
 module _ (mode : LineMode) (size : ℕ) (input : List ℕ) (writer : Use) (fewer : length input < 2 ^ 64 - 1) where
-  end-one-way : (result : Result (Unit {0}) FilterError) → FilterGives mode size input writer result
+  end-one-way : (result : Result (Unit {0}) FilterError) (run : FilterGives mode size input writer result)
+      → FilterEnds run.reader writer run.ends.input run.ends.answers run.ends.output result
       → (result ≡ Ok tt) × (output : List ℕ) × AreFilterAnswers mode size (lines_of input) output × Takes writer output
-  end-one-way (Ok _) run =
-      let ends = run.ends.ok in
+  end-one-way (Ok _) run ends =
       let same = input-is run.reader run.ends.input input run.input_is run.ends.gives ends.0 in
       let answered = subst (λ (b : Bool). AreFilterAnswers mode size (complete_lines b run.ends.input) run.ends.answers)
-      ends.0.0 run.ends.answered in
-      let whole = run.ends.whole (λ bad. absurd cc) in (
+      ends.0.0 run.ends.answered in (
         refl,
         run.ends.answers,
         subst (λ (t : List ℕ). AreFilterAnswers mode size (lines_of t) run.ends.answers) same answered,
-        subst (λ (t : List ℕ). Takes writer t) whole run.ends.takes,
+        subst (λ (t : List ℕ). Takes writer t) ends.2 run.ends.takes,
       )
-  end-one-way (Err filter_error.Read) run = absurd (not-both run.reader run.read_unfailed (run.ends.read.0 refl))
-  end-one-way (Err filter_error.Write) run = absurd (not-both writer run.write_unfailed (run.ends.write.0 refl))
-  end-one-way (Err filter_error.Endless) run =
-      absurd
-      (omega (
-        arith,
-        (run.ends.endless refl).1,
-        fewer,
-        input-within run.reader run.ends.input input run.input_is run.ends.gives,
-      ))
+  end-one-way (Err filter_error.Read) run ends = absurd (not-both run.reader run.read_unfailed ends.0)
+  end-one-way (Err filter_error.Write) run ends = absurd (not-both writer run.write_unfailed ends.1)
+  end-one-way (Err filter_error.Endless) run ends =
+      let within = input-within run.reader run.ends.input input run.input_is run.ends.gives in
+      absurd (omega (arith, ends.2, fewer, within))
 
 pub filters_end_one_way : FiltersEndOneWay
-filters_end_one_way mode size input writer result fewer run = end-one-way mode size input writer fewer result run
+filters_end_one_way mode size input writer result fewer run =
+    end-one-way mode size input writer fewer result run run.ends.by_result

@@ -149,24 +149,25 @@ module _ (mode : LineMode) (size : ℕ) where
     answered = far.answered;
   }
 
--- the lines of bytes, one taken off after the other
-split-first : (line rest : List ℕ) → HasNoFeed line
-    → slice_split (λ b. b == line_feed) (line ++ (line_feed ∷ rest)) ≡ line ∷ slice_split (λ b. b == line_feed) rest
-split-first line rest none = slice_split_at (λ b. b == line_feed) line line_feed rest none refl
+-- the lines of bytes, one taken off after the other, where `f` takes the lines from the parts between line feeds
+abbrev split : List ℕ → List (List ℕ)
+split bytes = slice_split (λ b. b == line_feed) bytes
 
-lines-first : (line rest : List ℕ) → HasNoFeed line → lines_of (line ++ (line_feed ∷ rest)) ≡ line ∷ lines_of rest
-lines-first line rest none =
-    ap parts_without_empty_last (split-first line rest none)
-    ∙ stays-first line (slice_split (λ b. b == line_feed) rest)
-    (omega (arith, length-slice_split (λ b. b == line_feed) rest))
+module _ (f : List (List ℕ) → List (List ℕ))
+    (first : (part : List ℕ) (parts : List (List ℕ)) → 0 < length parts → f (part ∷ parts) ≡ part ∷ f parts) where
+  parts-ended : (lines : List (List ℕ)) (rest : List ℕ) → AllByRecursion HasNoFeed lines
+      → f (split (with_feeds lines ++ rest)) ≡ lines ++ f (split rest)
+  parts-ended [] rest each = refl
+  parts-ended (line ∷ lines) rest each =
+      let more = with_feeds lines ++ rest in
+      ap (λ (t : List ℕ). f (split t)) (append_assoc line (line_feed ∷ with_feeds lines) rest)
+      ∙ ap f (slice_split_at (λ b. b == line_feed) line line_feed more each.0 refl)
+      ∙ first line (split more) (omega (arith, length-slice_split (λ b. b == line_feed) more))
+      ∙ ap (λ (t : List (List ℕ)). line ∷ t) (parts-ended lines rest each.1)
 
 lines-ended : (lines : List (List ℕ)) (rest : List ℕ) → AllByRecursion HasNoFeed lines
     → lines_of (with_feeds lines ++ rest) ≡ lines ++ lines_of rest
-lines-ended [] rest each = refl
-lines-ended (line ∷ lines) rest each =
-    ap lines_of (append_assoc line (line_feed ∷ with_feeds lines) rest)
-    ∙ lines-first line (with_feeds lines ++ rest) each.0
-    ∙ ap (λ (t : List (List ℕ)). line ∷ t) (lines-ended lines rest each.1)
+lines-ended = parts-ended parts_without_empty_last (λ part parts some. stays-first part parts (omega (arith, some)))
 
 lines-last : (rest : List ℕ) → HasNoFeed rest → 0 < length rest → lines_of rest ≡ rest ∷ []
 lines-last [] none some = absurd (omega arith)
@@ -177,21 +178,6 @@ without-last-first : (part : List ℕ) (parts : List (List ℕ)) → 0 < length 
 without-last-first part [] some = absurd (omega arith)
 without-last-first part (next ∷ parts) some = refl
 
-ended-first : (line rest : List ℕ) → HasNoFeed line
-    → ended_lines_of (line ++ (line_feed ∷ rest)) ≡ line ∷ ended_lines_of rest
-ended-first line rest none =
-    ap parts_without_last (split-first line rest none)
-    ∙ without-last-first line (slice_split (λ b. b == line_feed) rest)
-    (omega (arith, length-slice_split (λ b. b == line_feed) rest))
-
-ended-lines : (lines : List (List ℕ)) (rest : List ℕ) → AllByRecursion HasNoFeed lines
-    → ended_lines_of (with_feeds lines ++ rest) ≡ lines ++ ended_lines_of rest
-ended-lines [] rest each = refl
-ended-lines (line ∷ lines) rest each =
-    ap ended_lines_of (append_assoc line (line_feed ∷ with_feeds lines) rest)
-    ∙ ended-first line (with_feeds lines ++ rest) each.0
-    ∙ ap (λ (t : List (List ℕ)). line ∷ t) (ended-lines lines rest each.1)
-
 ended-none : (rest : List ℕ) → HasNoFeed rest → ended_lines_of rest ≡ []
 ended-none rest none = ap parts_without_last (slice_split_none (λ b. b == line_feed) rest none)
 
@@ -201,7 +187,7 @@ module _ (mode : LineMode) (size : ℕ) where
       → AreFilterAnswers mode size (ended_lines_of bytes) output
   filtered-so-far bytes rest output far none =
       let lines : ended_lines_of bytes ≡ far.lines =
-      ap ended_lines_of far.whole ∙ ended-lines far.lines rest far.each
+      ap ended_lines_of far.whole ∙ parts-ended parts_without_last without-last-first far.lines rest far.each
       ∙ ap (λ (t : List (List ℕ)). far.lines ++ t) (ended-none rest none) ∙ append-nil far.lines in
       subst (λ (t : List (List ℕ)). AreFilterAnswers mode size t output) (sym lines) far.answered
 
@@ -212,7 +198,7 @@ module _ (mode : LineMode) (size : ℕ) where
   filtered-part one bytes rest output far =
       let others = every_input_is_filtered one mode size (ended_lines_of rest) in
       let lines : ended_lines_of bytes ≡ far.lines ++ ended_lines_of rest = ap ended_lines_of far.whole
-      ∙ ended-lines far.lines rest far.each in (
+      ∙ parts-ended parts_without_last without-last-first far.lines rest far.each in (
         output ++ others.output,
         subst (λ (t : List (List ℕ)). AreFilterAnswers mode size t (output ++ others.output)) (sym lines) (
           far.answered.0 ++ others.is.0,

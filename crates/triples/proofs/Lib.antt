@@ -1,6 +1,6 @@
 -- A map. The proof of a function is in the folder of its file and name: laws/filters_agree_with_runs has that of this
--- law, and cites a lemma of the files here, or the attribute `tactic` of a law names its lemma; run/run and
--- filter/filter have those of the two calls that the program makes. Begin with a law, and go from lemma to lemma.
+-- law, and cites a lemma of the files here; run/run and filter/filter have those of the two calls that the program
+-- makes. Begin with a law, and go from lemma to lemma.
 --
 -- What a mode answers: LineLemmas (the lines of an input), AnswerLemmas, JsonAnswers (the answers to them),
 -- UniqueOutputs (an input has at most one), MatrixLawLemmas (the laws of mode `matrix`).

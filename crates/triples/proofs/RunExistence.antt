@@ -1,16 +1,16 @@
 -- Each input has an outcome in each mode.
 use Rattle.triples.proofs.Common
 use Common.{◌++◌, ◌<◌, ◌∙◌, ◌∷◌, ◌≡◌, ◌≢◌, ◌⊎◌, Answer, AreAnswers, Bool, Data, Element, ElementsParseAs, Ended, Err}
-use Common.{EveryStringHasOneOutcome, Flushed, IsFirstError, IsJsonAnswer, IsJsonErrorOf, IsReadWhole, IsRefusedAs}
-use Common.{IsUnfailed, IsUtf8, IsUtf8-from_is_utf8, IsWritten, Items, Json, JsonErrorValue, JsonParsesAs, List}
+use Common.{EveryStringHasOneOutcome, Flushed, IsAnswer, IsFirstError, IsJsonAnswer, IsJsonErrorOf, IsReadWhole}
+use Common.{IsRefusedAs, IsUnfailed, IsUtf8, IsUtf8-from_is_utf8, Items, Json, JsonErrorValue, JsonParsesAs, List}
 use Common.{MatchOption, Matrix, Mode, Moved, None, NotText, Ok, Option, Parse, ParsesAs, Print, Refusal, Refused}
-use Common.{Result, RunEnds, RunError, RunGives, Settle, Show, Shown, Some, StopsOnce, Takes, Use, Values, [], ap}
+use Common.{Result, RunEnds, RunError, RunGives, Settle, Show, Shown, Some, StopsOnce, Takes, Use, Values, []}
 use Common.{append-nil, arith, as_array, as_str, canonical_string, codes, compact_text, false, inl, inr, is_utf8}
 use Common.{is_utf8-from_IsUtf8, item, line_feed, lines_of, list_error_line, list_json_of, matrix_of, no_items, read}
 use Common.{refl, refusal_line, string_of, subst, suc, sym, text_with_facts, true, written_lines, zero, ℕ}
 use Rattle.target_lexicon.specs.Json.{IsElementParsed}
 use Rattle.triples.specs.RunLaws.{EveryInputHasAnOutcome}
-use Rattle.triples.proofs.{UniqueOutputs.IsJsonText, RunLawLemmas.Outcome}
+use Rattle.triples.proofs.{UniqueOutputs.IsJsonText, UniqueOutputs.zip-some, RunLawLemmas.Outcome}
 use Rattle.triples.specs.declared.run_error.RunError.TheVariants as run_error
 
 -- an outcome that some result has
@@ -20,14 +20,11 @@ HasOutcome mode text = (result : Result (Unit {0}) RunError) × (bytes : List �
 module _ (one : EveryStringHasOneOutcome) where
   some-answers : (shown : Values → List ℕ) (lines : List (List ℕ))
       → (answers : List Answer) × AreAnswers shown lines answers
-  some-answers shown [] = ([], tt)
-  some-answers shown (line ∷ lines) =
-      let rest = some-answers shown lines in
-      elim ((one line).some) [
-        | inl read ↦ (Shown (shown read.0) ∷ rest.0, ((read.0, read.1, refl), rest.1))
-        | inr refused ↦
-            (Refused (codes "error: " ++ refusal_line refused.0) ∷ rest.0, ((refused.0, refused.1, refl), rest.1))
-      ]
+  some-answers shown =
+      zip-some {R = IsAnswer shown} (λ line. elim ((one line).some) [
+        | inl read ↦ (Shown (shown read.0), (read.0, read.1, refl))
+        | inr refused ↦ (Refused (codes "error: " ++ refusal_line refused.0), (refused.0, refused.1, refl))
+      ])
 
   -- what a string, or a value that is none, is
   text-outcome : (text : Option (List ℕ))
@@ -111,9 +108,9 @@ module _ (one : EveryStringHasOneOutcome) where
       (Ok tt, written_lines (matrix_of found.0), (utf8, (found.0, found.1, refl)))
   text-has-outcome Json text utf8 =
       elim (json-outcome (read text)) [
-        | inl none ↦ (Err run_error.NotJson, [], (refl, utf8, none, refl))
+        | inl none ↦ (Err run_error.NotJson, [], (refl, (refl, utf8, none)))
         | inr some ↦ elim some [
-          | inl other ↦ (Err run_error.NotList, [], (refl, utf8, other, refl))
+          | inl other ↦ (Err run_error.NotList, [], (refl, (refl, utf8, other)))
           | inr output ↦ (Ok tt, output.0, (utf8, output.1))
         ]
       ]
@@ -123,7 +120,7 @@ module _ (one : EveryStringHasOneOutcome) where
   has-outcome mode text false is = (
     Err run_error.NotUtf8,
     [],
-    ((λ utf8. let bad : false ≡ true = sym is ∙ is_utf8-from_IsUtf8 text utf8 in absurd cc), refl),
+    (refl, λ utf8. let bad : false ≡ true = sym is ∙ is_utf8-from_IsUtf8 text utf8 in absurd cc),
   )
 
 -- what such a run did to its reader and its writer
@@ -151,28 +148,16 @@ whole text = (refl, refl, refl, (refl, refl))
 ends : (mode : Mode) (text bytes : List ℕ) (result : Result (Unit {0}) RunError) → Outcome mode text result bytes
     → RunEnds mode (read_from text) (written_by result bytes) text bytes result
 ends mode text bytes (Ok _) is = (whole text, (refl, refl, (refl, refl)), is.0, is.1)
-ends mode text bytes (Err run_error.Read) is = absurd is
-ends mode text bytes (Err run_error.Write) is = absurd is
-ends mode text bytes (Err run_error.NotUtf8) is = (whole text, (refl, is.1, refl), is.0)
-ends mode text bytes (Err run_error.NotJson) is = (is.0, whole text, (refl, is.3, refl), is.1, is.2)
-ends mode text bytes (Err run_error.NotList) is = (is.0, whole text, (refl, is.3, refl), is.1, is.2)
-ends mode text bytes (Err run_error.OutOfMemory) is = absurd is
-
--- nothing is written without success
-none-written : (mode : Mode) (text bytes : List ℕ) (e : RunError) → Outcome mode text (Err e) bytes → bytes ≡ []
-none-written mode text bytes run_error.Read is = absurd is
-none-written mode text bytes run_error.Write is = absurd is
-none-written mode text bytes run_error.NotUtf8 is = is.1
-none-written mode text bytes run_error.NotJson is = is.3
-none-written mode text bytes run_error.NotList is = is.3
-none-written mode text bytes run_error.OutOfMemory is = absurd is
+ends mode text bytes (Err run_error.NotUtf8) is = (whole text, (refl, is.0, refl), is.1)
+ends mode text bytes (Err run_error.NotJson) is = (whole text, (refl, is.0, refl), is.1.0, is.1.1, is.1.2)
+ends mode text bytes (Err run_error.NotList) is = (whole text, (refl, is.0, refl), is.1.0, is.1.1, is.1.2)
+ends mode text bytes (Err _) is = absurd is.1
 
 -- a run with this outcome, and this writer
-gives-run : (mode : Mode) (text : List ℕ) (result : Result (Unit {0}) RunError) (bytes : List ℕ) (writer : Use)
-    → Outcome mode text result bytes
-    → RunEnds mode (read_from text) writer text bytes result → Takes writer bytes → IsUnfailed writer → StopsOnce writer
-    → IsWritten writer bytes → RunGives mode text result bytes
-gives-run mode text result bytes writer is ends takes unfailed once written = record {
+gives-run : {mode : Mode} {text bytes : List ℕ} {result : Result (Unit {0}) RunError} (writer : Use)
+    → Outcome mode text result bytes → RunEnds mode (read_from text) writer text bytes result → Takes writer bytes
+    → IsUnfailed writer → StopsOnce writer → RunGives mode text result bytes
+gives-run {mode} {text} {bytes} writer is ends takes unfailed once = record {
   reader = read_from text;
   writer = writer;
   ends = record {
@@ -186,21 +171,19 @@ gives-run mode text result bytes writer is ends takes unfailed once written = re
   };
   read_unfailed = refl;
   write_unfailed = unfailed;
-  memory = λ out. subst (λ (r : Result (Unit {0}) RunError). Outcome mode text r bytes) out is;
+  memory = λ out. (subst (λ (r : Result (Unit {0}) RunError). Outcome mode text r bytes) out is).1;
   text_is = inr refl;
-  bytes_are = written;
+  bytes_are = inl takes;
 }
 
 run-of : (mode : Mode) (text : List ℕ) (result : Result (Unit {0}) RunError) (bytes : List ℕ)
     → Outcome mode text result bytes → RunGives mode text result bytes
 run-of mode text (Ok u) bytes is =
-    gives-run mode text (Ok u) bytes (written_to bytes) is (ends mode text bytes (Ok u) is)
-    (record { moved = append-nil bytes; known = refl }) refl (inr (refl, refl)) (inr ([], refl, refl))
+    gives-run (written_to bytes) is (ends mode text bytes (Ok u) is)
+    (record { moved = append-nil bytes; known = refl }) refl (inr (refl, refl))
 run-of mode text (Err e) bytes is =
-    let none = sym (none-written mode text bytes e is) in
-    gives-run mode text (Err e) bytes untouched is (ends mode text bytes (Err e) is)
-    (record { moved = none; known = none }) refl (inl refl)
-    (inr ([], refl, ap (λ (t : List ℕ). Some t) none))
+    let none = sym is.0 in
+    gives-run untouched is (ends mode text bytes (Err e) is) (record { moved = none; known = none }) refl (inl refl)
 
 pub every_input_has_an_outcome : EveryStringHasOneOutcome → EveryInputHasAnOutcome
 every_input_has_an_outcome one mode text =

@@ -1,11 +1,12 @@
 -- An input has at most one output in a mode, and none if it isn't a JSON list.
-use Rattle.triples.proofs.Common
-use Common.{◌++◌, ◌∙◌, ◌∷◌, ◌≡◌, ◌≢◌, Answer, AreAnswers, Data, Element, ElementsParseAs, EveryStringHasOneOutcome}
-use Common.{IsAnswer, IsFirstError, IsJsonAnswer, IsJsonErrorOf, IsLineOutput, IsOutput, Items, Json, JsonErrorValue}
-use Common.{JsonParsesAs, List, MatchOption, Matrix, Mode, None, NotText, Option, Parse, ParsesAs, Print, Refusal}
-use Common.{Refused, Settle, Show, Shown, Some, Values, [], ap, arith, as_array, as_str, canonical_string, cases_lt}
-use Common.{codes, compact_text, inl, inr, item, line_feed, lines_of, list_error_line, list_json_of, matrix_of}
-use Common.{no_items, read, refl, refusal_line, string_of, subst, suc, sym, text_with_facts, written_lines, zero, ℕ}
+use Rattle.triples.proofs.Common.{◌++◌, ◌∙◌, ◌∷◌, ◌≡◌, ◌≢◌, AllZip, Answer, AreAnswers, Data, Element, ElementsParseAs}
+use Rattle.triples.proofs.Common.{EveryStringHasOneOutcome, IsAnswer, IsFirstError, IsJsonAnswer, IsJsonErrorOf}
+use Rattle.triples.proofs.Common.{IsLineOutput, IsOutput, Items, Json, JsonErrorValue, JsonParsesAs, List, MatchOption}
+use Rattle.triples.proofs.Common.{Matrix, Mode, None, NotText, Option, Parse, ParsesAs, Print, Refusal, Refused, Settle}
+use Rattle.triples.proofs.Common.{Show, Shown, Some, Values, [], ap, arith, as_array, as_str, canonical_string}
+use Rattle.triples.proofs.Common.{cases_lt, codes, compact_text, inl, inr, item, line_feed, lines_of, list_error_line}
+use Rattle.triples.proofs.Common.{list_json_of, matrix_of, no_items, read, refl, refusal_line, string_of, subst, suc}
+use Rattle.triples.proofs.Common.{sym, text_with_facts, written_lines, zero, ℕ}
 use Rattle.serde_json.specs.{Data.string, Find.get_item}
 
 -- what is written for a JSON value
@@ -33,6 +34,23 @@ both : {A G : Type 0} (found : Option A) (P Q : A → Type 0) → ((x : A) → P
 both None P Q follows a b = absurd a
 both (Some x) P Q follows a b = follows x a b
 
+-- lists whose elements have one partner, or some
+pub zip-unique : {A B : Type 0} {R : A → B → Type 0} → ((a : A) (x y : B) → R a x → R a y → x ≡ y)
+    → (us : List A) (xs ys : List B) → AllZip R us xs → AllZip R us ys → xs ≡ ys
+zip-unique one [] [] [] are be = refl
+zip-unique one [] (x ∷ xs) ys are be = absurd are
+zip-unique one [] [] (y ∷ ys) are be = absurd be
+zip-unique one (a ∷ us) [] ys are be = absurd are
+zip-unique one (a ∷ us) (x ∷ xs) [] are be = absurd be
+zip-unique {B} one (a ∷ us) (x ∷ xs) (y ∷ ys) are be =
+    ap (λ (b : B). b ∷ xs) (one a x y are.0 be.0)
+    ∙ ap (λ (rest : List B). y ∷ rest) (zip-unique one us xs ys are.1 be.1)
+
+pub zip-some : {A B : Type 0} {R : A → B → Type 0} → ((a : A) → (b : B) × R a b) → (us : List A)
+    → (bs : List B) × AllZip R us bs
+zip-some some [] = ([], tt)
+zip-some some (a ∷ us) = let b = some a in let bs = zip-some some us in (b.0 ∷ bs.0, (b.1, bs.1))
+
 module _ (one : EveryStringHasOneOutcome) where
   pub answer-unique : (shown : Values → List ℕ) (line : List ℕ) (a b : Answer) → IsAnswer shown line a
       → IsAnswer shown line b → a ≡ b
@@ -44,16 +62,9 @@ module _ (one : EveryStringHasOneOutcome) where
   answer-unique shown line (Shown x) (Refused y) a b = absurd ((one line).apart a.0 a.1 (b.0, b.1))
   answer-unique shown line (Refused x) (Shown y) a b = absurd ((one line).apart b.0 b.1 (a.0, a.1))
 
-  answers-unique : (shown : Values → List ℕ) (lines : List (List ℕ)) (xs ys : List Answer) → AreAnswers shown lines xs
-      → AreAnswers shown lines ys → xs ≡ ys
-  answers-unique shown [] [] [] are be = refl
-  answers-unique shown [] (x ∷ xs) ys are be = absurd are
-  answers-unique shown [] [] (y ∷ ys) are be = absurd be
-  answers-unique shown (line ∷ lines) [] ys are be = absurd are
-  answers-unique shown (line ∷ lines) (x ∷ xs) [] are be = absurd be
-  answers-unique shown (line ∷ lines) (x ∷ xs) (y ∷ ys) are be =
-      ap (λ (a : Answer). a ∷ xs) (answer-unique shown line x y are.0 be.0)
-      ∙ ap (λ (rest : List Answer). y ∷ rest) (answers-unique shown lines xs ys are.1 be.1)
+  pub answers-unique : (shown : Values → List ℕ) (lines : List (List ℕ)) (xs ys : List Answer)
+      → AreAnswers shown lines xs → AreAnswers shown lines ys → xs ≡ ys
+  answers-unique shown = zip-unique (answer-unique shown)
 
   lines-unique : (shown : Values → List ℕ) (input x y : List ℕ) → IsLineOutput shown (lines_of input) x
       → IsLineOutput shown (lines_of input) y → x ≡ y

@@ -1,5 +1,7 @@
 -- The calls of a reader or writer, as a list. The latest call is the first of the list.
 use Rattle.std.specs.Prelude.{ℕ, ◌+◌, Bool, true, false, List, [], ◌∷◌, ◌++◌}
+use Rattle.triples.specs.declared.trace.Stop.{Stop}
+use Rattle.triples.specs.declared.trace.Stop.TheVariants as stop
 
 -- what a call did
 pub data Call : Type 0 where
@@ -13,6 +15,12 @@ pub data Call : Type 0 where
   Failed : Call
   -- no call: the reader's next call was made after a writer had taken these bytes
   After : List ℕ → Call
+
+-- a call that was to be the last
+abbrev pub stop_call : Stop → Call
+stop_call stop.Ended = Ended
+stop_call stop.Flushed = Flushed
+stop_call stop.Failed = Failed
 
 -- the bytes that a call moved
 abbrev pub bytes_in : Call → List ℕ

@@ -1,6 +1,6 @@
 -- What a filter answers to the lines that it reads, and how it ends.
-use Rattle.std.specs.Prelude.{ℕ, ◌≡◌, ◌↔◌, ◌-◌, ◌^◌, ◌<◌, ◌≤◌, ◌⊎◌, Bool, if◌then◌else◌, List, [], ◌∷◌, ◌++◌, length}
-use Rattle.std.specs.Prelude.{take, codes, IsErrOf, OnErr, OnOk, Result}
+use Rattle.std.specs.Prelude.{ℕ, ◌≡◌, ◌-◌, ◌^◌, ◌<◌, ◌≤◌, Bool, if◌then◌else◌, List, [], ◌∷◌, ◌++◌, length, take, codes}
+use Rattle.std.specs.Prelude.{Result, Ok, Err}
 use Rattle.std.specs.List.{AllZip}
 use Rattle.std.specs.Str.{IsUtf8}
 use Rattle.triples.specs.{declared.filter_error.FilterError.FilterError, declared.line_mode.LineMode.LineMode}
@@ -8,7 +8,8 @@ use Rattle.triples.specs.declared.filter_error.FilterError.TheVariants as filter
 use Rattle.triples.specs.Calls.{Call, After, Ended, Failed, Flushed, Moved, bytes_of, ends_last}
 use Rattle.triples.specs.Lines.{lines_of, ended_lines_of}
 use Rattle.triples.specs.Output.{Answer, Refused, IsAnswer, shown_by, written_lines}
-use Rattle.triples.specs.Run.{Use, Gives, Takes, IsReadWhole, IsWrittenWhole, HasFailed, OnlyMoves, StopsOnce}
+use Rattle.triples.specs.Run.{Use, Gives, Takes, IsReadWhole, IsUnfailed, IsWrittenWhole, HasFailed, OnlyMoves}
+use Rattle.triples.specs.Run.{StopsOnce}
 
 -- the answers to a line that does not fit the input buffer, and to one that is not UTF-8
 abbrev pub too_long : Answer
@@ -55,6 +56,22 @@ ReadsPromptly mode size reader writer =
     (reads : List Call) × (reader.calls_after ≡ reads ++ reader.calls_before)
     × IsPrompt mode size (bytes_of writer.calls_before) reads
 
+-- how a filter ended, by its result
+abbrev pub FilterEnds : Use → Use → List ℕ → List ℕ → List ℕ → Result (Unit {0}) FilterError → Type 0
+-- the last read found the end, all answers were written, and the last call of the writer was the one flush
+FilterEnds reader writer input answers output (Ok _) =
+    IsReadWhole reader × IsWrittenWhole writer × (output ≡ answers)
+-- a read failed; all answers were written, and nothing was flushed
+FilterEnds reader writer input answers output (Err filter_error.Read) =
+    HasFailed reader × IsUnfailed writer × OnlyMoves writer × (output ≡ answers)
+-- a write or the flush failed after a beginning of the answers
+FilterEnds reader writer input answers output (Err filter_error.Write) =
+    IsUnfailed reader × HasFailed writer × (n : ℕ) × (output ≡ take n answers)
+-- each of `u64::MAX` reads gave some byte; all answers were written, and nothing was flushed
+FilterEnds reader writer input answers output (Err filter_error.Endless) =
+    IsUnfailed reader × OnlyMoves reader × (2 ^ 64 - 1 ≤ length input) × IsUnfailed writer × OnlyMoves writer
+    × (output ≡ answers)
+
 -- How a filter ends, whether or not the bytes of its reader and writer are known: what its reads gave, the answers to
 -- the complete lines of that, and what its writes took.
 pub record FilterEndsAs (mode : LineMode) (size : ℕ) (reader writer : Use)
@@ -65,19 +82,9 @@ pub record FilterEndsAs (mode : LineMode) (size : ℕ) (reader writer : Use)
   pub gives : Gives reader input
   pub takes : Takes writer output
   pub answered : AreFilterAnswers mode size (complete_lines (ends_last reader.calls_after) input) answers
-  -- a beginning of the answers was written, and all of them unless a write failed
-  pub begun : (n : ℕ) × (output ≡ take n answers)
-  pub whole : ¬ (IsErrOf result filter_error.Write) → output ≡ answers
-  -- the result says whether a read, or a write or the flush, failed
-  pub read : IsErrOf result filter_error.Read ↔ HasFailed reader
-  pub write : IsErrOf result filter_error.Write ↔ HasFailed writer
-  -- the last read found the end, and the last call of the writer was the one flush
-  pub ok : OnOk result (IsReadWhole reader × IsWrittenWhole writer)
-  -- each of `u64::MAX` reads gave some byte
-  pub endless : IsErrOf result filter_error.Endless → OnlyMoves reader × (2 ^ 64 - 1 ≤ length input)
-  -- nothing is called after the end, a failure or the flush, and nothing is flushed without success
+  pub by_result : FilterEnds reader writer input answers output result
+  -- nothing is called after the end, a failure or the flush
   pub reads : StopsOnce reader
   pub writes : StopsOnce writer
-  pub unflushed : OnErr result (OnlyMoves writer ⊎ HasFailed writer)
   -- before each read, the answers to all lines that had ended were written
   pub prompt : ReadsPromptly mode size reader writer

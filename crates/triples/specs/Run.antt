@@ -95,10 +95,10 @@ RunEnds mode reader writer input output (Err run_error.NotUtf8) =
     IsReadWhole reader × IsUntouched writer output × ¬ (IsUtf8 input)
 -- the input was read to its end, in mode `json`, and is not JSON, or JSON but not a list
 RunEnds mode reader writer input output (Err run_error.NotJson) =
-    (mode ≡ Json) × IsReadWhole reader × IsUntouched writer output × IsUtf8 input
+    IsReadWhole reader × IsUntouched writer output × (mode ≡ Json) × IsUtf8 input
     × IsJsonInputErrorOf input run_error.NotJson
 RunEnds mode reader writer input output (Err run_error.NotList) =
-    (mode ≡ Json) × IsReadWhole reader × IsUntouched writer output × IsUtf8 input
+    IsReadWhole reader × IsUntouched writer output × (mode ≡ Json) × IsUtf8 input
     × IsJsonInputErrorOf input run_error.NotList
 -- memory ran out after at least one byte was read
 RunEnds mode reader writer input output (Err run_error.OutOfMemory) =

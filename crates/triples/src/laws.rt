@@ -58,13 +58,11 @@ pub fn entries_are_kept_once()
 
 /// The matrix follows the order of the lines: each refused line and the first entry of each string are added at its
 /// end, and a later entry of the same string changes nothing.
-#[tactic(auto, using(crate::proofs::MatrixLawLemmas::first_entries_stay_in_order))]
 pub fn first_entries_stay_in_order()
     ensures { FirstEntriesStayInOrder }
 {}
 
 /// The canonical triple of each line that parses has exactly one entry in the matrix.
-#[tactic(auto, using(crate::proofs::MatrixLawLemmas::each_canonical_triple_has_an_entry))]
 pub fn each_canonical_triple_has_an_entry()
     ensures { EachCanonicalTripleHasAnEntry }
 {
@@ -72,7 +70,6 @@ pub fn each_canonical_triple_has_an_entry()
 }
 
 /// Mode `matrix` gives the entries of a matrix back, if they are its input.
-#[tactic(auto, using(crate::proofs::MatrixLawLemmas::matrices_are_their_own))]
 pub fn matrices_are_their_own()
     ensures { MatricesAreTheirOwn }
 {
@@ -92,7 +89,6 @@ pub fn runs_end_one_way()
 
 /// Each input has an outcome in each mode: a result, and what is written, that such a run may have. By
 /// [`runs_end_one_way`] it has no other.
-#[tactic(auto, using(crate::proofs::RunExistence::every_input_has_an_outcome))]
 pub fn every_input_has_an_outcome()
     ensures { EveryInputHasAnOutcome }
 {
@@ -107,7 +103,6 @@ pub fn errors_of_runs_are_exact()
 {}
 
 /// For each buffer and all lines there are answers, and no others.
-#[tactic(auto, using(crate::proofs::FilterLawLemmas::every_input_is_filtered))]
 pub fn every_input_is_filtered()
     ensures { EveryInputIsFiltered }
 {
@@ -126,7 +121,6 @@ pub fn filters_end_one_way()
 {}
 
 /// A filter returns `Read` if and only if a read failed, and `Write` if and only if a write or the flush did.
-#[tactic(auto, using(crate::proofs::FilterLawLemmas::errors_of_filters_are_exact))]
 pub fn errors_of_filters_are_exact()
     ensures { ErrorsOfFiltersAreExact }
 {}

@@ -1,9 +1,19 @@
 //! What calls did, for contracts.
 ghost use Rattle.std.specs.Prelude.{◌≡◌, List, [], ◌∷◌};
 ghost use Rattle.std.specs.Borrow.{ftrue};
-ghost use Rattle.triples.specs.Calls.{Call, Moved, Ended, Flushed, Failed, After, bytes_of};
+ghost use Rattle.triples.specs.Calls.{Call, Moved, After, bytes_of, stop_call};
 
 use std::marker::Model;
+
+/// What a call did that is to be the last.
+pub enum Stop {
+    /// A read found the end.
+    Ended,
+    /// What was written was flushed.
+    Flushed,
+    /// It failed.
+    Failed,
+}
 
 /// The calls of a reader or writer, the latest first. It takes no memory; only contracts see it.
 #[derive(Drop)]
@@ -30,23 +40,9 @@ impl Trace {
         // there is nothing to run
     }
 
-    /// Adds a read that found the end.
-    pub fn end(&mut self)
-        ensures { self.new ≡ record { calls = Ended ∷ self.old.calls } }
-    {
-        // there is nothing to run
-    }
-
-    /// Adds a flush.
-    pub fn flush(&mut self)
-        ensures { self.new ≡ record { calls = Flushed ∷ self.old.calls } }
-    {
-        // there is nothing to run
-    }
-
-    /// Adds a call that failed.
-    pub fn fail(&mut self)
-        ensures { self.new ≡ record { calls = Failed ∷ self.old.calls } }
+    /// Adds a call that ended so.
+    pub fn stop(&mut self, _how: &Stop)
+        ensures { self.new ≡ record { calls = stop_call _how.now ∷ self.old.calls } }
     {
         // there is nothing to run
     }

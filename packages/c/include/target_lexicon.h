@@ -159,6 +159,17 @@ struct lexicon_meaning {
   const char *note;
 };
 
+/* What is wrong with a word of a text. From 1 to 5 the status is that of a refused string, at which the part isn't what
+   was expected; a vendor that nobody has and that resembles a name has 2. At LEXICON_UNKNOWN_NAME no tool has the word
+   as a name. At LEXICON_NO_ANSWER it may be a target, and isn't understood. With the names, which are null if there are
+   none, and the last `kept` bytes of the part after them, instead of the part, the word is what was perhaps meant. */
+struct lexicon_finding {
+  struct lexicon_part word, part; /* of the text */
+  uint32_t status;
+  const char *names; /* without a zero byte at the end */
+  size_t names_size, kept;
+};
+
 /* No string has more meanings. */
 #define LEXICON_MAX_MEANINGS 32
 
@@ -265,8 +276,9 @@ enum lexicon_status lexicon_write(uint32_t dialect, const struct lexicon_triple 
 
 /* The name of a triple in a dialect that states a version which triples don't have: manylinux_2_17_x86_64 of Python
    with glibc 2.17, musllinux_1_2_aarch64 with musl 1.2, macosx_11_0_arm64 with macOS 11.0, or android_21_x86_64 with
-   Android's API level 21. A version of another system or C library than the triple's never applies: without one of its
-   own the name is that of lexicon_write. LEXICON_TRIPLE_WITHOUT_NAME if no name of the dialect has such a version. */
+   Android's API level 21. A version of glibc or of musl, if there isn't one of both, says the C library of a triple of
+   Linux that states none. One of another system or C library than the triple's never applies: without one of its own
+   the name is that of lexicon_write. LEXICON_TRIPLE_WITHOUT_NAME if no name of the dialect has such a version. */
 LEXICON_CHECKED LEXICON_NONNULL(2)
 enum lexicon_status lexicon_write_versioned(uint32_t dialect, const struct lexicon_triple *triple,
                                             const struct lexicon_versions *versions, char *out, size_t out_size,
@@ -328,6 +340,13 @@ enum lexicon_status lexicon_readers(const char *text, size_t text_size, struct l
 LEXICON_CHECKED LEXICON_NONNULL(5)
 enum lexicon_status lexicon_targets(const char *text, size_t text_size, struct lexicon_part *parts, size_t most,
                                     size_t *count);
+
+/* What is wrong in any text, as the command's `check` says of a file: each word that resembles a name of some tool, or
+   is spelled like a triple, and is neither; and each that may be a target and isn't understood. A text with neither has
+   no findings. They are written as the targets of a text are. */
+LEXICON_CHECKED LEXICON_NONNULL(5)
+enum lexicon_status lexicon_check(const char *text, size_t text_size, struct lexicon_finding *parts, size_t most,
+                                  size_t *count);
 
 /* Why a string is refused, from the string and the error that parsing or reading it gave, in three lines, of which the
    first says it by itself. There is no line feed at the end. What isn't printable ASCII is escaped, as \u{1b}, and

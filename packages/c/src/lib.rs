@@ -40,9 +40,10 @@ use lines::settle_lines;
 use names::{c_name, c_reason};
 use numbers::*;
 use sources::FieldSources;
-use target_lexicon::{DeploymentTarget, TripleRef};
+use target_lexicon::{DeploymentTarget, Field, TextPart, TripleRef};
 use target_names::{
-    vendor_suggestion, Dialect, Name, NameError, TargetInfo, TranslateError, VersionOf, Versions, WriteError,
+    vendor_suggestion, Dialect, Name, NameError, Suggest as _, Suggestion, TargetInfo, TranslateError, Verdict,
+    VersionOf, Versions, Word, WriteError,
 };
 use text::{shown, write_text, written, Text};
 use triple::{NumberedTriple, TripleNumbers};
@@ -98,6 +99,17 @@ pub struct Meaning {
     note: *const u8,
 }
 
+/// `struct lexicon_finding`.
+#[repr(C)]
+pub struct Finding {
+    word: Part,
+    part: Part,
+    status: Status,
+    names: *const u8,
+    names_size: usize,
+    kept: usize,
+}
+
 /// The sizes that the structs of target_lexicon.h have, with words of 64 bits or of 32.
 const _: () = {
     let word = size_of::<usize>();
@@ -107,6 +119,7 @@ const _: () = {
     assert!(size_of::<TextError>() == 4 * word);
     assert!(size_of::<FieldSources>() == 15 * word);
     assert!(size_of::<Meaning>() == if word == 8 { 48 } else { 32 });
+    assert!(size_of::<Finding>() == 8 * word);
     assert!(ALL == FACT_COUNT);
 };
 
@@ -137,6 +150,33 @@ impl From<target_names::Meaning<'_>> for Meaning {
                 Meaning { dialect, status: NAME_WITHOUT_TRIPLE, triple, note: c_reason(why) }
             }
         }
+    }
+}
+
+impl Part {
+    /// A part of what starts there in the text.
+    fn of(part: TextPart<'_>, start: usize) -> Part {
+        Part { start: start + part.start, end: start + part.range().end }
+    }
+}
+
+impl Finding {
+    /// What is wrong with a word of a text, or isn't understood.
+    fn of(word: Word<'_>) -> Option<Finding> {
+        let text = word.part.text;
+        let whole = TextPart { text, start: 0 };
+        let (status, part, meant) = match word.verdict(false, |_| false) {
+            Verdict::Right(_) | Verdict::WithoutTriple(..) => return None,
+            Verdict::Unclear => (NO_ANSWER, whole, None),
+            Verdict::Unknown(None) => (UNKNOWN_NAME, whole, None),
+            Verdict::Unknown(Some(it)) => (UNKNOWN_NAME, it.part, Some(it.suggestion)),
+            Verdict::Refused(it) => (TextError::from(it).status, it.part, it.suggestion_in(text)),
+            Verdict::NearVendor(triple, part) => (1 + Field::Vendor as Status, part, vendor_suggestion(triple)),
+        };
+        let sizes = |it: Suggestion<'_>| (it.names.as_ptr(), it.names.len(), it.version.len());
+        let (names, size, kept) = meant.map_or((null(), 0, 0), sizes);
+        let (word, part) = (Part::of(whole, word.part.start), Part::of(part, word.part.start));
+        Some(Finding { word, part, status, names, names_size: size, kept })
     }
 }
 
@@ -510,8 +550,7 @@ pub unsafe extern "C" fn lexicon_changes(
     let found = find();
     let status = unsafe { write_text(out, out_size, length, |out| Ok(shown(&found?.names, out))) };
     if let (OK, Ok(found)) = (status, found) {
-        let range = found.part.range();
-        unsafe { part.write(Part { start: range.start, end: range.end }) }
+        unsafe { part.write(Part::of(found.part, 0)) }
     }
     status
 }
@@ -534,11 +573,15 @@ pub unsafe extern "C" fn lexicon_readers(
 pub unsafe extern "C" fn lexicon_targets(
     text: *const u8, text_size: usize, parts: *mut Part, most: usize, count: *mut usize,
 ) -> Status {
-    let range = |word: target_names::Word<'_>| {
-        let range = word.part.range();
-        Part { start: range.start, end: range.end }
-    };
+    let range = |it: Word<'_>| Part::of(it.part, 0);
     unsafe { each_of(text, text_size, parts, most, count, |text| target_names::targets_in(text).map(range)) }
+}
+
+#[no_mangle]
+pub unsafe extern "C" fn lexicon_check(
+    text: *const u8, text_size: usize, parts: *mut Finding, most: usize, count: *mut usize,
+) -> Status {
+    unsafe { each_of(text, text_size, parts, most, count, |text| target_names::words_in(text).filter_map(Finding::of)) }
 }
 
 /// Writes what is found in a text into an array of so many elements, and how many there are.

@@ -170,6 +170,23 @@ WRITES(target) {
   return copied(it->text + parts[number].start, out, size, length);
 }
 
+/* What is meant instead of the part that a finding with a number has, which begins and ends at the others; without one
+   its status. */
+WRITES(finding) {
+  struct lexicon_finding findings[2];
+  size_t found = 77, number = it->numbers[0];
+  char meant[64] = "";
+  enum lexicon_status status = lexicon_check(it->text, it->size, findings, 2, &found);
+  if (status != LEXICON_OK || number >= found) return status == LEXICON_OK ? LEXICON_NO_SUGGESTION : status;
+  EXPECT(lexicon_check(it->text, it->size, NULL, 0, &found) == LEXICON_TOO_SMALL && found > number);
+  EXPECT(findings[number].part.start == it->numbers[1] && findings[number].part.end == it->numbers[2]);
+  if (findings[number].names == NULL) return (enum lexicon_status)findings[number].status;
+  memcpy(meant, findings[number].names, findings[number].names_size);
+  memcpy(meant + findings[number].names_size, it->text + findings[number].part.end - findings[number].kept,
+      findings[number].kept);
+  return copied(meant, out, size, length);
+}
+
 static enum lexicon_status translated_with(const struct asked *it, char *out, size_t size, size_t *length,
     struct lexicon_error *error) {
   return lexicon_translate(it->numbers[0], it->text, it->size, it->numbers[1], NULL, it->numbers[2], out, size, length,
@@ -396,9 +413,10 @@ static const struct row {
   {versioned, "x86_64-unknown-freebsd", {PYTHON, 0, 2, 17}, LEXICON_TRIPLE_WITHOUT_NAME, NULL},
   {versioned, "x86_64-unknown-linux-gnu", {PYTHON, 2, 11, 0}, LEXICON_OK, "linux_x86_64"},
   {versioned, "x86_64-unknown-linux-gnu", {PYTHON, 0, 65535, 255}, LEXICON_TRIPLE_WITHOUT_NAME, NULL},
-  {versioned, "x86_64-unknown-linux", {PYTHON, 0, 2, 17}, LEXICON_NEEDS_C_LIBRARY, NULL},
+  {versioned, "x86_64-unknown-linux", {PYTHON, 0, 2, 17}, LEXICON_OK, "manylinux_2_17_x86_64"},
+  {versioned, "x86_64-unknown-linux", {DEBIAN, 2, 11, 0}, LEXICON_NEEDS_C_LIBRARY, NULL},
   {versioned_reason, "x86_64-unknown-linux-gnu", {PYTHON, 0, 11, 0}, LEXICON_OK, NO_VERSION},
-  {versioned_reason, "x86_64-unknown-linux", {PYTHON, 0, 2, 17}, LEXICON_OK, SAY_LIBRARY},
+  {versioned_reason, "x86_64-unknown-linux", {DEBIAN, 2, 11, 0}, LEXICON_OK, SAY_LIBRARY},
   {translated_versioned, "linux/amd64", {0}, LEXICON_OK, "manylinux_2_17_x86_64"},
   {translated_versioned, "darwin/arm64", {0}, LEXICON_OK, "macosx_11_0_arm64"},
 
@@ -422,6 +440,14 @@ static const struct row {
   {target, "- arm64 # no\n- linux/amd46", {0, 2, 7}, LEXICON_OK, "arm64 # no\n- linux/amd46"},
   {target, "run: add `wasm32-wasip1`, x86_64-linxu", {1, 2, 38}, LEXICON_OK, "x86_64-linxu"},
   {target, "\xff", {0}, LEXICON_NOT_UTF8, NULL},
+  {finding, "target: x86_64-unknown-linux-gnuu", {0, 29, 33}, LEXICON_OK, "gnu"},
+  {finding, "platform: linux/amd46, linux/foo", {0, 10, 21}, LEXICON_OK, "linux/amd64"},
+  {finding, "platform: linux/amd46, linux/foo", {1, 23, 32}, LEXICON_NO_ANSWER, NULL},
+  {finding, "target: arm64-aple-macosx14", {0, 14, 18}, LEXICON_OK, "apple"},
+  {finding, "target: arm64-apple-darwn22", {0, 20, 27}, LEXICON_OK, "darwin22"},
+  {finding, "x: armv7-unknown-linux-gnueabhif", {0, 23, 32}, LEXICON_UNRECOGNIZED_ENVIRONMENT, NULL},
+  {finding, "target: x86_64-unknown-linux-gnu", {0}, LEXICON_NO_SUGGESTION, NULL},
+  {finding, "\xff", {0}, LEXICON_NOT_UTF8, NULL},
   {meaning, "armhf", {0, DEBIAN}, LEXICON_OK, "armv7-unknown-linux-gnueabihf"},
   {meaning, "armhf", {1, APK}, LEXICON_OK, "armv6-unknown-linux-musleabihf"},
   {meaning, "armhf", {2}, LEXICON_NO_ANSWER, NULL},
@@ -547,7 +573,8 @@ static void try_too_large(void) {
   it.size = 12; /* of an array */
   for (size_t most = PTRDIFF_MAX / sizeof(struct lexicon_part) + 1; most; most <<= 1)
     EXPECT(lexicon_targets(it.text, it.size, (struct lexicon_part *)(void *)out, most, &length) == LEXICON_TOO_LARGE &&
-        lexicon_targets("\xff", 1, (struct lexicon_part *)(void *)out, most, &length) == LEXICON_TOO_LARGE);
+        lexicon_targets("\xff", 1, (struct lexicon_part *)(void *)out, most, &length) == LEXICON_TOO_LARGE &&
+        lexicon_check("\xff", 1, (struct lexicon_finding *)(void *)out, most, &length) == LEXICON_TOO_LARGE);
   it.size = SIZE_MAX;
   it.numbers[0] = it.numbers[2] = 77;
   EXPECT(written(&it, out, SIZE_MAX, &length) == LEXICON_TOO_LARGE &&

@@ -244,7 +244,8 @@ static void try_errors() {
 template <class Value> static void try_names_of(std::string_view second) {
   EXPECT(name(static_cast<Value>(1)) == second && shown(static_cast<Value>(1)) == second &&
       name(static_cast<Value>(~0u)).empty());
-  for (std::uint32_t number = 0; number < 70000; number++) EXPECT(name(static_cast<Value>(number)).size() < 20);
+  for (std::uint32_t number = 0; number < 70000; number += number < 1000 ? 1 : 101)
+    EXPECT(name(static_cast<Value>(number)).size() < 20);
 }
 
 static void try_names() {

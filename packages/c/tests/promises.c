@@ -152,8 +152,7 @@ static void try_texts(const struct lexicon_triple *triple) {
   for (size_t i = 0; i < sizeof texts / sizeof *texts; i++) {
     char *text;
     uint32_t status = written(texts[i].call, triple, 2, &text);
-    CHECK(status == LEXICON_OK || status == texts[i].none ||
-        (texts[i].call == versioned_name && status == LEXICON_NEEDS_C_LIBRARY));
+    CHECK(status == LEXICON_OK || status == texts[i].none);
     if (status != LEXICON_OK) continue;
     for (; *text; text++)
       CHECK((*text >= ' ' && *text <= '~') || (texts[i].call == lexicon_rustc_cfg && *text == '\n'));
@@ -271,12 +270,17 @@ static uint32_t small_number(uint32_t field, uint32_t number) {
   return number % (counts[field] + 1);
 }
 
+/* Whether a system may have a version: then one is read after its name. */
+static bool takes_version(uint32_t system) {
+  char text[64];
+  struct lexicon_triple triple;
+  snprintf(text, sizeof text, "unknown-unknown-%s1", lexicon_name(LEXICON_FIELD_OPERATING_SYSTEM, system));
+  return lexicon_parse(LEXICON_Z(text), &triple, NULL) == LEXICON_OK;
+}
+
 /* The status that each call with the struct must give, by the names and numbers of the library. */
 static uint32_t expected_status(const struct lexicon_triple *it) {
   uint32_t number = 0;
-  static const uint8_t darwin[] = {LEXICON_OPERATING_SYSTEM_DARWIN, LEXICON_OPERATING_SYSTEM_IOS,
-      LEXICON_OPERATING_SYSTEM_MACOSX, LEXICON_OPERATING_SYSTEM_TVOS,
-      LEXICON_OPERATING_SYSTEM_VISIONOS, LEXICON_OPERATING_SYSTEM_WATCHOS, LEXICON_OPERATING_SYSTEM_XROS};
   if (!has_name(LEXICON_FIELD_ARCHITECTURE, it->architecture)) return LEXICON_NO_SUCH_VALUE;
   if (it->vendor == LEXICON_VENDOR_CUSTOM) {
     uint32_t status = lexicon_number(LEXICON_FIELD_VENDOR, it->custom_vendor, it->custom_vendor_size, &number);
@@ -284,8 +288,8 @@ static uint32_t expected_status(const struct lexicon_triple *it) {
   } else if (!has_name(LEXICON_FIELD_VENDOR, it->vendor)) {
     return LEXICON_NO_SUCH_VALUE;
   }
-  bool takes_version = memchr(darwin, it->operating_system, sizeof darwin) != NULL;
-  if (!has_name(LEXICON_FIELD_OPERATING_SYSTEM, it->operating_system) || it->has_version > takes_version)
+  if (!has_name(LEXICON_FIELD_OPERATING_SYSTEM, it->operating_system) ||
+      it->has_version > takes_version(it->operating_system))
     return LEXICON_NO_SUCH_VALUE;
   bool well = has_name(LEXICON_FIELD_ENVIRONMENT, it->environment) &&
       has_name(LEXICON_FIELD_BINARY_FORMAT, it->binary_format);
@@ -425,7 +429,7 @@ static void try_changes(const char *text, size_t size, uint32_t parsed, const st
   CHECK(number == 0 || parsed != LEXICON_OK || triple->vendor == LEXICON_VENDOR_CUSTOM);
 }
 
-/* The targets in a text are parts of it, from its start to its end. */
+/* The targets in a text are parts of it, from its start to its end, and so is what is wrong in it. */
 static void try_targets(const char *text, size_t size, uint32_t parsed) {
   struct lexicon_part parts[4];
   size_t count = 77, last = 0;
@@ -436,6 +440,20 @@ static void try_targets(const char *text, size_t size, uint32_t parsed) {
   CHECK(status == (count > 3 ? (uint32_t)LEXICON_TOO_SMALL : (uint32_t)LEXICON_OK));
   for (size_t at = 0; at < count && at < 3; last = parts[at++].end)
     CHECK(last <= parts[at].start && parts[at].start <= parts[at].end && parts[at].end <= size);
+  struct lexicon_finding found[4];
+  memset(found, 0xa5, sizeof found);
+  status = lexicon_check(text, size, found, 3, &count);
+  CHECK(status == (count > 3 ? (uint32_t)LEXICON_TOO_SMALL : (uint32_t)LEXICON_OK) &&
+      is_unchanged(&found[count < 3 ? count : 3], sizeof *found));
+  last = 0;
+  for (size_t at = 0; at < count && at < 3; last = found[at++].word.end) {
+    const struct lexicon_part word = found[at].word, part = found[at].part;
+    const bool is_unclear = found[at].status == LEXICON_NO_ANSWER;
+    CHECK(last <= word.start && word.start <= part.start && part.start < part.end && part.end <= word.end);
+    CHECK(word.end <= size && found[at].kept <= part.end - part.start && !is_unclear == (found[at].names != NULL ||
+        found[at].status == LEXICON_UNKNOWN_NAME || (found[at].status > 0 && found[at].status < 6)));
+    CHECK((found[at].names != NULL) == (found[at].names_size > 0) && (found[at].names != NULL || !found[at].kept));
+  }
 }
 
 /* The meanings of a text are that of the triple that it parses as, then those that the dialects read, in their order, a

@@ -89,7 +89,9 @@ impl Helper {
                 "it has zero bytes: a file in UTF-16 has them, which must be UTF-8 here"
             }
             _ if self.takes == Takes::Spellings && text.contains('/') => "a name of another tool needs `--from`",
-            Place::Argument(_) if self.takes == Takes::Triples && has_extension(text) => "no file has this name either",
+            Place::Argument(_) if self.takes != Takes::Spellings && has_extension(text) => {
+                "no file has this name either"
+            }
             _ => return None,
         };
         Some(note.into())

@@ -1,5 +1,5 @@
 //! Help, and what is wrong with the arguments.
-use crate::arguments::command;
+use crate::arguments::{command, wrapped};
 use crate::fault::Fault;
 use crate::output::{write_only, Outputs};
 use crate::shown::visible;
@@ -31,7 +31,10 @@ fn usage_text(error: &clap::Error) -> String {
         Err(again) if again.kind() == error.kind() => again.render().to_string(),
         _ => error.render().to_string(),
     };
-    let lines = text.split('\n').map(|line| visible(line).to_string());
+    let lines = text.split('\n').map(|line| match line.trim_start() {
+        list if list.starts_with("[possible values") => format!("  {}", wrapped(list).replace('\n', "\n   ")),
+        _ => visible(line).to_string(),
+    });
     lines.collect::<Vec<_>>().join("\n")
 }
 
@@ -90,6 +93,11 @@ fn other_note(kind: &str, word: &str) -> String {
         ("--to <DIALECT>", "clang" | "llvm") => "`target-lexicon facts`, whose `llvm_target` it is",
         ("--from <DIALECT>" | "--to <DIALECT>", tool) => dialect_meant(tool),
         ("option", "--from") => "`what`, or `check`, `facts`, `matrix`, `settle` or `translate`, which have it",
+        ("--get <FACT>", list) if list.contains(',') => "`--json`, which has all facts: `--get` writes one",
+        ("--get <FACT>", "arch" | "machine" | "cpu") => "`architecture`",
+        ("--get <FACT>", "os" | "system") => "`operating_system`",
+        ("--get <FACT>", "abi" | "env") => "`environment`",
+        ("--get <FACT>", "libc") => "`c_library`",
         ("option", "--field" | "--fields") => "`--get` of `facts`",
         _ => "",
     };

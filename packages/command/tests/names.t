@@ -196,13 +196,16 @@ A version is one or two numbers, of a C library or a system by its name; one of 
   linux_x86_64
   $ python --glibc 2.17 x86_64-unknown-freebsd aarch64-apple-ios | grep -c 'the name states a version'
   2
-  $ python --glibc 2.17 --libc glibc aarch64-linux
+  $ python --glibc 2.17 --musl 1.2 --libc glibc aarch64-linux
   manylinux_2_17_aarch64
   $ python --glibc 2.17 --from rust x86_64-unknown-linux-gnu
   manylinux_2_17_x86_64
-  $ python --glibc 2.17 --from oci --libc glibc linux/amd64
+  $ python --glibc 2.17 --from oci linux/amd64; python --musl 1.2 aarch64-linux
   manylinux_2_17_x86_64
-  $ python --glibc 2.17 aarch64-linux | tail -n 1
+  musllinux_1_2_aarch64
+  $ target-lexicon translate --to debian --glibc 2.17 --macos 11 x86_64-linux
+  amd64
+  $ python --glibc 2.17 --musl 1.2 aarch64-linux | tail -n 1
   !   ^^^^^^^^^^^^^ it depends on the C library: use `--libc glibc` or `--libc musl`
   $ python arm64-apple-macosx11
   macosx_11_0_arm64
@@ -226,7 +229,7 @@ A C library that changes nothing is noted, unless nothing is answered or asked:
   > facts --libc glibc x86_64-linux-gnu
   > translate --from oci --to rust --libc glibc darwin/arm64 linux/amd64
   > translate --to node --libc musl x86_64-linux
-  > translate --to python --glibc 2.17 --libc glibc aarch64-linux
+  > translate --to python --glibc 2.17 --musl 1.2 --libc glibc aarch64-linux
   > settle --from go --libc msvc windows/amd64
   > what --libc musl linux/amd64
   > settle --quiet --libc glibc x86_64-linux-gnu

@@ -138,6 +138,8 @@ An argument that is the path of a file is a text, in which targets are found. A 
   ! rust-toolchain.toml:3:30: error: unknown name of rust `x86_64-linux-gnuu`
   $ target-lexicon check nowhere.yml | tail -n 1
   !   note: no file has this name either
+  $ target-lexicon check --from rust nowhere.yml | tail -n 1
+  !   note: no file has this name either
   $ printf 'x86_64-linux\n\0\n' > bytes; target-lexicon check bytes
   ! note: 1 binary file not read
   $ printf 'caf\xe9: x86_64-linux-gnuu\n' > bytes; target-lexicon check bytes | head -n 1
@@ -155,7 +157,12 @@ An unknown environment after a machine and a system is wrong, and so is what is 
   > platform: [macsx_11_0_arm64, x64-windows-static, irix-mips3, sun4, Win64i...]
   > arch: [amd46, systemd]
   > //go:build arm64be
-  > run: aarch64-linu-gnu-gcc i386-win32 projects/linux-atm i?86-linux PowerPC64-linux i686-inux
+  > run: aarch64-linu-gnu-gcc i386-win32 projects/linux-atm i?86-linux PowerPC64-linux i686-inux s390x-64
+  > non_hierarchical: [wais]
+  > "CMAKE_SYSTEM_NAME": "Lnux"
+  > check-wine64: mipsn32el-linux-user x
+  > targets: mipsn32el-linux-user
+  > platforms: [linux/arn64, linux-arn64]
   > END
   $ target-lexicon check words.yml | grep -v '^!   '
   ! words.yml:1:28: error: unrecognized environment `gnueabhif`
@@ -170,8 +177,14 @@ An unknown environment after a machine and a system is wrong, and so is what is 
   ! more.yml:2:8: error: no tool has the name `amd46`
   ! more.yml:4:14: error: custom vendor `linu`
   ! more.yml:4:84: error: no tool has the name `i686-inux`
-  ! note: 1 word that may be a target isn't understood: --strict shows each
-  ! 4 of 5 targets refused
+  ! more.yml:6:23: error: no tool has the name `Lnux`
+  ! more.yml:9:13: error: no tool has the name `linux/arn64`
+  ! more.yml:9:26: error: no tool has the name `linux-arn64`
+  ! note: 2 words that may be targets aren't understood: --strict shows each
+  ! 7 of 9 targets refused
+  $ target-lexicon check more.yml 2>&1 | grep -o 'linux.arm64'
+  linux/arm64
+  linux-arm64
 
 Of a folder the files are read, except links and what tools make. A list is what has targets in half of its lines:
 

@@ -1,7 +1,7 @@
 // The page: shows the targets and names of the text field in the table. rows.mjs says what they are, entries.mjs what
 // is copied, search.mjs what is found. `build` puts target-lexicon.js, the module, these and this file into one script.
 import { DIALECTS, FIELDS, WRITTEN } from "../src/names.js";
-import { ParseError, Triple, load, meanings, targetsIn, translate } from "../src/target-lexicon.js";
+import { ParseError, Triple, check, load, meanings, targetsIn, translate } from "../src/target-lexicon.js";
 import { factsEntry, namesEntry, toolNames, versionOf } from "./entries.mjs";
 import { byReason, driverFacts, grouped, rowOf } from "./rows.mjs";
 import { about, found } from "./search.mjs";
@@ -56,7 +56,15 @@ const cell = (label, ...inside) => {
   return element("td", { role: "cell", "data-label": label }, value);
 };
 
-const linesOf = (text) => targetsIn(text).map((item) => item.text);
+/** The targets in a text, and the words that `check` refuses, which may be spelled like none. A list has only items. */
+function itemsOf(text) {
+  const items = targetsIn(text), starts = [...items.map((it) => it.start), Infinity];
+  if (!starts.some((start, index) => /\w/.test(text.slice(items[index - 1]?.end ?? 0, start)))) return items;
+  const refused = check(text).filter((it) => it.text === it.part && !it.isUnclear && !starts.includes(it.start));
+  return [...items, ...refused].sort((one, other) => one.start - other.start);
+}
+
+const linesOf = (text) => itemsOf(text).map((item) => item.text);
 
 // ---- rows
 
@@ -242,7 +250,7 @@ function typeOver(start, end, text) {
  * row of the target.
  */
 async function replaceTarget(text, fixed) {
-  const item = targetsIn(field.value).find((it) => it.text === text);
+  const item = itemsOf(field.value).find((it) => it.text === text);
   if (!item) return;
   const place = rowsInSight().findIndex((row) => row.target === text);
   typeOver(item.start, item.end, fixed);
@@ -379,10 +387,10 @@ const countOf = (count) => count.toLocaleString("en");
 /** Where this page is, with the host: a path alone that begins with two slashes would be another host. */
 const pageUrl = () => location.href.split(/[?#]/, 1)[0];
 
-/** What is chosen, as the query of a link. */
+/** What is chosen and searched, as the query of a link. */
 const chosen = () => {
-  const chosen = CHOICES.filter((id) => byId(id).value).map((id) => [id, byId(id).value]);
-  const query = new URLSearchParams(chosen).toString();
+  const chosen = [...CHOICES.map((id) => [id, id]), ["q", "search"]].map(([name, id]) => [name, byId(id).value]);
+  const query = new URLSearchParams(chosen.filter(([, value]) => value)).toString();
   return query && `?${query}`;
 };
 
@@ -466,8 +474,9 @@ function edited(isPage = false) {
 }
 
 let known; // the targets, with what they are searched by
+let heard;
 
-/** Shows the targets that the words of the search are about, which a click adds to the list. */
+/** Shows the targets that the words of the search are about, which a click adds to the list. A pause announces them. */
 function search() {
   known ??= new Map(TARGETS.map((target) => [target, about(target, Triple.parse(target), VALUES)]));
   const { targets: all, unknown, isAll } = found(byId("search").value, known);
@@ -480,10 +489,17 @@ function search() {
     });
     return button;
   });
-  const more = all.length - offers.length, of = unknown.map(shown).join(" or ");
+  // A number that no target is about is the version of a system.
+  const isVersion = (word) => all.length > 0 && /^[\d.]+$/.test(word), version = unknown.find(isVersion);
+  const more = all.length - offers.length, of = unknown.filter((it) => !isVersion(it)).map(shown).join(" or ");
   byId("found").replaceChildren(...of ? [dim(`No target is about ${of}.`)] : [],
+    ...version ? [dim(`The names of these targets state no version, such as ${version}.`)] : [],
     ...isAll ? [] : [dim("No target has all these words, but some of them:")], ...offers,
     ...more > 0 ? [dim(`and ${more} more`)] : []);
+  clearTimeout(heard);
+  heard = setTimeout(() => {
+    byId("heard").textContent = [...byId("found").childNodes].map((it) => it.textContent).join(" ");
+  }, 700);
 }
 
 async function copy(button, text, said) {

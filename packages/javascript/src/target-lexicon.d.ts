@@ -154,7 +154,8 @@ export class Triple {
   /**
    * The name in a dialect, or null if it has none. The vendor doesn't matter, nor what the dialect doesn't name; byte
    * order, pointer width and object format do. Versions are those that names state, as some of Python's do:
-   * `manylinux_2_17_x86_64` has `{ glibc: { major: 2, minor: 17 } }`. One of another system never applies.
+   * `manylinux_2_17_x86_64` has `{ glibc: { major: 2, minor: 17 } }`. One of another system never applies. That of
+   * glibc or of musl, if there isn't one of both, says the C library of a triple of Linux that states none.
    */
   nameIn(dialect: Dialect, versions?: NamedVersions): string | null;
   /**
@@ -223,6 +224,27 @@ export function meanings(text: string): Meaning[];
  * that are a name of a machine and a system, or are with a name that is suggested, and of a list all items.
  */
 export function targetsIn(text: string): { readonly text: string; readonly start: number; readonly end: number }[];
+
+/** A word of a text that is wrong, or isn't understood. */
+export interface Finding {
+  readonly text: string;
+  /** What is wrong of it, which is `source.slice(start, end)` of the whole text. */
+  readonly part: string;
+  readonly start: number;
+  readonly end: number;
+  /** What was perhaps meant by the part, or null. */
+  readonly suggestion: string | null;
+  /** The field that the part isn't a name of; null if no tool has the word as a name. */
+  readonly field: Field | null;
+  /** Whether it only may be a target, and isn't understood. */
+  readonly isUnclear: boolean;
+}
+
+/**
+ * What is wrong in any text, as the command's `check` says of a file: each word that resembles a name of some tool, or
+ * is spelled like a triple, and is neither; and each that may be a target and isn't understood.
+ */
+export function check(text: string): Finding[];
 
 /**
  * The canonical string of each target, or null for one that is refused. It is one call of the module for all targets,

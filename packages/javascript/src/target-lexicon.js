@@ -17,6 +17,7 @@ const SOURCE_TABLE = FACTS + ((FACTS_SIZE + 3) & ~3), TEXTS = SOURCE_TABLE + FIE
 const RANGE = ERROR + 4; // that of an error, or a part
 const REASON = ERROR + 12; // why a name isn't read or translated
 const MAX_MEANINGS = 32, MEANING_SIZE = 32, MEANING_NOTE = 28; // of a struct after a dialect, a status and a triple
+const FINDING_SIZE = 32; // where a word and its part begin and end, a status, the names for the part and how much stays
 const PAGE = 65536;
 const SHORT = 64; // up to here a loop over ASCII is faster than the encoder and the decoder
 const ROOM = 128; // the first try for a string that the module writes, beside a custom vendor
@@ -182,7 +183,7 @@ class Instance {
 
   /** The triple that a call makes of one. */
   changed(triple, name, ...values) {
-    check(this.call(name, this.triple(triple).start, ...values));
+    expectOk(this.call(name, this.triple(triple).start, ...values));
     return this.tripleAt();
   }
 
@@ -196,7 +197,7 @@ class Instance {
 
 const failure = (status) => new RangeError(`the module returned status ${status}`);
 
-function check(status) {
+function expectOk(status) {
   if (status !== OK) throw failure(status);
 }
 
@@ -521,7 +522,7 @@ export class Triple {
 
   facts() {
     const it = instance(), start = it.base + FACTS;
-    check(it.call("facts", it.triple(this).start, start, FACTS_SIZE));
+    expectOk(it.call("facts", it.triple(this).start, start, FACTS_SIZE));
     return factsOf(it.bytes.subarray(start, start + FACTS_SIZE), it.names[4]);
   }
 }
@@ -540,7 +541,7 @@ export function translate(name, from, to, libc = null, versions = null) {
 function meaningsBy(call, text) {
   const it = instance(), [start, size] = it.text(stringOf(text)), out = ((start + size + 3) & ~3) - it.base;
   it.hold(size + MAX_MEANINGS * MEANING_SIZE + ROOM);
-  check(it.call(call, start, size, it.base + out, MAX_MEANINGS, it.base + LENGTH));
+  expectOk(it.call(call, start, size, it.base + out, MAX_MEANINGS, it.base + LENGTH));
   return Array.from({ length: it.number(LENGTH) }, (_, at) => {
     const place = out + at * MEANING_SIZE, dialect = DIALECTS[it.number(place) - 1] ?? null,
       note = it.string(it.number(place + MEANING_NOTE));
@@ -560,7 +561,7 @@ export function settleAll(targets) {
   const it = instance(), given = it.text(text), size = given[1] + GROWTH * lines.length + 1;
   it.hold(given[1] + size);
   const out = it.base + TEXTS + given[1];
-  check(it.call("settle_lines", ...given, out, size, it.base + LENGTH));
+  expectOk(it.call("settle_lines", ...given, out, size, it.base + LENGTH));
   return it.read(out, it.number(LENGTH)).split("\n", lines.length).map((line) => line || null);
 }
 
@@ -573,25 +574,44 @@ export function changes(text) {
   return found;
 }
 
-export function targetsIn(text) {
-  const it = instance(), [start, size] = it.text(stringOf(text)), out = (start + size + 3) & ~3, found = [];
+/**
+ * What a call finds in a text, of so many bytes each, whose first two numbers are where a word begins and ends: the
+ * place of each, and the question which unit of UTF-16 of the text a number in it is, which is asked in their order.
+ */
+function foundIn(text, call, bytes) {
+  const it = instance(), [start, size] = it.text(stringOf(text)), out = (start + size + 3) & ~3;
   for (let most = 0, status = TOO_SMALL; status === TOO_SMALL; most = it.number(LENGTH)) {
-    it.hold(size + 8 * most + ROOM);
-    status = it.call("targets", start, size, out, most, it.base + LENGTH);
+    it.hold(size + bytes * most + ROOM);
+    status = it.call(call, start, size, out, most, it.base + LENGTH);
     if (status !== OK && status !== TOO_SMALL) throw failure(status);
   }
   let units = 0, before = start; // so many units of UTF-16 are before this place
-  const unitsTo = (place) => {
-    units += size === text.length ? place - before : decoder.decode(it.bytes.subarray(before, place)).length;
-    before = place;
+  const unitsAt = (place) => {
+    const next = start + it.number(place);
+    units += size === text.length ? next - before : decoder.decode(it.bytes.subarray(before, next)).length;
+    before = next;
     return units;
   };
-  for (let place = out; found.length < it.number(LENGTH); place += 8) {
-    const from = unitsTo(start + it.view.getUint32(place, true)),
-      to = unitsTo(start + it.view.getUint32(place + 4, true));
-    found.push({ text: text.slice(from, to), start: from, end: to });
-  }
-  return found;
+  return { it, places: Array.from({ length: it.number(LENGTH) }, (_, at) => out - it.base + at * bytes), unitsAt };
+}
+
+export function targetsIn(text) {
+  const { places, unitsAt } = foundIn(text, "targets", 8);
+  return places.map((place) => {
+    const start = unitsAt(place), end = unitsAt(place + 4);
+    return { text: text.slice(start, end), start, end };
+  });
+}
+
+export function check(text) {
+  const { it, places, unitsAt } = foundIn(text, "check", FINDING_SIZE);
+  return places.map((place) => {
+    const [word, start, end, last] = [0, 8, 12, 4].map((at) => unitsAt(place + at));
+    const [status, names, size, kept] = [16, 20, 24, 28].map((at) => it.number(place + at)),
+      part = text.slice(start, end), suggestion = names ? it.read(names, size) + part.slice(part.length - kept) : null;
+    return { text: text.slice(word, last), part, start, end, suggestion, field: FIELDS[status - 1] ?? null,
+      isUnclear: status === NO_ANSWER };
+  });
 }
 
 /**

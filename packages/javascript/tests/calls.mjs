@@ -44,6 +44,17 @@ const tests = {
     assert.deepEqual([all.targetsIn(""), all.targetsIn("- avr\n".repeat(50000)).length], [[], 50000]);
     assert.throws(() => all.targetsIn(1), TypeError);
   },
+  "what is wrong in a text is found": () => {
+    const text = "\u00e9 platform: [linux/amd64, linux/amd46, \u{1f600} linux/foo]\ntarget: arm64-apple-darwn22\n",
+      found = all.check(text);
+    const said = ({ text, part, suggestion, field, isUnclear }) => [text, part, suggestion, field, isUnclear];
+    assert.deepEqual(found.map(said),
+      [["linux/amd46", "linux/amd46", "linux/amd64", null, false], ["linux/foo", "linux/foo", null, null, true],
+        ["arm64-apple-darwn22", "darwn22", "darwin22", "operatingSystem", false]]);
+    assert.deepEqual(found.map(({ start, end }) => text.slice(start, end)), found.map(({ part }) => part));
+    assert.deepEqual([all.check(""), all.check("target: x86_64-linux-gnuu\n".repeat(500)).length], [[], 500]);
+    assert.throws(() => all.check(1), TypeError);
+  },
   "answers are the command's": () => {
     assert(answers.facts.length > 20000 && Object.keys(answers).length > 30);
     assert.deepEqual(differences({ ...all, WRITTEN }, answers).slice(0, 5), []);

@@ -189,6 +189,9 @@ def takes_lists(page):
         page.run("document.querySelector('.refused .offer').click()")
         page.until(f"{STATUS}.startsWith('3 targets: 3 parsed')")
         same([page.run(TEXT), page.run(NOTICE)], [text.replace("x86_64-pc-linx", "x86_64-pc-linux"), ""])
+    # words of a text that `check` refuses: one resembles two names, and one a name
+    typed(page, "run: docker build --platform linux/amr64,linux/amd46 .", "2 targets: 0 parsed, 2 refused")
+    same(page.run(TARGETS), ["linux/amr64", "linux/amd46"])
 
 
 def refuses_and_suggests(page):
@@ -332,6 +335,7 @@ SEARCHES = {"macos": ["aarch64-apple-darwin", "x86_64-apple-darwin"], "wasm": ["
 # What is said of words that are about no target, of words that no target has together, and with what is found.
 UNKNOWN = {"qwerty 9000": ("No target is about qwerty or 9000.", None),
            "nintendo switch": ("No target is about switch.", "armv6k-nintendo-3ds"),
+           "macos 14": ("The names of these targets state no version, such as 14.", "aarch64-apple-darwin"),
            "iphone wasi": ("No target has all these words, but some of them:", "aarch64-apple-ios"), "the": ("", None)}
 
 
@@ -348,7 +352,15 @@ def is_searched(page):
         set_value(page, "search", words, "input")
         same([page.run("[...document.querySelectorAll('#found span')].map((it) => it.textContent)[0] ?? ''"),
               page.run(f"{offers}[0] ?? null")], [said, first])
-    set_value(page, "search", "apple m1", "input")
+    heard = "document.getElementById('heard').textContent"
+    set_value(page, "search", "iphone", "input")
+    page.until(f"{heard} === 'aarch64-apple-ios'")
+    same(page.run(f"""(() => {{
+      document.getElementById("search").value = "apple m1";
+      document.getElementById("search").dispatchEvent(new Event("input"));
+      return {heard};
+    }})()"""), "aarch64-apple-ios")  # not yet, since nobody has paused
+    page.until(f"{heard} === 'aarch64-apple-darwin'")
     typed(page, "avr")
     press(page, "#found button")
     page.until(f"{STATUS}.startsWith('2 targets: 2 parsed')")
@@ -362,6 +374,8 @@ def is_searched(page):
     page.driver.get(page.run("location.origin") + "/?q=iphone")
     page.until(f"{offers}.length > 0")
     same([page.run(offers), page.run("document.getElementById('search').value")], [["aarch64-apple-ios"], "iphone"])
+    press(page, "#found button")
+    page.until("location.search === '?q=iphone' && location.hash.startsWith('#aarch64-apple-ios')")
 
 
 def copies_a_name(page):

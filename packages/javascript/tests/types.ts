@@ -1,10 +1,10 @@
 // For `tsc --strict`: each line after `@ts-expect-error` is an error, and no other one is.
 import {
-  DIALECTS, FIELDS, ParseError, Triple, changes, host, load, meanings, namesOf, settleAll, translate, version,
+  DIALECTS, FIELDS, ParseError, Triple, changes, check, host, load, meanings, namesOf, settleAll, translate, version,
 } from "target-lexicon";
 import type {
-  Architecture, BinaryFormat, Change, ChosenLibc, Dialect, Environment, Explained, Explanation, Facts, Field, Given,
-  GivenVersion, KnownVendor, Meaning, OperatingSystem, Values, Vendor, Version,
+  Architecture, BinaryFormat, Change, ChosenLibc, Dialect, Environment, Explained, Explanation, Facts, Field,
+  Finding, Given, GivenVersion, KnownVendor, Meaning, OperatingSystem, Values, Vendor, Version,
 } from "target-lexicon";
 
 // The types are the same, and neither is wider.
@@ -23,9 +23,9 @@ const ofTriple: Same<Answers<Triple>, {
 }> = true;
 const ofClass: Same<Answers<Omit<typeof Triple, "prototype">>, {
   parse: Triple; tryParse: Triple | null; read: Triple; explain: Explanation; of: Triple }> = true;
-const calls = { changes, host, load, meanings, settleAll, translate, version };
-const ofCalls: Same<Answers<typeof calls>, { changes: Change[]; host: Triple; load: Promise<void>; meanings: Meaning[];
-  settleAll: (string | null)[]; translate: string; version: string }> = true;
+const calls = { changes, check, host, load, meanings, settleAll, translate, version };
+const ofCalls: Same<Answers<typeof calls>, { changes: Change[]; check: Finding[]; host: Triple; load: Promise<void>;
+  meanings: Meaning[]; settleAll: (string | null)[]; translate: string; version: string }> = true;
 const ofErrors: Same<Omit<ParseError, keyof Error>, {
   readonly field: Field | null; readonly text: string; readonly part: string; readonly start: number;
   readonly end: number; readonly suggestion: string | null; readonly reason: string | null;

@@ -194,7 +194,7 @@ impl Dialect {
     /// The name of a triple in this dialect: that of its [shape](Dialect::shape). `None` if it has none, and if its vendor
     /// says that the target is another one: a system that no triple has, such as `wasip3`, or a variant such as `uwp`.
     /// There is none either if the machine of the triple can more than those for which the tool builds, so that the name would mean machines that
-    /// don't run the program: no `armel` of Debian, which is Armv5, for an Armv7. In GNU, whose compilers build for all levels of a machine,
+    /// don't run the program, or can less: of Debian an Armv7 has no `armel`, which is Armv5, and an Armv6 no `armhf`. In GNU, whose compilers build for all levels of a machine,
     /// a triple that has no name of a cross compiler is its own name where config.sub takes it. Nothing is allocated.
     ///
     /// ```

@@ -151,14 +151,9 @@ impl<'a> Evidence<'a> {
             self.width.add(if text == "32" { PointerWidth::U32 } else { PointerWidth::U64 });
             return None;
         }
-        // With a dash the ABI of x86-64 and Go have levels, such as `x86-64-v3`; after other words it is a version.
-        let has_levels = |it: &&str| self.text[..word.start].ends_with(*it);
-        let is_level = joint == Some(b'_') || ["x86-64-", "x86_64-", "amd64-", "arm64-"].iter().any(has_levels);
-        if before == Some(Kind::Machine) && is_level {
-            if let Some(level) = self.level_at(word.start) {
-                self.level.add(level);
-                return None;
-            }
+        if let Some(level) = self.level_at(word.start).filter(|_| before == Some(Kind::Machine)) {
+            self.level.add(level);
+            return None;
         }
         let Some(said) = said else {
             // A number after a machine may be a part of it: `x86_46`, `arm-7`.
@@ -213,9 +208,8 @@ impl<'a> Evidence<'a> {
         let rest = &self.text[start..];
         let is_here = |level: &str| {
             let after = rest.strip_prefix(level).unwrap_or("0");
-            let goes_on = after.strip_prefix('.').unwrap_or(after);
             !after.starts_with(|it: char| it.is_ascii_alphanumeric())
-                && !goes_on.starts_with(|it: char| it.is_ascii_digit())
+                && !after.trim_start_matches('.').starts_with(|it: char| it.is_ascii_digit())
         };
         let platform = match self.machine {
             Said::One(Architecture::X86_64) => "linux/amd64/",
@@ -385,8 +379,9 @@ impl<'a> Evidence<'a> {
             && (library.is_empty() || form == "n64" || !matches!(machine, Architecture::Mips64(_)))
     }
 
-    /// Whether the words may be of this triple: it says what they say, and nothing that contradicts them.
-    pub(crate) fn allows(&self, triple: &TripleRef<'_>) -> bool {
+    /// Whether the words may be of this: it says what they say, and nothing that contradicts them.
+    pub(crate) fn allows(&self, sense: &Sense<'_>) -> bool {
+        let triple = &sense.triple;
         let machine = triple.architecture;
         let is_arm = matches!(machine, Architecture::Arm(_) | Architecture::Aarch64(_));
         let has_no_version = match machine {
@@ -412,16 +407,15 @@ impl<'a> Evidence<'a> {
             Said::Unsaid => self.system == Said::Unsaid || !matches!(form, "android" | "ohos"),
             said => said.one() == Some(form),
         };
-        let floats = FloatAbi::of(triple);
         let order = machine.endianness().ok();
         has_machine
             && !self.is_other_machine
             && order.map_or(true, |it| self.order.allows(it))
             && has_width
             && has_form
-            && self.level == Said::Unsaid
+            && self.level.allows(sense.level)
             && self.allows_system(triple)
-            && match floats {
+            && match FloatAbi::of(triple) {
                 Some(it) => self.floats.allows(it),
                 // Only an Arm without a C library may pass them in either way.
                 None => self.floats == Said::Unsaid || is_arm && self.floats.one().is_some(),

@@ -206,8 +206,8 @@ impl<'a> Hints<'a> {
             return None;
         }
         if let Some(known) = dialect.name_inside(name) {
-            let triple = dialect.read(known).ok()?;
-            return evidence.allows(&triple).then_some(known);
+            let sense = dialect.sense(known).ok()?;
+            return evidence.allows(&sense).then_some(known);
         }
         let spelled = read(name).ok().filter(|it| !it.vendor.is_custom() && !has_number_of_abi(name));
         let said = evidence.sense().filter(|it| it.level.is_empty() && !evidence.has_title);
@@ -222,7 +222,7 @@ impl<'a> Hints<'a> {
     /// The nearest name that contradicts nothing which the words say.
     fn nearest(&self, dialect: Dialect) -> Option<&'static str> {
         let name = self.name;
-        let allows = |row: &Row| TripleRef::from_str(row.1).map_or(false, |it| self.evidence.allows(&it));
+        let allows = |row: &Row| dialect.sense(row.0).map_or(false, |it| self.evidence.allows(&it));
         let rows = dialect.rows_read().filter(|row| may_be_near(row, name));
         meant(
             name.as_bytes(),
@@ -265,11 +265,24 @@ impl<'a> Hints<'a> {
     }
 }
 
+/// The signs between words.
+const SIGNS: [char; 5] = ['/', '_', ' ', '.', '-'];
+
 /// A name with a dash for each separator, or nothing if it is longer than any that is near.
 fn joined(name: &str) -> Buffer<64> {
     let mut joined = Buffer::new();
-    let is_written = name.chars().try_for_each(|it| joined.write_char(if "/_ .".contains(it) { '-' } else { it }));
+    let is_written = name.chars().try_for_each(|it| joined.write_char(if SIGNS.contains(&it) { '-' } else { it }));
     is_written.map_or(Buffer::new(), |()| joined)
+}
+
+/// The name of a tool that is this one with the signs of a word: `linux/arm64` for `linux-arm64`, if it is for
+/// `linux/arn64`.
+fn with_signs_of(word: &str, name: &str) -> Option<&'static str> {
+    let mut signs = word.chars().filter(|it| SIGNS.contains(it));
+    let mut sign = |it| if SIGNS.contains(&it) { signs.next().unwrap_or(it) } else { it };
+    let mut spelled = Buffer::<64>::new();
+    name.chars().try_for_each(|it| spelled.write_char(sign(it))).ok()?;
+    Dialect::ALL.iter().find_map(|it| it.name_in_other_letters(spelled.as_str()))
 }
 
 /// The lengths first: all other names are farther than a misspelling.
@@ -329,7 +342,7 @@ impl<'a> Meant<'a> {
     #[must_use]
     pub fn by(word: &'a str) -> Option<Meant<'a>> {
         let hints = Hints::of(word)?;
-        let of_triple = Meant::of_triple(word).filter(Meant::is_target);
+        let of_triple = Meant::of_triple(word).filter(|it| it.is_target(&hints.evidence));
         of_triple.or_else(|| {
             let evidence = &hints.evidence;
             let is_known = match (evidence.machine(), evidence.system) {
@@ -342,6 +355,7 @@ impl<'a> Meant<'a> {
             }
             let mut names = Dialect::ALL.iter().filter_map(|it| hints.name_of(*it));
             let name = names.find(|name| !word.contains(name))?;
+            let name = with_signs_of(word, name).unwrap_or(name);
             let part = TextPart { text: word, start: 0 };
             Some(Meant { word, part, suggestion: Suggestion::of(name) })
         })
@@ -360,12 +374,13 @@ impl<'a> Meant<'a> {
         Some(Meant { word, part, suggestion })
     }
 
-    /// Whether it is a triple of a known vendor with a system.
-    fn is_target(&self) -> bool {
+    /// Whether it is a triple of a known vendor with a system, and says as much of how floating-point arguments are passed.
+    fn is_target(&self, evidence: &Evidence<'_>) -> bool {
         let mut room = Buffer::<{ LONGEST_PATH + 64 }>::new();
         let is_written = write!(room, "{self}").is_ok();
         let triple = TripleRef::from_str(room.as_str());
-        is_written && triple.map_or(false, |it| !it.vendor.is_custom()) && is_whole(room.as_str())
+        let has_floats = [Said::Unsaid, Evidence::of(room.as_str()).floats].contains(&evidence.floats);
+        is_written && has_floats && triple.map_or(false, |it| !it.vendor.is_custom()) && is_whole(room.as_str())
     }
 }
 

@@ -5,9 +5,10 @@
 //! built for the first. Machines of two kinds, such as those of two byte orders, are never at most each other.
 //!
 //! A name is written for a triple only if the triple's level is at most that for which the tool builds: otherwise the name
-//! would mean machines that don't run the program. A name that says no level, such as `arm`, is for all that the tool has.
+//! would mean machines that don't run the program; and if it isn't less. A name that says none, as `arm`, is for all.
+use crate::evidence::has_no_level;
 use crate::suggestions::known_names;
-use target_lexicon::{Architecture, ArmArchitecture, Endianness, Field, Named as _};
+use target_lexicon::{Architecture, ArmArchitecture, Endianness, Field, Named as _, X86_32Architecture::I386};
 
 /// An architecture, and a level of it that no triple states, such as `v3` of x86-64, or nothing.
 pub(crate) type Machine<'a> = (Architecture, &'a str);
@@ -30,9 +31,10 @@ pub(crate) fn machine_at(machine: Machine<'_>) -> Option<Architecture> {
     machine.1.parse().ok().or_else(same)
 }
 
-/// Whether a name may be written for a machine whose row has the other. `is_on_system` says whether it names a system.
+/// Whether a name may be written for a machine whose row has the other: that runs what is built for the first, and
+/// needs no more, if both say a level. `is_on_system` says whether it names a system.
 pub(crate) fn may_have_name(machine: Machine<'_>, named: Machine<'_>, is_on_system: bool) -> bool {
-    use ArmArchitecture::{Arm, Armeb};
+    use ArmArchitecture::{Arm, Armeb, Armv5t};
     match (machine.0, named) {
         // Without its version all that have the instruction set of Arm, and not only Thumb.
         (Architecture::Arm(_), (Architecture::Arm(Arm | Armeb), "")) => level_of(machine).1 & MICRO == 0,
@@ -41,7 +43,10 @@ pub(crate) fn may_have_name(machine: Machine<'_>, named: Machine<'_>, is_on_syst
             let on_systems = (named.0, if is_stated { "" } else { "gc" });
             !is_stated && !is_on_system || is_at_most(machine, on_systems)
         }
-        _ => is_at_most(machine, named),
+        // `i386` is the name of its family too, and names of Armv5 mean each one.
+        (Architecture::X86_32(I386) | Architecture::Arm(Armv5t), _) => is_at_most(machine, named),
+        (it, _) if machine.1.is_empty() && has_no_level(it) => is_at_most(machine, named),
+        _ => is_at_most(machine, named) && is_at_most(named, machine),
     }
 }
 
@@ -56,7 +61,7 @@ fn level_of((architecture, word): Machine<'_>) -> (Architecture, u32) {
         X86_64h => (X86_64, first(3)),
         X86_64 => (X86_64, first(1)),
         Sparcv9 => (Sparc64, 0),
-        Powerpc64 | Powerpc64le => (architecture, first(8)),
+        Powerpc64le => (architecture, first(8)),
         Riscv32(_) => (Riscv32(Bits32::Riscv32), extensions(architecture.name())),
         Riscv64(Bits64::Riscv64a23) => (Riscv64(Bits64::Riscv64), first(8)),
         Riscv64(_) => (Riscv64(Bits64::Riscv64), extensions(architecture.name())),
@@ -140,7 +145,6 @@ fn arm_level(arm: ArmArchitecture) -> u32 {
 mod tests {
     extern crate std;
     use super::*;
-    use crate::evidence::has_no_level;
     use std::{string::ToString as _, vec::Vec};
 
     fn machine(text: &str) -> Machine<'_> {
@@ -155,7 +159,7 @@ mod tests {
     thumbv6m thumbv7m thumbv7em, thumbv6m thumbv8m.base thumbv8m.main, thumbv7m thumbv8m.main, armv7r armv8r, \
     armeb armebv7r, thumbeb armebv7r, arm armv4t, x86_64 x86_64@v2 x86_64@v3 x86_64@v4, \
     x86_64@v2 x86_64h x86_64@v4, i386 i586, aarch64 aarch64@v8.1 aarch64@v8.5 aarch64@v9 aarch64@v9.2, \
-    powerpc64le powerpc64le@power9 powerpc64le@power10, \
+    powerpc64le powerpc64le@power9 powerpc64le@power10, powerpc64 powerpc64@power7 powerpc64@power8, \
     riscv64 riscv64imac riscv64gc riscv64@rva22u64 riscv64@rva23u64, \
     riscv32i riscv32im riscv32ima riscv32imac riscv32imafc riscv32gc";
 
@@ -166,7 +170,7 @@ mod tests {
 
     /// Between two commas each machine is at most each other one. No machine has a higher level than some number.
     const SAME: &str = "\
-        x86_64 x86_64@v1, x86_64h x86_64@v3, powerpc64 powerpc64@power8, aarch64 aarch64@v8, \
+        x86_64 x86_64@v1, x86_64h x86_64@v3, powerpc64le powerpc64le@power8, aarch64 aarch64@v8, \
         aarch64@v8.99 aarch64@v8.4000000000, riscv64gc riscv64@gc riscv64@rva20u64, riscv32gc riscv32@gc, \
         riscv64a23 riscv64@rva23u64, sparc64 sparcv9, i586 i686, arm armv4, armv4t thumbv4t, \
         armv5te armv5tej thumbv5te, armv6 armv6j armv6z, armv6k armv6kz, armv7 armv7a thumbv7a, armv7k armv7s, \
@@ -205,9 +209,10 @@ mod tests {
 
     /// Whether a name is for a machine, and after `=` machines with those of names.
     const NAMED: &str = "\
-true=armv7 arm, arm armv7, armv6 arm@armv6, arm arm@armv6, riscv64gc riscv64, riscv64imac riscv64
+true=armv7 arm, arm armv7, armv6 arm@armv6, arm arm@armv6, riscv64gc riscv64, riscv64imac riscv64, \
+    armv5t armv5te, i386 i686
 false=thumbv7m arm, armv7 armv5te, armv7 arm@armv6, x86_64h x86_64, x86_64@v3 x86_64, riscv64a23 riscv64, \
-    riscv64gc riscv64imac";
+    riscv64gc riscv64imac, arm@armv6 armv7, armv6 armv7, powerpc64@power7 powerpc64";
 
     #[test]
     fn names_are_for_machines_that_run_the_program() {
@@ -238,6 +243,8 @@ false=thumbv7m arm, armv7 armv5te, armv7 arm@armv6, x86_64h x86_64, x86_64@v3 x8
                 let back = tool.translate(name.as_str(), c_library, Dialect::Rust).ok();
                 let back = back.map(|it| Dialect::Rust.sense(it.as_str()).unwrap());
                 let machines = [Some(own), Some(named), back].map(|it| it.map(|it| (it.triple.architecture, it.level)));
+                let needs_no_more = is_at_most(machines[1].unwrap(), machines[0].unwrap());
+                assert!(needs_no_more || *tool == Dialect::Gnu, "{target} {tool} {name} {machines:?}");
                 let is_kept = |pair: &[Option<Machine<'_>>]| match *pair {
                     [Some(first), Some(second)] => is_at_most(first, second),
                     _ => true,

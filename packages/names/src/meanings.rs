@@ -91,6 +91,11 @@ pub fn meanings(text: &str) -> impl Iterator<Item = Meaning<'_>> + Clone {
     first.into_iter().chain(of_dialects).chain(last)
 }
 
+/// The first meaning of a name that is asked for: one function for all who ask, since the iterator's are large.
+pub(crate) fn meaning_with<'a>(text: &'a str, is_it: &mut dyn FnMut(&Meaning<'a>) -> bool) -> Option<Meaning<'a>> {
+    meanings(text).find(|it| is_it(it))
+}
+
 /// By whom a string is read that is no triple, or one with a custom vendor: by [`read`], if it gives a known vendor and
 /// a system; else, if it is no triple, by each dialect that means one triple by it, except GNU's, whose names are
 /// spelled like triples. If nobody reads it, the first that has it as a name says why no triple means the same.

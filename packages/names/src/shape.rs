@@ -15,6 +15,8 @@ pub(super) enum MachineRule {
     Version,
     /// As `Version`, and of x86 what Alpine builds for.
     Alpine,
+    /// As `Version`, and the i586 apart from the i686, which Windows needs.
+    I686,
     /// Of Arm what packages for its floating-point ABI are built for, or else the byte order.
     Packages,
     /// All that rustc tells apart.
@@ -121,6 +123,7 @@ impl MachineRule {
             (MachineRule::Rustc, Riscv64(Bits64::Riscv64)) => Riscv64(Bits64::Riscv64gc),
             (MachineRule::Rustc, Sparc64) if system == OperatingSystem::Solaris => Sparcv9,
             (MachineRule::Rustc, other) => other,
+            (MachineRule::I686, X86_32(I586)) if system != OperatingSystem::Windows => architecture,
             // What Alpine builds runs on an i586 and an i686.
             (MachineRule::Alpine, X86_32(x86)) => X86_32(if x86 == I386 { I386 } else { I586 }),
             (_, X86_32(_)) => X86_32(I686),
@@ -140,7 +143,7 @@ impl MachineRule {
             _ => "",
         };
         match (self, abi, system) {
-            (MachineRule::Version | MachineRule::Alpine, ..) => arm_of_version(arm),
+            (MachineRule::Version | MachineRule::Alpine | MachineRule::I686, ..) => arm_of_version(arm),
             // Packages for floating-point registers are for Armv7: that is an Arm on which they run, and one without a version.
             (MachineRule::Packages, "eabihf", _) => match arm {
                 Arm | Armv7a | Armv7ve | Thumbv7a | Thumbv7neon | Armv8 | Armv8a => Armv7,

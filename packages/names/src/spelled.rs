@@ -1,5 +1,7 @@
 //! What each part of a string spells.
-use crate::suggestions::{architecture_of, first_part, fit, is_digit_or_dot, known_names, Form, Place, Reading};
+use crate::suggestions::{
+    architecture_of, first_part, fit, is_digit_or_dot, is_dropped_version, known_names, Form, Place, Reading,
+};
 use crate::table::{NO_VENDORS, SYSTEMS};
 use core::fmt;
 use target_lexicon::{Architecture, DeploymentTarget, Field, OperatingSystem, Refusal, TextPart, VendorRef};
@@ -111,7 +113,8 @@ fn is_other_system(part: &str, rest: Option<&str>) -> bool {
 /// Whether a part is a machine, or a word for a byte order, a width, a version or how floating-point arguments are passed.
 pub(crate) fn is_of_machine(part: &str) -> bool {
     let is_machine = architecture_of(part).map_or(false, |it| it != Architecture::Unknown);
-    NO_VENDORS.contains(&part) || is_machine
+    let is_level = part.len() < 5 && part.strip_prefix('v').map_or(false, |it| is_dropped_version(it.as_bytes()));
+    NO_VENDORS.contains(&part) || is_level || is_machine
 }
 
 /// Whether a part is the name of a system, perhaps with a version: a known name, another spelling, or what rustc has.

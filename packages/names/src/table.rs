@@ -1720,9 +1720,10 @@ pub(crate) static TABLES: [Table; 15] = [
         65, 66, 67, 70, 71, 72, 73, 82,
     ],
     },
-    Table { rules: Rules { machine: MachineRule::Version, ..USUAL }, rows: &[
+    Table { rules: Rules { machine: MachineRule::I686, ..USUAL }, rows: &[
         ("x86_64", "x86_64-unknown-linux-gnu", Both),
         ("i686", "i686-unknown-linux-gnu", Both),
+        ("i586", "i586-unknown-linux-gnu", Both),
         ("aarch64", "aarch64-unknown-linux-gnu", Both),
         ("loongarch64", "loongarch64-unknown-linux-gnu", Both),
         ("m68k", "m68k-unknown-linux-gnu", Both),
@@ -1742,7 +1743,6 @@ pub(crate) static TABLES: [Table; 15] = [
         ("ia32e", "x86_64-unknown-linux-gnu", Read),
         ("athlon", "i686-unknown-linux-gnu", Read),
         ("pentium4", "i686-unknown-linux-gnu", Read),
-        ("i586", "i586-unknown-linux-gnu", Read),
         ("i486", "i386-unknown-linux-gnu", Read),
         ("i386", "i386-unknown-linux-gnu", Read),
         ("x86_64_v2", "x86_64-unknown-linux-gnu", Read),
@@ -1785,8 +1785,8 @@ pub(crate) static TABLES: [Table; 15] = [
         ("ppc64p7", "power7"),
     ],
     by_name: &[
-        2, 43, 16, 29, 28, 33, 30, 34, 35, 31, 36, 32, 19, 17, 27, 23, 22, 21, 1, 18, 44, 3, 4, 5, 37, 38, 39, 40, 6,
-        7, 8, 47, 49, 20, 9, 10, 11, 41, 12, 45, 13, 46, 14, 15, 42, 48, 0, 24, 25, 26,
+        3, 43, 17, 29, 28, 33, 30, 34, 35, 31, 36, 32, 20, 18, 27, 23, 22, 2, 1, 19, 44, 4, 5, 6, 37, 38, 39, 40, 7,
+        8, 9, 47, 49, 21, 10, 11, 12, 41, 13, 45, 14, 46, 15, 16, 42, 48, 0, 24, 25, 26,
     ],
     patterns: &[
     ],
@@ -1818,7 +1818,7 @@ pub(crate) static TABLES: [Table; 15] = [
     patterns: &[
     ],
     },
-    Table { rules: Rules { machine: MachineRule::Version, ..USUAL }, rows: &[
+    Table { rules: Rules { machine: MachineRule::I686, ..USUAL }, rows: &[
         ("x86_64", "x86_64-unknown-linux-gnu", Both),
         ("i686", "i686-unknown-linux-gnu", Both),
         ("aarch64", "aarch64-unknown-linux-gnu", Both),
@@ -2201,7 +2201,7 @@ pub(crate) static TABLES: [Table; 15] = [
         30, 31, 32, 33, 34, 35, 36, 37, 38, 39, 40, 41, 42, 43, 44, 78, 79, 80, 81, 140, 141, 142, 143, 144,
     ],
     },
-    Table { rules: Rules { machine: MachineRule::Version, abi: AbiRule::Dropped, ..USUAL }, rows: &[
+    Table { rules: Rules { machine: MachineRule::I686, abi: AbiRule::Dropped, ..USUAL }, rows: &[
         ("x86_64-linux", "x86_64-unknown-linux", Both),
         ("i686-linux", "i686-unknown-linux", Both),
         ("aarch64-linux", "aarch64-unknown-linux", Both),
@@ -2305,9 +2305,10 @@ pub(crate) static OTHER_MAKERS: &[&str] = &[
 ];
 
 pub(crate) static NO_VENDORS: &[&str] = &[
-    "le", "el", "be", "eb", "little", "big", "lsb", "msb", "32", "64", "n32", "n64", "o32", "x32", "32bit", "64bit",
-    "hf", "sf", "hardfp", "softfp", "hard", "soft", "hfp", "v5", "v5te", "v6", "v6l", "v7", "v7a", "v7l", "v7hf",
-    "v8", "v8a", "v9", "v2", "v3", "v4", "neon",
+    "le", "el", "be", "eb", "little", "big", "lsb", "msb", "32", "64", "n32", "n64", "o32", "x32", "ilp32", "lp64",
+    "32bit", "64bit", "hf", "sf", "hardfp", "softfp", "hard", "soft", "hfp", "v5te", "v6l", "v7a", "v7l", "v7hf",
+    "v8a", "neon", "a", "m", "r", "m.base", "m.main", "power9", "power10", "rva20", "rva22", "rva23", "rva22u64",
+    "rva23u64",
 ];
 
 pub(crate) static SYSTEMS: &[(&str, &str)] = systems![
@@ -2400,13 +2401,14 @@ pub(crate) static WORDS: &[(&str, &str)] = &[
     ("ps4", "other-system"), ("ps5", "other-system"), ("qcow2", "nothing"), ("qnx", "other-system"),
     ("r6000", "other-machine"), ("raspbian", "linux gnu armv6"), ("rc", "version"), ("release", "nothing"),
     ("relibc", "other-abi"), ("rhel", "linux gnu"), ("rocky", "linux gnu"), ("rootfs", "nothing"),
-    ("rpi", "nothing"), ("rpm", "nothing"), ("rtems", "other-system"), ("run", "nothing"), ("rva20u64", "nothing"),
-    ("rva22u64", "rva22u64"), ("rva23u64", "rva23u64"), ("s390", "other-machine"), ("s390_64", "s390x"),
-    ("sbom", "nothing"), ("sdk", "nothing"), ("sequoia", "darwin"), ("serenity", "other-system"),
-    ("server", "nothing"), ("setup", "nothing"), ("sf", "soft"), ("sh", "nothing"), ("sha", "nothing"),
-    ("sha256", "nothing"), ("sha512", "nothing"), ("shared", "nothing"), ("sig", "nothing"), ("sim", "sim"),
-    ("simulator", "sim"), ("slackware", "linux"), ("sles", "linux gnu"), ("so", "nothing"), ("softfloat", "soft"),
-    ("softfp", "soft"), ("sonoma", "darwin"), ("stable", "nothing"), ("standard", "nothing"), ("static", "nothing"),
+    ("rpi", "nothing"), ("rpm", "nothing"), ("rtems", "other-system"), ("run", "nothing"), ("rva20", "nothing"),
+    ("rva20u64", "nothing"), ("rva22", "rva22u64"), ("rva22u64", "rva22u64"), ("rva23", "rva23u64"),
+    ("rva23u64", "rva23u64"), ("s390", "other-machine"), ("s390_64", "s390x"), ("sbom", "nothing"),
+    ("sdk", "nothing"), ("sequoia", "darwin"), ("serenity", "other-system"), ("server", "nothing"),
+    ("setup", "nothing"), ("sf", "soft"), ("sh", "nothing"), ("sha", "nothing"), ("sha256", "nothing"),
+    ("sha512", "nothing"), ("shared", "nothing"), ("sig", "nothing"), ("sim", "sim"), ("simulator", "sim"),
+    ("slackware", "linux"), ("sles", "linux gnu"), ("so", "nothing"), ("softfloat", "soft"), ("softfp", "soft"),
+    ("sonoma", "darwin"), ("stable", "nothing"), ("standard", "nothing"), ("static", "nothing"),
     ("stripped", "nothing"), ("sun", "sun"), ("tahoe", "darwin"), ("tar", "nothing"), ("tbz", "nothing"),
     ("tgz", "nothing"), ("toolchain", "nothing"), ("tvos", "tvos"), ("tvossimulator", "tvos sim"),
     ("txt", "nothing"), ("txz", "nothing"), ("ubuntu", "linux gnu"), ("uclibc", "uclibc"),
@@ -2419,7 +2421,8 @@ pub(crate) static WORDS: &[(&str, &str)] = &[
     ("win64", "windows 64"), ("winarm64", "aarch64 windows"), ("windows", "windows"), ("winrt", "other-system"),
     ("winx64", "windows x86_64"), ("woa64", "aarch64 windows"), ("workstation", "nothing"), ("x32", "x86_64 32"),
     ("x86", "i686"), ("x86_32", "i686"), ("x86_64_v1", "x86_64"), ("x86_64_v2", "x86_64 v2"),
-    ("x86_64_v3", "x86_64 v3"), ("x86_64_v4", "x86_64 v4"), ("xbox", "other-system"), ("xbps", "linux"),
+    ("x86_64_v3", "x86_64 v3"), ("x86_64_v4", "x86_64 v4"), ("x86_64v1", "x86_64"), ("x86_64v2", "x86_64 v2"),
+    ("x86_64v3", "x86_64 v3"), ("x86_64v4", "x86_64 v4"), ("xbox", "other-system"), ("xbps", "linux"),
     ("xous", "other-system"), ("xz", "nothing"), ("zephyr", "other-system"), ("zip", "nothing"),
     ("zos", "other-system"), ("zst", "nothing"),
 ];

@@ -351,7 +351,7 @@ false=linux-arm armv7-unknown-linux-gnueabihf, linux-armv6 armv7-unknown-linux-g
 fn words_may_be_of_triples() {
     for (expected, rows) in ALLOWED.lines().map(|line| line.split_once('=').unwrap()) {
         for (text, of) in rows.split(", ").map(|row| row.split_once(' ').unwrap()) {
-            assert_eq!(Evidence::of(text).allows(&meaning(of, None)).to_string(), expected, "{text} {of}");
+            assert_eq!(Evidence::of(text).allows(&meaning(of, None).into()).to_string(), expected, "{text} {of}");
         }
     }
 }

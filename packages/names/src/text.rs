@@ -2,9 +2,10 @@
 use crate::buffer::Buffer;
 use crate::evidence::{only_machine, said};
 use crate::hints::LONGEST_PATH;
-use crate::near::{is_near_name, near};
+use crate::meanings::meaning_with;
+use crate::near::{is_near_name, is_of_tool, near};
 use crate::suggestions::{architecture_of, edits_between, known_names, vendor_suggestion};
-use crate::{meanings, Dialect, Evidence, Meaning, Meant, NameOf, Said, Sense};
+use crate::{Dialect, Evidence, Meaning, Meant, NameOf, Said, Sense};
 use core::fmt::Write;
 use core::iter::once;
 use target_lexicon::{Architecture, Field, OperatingSystem, TextPart, TripleRef, VendorRef};
@@ -113,7 +114,7 @@ impl Value {
         let end = key.rsplit(['/', '.']).next();
         let is_option = key.strip_prefix("target_").map_or(false, |it| CFG_OPTIONS.contains(&it));
         match () {
-            _ if KEYS.iter().any(|it| has(key, it)) && !is_option => Value::Target,
+            _ if (KEYS.iter().any(|it| has(key, it)) || has_arch(key)) && !is_option => Value::Target,
             _ if is_check && (PART_KEYS.iter().any(|it| has(key, it)) || matches!(end, Some("os" | "system"))) => {
                 Value::Part
             }
@@ -137,7 +138,7 @@ pub struct Word<'a> {
 /// What a word is.
 #[derive(Clone, Copy, Debug, PartialEq, Eq)]
 pub enum WordIs<'a> {
-    /// A target, whose first [meaning](meanings) is to this tool, or as a triple.
+    /// A target, whose first [meaning](crate::meanings()) is to this tool, or as a triple.
     Name(NameOf),
     /// It is no name. With the suggested one instead of a part it is the name that was perhaps meant.
     Misspelled(Meant<'a>),
@@ -262,11 +263,11 @@ fn trimmed(word: &str) -> &str {
     word.trim_matches(['-', '.', '/', '+', '_'])
 }
 
-/// What a key has of which values are targets.
-const KEYS: [&str; 4] = ["target", "triple", "platform", "arch"];
+/// What a key has of which values are targets, or `arch`.
+const KEYS: [&str; 3] = ["target", "triple", "platform"];
 
 /// What a key has of which values are parts of targets, as `os` is.
-const PART_KEYS: [&str; 4] = ["cpu", "goos", "abi", "processor"];
+const PART_KEYS: [&str; 5] = ["cpu", "goos", "abi", "processor", "cmake_system_name"];
 
 /// Options of rustc's `cfg`, whose values are words for a part of a target: what follows `target_`.
 const CFG_OPTIONS: [&str; 8] = ["abi", "arch", "endian", "env", "family", "os", "pointer_width", "vendor"];
@@ -278,6 +279,18 @@ const PATTERN: &[char] = &['$', '*', '%', '<', '>', '{', '}', '?'];
 fn has(text: &str, word: &str) -> bool {
     let mut windows = text.as_bytes().windows(word.len());
     windows.any(|it| it.eq_ignore_ascii_case(word.as_bytes()))
+}
+
+/// Whether a key has `arch` in it, as `goarch`, `archName` and `architecture` have, and `hierarchical` hasn't.
+fn has_arch(key: &str) -> bool {
+    let is_arch = |end: usize| {
+        let after = key[end..].split(|it: char| !it.is_ascii_alphabetic()).next().unwrap_or("");
+        let is_next = |it: &[u8]| matches!(it, [first, second, ..] if *first < b'a' && *second >= b'a');
+        is_next(after.as_bytes())
+            || ["", "s", "es", "itecture", "itectures"].iter().any(|it| after.eq_ignore_ascii_case(it))
+    };
+    let mut windows = key.as_bytes().windows(4).zip(4..);
+    windows.any(|(it, end)| it.eq_ignore_ascii_case(b"arch") && is_arch(end))
 }
 
 fn is_of_word(it: char) -> bool {
@@ -403,7 +416,7 @@ fn is_unclear(word: &str) -> bool {
     }
     let evidence = Evidence::of(word);
     let is_runner = RUNNERS.iter().any(|it| word.strip_prefix(it).map_or(false, |it| it.starts_with('-')));
-    let has_system = || word.contains('/') || is_like_triple(word);
+    let has_system = || word.contains('/') || is_like_triple(word) || word.split('-').next().map_or(false, is_of_tool);
     let is_said = evidence.machine() != Said::Unsaid || evidence.system != Said::Unsaid && has_system();
     is_said && !is_runner && name_of(word).is_none()
 }
@@ -419,20 +432,20 @@ const RUNNERS: [&str; 3] = ["ubuntu", "macos", "windows"];
 
 /// Whether a name says a machine and a system, or is a triple with a known vendor and more after it.
 pub(crate) fn is_whole(word: &str) -> bool {
-    let is_target = |Meaning { of, sense }: Meaning<'_>| {
+    let mut is_target = |Meaning { of, sense }: &Meaning<'_>| {
         sense.map_or(true, |Sense { triple, .. }| {
             let has_system = triple.operating_system != OperatingSystem::Unknown
                 || !triple.vendor.is_custom() && word.matches('-').count() > 1;
             triple.architecture != Architecture::Unknown
-                && (has_system || matches!(of, NameOf::Dialect(it) if it != Dialect::Gnu))
+                && (has_system || matches!(of, NameOf::Dialect(it) if *it != Dialect::Gnu))
         })
     };
-    meanings(word).any(is_target)
+    meaning_with(word, &mut is_target).is_some()
 }
 
 /// Whose name a word is. A custom vendor that resembles a name is no name, unless a tool has it.
 fn name_of(word: &str) -> Option<NameOf> {
-    let Meaning { of, sense } = meanings(word).next()?;
+    let Meaning { of, sense } = meaning_with(word, &mut |_| true)?;
     let is_misspelled =
         |it: Sense<'_>| vendor_suggestion(it.triple).is_some() && Dialect::all_with(word).all(|it| it == Dialect::Gnu);
     let own = sense.ok().filter(|_| of == NameOf::Triple);
@@ -442,10 +455,11 @@ fn name_of(word: &str) -> Option<NameOf> {
 /// Whether a word is a name of a tool, or a triple or spelled like one, without a custom vendor. GNU takes any vendor.
 pub(crate) fn is_known(word: &str) -> bool {
     let has_known_vendor = |it: Sense<'_>| !it.triple.vendor.is_custom();
-    meanings(word).any(|it| match it.of {
+    let mut is_known = |it: &Meaning<'_>| match it.of {
         NameOf::Dialect(dialect) => dialect != Dialect::Gnu,
         NameOf::Triple | NameOf::Spelling => it.sense.map_or(false, has_known_vendor),
-    })
+    };
+    meaning_with(word, &mut is_known).is_some()
 }
 
 fn what(word: &str) -> WordIs<'_> {

@@ -102,12 +102,14 @@ impl Dialect {
 
     /// The same, with a version that triples don't have: `manylinux_2_17_x86_64` of glibc 2.17, `musllinux_1_2_aarch64`
     /// of musl 1.2, `macosx_11_0_arm64` of macOS 11.0, also for `darwin`, or `android_21_x86_64` of Android's API level
-    /// 21. Where no name of the triple states one, or none of its system and C library is said, it is the name without:
+    /// 21. Where no C library is said, the version of glibc or of musl says it, if there isn't one of both. Where no
+    /// name of the triple states a version, or none of its system and C library is said, it is the name without:
     /// `win_amd64` of Python.
     ///
     /// # Errors
     ///
-    /// The triple has no name with this version, and why: no name states such a one, or the C library isn't said.
+    /// The triple has no name with this version, and why: no name states such a one, or it isn't said which of two
+    /// C libraries it is of.
     ///
     /// # Examples
     ///
@@ -121,6 +123,7 @@ impl Dialect {
     ///     Dialect::Python.write_with_versions(&triple, None, &versions).map(|it| it.to_string())
     /// };
     /// assert_eq!(tag("aarch64-apple-darwin").unwrap(), "macosx_11_0_arm64");
+    /// assert_eq!(tag("aarch64-unknown-linux").unwrap(), "manylinux_2_17_aarch64");
     /// assert_eq!(tag("x86_64-pc-windows-msvc").unwrap(), "win_amd64");
     /// assert_eq!(tag("x86_64-unknown-freebsd"), Err(WriteError::NeedsVersion));
     /// ```
@@ -130,12 +133,13 @@ impl Dialect {
         c_library: Option<ChosenLibc>,
         versions: &Versions,
     ) -> Result<Name, WriteError> {
-        let meant = completed(meant.into(), c_library);
+        let said = versions.c_library();
+        let meant = completed(completed(meant.into(), c_library), said);
         let version = versions.of(meant.triple);
         if let Some(name) = version.and_then(|it| self.name_of(meant, Some(it))) {
             return Ok(name);
         }
-        // A version of a C library that isn't said.
+        // Versions of two C libraries, and which of them isn't said.
         let libraries = [ChosenLibc::Glibc, ChosenLibc::Musl].map(|it| completed(meant, Some(it)));
         let would_state = |it: &Sense<'_>| versions.of(it.triple).is_some() && self.states_version(*it);
         if version.is_none() && libraries.iter().any(would_state) {
@@ -144,7 +148,7 @@ impl Dialect {
         if version.is_some() && self.states_version(meant) {
             return Err(WriteError::OtherVersion);
         }
-        self.write_with(meant, c_library)
+        self.write_with(meant, said.or(c_library))
     }
 
     /// The name in another dialect of what a name of this one means, with a C library if one is said. Nothing is

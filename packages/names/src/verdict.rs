@@ -1,8 +1,7 @@
 //! What a check says of a word.
+use crate::meanings::meaning_with;
 use crate::Suggest as _;
-use crate::{
-    is_vendor_of_rustc, meanings, vendor_suggestion, Dialect, Evidence, Meaning, Meant, NameOf, Sense, Word, WordIs,
-};
+use crate::{is_vendor_of_rustc, vendor_suggestion, Dialect, Evidence, Meaning, Meant, NameOf, Sense, Word, WordIs};
 use target_lexicon::{OperatingSystem, Refusal, Source, TextPart, TripleRef, VendorRef};
 
 /// What a check says of a word of [`words_in`](crate::words_in).
@@ -48,7 +47,7 @@ impl<'a> Word<'a> {
         // GNU takes any vendor, and versions of the Hurd, as in `i386-gnu0.3`.
         let is_hurd = |it: Sense<'_>| it.triple.operating_system == OperatingSystem::Hurd;
         let is_versioned = |it: Sense<'_>| text.contains("-gnu0.") && is_hurd(it);
-        let is_of_tool = |it: &Meaning<'_>| match it.of {
+        let mut is_of_tool = |it: &Meaning<'_>| match it.of {
             NameOf::Triple => false,
             NameOf::Dialect(Dialect::Gnu) if own.is_ok() => {
                 text.contains("-gnu0.") && it.sense.map_or(false, is_versioned)
@@ -57,7 +56,8 @@ impl<'a> Word<'a> {
             NameOf::Spelling => it.sense.map_or(true, |it| !it.triple.vendor.is_custom()) || self.near().is_none(),
             NameOf::Dialect(_) => true,
         };
-        match (meanings(text).filter(|_| !is_known).find(is_of_tool), is) {
+        let of_tool = if is_known { None } else { meaning_with(text, &mut is_of_tool) };
+        match (of_tool, is) {
             (Some(Meaning { of: NameOf::Dialect(dialect), sense: Err(why) }), _) => {
                 return Verdict::WithoutTriple(dialect, why);
             }

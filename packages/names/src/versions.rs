@@ -1,5 +1,5 @@
 //! Versions that names state and triples don't have: each is of a C library or a system.
-use crate::CLibrary;
+use crate::{CLibrary, ChosenLibc};
 use target_lexicon::{OperatingSystem, TripleRef};
 
 /// Of what a name states a version.
@@ -104,6 +104,15 @@ impl Versions {
     #[must_use]
     pub fn of<'t>(&self, triple: impl Into<TripleRef<'t>>) -> Option<(u16, u8)> {
         self.0[VersionOf::of(triple)? as usize]
+    }
+
+    /// The C library that a version says: glibc or musl, if only one of them has a version.
+    pub(crate) fn c_library(&self) -> Option<ChosenLibc> {
+        match [VersionOf::Glibc, VersionOf::Musl].map(|it| self.0[it as usize].is_some()) {
+            [true, false] => Some(ChosenLibc::Glibc),
+            [false, true] => Some(ChosenLibc::Musl),
+            _ => None,
+        }
     }
 
     /// Whether there is none.

@@ -94,7 +94,7 @@ const SENTENCES: &str = "\
 its words name x86_64-unknown-linux=x86_64-linux, gnu-make-linux-x64, softfp-game-linux-x64, hardfp-game-linux-x64, \
     32bit-game-linux-x64, 64bit-game-linux-x64, sim-game-linux-x64, newlib-game-linux-x64, linux-amd64-v3.2.1, \
     x86-64-v3.1-linux, x64-linux-none, x86_64.1-linux, linux-x64-r5, linux-x64-V5, eGPU-linux-x64, GNULinux-x64, \
-    linux-x64-v3
+    linux-x64-v12
 it names nothing known here=foo
 it names several machines=x86_64-universal, x86_64-arm64-mips-linux, multi-arch-linux, \
     openwrt-sdk-23.05_musl.Linux-x86_64
@@ -111,7 +111,10 @@ no triple says all that its words say: arm, several floating-point ABIs, linux=l
 no triple says all that its words say: x86_64, linux, several C libraries or ABIs=linux-x64-glibc-musl, \
     linux-x64-android-ohos, musl-tool-linux-x64-gnu
 no triple says all that its words say: x86_64, linux, another C library or ABI=linux-x64-gnuf32
-its words name x86_64-unknown-linux of the level v3=x86_64_v3-linux, x86-64-v3-linux, x86_64-v3-linux
+its words name x86_64-unknown-linux of the level v3=x86_64_v3-linux, x86-64-v3-linux, x86_64-v3-linux, linux-x64-v3, \
+    x86_64v3-linux, foo-x86_64.v3-linux.zip
+its words name powerpc64le-unknown-linux-gnu of the level power9=powerpc64le-power9-linux-gnu
+its words name armv6m-unknown-none-eabi=armv6-m-none-eabi
 its words say x86_64, its level v2, linux; here nobody knows `foo`=x86_64_v2-linux-foo
 its words say x86_64, 32 bits, linux; here nobody knows `foo`=linux-x64-32bit-foo-bar
 its words name x86_64-unknown-linux of the level v4=x86_64_v4-linux, linux-amd64v4
@@ -122,7 +125,8 @@ its words name aarch64-unknown-linux-gnu=linux-arm64-glibc2.28
 its words name aarch64-unknown-linux of the level v9=linux_arm64_v9.0
 its words name aarch64-unknown-linux of the level v9.2=linux_arm64_v9.2
 its words say aarch64, linux; here nobody knows `v9`=linux/arm64/v9.10
-its words name aarch64-unknown-linux of the level v8.2=linux_arm64_v8.2
+its words name aarch64-unknown-linux of the level v8.2=linux_arm64_v8.2, aarch64-v8.2-linux
+its words name riscv64-unknown-linux of the level rva23u64=riscv64-rva23-linux, foo-1.0-linux-riscv64-rva23.tar.gz
 its words name aarch64-unknown-linux=linux_arm64_v8.0
 its words name powerpc64-ibm-aix=ppc64-ibm-aix
 its words name x86_64-unknown-linux-newlib=linux-x64-newlib
@@ -130,7 +134,7 @@ its words name aarch64-apple-ios-macabi=maccatalyst-arm64
 its words name powerpc-unknown-linux-gnuspe=linux-ppc-gnuspe
 its words name x86_64-apple-ios=x86_64-iphonesimulator
 its words name aarch64-apple-ios-sim=arm64-iphonesimulator
-its words name aarch64-unknown-linux-gnu_ilp32=linux-arm64-glibc-32bit
+its words name aarch64-unknown-linux-gnu_ilp32=linux-arm64-glibc-32bit, aarch64-ilp32-linux-gnu
 its words name arm-unknown-linux-musleabi=linux-armel-musl
 its words name arm-unknown-linux-musleabihf=linux-armhf-musl, musl-tool-linux-arm-musleabihf
 its words name mips64-unknown-linux-muslabi64=linux-mips64-muslabi64
@@ -384,6 +388,7 @@ wasi/wasm=oci wasi-wasm";
 const LEVELS: &str = "\
 v4=rpm foo-1-1.x86_64_v4.rpm
 neon=rpm foo-1-1.armv7hnl.rpm
+power7=rpm glibc-2.17-317.el7.ppc64p7.rpm
 v3=debian libc6:amd64v3, debian foo_1.0-1_amd64v3.deb, pacman bash-5.2-1-x86_64_v3.pkg.tar.zst, go linux_amd64_v3, \
     go foo_1.2_linux_amd64_v3.tar.gz
 =go linux_amd64_v1
@@ -399,10 +404,10 @@ fn what_is_around_a_name_keeps_its_level() {
         assert_eq!(dialect.read_loosely(name).unwrap().level, level, "{dialect} {name}");
         let mut meanings = meanings(name).filter(|it| it.of == NameOf::Dialect(dialect));
         assert_eq!(meanings.next().unwrap().sense.unwrap().level, level, "{dialect} {name}");
-        // In Debian it has a name of this level, or none; `armhf` is for a higher one than Armv6.
+        // In Debian it has a name of this level, or none.
         let debian = dialect.translate(name, "glibc".parse().ok(), Dialect::Debian);
         let is_same = |it: target_names::Name| Dialect::Debian.read_loosely(it.as_str()).unwrap().level == level;
-        assert!(level == "armv6" || debian.map_or(true, is_same), "{dialect} {name} {debian:?}");
+        assert!(debian.map_or(true, is_same), "{dialect} {name} {debian:?}");
     }
 }
 

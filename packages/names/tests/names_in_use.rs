@@ -54,7 +54,7 @@ fn names_in_use_lead_to_other_tools() {
 /// triples with versions. One is asked for only where a name that states one means the triple: that of FreeBSD means
 /// none with musl. Of a triple that has a version none is asked for.
 const TAGS: &str = "\
-manylinux_2_17_x86_64=x86_64-unknown-linux-gnu glibc:2.17,macos:11.0
+manylinux_2_17_x86_64=x86_64-unknown-linux-gnu glibc:2.17,macos:11.0, x86_64-unknown-linux glibc:2.17
 manylinux_2_17_aarch64=aarch64-unknown-linux-gnu glibc:2.17
 musllinux_1_2_x86_64=x86_64-unknown-linux-musl musl:1.2,glibc:2.17
 musllinux_1_2_aarch64=aarch64-unknown-linux-musl musl:1.2
@@ -70,7 +70,7 @@ win_arm64=aarch64-pc-windows-msvc windows:10240.0
 win32=i686-pc-windows-msvc glibc:2.17
 OtherVersion=aarch64-apple-darwin macos:2.17, aarch64-unknown-linux-musl musl:11.0, \
     x86_64-unknown-linux-gnu glibc:1.2, x86_64-unknown-linux-gnu glibc:0.0, aarch64-linux-android android:0.0
-NeedsCLibrary=x86_64-unknown-linux glibc:2.17
+NeedsCLibrary=x86_64-unknown-linux glibc:2.17,musl:1.2
 linux_x86_64=x86_64-unknown-linux macos:11.0, x86_64-unknown-linux-gnu musl:1.2,macos:11.0
 NeedsVersion=aarch64-apple-darwin glibc:2.17, x86_64-unknown-freebsd glibc:2.17, \
     aarch64-apple-ios macos:11.0,glibc:2.17, aarch64-unknown-freebsd -, x86_64-apple-darwin -, aarch64-apple-ios -

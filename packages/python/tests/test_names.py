@@ -153,7 +153,7 @@ class Names(unittest.TestCase):
                                   (("x86_64-w64-mingw32", None, "node"), "win32-x64-gnu")):
             self.assertEqual(target_lexicon.translate(*words), translated)
         versions = {"glibc": (2, 17), "macos": [11], "freebsd": (14, 1)}
-        self.assertEqual([target_lexicon.translate(it, "oci", "python", "glibc", **versions)
+        self.assertEqual([target_lexicon.translate(it, "oci", "python", **versions)
                           for it in ("linux/amd64", "darwin/arm64", "freebsd/amd64", "windows/amd64")],
                          ["manylinux_2_17_x86_64", "macosx_11_0_arm64", "freebsd_14_1_RELEASE_amd64", "win_amd64"])
         freebsd = Triple("x86_64-unknown-freebsd")
@@ -206,8 +206,23 @@ class Names(unittest.TestCase):
                          [(("avr-none", 3, 11), True), (("x86_64-linxu", 18, 30), True)])
         self.assertEqual((target_lexicon.targets_in(""), len(target_lexicon.targets_in("- avr\n" * 50_000))),
                          ([], 50_000))
-        for wrong in None, b"avr", 1, ["avr"]:
-            self.assertRaisesRegex(TypeError, "the text must be a str, not ", target_lexicon.targets_in, wrong)
+        for call, wrong in itertools.product((target_lexicon.targets_in, target_lexicon.check),
+                                             (None, b"avr", 1, ["avr"])):
+            self.assertRaisesRegex(TypeError, "the text must be a str, not ", call, wrong)
+
+    def test_what_is_wrong_in_a_text(self):
+        text = ("\u00e9 platform: [linux/amd64, linux/amd46, \udcff linux/foo]\n\u00e9 target: arm64-apple-darwn22\n"
+                "target: x86_64-unknown-linux-gnuu\nx: armv7-unknown-linux-gnueabhif\n")
+        found = target_lexicon.check(text)
+        self.assertEqual([(it.text, it.part, it.suggestion, it.field, it.is_unclear) for it in found],
+                         [("linux/amd46", "linux/amd46", "linux/amd64", None, False),
+                          ("linux/foo", "linux/foo", None, None, True),
+                          ("arm64-apple-darwn22", "darwn22", "darwin22", "operating_system", False),
+                          ("x86_64-unknown-linux-gnuu", "gnuu", "gnu", "environment", False),
+                          ("armv7-unknown-linux-gnueabhif", "gnueabhif", None, "environment", False)])
+        self.assertEqual([text[it.start:it.end] for it in found], [it.part for it in found])
+        self.assertEqual(([], 500), (target_lexicon.check("0.5.0\ndist"),
+                                     len(target_lexicon.check("target: x86_64-linux-gnuu\n" * 500))))
 
     def test_wrong_arguments(self):
         linux = Triple("x86_64-linux")

@@ -6,8 +6,8 @@ use serde::ser::{Impossible, Serializer};
 use serde::{forward_to_deserialize_any, Deserialize, Serialize};
 use std::fmt::{self, Debug};
 use target_lexicon::{
-    triple, Architecture, BinaryFormat, Environment, OperatingSystem, Triple, TripleExt as _,
-    TripleRef, Vendor, VendorRef,
+    triple, Architecture, BinaryFormat, Environment, OperatingSystem, Triple, TripleExt as _, TripleRef, Vendor,
+    VendorRef,
 };
 
 struct Written<T>(T);
@@ -31,23 +31,12 @@ fn borrow<'de, T: Deserialize<'de>>(string: &'de str) -> Result<T, Error> {
 fn a_triple_is_its_string() {
     let triple = triple!("x86_64-acme-linux");
     assert_eq!(Written(&triple).to_string(), "x86_64-acme-linux");
-    assert_eq!(
-        Written(TripleRef::from(&triple)).to_string(),
-        "x86_64-acme-linux"
-    );
+    assert_eq!(Written(TripleRef::from(&triple)).to_string(), "x86_64-acme-linux");
     assert_eq!(read("x86_64-acme-linux"), Ok(triple.clone()));
     assert_eq!(borrow("x86_64-acme-linux"), Ok(TripleRef::from(&triple)));
     let refused = "Unrecognized operating system: bar";
-    assert_eq!(
-        read::<Triple>("x86_64-foo-bar").unwrap_err().to_string(),
-        refused
-    );
-    assert_eq!(
-        borrow::<TripleRef<'_>>("x86_64-foo-bar")
-            .unwrap_err()
-            .to_string(),
-        refused
-    );
+    assert_eq!(read::<Triple>("x86_64-foo-bar").unwrap_err().to_string(), refused);
+    assert_eq!(borrow::<TripleRef<'_>>("x86_64-foo-bar").unwrap_err().to_string(), refused);
 }
 
 #[test]
@@ -79,17 +68,11 @@ fn a_triple_is_written_as_it_is_printed() {
 
 #[test]
 fn a_field_is_its_string() {
-    fn is_its_string<T: for<'de> Deserialize<'de> + Serialize + PartialEq + Debug>(
-        string: &str,
-        refused: &str,
-    ) {
+    fn is_its_string<T: for<'de> Deserialize<'de> + Serialize + PartialEq + Debug>(string: &str, refused: &str) {
         let value: T = read(string).unwrap();
         assert_eq!(Written(&value).to_string(), string);
         let error = read::<T>("No name").unwrap_err();
-        assert_eq!(
-            error.to_string(),
-            format!("invalid value: string \"No name\", expected the name of {refused}")
-        );
+        assert_eq!(error.to_string(), format!("invalid value: string \"No name\", expected the name of {refused}"));
     }
     is_its_string::<Architecture>("armv7a", "an architecture");
     is_its_string::<Vendor>("apple", "a vendor");
@@ -183,10 +166,7 @@ impl Serializer for ToBinary {
 fn a_binary_format_is_written_with_the_same_strings() {
     fn is_written(value: impl Serialize, string: &str) {
         let bytes = value.serialize(ToBinary).unwrap();
-        assert_eq!(
-            (bytes[0] as usize, &bytes[1..]),
-            (string.len(), string.as_bytes())
-        );
+        assert_eq!((bytes[0] as usize, &bytes[1..]), (string.len(), string.as_bytes()));
     }
     let triple = triple!("armv7-acme-linux-musleabihf");
     is_written(&triple, "armv7-acme-linux-musleabihf");
@@ -204,14 +184,8 @@ fn a_binary_format_has_the_same_strings() {
     let bytes = b"\x11x86_64-acme-linux";
     let triple = triple!("x86_64-acme-linux");
     assert_eq!(Triple::deserialize(Binary(bytes)), Ok(triple.clone()));
-    assert_eq!(
-        TripleRef::deserialize(Binary(bytes)),
-        Ok(TripleRef::from(&triple))
-    );
-    assert_eq!(
-        Environment::deserialize(Binary(b"\x04musl")),
-        Ok(Environment::Musl)
-    );
+    assert_eq!(TripleRef::deserialize(Binary(bytes)), Ok(TripleRef::from(&triple)));
+    assert_eq!(Environment::deserialize(Binary(b"\x04musl")), Ok(Environment::Musl));
 }
 
 #[test]

@@ -9,15 +9,8 @@ use target_lexicon::*;
 
 #[test]
 fn versions_are_parsed() {
-    for (text, version) in [
-        ("17", "17.0.0"),
-        ("10.15.7", "10.15.7"),
-        ("65535.255.255", "65535.255.255"),
-    ] {
-        assert_eq!(
-            text.parse::<DeploymentTarget>().unwrap().to_string(),
-            version
-        );
+    for (text, version) in [("17", "17.0.0"), ("10.15.7", "10.15.7"), ("65535.255.255", "65535.255.255")] {
+        assert_eq!(text.parse::<DeploymentTarget>().unwrap().to_string(), version);
     }
     for text in ["", "x", "1.", "1.2.3.4", "65536", "1.256", "-1"] {
         assert!(text.parse::<DeploymentTarget>().is_err(), "{text}");
@@ -26,13 +19,7 @@ fn versions_are_parsed() {
 
 #[test]
 fn what_has_a_name_is_shown_as_it() {
-    let fields = [
-        Field::Architecture,
-        Field::Vendor,
-        Field::OperatingSystem,
-        Field::Environment,
-        Field::BinaryFormat,
-    ];
+    let fields = [Field::Architecture, Field::Vendor, Field::OperatingSystem, Field::Environment, Field::BinaryFormat];
     assert_eq!(
         fields.map(|it| it.to_string()).join(", "),
         "architecture, vendor, operating system, environment, binary format"
@@ -42,33 +29,13 @@ fn what_has_a_name_is_shown_as_it() {
         format!("{:>6}|{:<4}|{:^40}|", KnownVendor::Apple, PointerWidth::U64, triple),
         "apple|64|x86_64-apple-ios17.0.0|"
     );
-    assert_eq!(
-        format!(
-            "{} {} {}",
-            Endianness::Big,
-            CallingConvention::SystemV,
-            CDataModel::LP64
-        ),
-        "big SystemV LP64"
-    );
-    assert_eq!(
-        DeploymentTarget {
-            major: 10,
-            minor: 15,
-            patch: 7
-        }
-        .to_string(),
-        "10.15.7"
-    );
+    assert_eq!(format!("{} {} {}", Endianness::Big, CallingConvention::SystemV, CDataModel::LP64), "big SystemV LP64");
+    assert_eq!(DeploymentTarget { major: 10, minor: 15, patch: 7 }.to_string(), "10.15.7");
 }
 
 #[test]
 fn conversions_are_those_of_the_methods() {
-    for string in [
-        "x86_64-acme-linux",
-        "aarch64-apple-ios17.0",
-        "wasm32-wasip1",
-    ] {
+    for string in ["x86_64-acme-linux", "aarch64-apple-ios17.0", "wasm32-wasip1"] {
         let triple = Triple::parse(string).unwrap();
         assert_eq!(string.parse(), Ok(triple.clone()));
         assert_eq!(TripleRef::parse(string), Ok(TripleRef::from(&triple)));
@@ -85,20 +52,14 @@ fn an_error_leaves_the_function_that_owns_its_string() {
     fn environment(target: String) -> Result<Environment, Box<dyn Error + Send + Sync>> {
         Ok(TripleRef::parse(&target)?.settle()?.environment)
     }
-    assert_eq!(
-        environment("x86_64-linux-gnu".into()).unwrap(),
-        Environment::Gnu
-    );
+    assert_eq!(environment("x86_64-linux-gnu".into()).unwrap(), Environment::Gnu);
     let error = environment("x86_64-é-linux".into()).unwrap_err();
     let picture = "Unrecognized vendor: \\u{e9}\n  x86_64-\\u{e9}-linux\n         ^^^^^^";
     assert_eq!(format!("{error:#}"), picture);
     let line = "Unrecognized vendor: \\u{e9} (in x86_64-\\u{e9}-linux)";
     assert_eq!(error.to_string(), line);
     let error = error.downcast::<ParseTripleError>().unwrap();
-    assert_eq!(
-        error.to_error(),
-        "x86_64-é-linux".parse::<Triple>().unwrap_err()
-    );
+    assert_eq!(error.to_error(), "x86_64-é-linux".parse::<Triple>().unwrap_err());
 }
 
 #[test]
@@ -110,10 +71,7 @@ fn an_error_is_about_the_part_if_the_string_is_another_one() {
 
 #[test]
 fn an_error_shows_printable_ascii() {
-    for c in ('\0'..='\u{700}')
-        .chain('\u{2000}'..='\u{2100}')
-        .chain(['\u{3164}', '\u{e0001}'])
-    {
+    for c in ('\0'..='\u{700}').chain('\u{2000}'..='\u{2100}').chain(['\u{3164}', '\u{e0001}']) {
         let error = Triple::parse(&format!("x86_64-A{c}")).unwrap_err();
         let (line, picture) = (error.to_string(), format!("{error:#}"));
         let is_visible = |it: u8| (b' '..=b'~').contains(&it);
@@ -131,8 +89,7 @@ fn hash(value: impl Hash) -> u64 {
 
 #[test]
 fn a_borrowed_triple_is_equal_to_the_owned_one_and_hashed_as_it() {
-    let known =
-        ["unknown", "apple", "pc", "espressif", "wrs"].map(|it| it.parse::<Vendor>().unwrap());
+    let known = ["unknown", "apple", "pc", "espressif", "wrs"].map(|it| it.parse::<Vendor>().unwrap());
     let custom = ["", "pc", "acme"].map(|it| Vendor::Custom(CustomVendor::Static(it)));
     let vendors: Vec<Vendor> = known.into_iter().chain(custom).collect();
     let mut values = HashMap::new();
@@ -146,16 +103,11 @@ fn a_borrowed_triple_is_equal_to_the_owned_one_and_hashed_as_it() {
         // A map by the hash of the owned one is asked with what was parsed.
         values.insert(hash(&triple), triple);
     }
-    for (string, is_there) in [
-        ("aarch64-acme-ios17.1", true),
-        ("aarch64-pc-ios17.1", true),
-        ("aarch64-acme-ios17", false),
-    ] {
+    for (string, is_there) in
+        [("aarch64-acme-ios17.1", true), ("aarch64-pc-ios17.1", true), ("aarch64-acme-ios17", false)]
+    {
         let asked = TripleRef::from_str(string).unwrap();
-        assert_eq!(
-            values.get(&hash(asked)).map_or(false, |it| asked == *it),
-            is_there
-        );
+        assert_eq!(values.get(&hash(asked)).map_or(false, |it| asked == *it), is_there);
     }
 }
 
@@ -167,10 +119,7 @@ fn each_error_says_what_is_wrong() {
     let version = "x".parse::<DeploymentTarget>().unwrap_err();
     let vendor = VendorRef::from_str("Linux").unwrap_err();
     #[cfg(feature = "std")]
-    assert_eq!(
-        shown("foo".parse::<Triple>().unwrap_err()),
-        "Unrecognized architecture: foo"
-    );
+    assert_eq!(shown("foo".parse::<Triple>().unwrap_err()), "Unrecognized architecture: foo");
     let unknown = TripleRef::unknown();
     let said = [
         shown(version),
@@ -208,15 +157,7 @@ fn an_error_is_equal_to_its_copy_only() {
         let hashes: HashSet<u64> = all.iter().map(hash).collect();
         assert_eq!(hashes.len(), all.len());
     }
-    let refused = [
-        "foo",
-        "avr-Foo",
-        "avr-foo-foo",
-        "avr-foo-bar",
-        "avr-linux-foo",
-        "avr-gnu-foo",
-        "avr-elf-foo",
-    ];
+    let refused = ["foo", "avr-Foo", "avr-foo-foo", "avr-foo-bar", "avr-linux-foo", "avr-gnu-foo", "avr-elf-foo"];
     differ(&refused.map(|it| it.parse::<Triple>().unwrap_err()));
     differ(&refused.map(|it| TripleRef::from_str(it).unwrap_err()));
     differ(&refused.map(TripleRef::explain));

@@ -11,7 +11,7 @@ import itertools
 import os
 import sys
 from ctypes import POINTER, Structure, c_bool, c_char, c_char_p, c_size_t, c_uint8, c_uint16, c_uint32, c_void_p
-from typing import TYPE_CHECKING, Any, Callable, Iterator, List, Optional, Sequence, Tuple
+from typing import TYPE_CHECKING, Any, Callable, Iterator, List, Optional, Sequence, Tuple, Type
 
 from ._names import (
     FACT_NAMES, FIELDS, NEEDS_C_LIBRARY, NO_SUCH_CHANGE, NO_SUGGESTION, OK, TOO_SMALL, TRIPLE_WITHOUT_NAME,
@@ -126,6 +126,20 @@ class MeaningStruct(Struct):
         return None if self._note is None else self._note.decode()
 
 
+class FindingStruct(Struct):
+    """`struct lexicon_finding`."""
+
+    _fields_ = [("word", PartStruct), ("part", PartStruct), ("status", c_uint32), ("_names", c_void_p),
+                ("_names_size", c_size_t), ("_kept", c_size_t)]
+    word: PartStruct
+    part: PartStruct
+
+    def suggestion(self, text: bytes) -> Optional[str]:
+        """What was perhaps meant by the part of the text, or None."""
+        names = ctypes.string_at(self._names, self._names_size) if self._names else None
+        return None if names is None else (names + text[self.part.end - self._kept:self.part.end]).decode()
+
+
 # What loads a library, whose calls don't release the interpreter lock. PyPy has only the other one.
 _load_file = getattr(ctypes, "PyDLL", ctypes.CDLL)
 
@@ -235,8 +249,9 @@ _translate = _declare("lexicon_translate", c_uint32, c_char_p, c_size_t, c_uint3
 _change = _writing("lexicon_changes", c_char_p, c_size_t, c_size_t, POINTER(PartStruct))
 _meanings, _readers = (_declare(f"lexicon_{name}", c_char_p, c_size_t, POINTER(MeaningStruct), c_size_t, _SIZE)
                        for name in ("meanings", "readers"))
-_targets = _declare("lexicon_targets", c_char_p, c_size_t, POINTER(PartStruct), c_size_t, _SIZE,
-                    library=_RELEASING)
+_targets, _check = (_declare(f"lexicon_{name}", c_char_p, c_size_t, POINTER(struct), c_size_t, _SIZE,
+                             library=_RELEASING)
+                    for name, struct in (("targets", PartStruct), ("check", FindingStruct)))
 _number = _declare("lexicon_number", c_uint32, c_char_p, c_size_t, POINTER(c_uint32))
 _error_text = _writing("lexicon_error_text", c_char_p, c_size_t, _ERROR)
 _suggestion = _writing("lexicon_suggestion", c_char_p, c_size_t, _ERROR)
@@ -347,14 +362,26 @@ def changes(text: bytes) -> Iterator[Tuple[int, int, str]]:
 
 def targets(text: bytes) -> Iterator[Tuple[int, int]]:
     """The range in bytes of each target in a text."""
-    count = c_size_t(len(text) // 16 + 1)  # enough for most texts, which are then read once
+    # Most texts have fewer, and are then read once.
+    return ((it.start, it.end) for it in _each_of(_targets, PartStruct, text, len(text) // 16 + 1))
+
+
+def findings(text: bytes) -> Sequence[FindingStruct]:
+    """What is wrong in a text, or isn't understood."""
+    found: Sequence[FindingStruct] = _each_of(_check, FindingStruct, text, 16)
+    return found
+
+
+def _each_of(call: Callable[..., int], struct: Type[Struct], text: bytes, size: int) -> Sequence[Any]:
+    """What a call writes into an array, for which this size is tried first."""
+    count = c_size_t(size)
     while True:
         size = count.value
-        parts = (PartStruct * size)()
-        status = _targets(text, len(text), parts, size, count)
+        parts = (struct * size)()
+        status = call(text, len(text), parts, size, count)
         if status != TOO_SMALL:
             check(status)
-            return ((it.start, it.end) for it in parts[:count.value])
+            return parts[:count.value]
 
 
 def number(field: int, text: bytes) -> Tuple[int, int]:

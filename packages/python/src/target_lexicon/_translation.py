@@ -1,5 +1,5 @@
-"""From the name of one tool to that of another, what a name means to each, what is read as other names, and the targets
-in a text."""
+"""From the name of one tool to that of another, what a name means to each, what is read as other names, the targets in
+a text, and what is wrong with them."""
 import ctypes
 from typing import List, NamedTuple, Optional, Sequence, Tuple, Union
 
@@ -7,7 +7,7 @@ from . import _library, _names
 from ._dialects import NO_DIALECT, dialect_number, libc_number
 from ._errors import ParseError, encoded, range_in
 from ._named import shown
-from ._names import ChosenLibc, ChosenLibcName, Dialect, DialectName
+from ._names import FIELDS, ChosenLibc, ChosenLibcName, Dialect, DialectName
 from ._triple import Triple, _triple_of, versions_struct
 
 # How many characters of a name a message shows.
@@ -58,7 +58,7 @@ def translate(
 
     >>> translate("linux/arm64/v8", "oci", "rust", "glibc"), translate("arm64", Dialect.DEBIAN, Dialect.OCI)
     ('aarch64-unknown-linux-gnu', 'linux/arm64')
-    >>> translate("linux/amd64", "oci", "python", "glibc", glibc=(2, 17))
+    >>> translate("linux/amd64", "oci", "python", glibc=(2, 17))
     'manylinux_2_17_x86_64'
 
     Versions are those of `Triple.name_in`. Where `source` is None, the string is spelled like a triple. Names of
@@ -160,12 +160,62 @@ def targets_in(text: str) -> List[Target]:
     They are the words that are a name of a machine and a system, of any tool or as a triple, or are with a name that is
     suggested; and all items of a list.
     """
+    utf8, found = _bytes_of(text), []
+    index = _Index(utf8)
+    for start, end in _library.targets(utf8):
+        first, last = index.of(start), index.of(end)
+        found.append(Target(text[first:last], first, last))
+    return found
+
+
+class Finding(NamedTuple):
+    """A word of a text that is wrong, or isn't understood. With the `suggestion` instead of the `part` of it that is
+    wrong, which is `source[start:end]` of the whole text, it is what was perhaps meant."""
+
+    text: str
+    part: str
+    start: int
+    end: int
+    suggestion: Optional[str]
+    #: The field that the part isn't a name of; None if no tool has the word as a name.
+    field: Optional[str]
+    #: Whether it only may be a target, and isn't understood.
+    is_unclear: bool
+
+
+def check(text: str) -> List[Finding]:
+    """What is wrong in any text, as the command's `check` says of a file: each word that resembles a name of some tool,
+    or is spelled like a triple, and is neither; and each that may be a target and isn't understood.
+
+    >>> [(it.text, it.part, it.suggestion) for it in check("platform: [linux/amd64, linux/amd46]")]
+    [('linux/amd46', 'linux/amd46', 'linux/amd64')]
+    >>> [(it.text, it.is_unclear) for it in check("platform: linux/foo")]
+    [('linux/foo', True)]
+    """
+    utf8, found = _bytes_of(text), []
+    index = _Index(utf8)
+    for it in _library.findings(utf8):
+        word, first, last, end = map(index.of, (it.word.start, it.part.start, it.part.end, it.word.end))
+        field = FIELDS[it.status - 1] if it.status <= len(FIELDS) else None
+        found.append(Finding(text[word:end], text[first:last], first, last, it.suggestion(utf8), field,
+                             it.status == _names.NO_ANSWER))
+    return found
+
+
+def _bytes_of(text: str) -> bytes:
+    """A text in UTF-8, with a byte for a lone surrogate, which is in no target."""
     if not isinstance(text, str):
         raise TypeError(f"the text must be a str, not {type(text).__name__}")
-    utf8 = str.encode(text, errors="replace")  # a byte for a lone surrogate, which is in no target
-    found, at, index = [], 0, 0
-    for start, end in _library.targets(utf8):
-        first = index + len(utf8[at:start].decode())
-        at, index = end, first + len(utf8[start:end].decode())
-        found.append(Target(text[first:index], first, index))
-    return found
+    return str.encode(text, errors="replace")
+
+
+class _Index:
+    """The index in a string of each place in its bytes, from the first one to the last."""
+
+    def __init__(self, utf8: bytes) -> None:
+        self._utf8, self._at, self._index = utf8, 0, 0
+
+    def of(self, place: int) -> int:
+        self._index += len(self._utf8[self._at:place].decode())
+        self._at = place
+        return self._index

@@ -302,7 +302,8 @@ class Triple(FactsOfTriple, Immutable):
 
         The vendor doesn't matter, nor what the dialect doesn't name. A version, of one or two numbers, is that of
         glibc, musl, macos, ios, android (its API level), freebsd, netbsd, openbsd, dragonfly or windows (its build),
-        which names of Python state. One of another system or C library than the triple's never applies.
+        which names of Python state. One of another system or C library than the triple's never applies. That of glibc
+        or of musl, if there isn't one of both, says the C library of a triple of Linux that states none.
         """
         return _library.write(dialect_number(dialect), self._struct, versions_struct(versions))[0]
 
@@ -311,8 +312,8 @@ class Triple(FactsOfTriple, Immutable):
         """Why `name_in` has no name for these arguments, and what would help. None if it has one.
 
         >>> triple = Triple("aarch64-unknown-linux")
-        >>> triple.reason_without_name("debian"), triple.reason_without_name("python", glibc=(2, 17))
-        ('it depends on the C library: say glibc or musl', 'it depends on the C library: say glibc or musl')
+        >>> triple.reason_without_name("debian"), triple.reason_without_name("debian", glibc=(2, 17))
+        ('it depends on the C library: say glibc or musl', None)
         >>> Triple("avr-unknown-none").reason_without_name("go"), triple.reason_without_name("go")
         ('the tool has no name for this machine on any system', None)
         """

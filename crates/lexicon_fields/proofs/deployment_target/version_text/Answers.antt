@@ -4,7 +4,7 @@ use Rattle.lexicon_fields.proofs.Common.{◌<◌, ◌^◌, ◌∙◌, ◌∷◌,
 use Rattle.lexicon_fields.proofs.Common.{IsVersionInRange, Puts, dot, version_name, DeploymentTarget}
 use Rattle.std.specs.Str.{IsAscii, IsUtf8}
 use Rattle.std.proofs.{lemmas.Fmt.IsAscii-decimal, lemmas.Str.IsAscii-append, lemmas.Str.IsUtf8-from_ascii}
-use Rattle.lexicon_fields.proofs.ParsedSystems.{length-version, version-short}
+use Rattle.lexicon_fields.proofs.ParsedSystems.{length-version, numbers-short}
 use Rattle.lexicon_fields.proofs.Puts.{puts_then, put_taken}
 use Rattle.lexicon_fields.proofs.deployment_target.version_text.Goals as goal
 
@@ -26,53 +26,41 @@ version-put v major is p q r = puts_then (rw is at p) (puts_then q r)
 
 pub put_decimal-major_end-requires : goal.put_decimal-major_end-requires
 put_decimal-major_end-requires c =
-    let range : IsVersionInRange c.args.version = search rules in
-    omega (
-      arith,
-      ap (λ n. length (decimal n)) c.from.ensures,
-      length-version c.args.version,
-      version-short c.args.version range,
-    )
+    omega (arith, ap (λ n. length (decimal n)) c.from.ensures, numbers-short c.args.version (search rules))
 
 pub put_dotted-minor_end-requires : goal.put_dotted-minor_end-requires
 put_dotted-minor_end-requires c =
-    let range : IsVersionInRange c.args.version = search rules in
     let put = c.put_decimal-major_end.ensures in
     omega (
       arith,
       ap (λ n. length (decimal n)) c.from.ensures,
       put.end_is,
       put.same_length,
-      length-version c.args.version,
-      version-short c.args.version range,
+      numbers-short c.args.version (search rules),
     )
 
 pub put_dotted-patch_end-requires : goal.put_dotted-patch_end-requires
 put_dotted-patch_end-requires c =
-    let range : IsVersionInRange c.args.version = search rules in
     let put = puts_then c.put_decimal-major_end.ensures c.put_dotted-minor_end.ensures in
     omega (
       arith,
       ap (λ n. length (decimal n)) c.from.ensures,
       put.end_is,
       put.same_length,
-      length-version c.args.version,
-      version-short c.args.version range,
+      numbers-short c.args.version (search rules),
     )
 
 pub shared_ref_as_front-text : goal.shared_ref_as_front-text
 shared_ref_as_front-text c =
-    let range : IsVersionInRange c.args.version = search rules in
     let put = version-put c.args.version _ c.from.ensures c.put_decimal-major_end.ensures c.put_dotted-minor_end.ensures
     c.put_dotted-patch_end.ensures in
-    omega (arith, put.end_is, version-short c.args.version range)
+    omega (arith, put.end_is, length-version c.args.version, numbers-short c.args.version (search rules))
 
 pub unreachable-requires : goal.unreachable-requires
 unreachable-requires c =
-    let range : IsVersionInRange c.args.version = search rules in
     let put = version-put c.args.version _ c.from.ensures c.put_decimal-major_end.ensures c.put_dotted-minor_end.ensures
     c.put_dotted-patch_end.ensures in
-    c.in-Err.ensures.cases.0 (rw (put_taken put) (version-utf8 c.args.version range))
+    c.in-Err.ensures.cases.0 (rw (put_taken put) (version-utf8 c.args.version (search rules)))
 
 pub returns-clause-text : goal.returns-clause-text
 returns-clause-text c =

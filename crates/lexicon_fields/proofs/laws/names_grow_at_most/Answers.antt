@@ -7,7 +7,7 @@ use Rattle.lexicon_fields.specs.{Architecture.architecture_texts, BinaryFormat.b
 use Rattle.lexicon_fields.specs.{Environment.environment_values, Vendor.custom_vendor_of, Vendor.is_admitted}
 use Rattle.lexicon_fields.proofs.LookUpLemmas.{value_named-all, value_named-named_values, holds-if_read}
 use Rattle.lexicon_fields.proofs.LookUpLemmas.{option_map-holds, option_or-holds}
-use Rattle.lexicon_fields.proofs.ParsedSystems.{operating_system-max_growth}
+use Rattle.lexicon_fields.proofs.ParsedSystems.{operating_system-read}
 use Rattle.lexicon_fields.proofs.laws.names_grow_at_most.Goals as goal
 
 pub returns-clause-vendor : goal.returns-clause-vendor
@@ -37,4 +37,4 @@ returns-clause-architecture c = λ text a found.
     architecture_texts text a refl found)
 
 pub returns-clause-operating_system : goal.returns-clause-operating_system
-returns-clause-operating_system c = operating_system-max_growth
+returns-clause-operating_system c = λ text s is. (operating_system-read text s is).2

@@ -1,73 +1,15 @@
--- The parts of a string give its triple or refusal, and the places that the parts have; the clauses say the same of the
--- string.
-use Rattle.target_lexicon.proofs.Common.{◌+◌, ◌-◌, ◌∙◌, ◌∷◌, ◌≡◌, ◌≤◌, Err, List, None, Ok, Option, Result, Some, []}
-use Rattle.target_lexicon.proofs.Common.{ap, arith, length, refl, rules, subst, sym, ℕ, option_map_or, IfErr, IfOk}
-use Rattle.target_lexicon.proofs.Common.{IfSome, Implied, IsRefusedAfter, NotGiven, PlacedPart, placed_from, sources_at}
-use Rattle.target_lexicon.proofs.Common.{sources_of, Field, reading_of_parts, IsRefusedAs, ParsesAs, parts_of, Refusal}
-use Rattle.target_lexicon.proofs.Common.{refusal_with, special_values, Values, refusal_value, values_of_ref, TripleRef}
-use Rattle.std.specs.Borrow.{Bor}
-use Rattle.target_lexicon.specs.Explanation.{AreInString, AreSourcesOf, IsInString, part_from, part_value}
-use Rattle.target_lexicon.specs.{declared.reading.Reading.Reading, declared.explanation.Sources.Sources}
-use Rattle.target_lexicon.specs.{declared.explanation.Explanation.Explanation}
-use Rattle.target_lexicon.specs.{declared.refusal.Refusal.Refusal as BorrowedRefusal, GreedyReading.IsNotTaken}
-use Rattle.target_lexicon.specs.{GreedyReading.finished, GreedyReading.finished_sources, Parsing.parts_after}
-use Rattle.target_lexicon.specs.{Field.Architecture, Private.rest_parts}
-use Rattle.target_lexicon.proofs.SourceLemmas.{LeftAt, all_sources, sources-in, refused-in, sources-explained}
-use Rattle.target_lexicon.proofs.SourceLemmas.{refused-explained}
-use Rattle.target_lexicon.proofs.ReadParts.{AllGoesOn, goes_on-first, goes_on-next, placed-some, read-sources}
-use Rattle.target_lexicon.proofs.ReadParts.{refused-sources, texts-placed}
-use Rattle.target_lexicon.proofs.{ComputedReading.Holds, ComputedReading.ordinary-holds, PartLemmas.parts_of-some}
-use Rattle.target_lexicon.proofs.{GreedyPlacement.fields_from, GreedyPlacement.left_from}
+-- The parts of a string are read one after the other, each from the dash before it.
+use Rattle.target_lexicon.proofs.Common.{◌+◌, ◌-◌, ◌∙◌, ◌∷◌, ◌≡◌, ◌≤◌, List, None, Option, Some, [], ap, arith, length}
+use Rattle.target_lexicon.proofs.Common.{refl, rules, subst, sym, ℕ, option_map_or, IfSome, IsRefusedAfter, PlacedPart}
+use Rattle.target_lexicon.proofs.Common.{placed_from, sources_of, Field, ParsesAs, parts_of, refusal_with}
+use Rattle.target_lexicon.proofs.Common.{refusal_value, values_of_ref}
+use Rattle.std.specs.{Borrow.Bor}
+use Rattle.target_lexicon.specs.Explanation.{AreInString, AreSourcesOf, part_from, part_value}
+use Rattle.target_lexicon.specs.{declared.reading.Reading.Reading, Parsing.parts_after, Private.rest_parts}
+use Rattle.target_lexicon.proofs.GreedyPlacement.{State, Stop}
+use Rattle.target_lexicon.proofs.ReadParts.{HasRead, state_of, taken-read, text-read, text-refused}
+use Rattle.target_lexicon.proofs.SourceLemmas.{refused-in}
 use Rattle.target_lexicon.proofs.parse.explain.Goals as goal
-
--- the values or the refusal of a result
-abbrev outcome_of : Result TripleRef BorrowedRefusal → Result Values Refusal
-outcome_of (Ok triple) = Ok (values_of_ref triple)
-outcome_of (Err refusal) = Err (refusal_value refusal)
-
--- what the parts of a string that isn't special give
-record IsGivenBy (parts : List (List ℕ)) (it : Explanation) : Type 0 where
-  outcome : outcome_of it.triple ≡ reading_of_parts parts
-  sources : IfOk it.triple (λ _. sources_of it.sources ≡ all_sources Implied parts)
-  refused_sources : IfErr it.triple (λ _. sources_of it.sources ≡ all_sources NotGiven parts)
-  part : IfErr it.triple (λ refusal. LeftAt parts (part_value refusal.part))
-
-record IsExplained (text : List ℕ) (it : Explanation) : Type 0 where
-  triple : IfOk it.triple (λ triple. ParsesAs text (values_of_ref triple))
-  sources : IfOk it.triple (λ _. AreSourcesOf text (sources_of it.sources))
-  error : IfErr it.triple (λ refusal. IsRefusedAs text (refusal_value refusal))
-  refused : IfErr it.triple (λ refusal. IsRefusedAfter text (refusal_value refusal) (sources_of it.sources)
-      (part_value refusal.part))
-  ranges : AreInString text (sources_of it.sources)
-  range : IfErr it.triple (λ refusal. IsInString text (part_value refusal.part))
-
-module _ (text : List ℕ) (s : Sources) (ordinary : special_values text ≡ None) where
-  triple-explained : (triple : TripleRef) → IsGivenBy (parts_of text) (record { triple = Ok triple; sources = s })
-      → IsExplained text (record { triple = Ok triple; sources = s })
-  triple-explained triple given =
-      let reads : ParsesAs text (values_of_ref triple) = subst (Holds text) (sym given.outcome)
-      (ordinary-holds text ordinary) in
-      let sources = subst (AreSourcesOf text) (sym given.sources) (sources-explained text ordinary _ reads) in
-      record {
-        triple = reads;
-        sources = sources;
-        ranges = sources-in text _ sources;
-        error = tt;
-        refused = tt;
-        range = tt;
-      }
-
-  refusal-explained : (refusal : BorrowedRefusal)
-      → IsGivenBy (parts_of text) (record { triple = Err refusal; sources = s })
-      → IsExplained text (record { triple = Err refusal; sources = s })
-  refusal-explained refusal given =
-      let error : IsRefusedAs text (refusal_value refusal) = subst (Holds text) (sym given.outcome)
-      (ordinary-holds text ordinary) in
-      let refused : IsRefusedAfter text (refusal_value refusal) (sources_of s) (part_value refusal.part) =
-      subst (λ s. IsRefusedAfter text (refusal_value refusal) s (part_value refusal.part)) (sym given.refused_sources)
-      (refused-explained text ordinary _ _ error given.part) in
-      let within = refused-in text _ _ _ refused in
-      record { triple = tt; sources = tt; ranges = within.0; error = error; refused = refused; range = within.1 }
 
 -- the parts of what follows a dash begin after it
 rest-placed : (text left name : List ℕ) (others : Option (Bor (List ℕ))) → length left ≤ length text
@@ -100,122 +42,83 @@ rest-within text left name (Some other) rest within size is =
     ap (λ (found : Option (Bor (List ℕ))). length (option_map_or (λ (it : Bor (List ℕ)). it.now) found [])) is in
     omega (arith, within, size, same)
 
--- all parts of the string, and those that are left
-abbrev all_of : List ℕ → List PlacedPart
-all_of text = placed_from 0 (parts_of text)
-
--- what is refused after the parts before
-refused-explained-by : (text : List ℕ) (it : Reading) (refusal : BorrowedRefusal) → special_values text ≡ None
-    → (p : PlacedPart) (ps : List PlacedPart) → AllGoesOn it (p ∷ ps) (all_of text)
-    → IsNotTaken p it refusal → IsExplained text (record { triple = Err refusal; sources = it.sources })
-refused-explained-by text it refusal ordinary p ps on refused =
-    refusal-explained text it.sources ordinary refusal (record {
-      outcome = ap (λ (q : PlacedPart). Err (refusal_with refusal.expected q.text)) refused.refused
-          ∙ ap (λ (e : Option Field). Err (refusal_with e p.text)) refused.expected
-          ∙ (rw refused.unparsed at on.outcome) ∙ ap reading_of_parts (texts-placed 0 (parts_of text));
-      sources = tt;
-      refused_sources =
-          refused-sources it.expected (values_of_ref it.triple) (sources_of it.sources) p ps (all_of text) on
-          refused.unparsed
-          ∙ ap (λ parts. sources_at NotGiven (all_of text) (fields_from (Some Architecture) parts))
-          (texts-placed 0 (parts_of text));
-      part = subst (LeftAt (parts_of text)) (sym refused.refused) (record {
-        before = on.before;
-        rest = ps;
-        end = on.end;
-        left = sym (ap (left_from (Some Architecture)) (texts-placed 0 (parts_of text))) ∙ sym (on.unread)
-            ∙ rw refused.unparsed refl;
-      });
-    })
-
--- what is read when no part is left
-read-explained-by : (text : List ℕ) (it : Reading) (triple : TripleRef) (sources : Sources) → special_values text ≡ None
-    → AllGoesOn it [] (all_of text)
-    → values_of_ref triple ≡ finished it.expected (values_of_ref it.triple)
-    → sources_of sources ≡ finished_sources it.expected (sources_of it.sources)
-    → IsExplained text (record { triple = Ok triple; sources = sources })
-read-explained-by text it triple sources ordinary on reads from =
-    triple-explained text sources ordinary triple (record {
-      outcome = ap Ok reads ∙ on.outcome ∙ ap reading_of_parts (texts-placed 0 (parts_of text));
-      sources = from ∙ read-sources it.expected (values_of_ref it.triple) (sources_of it.sources) (all_of text) on
-          ∙ ap (λ parts. sources_at Implied (all_of text) (fields_from (Some Architecture) parts))
-          (texts-placed 0 (parts_of text));
-      refused_sources = tt;
-      part = tt;
-    })
+-- the first part of what is left
+part-left : (text name : List ℕ) (b : State) (rest : Option (Bor (List ℕ))) (left : Bor (List ℕ))
+    (others : Option (Bor (List ℕ))) → rest ≡ Some left → length left.now ≤ length text
+    → parts_of left.now ≡ name ∷ parts_after others
+    → IfSome others (λ rest. length left.now ≡ length name + 1 + length rest.now)
+    → HasRead text b (rest_parts text rest)
+    → HasRead text b (part_from (length text - length left.now) name ∷ rest_parts text others)
+part-left text name b rest left others is within parts size on =
+    subst (HasRead text b) (ap (rest_parts text) is ∙ left-is text left.now name others within parts size) on
 
 pub loop-rest-init : goal.loop-rest-init
 loop-rest-init c =
-    let start = c.start-reading.ensures in
-    let text = c.args.text.now in
-    let same : length text - length text ≡ 0 = omega arith in
-    record {
-      range = search rules;
-      reading =
-          rw same (goes_on-first _ _ _ _ (placed-some 0 _ (parts_of-some text)) start.expected start.values
-          start.sources);
-    }
+    let begun = c.start-reading.ensures in
+    let same : length c.args.text.now - length c.args.text.now ≡ 0 = omega arith in
+    record { range = search rules; reading = rw (same, begun.expected, begun.values, begun.sources) ([], Stop) }
 
 pub loop-rest-preserved : goal.loop-rest-preserved
 loop-rest-preserved c =
     let text = c.args.text.now in
-    let left = c.in-Some-rest.left.now in
+    let left = c.in-Some-rest.left in
     let name = c.first_part.result.0.now in
     let others = c.first_part.result.1 in
-    let within = c.loop-rest.invariant.range c.in-Some-rest.left c.in-Some-rest.is in
-    let is = ap (rest_parts text) c.in-Some-rest.is
-    ∙ left-is text left name others within c.first_part.ensures.parts c.first_part.ensures.size in
+    let within = c.loop-rest.invariant.range left c.in-Some-rest.is in
+    let on = part-left text name (state_of c.loop-rest.reading) c.loop-rest.rest left others c.in-Some-rest.is within
+    c.first_part.ensures.parts c.first_part.ensures.size c.loop-rest.invariant.reading in
     record {
-      range = λ rest found. rest-within text left name others rest within c.first_part.ensures.size found;
-      reading =
-          goes_on-next (part_from (length text - length left) name) (rest_parts text others) (all_of text)
-          c.loop-rest.reading c.take.new.self
-          (subst (λ ps. AllGoesOn c.loop-rest.reading ps (all_of text)) is c.loop-rest.invariant.reading)
-          c.in_default-take.ensures.taken;
+      range = λ rest found. rest-within text left.now name others rest within c.first_part.ensures.size found;
+      reading = taken-read text _ _ c.loop-rest.reading c.take.new.self on c.in_default-take.ensures.taken;
     }
 
-abbrev refused-at : (c : goal.After-result-1)
-    → IsExplained c.args.text.now (record { triple = Err c.in-Err.refusal; sources = c.take.new.self.sources })
+abbrev refused-at : (c : goal.After-result-1) → IsRefusedAfter c.args.text.now (refusal_value c.in-Err.refusal)
+    (sources_of c.take.new.self.sources) (part_value c.in-Err.refusal.part)
 refused-at c =
     let text = c.args.text.now in
-    let left = c.in-Some-rest.left.now in
+    let left = c.in-Some-rest.left in
     let name = c.first_part.result.0.now in
     let others = c.first_part.result.1 in
-    let within = c.loop-rest.invariant.range c.in-Some-rest.left c.in-Some-rest.is in
-    let is = ap (rest_parts text) c.in-Some-rest.is
-    ∙ left-is text left name others within c.first_part.ensures.parts c.first_part.ensures.size in
-    subst (λ (it : Reading). IsExplained text (record { triple = Err c.in-Err.refusal; sources = it.sources }))
-    (sym c.in-Err.ensures.same)
-    (refused-explained-by text c.loop-rest.reading c.in-Err.refusal (sym c.in_default.ensures)
-    (part_from (length text - length left) name) (rest_parts text others)
-    (subst (λ ps. AllGoesOn c.loop-rest.reading ps (all_of text)) is c.loop-rest.invariant.reading)
-    c.in-Err.ensures.refused)
+    let part = part_from (length text - length left.now) name in
+    let b = state_of c.loop-rest.reading in
+    let within = c.loop-rest.invariant.range left c.in-Some-rest.is in
+    let on = part-left text name b c.loop-rest.rest left others c.in-Some-rest.is within c.first_part.ensures.parts
+    c.first_part.ensures.size c.loop-rest.invariant.reading in
+    let refused = c.in-Err.ensures.refused in
+    subst (λ (it : Reading). IsRefusedAfter text (refusal_value c.in-Err.refusal) (sources_of it.sources)
+    (part_value c.in-Err.refusal.part)) (sym c.in-Err.ensures.same)
+    (subst (λ (p : PlacedPart). IsRefusedAfter text (refusal_with c.in-Err.refusal.expected p.text) b.sources p)
+    (sym refused.refused)
+    (subst (λ (e : Option Field). IsRefusedAfter text (refusal_with e name) b.sources part) (sym refused.expected)
+    (text-refused text b part (rest_parts text others) on refused.unparsed)))
 
 pub returns-in-Err-clause-error : goal.returns-in-Err-clause-error
-returns-in-Err-clause-error c = (refused-at c).error
+returns-in-Err-clause-error c = let it = refused-at c in (sym c.in_default.ensures, (it.0, it.1, it.2.refusal_holds))
 
 pub returns-in-Err-clause-refused : goal.returns-in-Err-clause-refused
-returns-in-Err-clause-refused c = (refused-at c).refused
+returns-in-Err-clause-refused c = refused-at c
 
 pub returns-in-Err-clause-ranges : goal.returns-in-Err-clause-ranges
-returns-in-Err-clause-ranges c = (refused-at c).ranges
+returns-in-Err-clause-ranges c = (refused-in _ _ _ _ (refused-at c)).0
 
 pub returns-in-Err-clause-range : goal.returns-in-Err-clause-range
-returns-in-Err-clause-range c = (refused-at c).range
+returns-in-Err-clause-range c = (refused-in _ _ _ _ (refused-at c)).1
 
-abbrev read-at : (c : goal.After-sources-1)
-    → IsExplained c.args.text.now (record { triple = Ok c.finish.result.0; sources = c.finish.result.1 })
+abbrev read-at : (c : goal.After-sources-1) → ParsesAs c.args.text.now (values_of_ref c.finish.result.0)
+    × AreSourcesOf c.args.text.now (sources_of c.finish.result.1)
+    × AreInString c.args.text.now (sources_of c.finish.result.1)
 read-at c =
-    read-explained-by c.args.text.now c.loop-rest.reading c.finish.result.0 c.finish.result.1 (sym c.in_default.ensures)
-    (subst (λ ps. AllGoesOn c.loop-rest.reading ps (all_of c.args.text.now))
-    (ap (rest_parts c.args.text.now) c.in_default-rest.is) c.loop-rest.invariant.reading)
-    c.finish.ensures.triple c.finish.ensures.sources
+    let b = state_of c.loop-rest.reading in
+    let on = subst (HasRead c.args.text.now b) (ap (rest_parts c.args.text.now) c.in_default-rest.is)
+    c.loop-rest.invariant.reading in
+    rw (c.finish.ensures.triple, c.finish.ensures.sources)
+    (text-read c.args.text.now b (sym c.in_default.ensures) on)
 
 pub returns-clause-triple : goal.returns-clause-triple
-returns-clause-triple c = (read-at c).triple
+returns-clause-triple c = (read-at c).0
 
 pub returns-clause-sources : goal.returns-clause-sources
-returns-clause-sources c = (read-at c).sources
+returns-clause-sources c = (read-at c).1
 
 pub returns-clause-ranges : goal.returns-clause-ranges
-returns-clause-ranges c = (read-at c).ranges
+returns-clause-ranges c = (read-at c).2

@@ -13,7 +13,7 @@ loop-at-init g c = record {
   used = search rules;
   unfailed = refl;
   moves = refl;
-  written = ([], takes-none g.W.Write.contents c.args.w.now, answers-none c.args.mode c.args.is_late c.args.bytes.now);
+  written = ([], takes-none, answers-none c.args.mode c.args.is_late c.args.bytes.now);
 }
 
 pub loop-at-preserved : goal.loop-at-preserved
@@ -43,8 +43,7 @@ loop-at-preserved g c =
       moves = room.5 ∙ inv.moves;
       written = (
         inv.written.0 ++ room.2,
-        takes-then g.W.Write.contents c.args.w.now c.loop-at.w c.make_room.new.w inv.written.0 room.2 inv.written.1
-            room.3,
+        takes-then inv.written.1 room.3,
         line-step c.args.mode c.args.is_late c.loop-at.late c.args.bytes.now c.loop-at.start c.in-Some.at inv.written.0
             room.2 c.loop-at.output c.push_line-used.new.out
             c.loop-at.used c.in-Ok.free c.push_line-used.result inv.written.2 inv.start found pushed room.4,
@@ -66,8 +65,7 @@ pub returns-in_default-make_room-clause-lines : goal.returns-in_default-make_roo
 returns-in_default-make_room-clause-lines g c =
     let inv = c.loop-at.invariant in
     let failed = c.in_default-make_room.ensures in
-    let part = takes-part g.W.Write.contents c.args.w.now c.loop-at.w c.make_room.new.w inv.written.0
-    (take c.loop-at.used c.loop-at.output) inv.written.1 (failed.2, failed.3) in (
+    let part = takes-part (take c.loop-at.used c.loop-at.output) inv.written.1 (failed.2, failed.3) in (
       refl,
       omega (arith, failed.1, inv.unfailed),
       inv.written.0 ++ take c.loop-at.used c.loop-at.output,
@@ -88,8 +86,7 @@ returns-in-Ok-write_all-clause-lines g c =
       inv.start,
       none,
       inv.written.0 ++ take c.loop-at.used c.loop-at.output,
-      takes-then g.W.Write.contents c.args.w.now c.loop-at.w c.write_all.new.writer inv.written.0
-          (take c.loop-at.used c.loop-at.output) inv.written.1 wrote.whole,
+      takes-then inv.written.1 wrote.whole,
       inv.written.2,
       wrote.moves ∙ inv.moves,
     )
@@ -98,8 +95,7 @@ pub returns-in-Err-clause-lines : goal.returns-in-Err-clause-lines
 returns-in-Err-clause-lines g c =
     let inv = c.loop-at.invariant in
     let failed = c.in-Err.ensures in
-    let part = takes-part g.W.Write.contents c.args.w.now c.loop-at.w c.write_all.new.writer inv.written.0
-    (take c.loop-at.used c.loop-at.output) inv.written.1 failed.begun in (
+    let part = takes-part (take c.loop-at.used c.loop-at.output) inv.written.1 failed.begun in (
       refl,
       omega (arith, failed.failed.1, inv.unfailed),
       inv.written.0 ++ take c.loop-at.used c.loop-at.output,

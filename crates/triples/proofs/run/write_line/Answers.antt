@@ -1,56 +1,37 @@
 -- What was written before an error is a beginning of the line.
-use Rattle.triples.proofs.Common.{◌++◌, ◌∷◌, [], line_feed, use_of}
+use Rattle.triples.proofs.Common.{◌∷◌, [], line_feed}
 use Rattle.triples.proofs.UseLemmas.{takes-all, takes-kept, takes-more, takes-part, takes-then}
 use Rattle.triples.proofs.run.write_line.Goals as goal
 
 pub returns-in_err-write_all-clause-begun : goal.returns-in_err-write_all-clause-begun
 returns-in_err-write_all-clause-begun g c =
-    takes-more (use_of g.W.Write.contents c.args.writer.now c.write_all.new.writer) c.args.word.now
-    (c.args.rest.now ++ line_feed ∷ []) (rw c.as_bytes.ensures.value at c.in_err-write_all.ensures.begun)
+    takes-more c.args.word.now _ (rw c.as_bytes.ensures.value at c.in_err-write_all.ensures.begun)
 
 pub returns-in_err-write_all-2-clause-begun : goal.returns-in_err-write_all-2-clause-begun
 returns-in_err-write_all-2-clause-begun g c =
     let first = rw c.as_bytes.ensures.value at c.in_ok-write_all.ensures.whole in
     let second = rw c.as_bytes-2.ensures.value at c.in_err-write_all-2.ensures.begun in
-    takes-part g.W.Write.contents c.args.writer.now c.write_all.new.writer c.write_all-2.new.writer c.args.word.now
-    (c.args.rest.now ++ line_feed ∷ []) first
-    (takes-more (use_of g.W.Write.contents c.write_all.new.writer c.write_all-2.new.writer) c.args.rest.now
-    (line_feed ∷ []) second)
+    takes-part _ first (takes-more c.args.rest.now (line_feed ∷ []) second)
 
 pub returns-in_err-write_all-3-clause-begun : goal.returns-in_err-write_all-3-clause-begun
 returns-in_err-write_all-3-clause-begun g c =
     let first = rw c.as_bytes.ensures.value at c.in_ok-write_all.ensures.whole in
     let second = rw c.as_bytes-2.ensures.value at c.in_ok-write_all-2.ensures.whole in
-    takes-part g.W.Write.contents c.args.writer.now c.write_all.new.writer c.write_all-3.new.writer c.args.word.now
-    (c.args.rest.now ++ line_feed ∷ []) first
-    (takes-part g.W.Write.contents c.write_all.new.writer c.write_all-2.new.writer c.write_all-3.new.writer
-    c.args.rest.now (line_feed ∷ []) second c.in_err-write_all-3.ensures.begun)
+    takes-part _ first (takes-part (line_feed ∷ []) second c.in_err-write_all-3.ensures.begun)
 
 pub returns-in_default-clause-begun : goal.returns-in_default-clause-begun
 returns-in_default-clause-begun g c =
     let first = rw c.as_bytes.ensures.value at c.in_ok-write_all.ensures.whole in
     let second = rw c.as_bytes-2.ensures.value at c.in_ok-write_all-2.ensures.whole in
-    let then = takes-then g.W.Write.contents c.write_all.new.writer c.write_all-2.new.writer c.write_all-3.new.writer
-    c.args.rest.now (line_feed ∷ []) second c.in_ok-write_all-3.ensures.whole in
-    let line = takes-then g.W.Write.contents c.args.writer.now c.write_all.new.writer c.write_all-3.new.writer
-    c.args.word.now (c.args.rest.now ++ line_feed ∷ []) first then in
-    takes-all (use_of g.W.Write.contents c.args.writer.now c.flush.new.self)
-    (c.args.word.now ++ (c.args.rest.now ++ line_feed ∷ []))
-    (takes-kept g.W.Write.contents c.args.writer.now c.write_all-3.new.writer c.flush.new.self
-    (c.args.word.now ++ (c.args.rest.now ++ line_feed ∷ [])) line c.flush.ensures.bytes c.flush.ensures.moved)
+    let line = takes-then first (takes-then second c.in_ok-write_all-3.ensures.whole) in
+    takes-all (takes-kept line c.flush.ensures.bytes c.flush.ensures.moved)
 
 pub returns-clause-whole : goal.returns-clause-whole
 returns-clause-whole g c =
     let first = rw c.as_bytes.ensures.value at c.in_ok-write_all.ensures.whole in
     let second = rw c.as_bytes-2.ensures.value at c.in_ok-write_all-2.ensures.whole in
-    let then = takes-then g.W.Write.contents c.write_all.new.writer c.write_all-2.new.writer c.write_all-3.new.writer
-    c.args.rest.now (line_feed ∷ []) second c.in_ok-write_all-3.ensures.whole in
-    let line = takes-then g.W.Write.contents c.args.writer.now c.write_all.new.writer c.write_all-3.new.writer
-    c.args.word.now (c.args.rest.now ++ line_feed ∷ []) first then in
-    takes-kept g.W.Write.contents c.args.writer.now c.write_all-3.new.writer c.flush.new.self
-    (c.args.word.now ++ (c.args.rest.now ++ line_feed ∷ [])) line c.flush.ensures.bytes c.flush.ensures.moved
+    let line = takes-then first (takes-then second c.in_ok-write_all-3.ensures.whole) in
+    takes-kept line c.flush.ensures.bytes c.flush.ensures.moved
 
 pub returns-clause-begun : goal.returns-clause-begun
-returns-clause-begun g c =
-    takes-all (use_of g.W.Write.contents c.args.writer.now c.flush.new.self)
-    (c.args.word.now ++ (c.args.rest.now ++ line_feed ∷ [])) (returns-clause-whole g c)
+returns-clause-begun g c = takes-all (returns-clause-whole g c)

@@ -5,8 +5,7 @@ use Rattle.triples.proofs.UseLemmas.{takes-beginning, takes-kept, takes-none, ta
 use Rattle.triples.proofs.streams.write_all.Goals as goal
 
 pub loop-rest-init : goal.loop-rest-init
-loop-rest-init g c =
-    record { taken = ([], refl, takes-none g.W.Write.contents c.args.writer.now); unfailed = refl; moves = refl }
+loop-rest-init g c = record { taken = ([], refl, takes-none); unfailed = refl; moves = refl }
 
 pub loop-rest-preserved : goal.loop-rest-preserved
 loop-rest-preserved g c =
@@ -17,8 +16,7 @@ loop-rest-preserved g c =
       taken = (
         inv.0 ++ piece,
         grind (arith, common_steps, take-append-drop, inv.1),
-        takes-then g.W.Write.contents c.args.writer.now c.loop-rest.writer c.write.new.self inv.0 piece inv.2
-            (record { moved = wrote.moved; known = wrote.bytes }),
+        takes-then {y = piece} inv.2 (record { moved = wrote.moved; known = wrote.bytes }),
       );
       unfailed = grind (arith, common_steps);
       moves = grind (arith, common_steps);
@@ -31,19 +29,15 @@ returns-then-taken-eq0-clause-begun g c =
     let rest = c.loop-rest.rest.now in
     let piece = take c.in-Ok.taken rest in
     let none = ap (λ (n : ℕ). inv.0 ++ take n rest) c.if-taken-eq0.true ∙ append-nil inv.0 in
-    takes-beginning _ (inv.0 ++ piece) rest _
-    (takes-then g.W.Write.contents c.args.writer.now c.loop-rest.writer c.write.new.self inv.0 piece inv.2
-    (record { moved = wrote.moved; known = wrote.bytes }))
+    takes-beginning rest (takes-then {y = piece} inv.2 (record { moved = wrote.moved; known = wrote.bytes }))
     (inv.1 ∙ ap (λ (t : List ℕ). t ++ rest) (sym none))
 
 pub returns-in_default-clause-begun : goal.returns-in_default-clause-begun
 returns-in_default-clause-begun g c =
     let inv = c.loop-rest.invariant.taken in
     let failed = c.in_default.ensures in
-    takes-beginning _ inv.0 c.loop-rest.rest.now _
-    (takes-kept g.W.Write.contents c.args.writer.now c.loop-rest.writer c.write.new.self inv.0 inv.2 failed.bytes
-    (failed.moved ∙ append-nil _)) inv.1
+    takes-beginning c.loop-rest.rest.now (takes-kept inv.2 failed.bytes (failed.moved ∙ append-nil _)) inv.1
 
 pub returns-clause-begun : goal.returns-clause-begun
 returns-clause-begun g c =
-    let inv = c.loop-rest.invariant.taken in takes-beginning _ inv.0 c.loop-rest.rest.now _ inv.2 inv.1
+    let inv = c.loop-rest.invariant.taken in takes-beginning c.loop-rest.rest.now inv.2 inv.1

@@ -1,4 +1,4 @@
-use Rattle.target_lexicon.proofs.Common.{◌<◌, ◌^◌, List, length, subst, sym, ℕ, values_of_ref}
+use Rattle.target_lexicon.proofs.Common.{◌<◌, ◌^◌, List, length, rules, subst, sym, ℕ, string_of, values_of_ref}
 use Rattle.target_lexicon.proofs.Lengths.{text_with-short}
 use Rattle.target_lexicon.proofs.triple_ref.TripleRef.write_to.Goals as goal
 
@@ -9,3 +9,7 @@ write_to-requires c =
     subst (λ (text : List ℕ). length text < 2 ^ 64) (sym c.pieces.ensures.text)
     (text_with-short _ t short.architecture short.environment short.binary_format
     (short.operating_system _ c.versions_are_in_range.ensures) c.pieces.ensures.vendor)
+
+pub returns : goal.returns
+unfolding string_of
+returns c = search rules

@@ -1,0 +1,119 @@
+"""What the types that MIR names are in Coq, and what is called by a path of MIR."""
+import re
+
+from mir_grammar import Unknown, close, split, std_trait
+
+BITS = {"u8": "8", "u16": "16", "u32": "32", "u64": "64", "usize": "usize_bits"}
+TEXTS = ("str", "std::string::String")
+PLAIN = {"bool": "bool", "char": "ℕ", "()": "unit", "std::fmt::Error": "unit", "std::fmt::Formatter": "Formatter",
+         "std::cmp::Ordering": "comparison", "std::ops::Range<usize>": "(ℕ × ℕ)",
+         "std::str::Split<char>": "(list (list ℕ))", "std::num::ParseIntError": "unit",
+         "H": "Fed", "__H": "Fed",  # a hasher, whatever it makes of what it is fed
+         **dict.fromkeys(BITS, "ℕ"), **dict.fromkeys(TEXTS, "(list ℕ)")}
+STD = {"option": [("None", 0), ("Some", 1)], "Result": [("Result__Ok", 1), ("Result__Err", 1)],
+       "comparison": [("Eq", 0), ("Gt", 0), ("Lt", 0)]}
+WRAPPERS = r"&(?!mut )|\*const |std::boxed::Box<(.*)>$|std::borrow::Cow<(.*)>$"
+
+
+def strip(type):
+    """A type without what refers to it or owns it: these are its value."""
+    while m := re.match(WRAPPERS, type):
+        type = next(filter(None, m.groups()), None) or type[m.end():]
+    return type
+
+
+def referred(type):
+    """What a reference of this type refers to."""
+    return strip(strip(type).removeprefix("&mut "))
+
+
+def arguments(type):
+    return split(type[type.index("<") + 1:-1])
+
+
+class Types:
+    """The types of Coq. One of the crate has the same variants, or fields in order, in Coq; rustc's order is kept."""
+
+    def __init__(self, crate, declared, known):
+        self.crate, self.declared, self.titles, self.constructors, self.fields = crate, declared, {}, {**STD}, {}
+        self.enums, self.records = {}, {}
+        self.numbers = {}  # the fields of numbers, with their type
+        for title, text in re.findall(r"^Inductive (\w+)[^:\n]*: Type :=\n(.*?)\.\n", known, re.M | re.S):
+            cases = re.findall(r"\| (\w+)(?: : ([^|]*?))?(?=\n|$)", text)
+            self.enums[title] = [(name, max(0, len(of.split("→")) - 1)) for name, of in cases]
+        for title, text in re.findall(r"^Record (\w+) : Type := \{\n(.*?)\n?\}\.", known, re.M | re.S):
+            self.records[title] = re.findall(r"^  (\w+) :", text, re.M)
+
+    def title(self, path):
+        """The name in Coq of a type of the crate."""
+        if path not in self.titles:
+            parts, name = self.declared.get(path), path.split("::")[-1]
+            if parts is None:
+                raise Unknown(f"the type {path}")
+            title = next((it for it in ("Rs" + name, name) if it in self.enums or it in self.records), None) \
+                or self.declare(path, name, parts)
+            if title in self.titles.values():
+                raise Unknown(f"the type {path}, whose name in Coq is another one")
+            is_enum = title in self.enums
+            own = [(f"{title}__{it[0]}", it[1]) if is_enum else f"{title}__{it}" for it in parts]
+            known = self.enums[title] if is_enum else self.records[title]
+            if sorted(own) != sorted(known) or not is_enum and own != known:
+                others = sorted(it if isinstance(it, str) else it[0] for it in {*own} ^ {*known})
+                raise Unknown(f"the type {path}, which isn't declared as {title} is in Coq: {' '.join(others)}")
+            (self.constructors if is_enum else self.fields)[title] = own
+            self.titles[path] = title
+        return self.titles[path]
+
+    def ranges(self):
+        """What Rust's types say of the numbers in each record: Coq's have no greatest number."""
+        for title in sorted({title for title, _ in self.numbers}):
+            below = [f"{field} it < 2 ^ {BITS[of]}" for (it, field), of in sorted(self.numbers.items()) if it == title]
+            yield f"Definition mir_range_{title} (it : {title}) : Prop := {' ∧ '.join(below)}.\n"
+
+    def declare(self, path, _name, _parts):
+        raise Unknown(f"the type {path}, which Coq doesn't have")
+
+    def head(self, type):
+        """The name in Coq of a type with constructors or fields."""
+        type = referred(type)
+        if m := re.match(r"std::(option::Option|result::Result)<", type):
+            return "option" if m[1] == "option::Option" else "Result"
+        return PLAIN.get(type) or self.title(type)
+
+    def coq(self, type):
+        type = referred(type)
+        if type in PLAIN:
+            return PLAIN[type]
+        if m := re.fullmatch(r"\[(.*?)(; [\w:]+)?\]", type):
+            return f"(list {self.coq(m[1])})"
+        if type[0] == "(":
+            first, *others = map(self.coq, split(type[1:-1]))
+            for it in others:
+                first = f"({first} × {it})"
+            return first
+        if re.match(r"std::(option::Option|result::Result)<", type):
+            return f"({self.head(type)} {' '.join(map(self.coq, arguments(type)))})"
+        return self.title(type)
+
+
+def of_call(path):
+    """The trait, or none, the type or the module, and the name of what is called."""
+    if path[0] == "<":
+        end = close(path)
+        owner, _, trait = path[1:end].rpartition(" as ")
+        name = re.match(r"::(\w+)", path[end + 1:])
+        if not owner or not name or "<" in trait and close(trait, trait.index("<")) != len(trait) - 1:
+            raise Unknown(f"the call of {path}")
+        if trait.startswith("std::"):
+            return std_trait(re.sub(r"<.*", "", trait)), owner, name[1]
+        if "<" in trait:
+            raise Unknown(f"the call of {path}, of a trait with parameters")
+        return trait, owner, name[1]
+    if m := re.search(r"<impl ", path):
+        end = close(path, m.start())
+        owner = path if path.startswith("std::") else path[m.end():end]  # the crate may have a module `str`
+        return None, owner, re.match(r"::(\w+)", path[end + 1:])[1]
+    while (plain := re.sub(r"::<[^<>]*>", "", path)) != path:
+        path = plain
+    owner, _, name = path.rpartition("::")
+    return None, owner, name

@@ -1,0 +1,5 @@
+use Rattle.target_lexicon.proofs.FixedPointLemmas.{fixed_exactly_outside}
+use Rattle.target_lexicon.proofs.laws.fixed_exactly_outside_families.Goals as goal
+
+pub returns : goal.returns
+returns c = fixed_exactly_outside c.round_is_normal_step.ensures

@@ -1,0 +1,6 @@
+use Rattle.target_lexicon.proofs.Common.{arith}
+use Rattle.target_lexicon.proofs.ReadValues.{read_plain, read_in_range}
+use Rattle.target_lexicon.proofs.laws.read_triples_are_plain.Goals as goal
+
+pub returns : goal.returns
+returns c = grind (arith, read_plain, read_in_range)

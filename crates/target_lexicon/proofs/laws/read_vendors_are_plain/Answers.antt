@@ -1,0 +1,5 @@
+use Rattle.target_lexicon.proofs.ReadValues.{read_plain}
+use Rattle.target_lexicon.proofs.laws.read_vendors_are_plain.Goals as goal
+
+pub returns : goal.returns
+returns c = read_plain

@@ -1,0 +1,5 @@
+use Rattle.target_lexicon.proofs.SettleLemmas.{second_changes_none}
+use Rattle.target_lexicon.proofs.laws.second_step_changes_one.Goals as goal
+
+pub returns : goal.returns
+returns c = second_changes_none

@@ -1,0 +1,6 @@
+use Rattle.target_lexicon.proofs.Common.{arith}
+use Rattle.target_lexicon.proofs.TextRoundTrips.{round_by_step}
+use Rattle.target_lexicon.proofs.triple_ref.TripleRef.normal.Goals as goal
+
+pub returns-clause-round : goal.returns-clause-round
+returns-clause-round c = grind (arith, round_by_step)
