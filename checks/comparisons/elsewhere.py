@@ -426,8 +426,8 @@ class Comparison(Report):
                       "musl|powerpc64|armebv7r|armv[67]--netbsdelf|-frc-|-rumprun-|-uwp-")
 
     def try_words(self, sub):
-        """What config.sub makes of each machine of the library with each word, of its own and of the library, in three
-        places, each word in each with some machines."""
+        """What config.sub makes of each machine of the library with each word, of its own and of the library, in one
+        place, each word in each with some machines."""
         text = crates.read(sub)
         lexicon = self.target_lexicon
         known = [str(it) for field in (lexicon.Vendor, lexicon.OperatingSystem, lexicon.Environment,
@@ -439,15 +439,15 @@ class Comparison(Report):
         machines = [*dict.fromkeys([*map(str, known_names(lexicon.Architecture)),
                                     *(row.name.rstrip("!") for row in self.rows_of("first")), "arm64"])]
         texts = [*dict.fromkeys(f"{machine}{before}-{word}{after}" for i, machine in enumerate(machines)
-                                for j, word in enumerate(words) for before, after in PLACES[(i + j) % 3::3]
-                                if word or not after)]
+                                for j, word in enumerate(words)
+                                for before, after in [PLACES[(i + j) % len(PLACES)]] if word or not after)]
         texts = [it for it in texts if not it.endswith("-")] + machines
         forms = forms_of_config_sub(text, texts)
         sample = texts[::len(texts) // 300]
         self.fact("config.sub, run many times in one shell, says what it says alone", (
             (it, forms[it], output("sh", sub, it).strip()) for it in sample))
         ours = {it: self.read(it, "gnu") for it in texts}
-        self.fact(f"of each of {len(machines)} machines with each of {len(words)} words in three places, what "
+        self.fact(f"of each of {len(machines)} machines with each of {len(words)} words in one place, what "
                   "config.sub refuses is refused", ((it, ours[it], None) for it in texts if not forms[it]))
         # A machine alone may be a program's name: that of Debian's `mingw32` is a row.
         self.fact("and what it takes has its system, or is refused", (
