@@ -163,6 +163,10 @@ An unknown environment after a machine and a system is wrong, and so is what is 
   > check-wine64: mipsn32el-linux-user x
   > targets: mipsn32el-linux-user
   > platforms: [linux/arn64, linux-arn64]
+  > FROM mips64le/debian:sid, "toolchains/aarch64-linux-android-clang3.8" of //cycle:rock in [linux-ppc64el]
+  > "archs": [armv7em, armv4b] and android-armeabi; arch=$arch64; magic_arch='\x7f\x46'; s/arch_64/x: "a/arch_64/x"
+  > HOSTARCH=`uname -m | sed -e s/sparc$/sparc32/`
+  > device("avr-watchdog", riscv32e_unknown_none_elf)
   > END
   $ target-lexicon check words.yml | grep -v '^!   '
   ! words.yml:1:28: error: unrecognized environment `gnueabhif`
@@ -180,8 +184,8 @@ An unknown environment after a machine and a system is wrong, and so is what is 
   ! more.yml:6:23: error: no tool has the name `Lnux`
   ! more.yml:9:13: error: no tool has the name `linux/arn64`
   ! more.yml:9:26: error: no tool has the name `linux-arn64`
-  ! note: 2 words that may be targets aren't understood: --strict shows each
-  ! 7 of 9 targets refused
+  ! note: 4 words that may be targets aren't understood: --strict shows each
+  ! 7 of 11 targets refused
   $ target-lexicon check more.yml 2>&1 | grep -o 'linux.arm64'
   linux/arm64
   linux-arm64

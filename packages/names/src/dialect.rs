@@ -9,6 +9,7 @@ use crate::table::refusals::SEVERAL;
 use crate::table::{Dialect, DIALECT_NAMES, ONLY_WRITTEN, TABLES, VERSION_RANGES};
 use core::cmp::Ordering;
 use core::fmt;
+use core::ops::Range;
 use core::str::FromStr;
 use target_lexicon::{DeploymentTarget, OperatingSystem, TripleRef};
 
@@ -103,8 +104,16 @@ impl Dialect {
 
     /// The rows of names without a version that are read: first those that are written, too.
     pub(crate) fn rows_read(self) -> impl Iterator<Item = &'static Row> + Clone {
-        let has = |row: &Row, way| row.2 == way && star_count(row.0) == 0;
-        let of = move |way| self.rows().iter().filter(move |row| has(row, way));
+        self.rows_of(0..usize::MAX)
+    }
+
+    /// Those of names with so many bytes.
+    pub(crate) fn rows_of(self, lengths: Range<usize>) -> impl Iterator<Item = &'static Row> + Clone {
+        let has = move |row: &Row, way| lengths.contains(&row.0.len()) && row.2 == way && star_count(row.0) == 0;
+        let of = move |way| {
+            let has = has.clone();
+            self.rows().iter().filter(move |row| has(row, way))
+        };
         of(Way::Both).chain(of(Way::Read))
     }
 

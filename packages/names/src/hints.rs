@@ -14,6 +14,7 @@ use crate::text::is_whole;
 use crate::{changes, read, Dialect, Evidence, FloatAbi, NameError, Said};
 use core::cell::Cell;
 use core::fmt::{self, Write as _};
+use core::ops::Range;
 use target_lexicon::{PointerWidth, Refusal, Source, TextPart, TripleRef};
 
 /// What is wrong with a name that a dialect doesn't have. `Display` says it.
@@ -119,16 +120,18 @@ impl Dialect {
 
     /// The name that is the same without upper and lower case.
     fn name_in_other_letters(self, name: &str) -> Option<&'static str> {
-        self.names().find(|it| it.eq_ignore_ascii_case(name))
+        let rows = self.rows_of(name.len()..name.len() + 1);
+        rows.map(|it| it.0).find(|it| it.eq_ignore_ascii_case(name))
     }
 
     /// The name that is in a path or has white space around it. If names have slashes, it ends the path: what follows
     /// may be a part of another name.
     fn name_inside(self, text: &str) -> Option<&'static str> {
-        let text = text.trim();
-        if text.len() > LONGEST_PATH {
+        let inside = text.trim();
+        if text.len() > LONGEST_PATH || inside == text && !text.contains(['/', '\\']) {
             return None;
         }
+        let text = inside;
         let slashes = text.match_indices(['/', '\\']).map(|(at, _)| at + 1);
         let ends = core::iter::once(0).chain(slashes).map(|at| &text[at..]);
         let may_follow = |after: &str| after.is_empty() || after.starts_with(['/', '\\']) && !self.has_slashes();
@@ -223,7 +226,7 @@ impl<'a> Hints<'a> {
     fn nearest(&self, dialect: Dialect) -> Option<&'static str> {
         let name = self.name;
         let allows = |row: &Row| dialect.sense(row.0).map_or(false, |it| self.evidence.allows(&it));
-        let rows = dialect.rows_read().filter(|row| may_be_near(row, name));
+        let rows = dialect.rows_of(lengths_near(name));
         meant(
             name.as_bytes(),
             name.as_bytes(),
@@ -244,9 +247,9 @@ impl<'a> Hints<'a> {
     fn machines_near(&self) -> Said<Machine> {
         let found = self.machines_near.get().unwrap_or_else(|| {
             let (mut machines, mut edits) = (Said::Unsaid, usize::MAX);
-            let rows = Dialect::ALL.iter().flat_map(|it| it.rows_read());
+            let rows = Dialect::ALL.iter().flat_map(|it| it.rows_of(lengths_near(self.name)));
             let name = joined(self.name);
-            for row in rows.filter(|row| may_be_near(row, self.name)) {
+            for row in rows {
                 let own = edits_between(name.as_str().as_bytes(), joined(row.0).as_str());
                 let own = own.filter(|it| *it <= edits);
                 let Some(own) = own.filter(|_| self.may_say_machine_of(row)) else {
@@ -285,9 +288,9 @@ fn with_signs_of(word: &str, name: &str) -> Option<&'static str> {
     Dialect::ALL.iter().find_map(|it| it.name_in_other_letters(spelled.as_str()))
 }
 
-/// The lengths first: all other names are farther than a misspelling.
-fn may_be_near(row: &Row, name: &str) -> bool {
-    row.0.len().abs_diff(name.len()) <= 2
+/// The lengths of names that may be near: all others are farther than a misspelling.
+fn lengths_near(name: &str) -> Range<usize> {
+    name.len().saturating_sub(2)..name.len() + 3
 }
 
 /// What the triple of a row says of the machine.
@@ -379,8 +382,10 @@ impl<'a> Meant<'a> {
         let mut room = Buffer::<{ LONGEST_PATH + 64 }>::new();
         let is_written = write!(room, "{self}").is_ok();
         let triple = TripleRef::from_str(room.as_str());
+        // What ends a path is right as it is.
+        let is_in_path = self.part.text.split('/').skip(1).any(|it| it == self.suggestion.names);
         let has_floats = [Said::Unsaid, Evidence::of(room.as_str()).floats].contains(&evidence.floats);
-        is_written && has_floats && triple.map_or(false, |it| !it.vendor.is_custom()) && is_whole(room.as_str())
+        is_written && !is_in_path && has_floats && triple.map_or(false, |it| !it.vendor.is_custom()) && is_whole(room.as_str())
     }
 }
 

@@ -48,7 +48,7 @@ use target_lexicon::{Architecture, Field, OperatingSystem, TextPart, TripleRef, 
 pub fn targets_in(text: &str) -> TargetsIn<'_> {
     let lines = text.strip_prefix('\u{feff}').unwrap_or(text);
     let is_list = lines.split('\n').all(|line| items(uncommented(line)).all(is_item));
-    TargetsIn { text, lines, line: "", is_list, value: Value::None, is_check: false }
+    TargetsIn { text, lines, line: "", is_list, value: Value::None, is_check: false, passed: [""; PASSED] }
 }
 
 /// The words of a text that a check looks at. Of a *list of targets*, in which more than half of the first items are
@@ -99,7 +99,12 @@ pub struct TargetsIn<'a> {
     value: Value,
     /// Whether [`words_in`] returned it.
     is_check: bool,
+    /// Some words that weren't given: texts repeat theirs.
+    passed: [&'a str; PASSED],
 }
+
+/// How many words are remembered.
+const PASSED: usize = 64;
 
 /// What a word is the value of: of a key whose values are targets, or parts of one.
 #[derive(Clone, Copy, Debug, PartialEq, Eq)]
@@ -212,20 +217,23 @@ impl<'a> TargetsIn<'a> {
             // An item of YAML is on its own.
             self.line = if word == "-" { after.trim_start() } else { after };
             let is_key = is_key(after);
+            let key = || Value::of(word.rsplit('/').next().unwrap_or(word), self.is_check);
             if is_key {
-                self.value = Value::of(word, self.is_check);
+                self.value = key();
             } else if self.is_check && is_key_of_tool(before, word, after) {
-                self.value = Value::Part;
+                self.value = if key() == Value::None { Value::None } else { Value::Part };
                 self.line = after[1..].trim_start();
             }
             let is_rest = word.starts_with(|it: char| "-._".contains(it) || it.is_ascii_digit());
-            let is_end = |it: &str| it.ends_with(PATTERN) && is_rest;
+            let is_end = |it: &str| it.ends_with(PATTERN) && is_rest || it.ends_with('$') || is_escape(it, word);
             if is_end(before) || after.starts_with(PATTERN) && word.ends_with(['-', '.', '_']) {
                 continue;
             }
             let is_value = self.value == Value::Target && !is_key;
             let is_part = self.value != Value::None && !is_key && (is_value || is_alone(before, word, after));
-            if !is_part && !word.contains(['-', '/', '_']) {
+            let hash = word.bytes().fold(0_usize, |hash, it| hash.wrapping_mul(31).wrapping_add(it.into()));
+            let passed = &mut self.passed[hash % PASSED];
+            if !is_part && (!word.contains(['-', '/', '_']) || *passed == word) {
                 continue;
             }
             let slashes = word.split('/').skip_while(|it| it.len() == word.len());
@@ -237,7 +245,15 @@ impl<'a> TargetsIn<'a> {
                 let is_name = |it: &&str| may_be_given(it, false) && name_of(it).is_some() && is_whole(it);
                 let tool = |it: &'a str| it.rsplit_once('-').map(|it| it.0);
                 let ends = |it: &'a str| [it.split_once('-').map(|it| it.1), tool(it), tool(it).and_then(tool)];
-                let ends = parts.clone().flat_map(ends).flatten().filter(|it| it.matches('-').count() > 1);
+                // What ends within a number is no word: `linux-android-clang3` of `clang3.8`.
+                let is_cut = |it: &&str| {
+                    let end = it.as_ptr() as usize - word.as_ptr() as usize + it.len();
+                    let is_number = |it: Option<char>| it.map_or(false, |it| it.is_ascii_digit());
+                    let after = word[end..].strip_prefix('.');
+                    is_number(it.chars().next_back()) && after.map_or(false, |it| is_number(it.chars().next()))
+                };
+                let whole = parts.clone().filter(|it| !is_cut(it));
+                let ends = whole.clone().flat_map(ends).flatten().filter(|it| it.matches('-').count() > 1);
                 let near = || ends.clone().find(|it| is_near_name(it)).map(|it| (it, false));
                 if let Some(name) = parts.clone().find(is_name) {
                     // Another folder or file of a path may be misspelled.
@@ -247,7 +263,7 @@ impl<'a> TargetsIn<'a> {
                     return misspelled.or(Some((name, false)));
                 }
                 let is_part = is_part && is_alone(before, word, after);
-                let found = parts.find_map(|it| Some((it, clarity(it, is_value, is_part)?)));
+                let found = whole.clone().find_map(|it| Some((it, clarity(it, is_value, is_part)?)));
                 let is_clear = matches!(found, Some((_, false)));
                 if let Some(found) = found.filter(|_| is_clear).or_else(near).or(found) {
                     return Some(found);
@@ -255,12 +271,21 @@ impl<'a> TargetsIn<'a> {
             } else if let Some(part) = parts.find(|it| given(it, is_value).is_some()) {
                 return Some((part, false));
             }
+            if !is_part {
+                *passed = word;
+            }
         }
     }
 }
 
 fn trimmed(word: &str) -> &str {
     word.trim_matches(['-', '.', '/', '+', '_'])
+}
+
+/// Whether a word after a backslash is a byte in hexadecimal, as in `\x46`.
+fn is_escape(before: &str, word: &str) -> bool {
+    let mut bytes = word.bytes();
+    before.ends_with('\\') && word.len() == 3 && bytes.next() == Some(b'x') && bytes.all(|it| it.is_ascii_hexdigit())
 }
 
 /// What a key has of which values are targets, or `arch`.
@@ -390,7 +415,8 @@ fn given(word: &str, is_value: bool) -> Option<WordIs<'_>> {
 fn clarity(word: &str, is_value: bool, is_part: bool) -> Option<bool> {
     // Prose writes `PowerPC64-linux`, and `i386-win32` is a name to somebody.
     let is_other = || word.matches('-').count() == 1 && word.bytes().any(|it| it.is_ascii_uppercase());
-    let is_triple = |it: Meant<'_>| it.part.text != word && !is_other() && !Evidence::of(word).is_understood();
+    let has_more = || word.matches('-').count() > 1;
+    let is_triple = |it: Meant<'_>| it.part.text != word && !is_other() && !Evidence::of(word).is_understood() && has_more();
     if let Some(is) = given(word, is_value) {
         let is_clear = match is {
             WordIs::Name(_) => true,
@@ -399,7 +425,7 @@ fn clarity(word: &str, is_value: bool, is_part: bool) -> Option<bool> {
             }
             WordIs::Unknown => is_value || is_near_name(word),
         };
-        return (is_clear || is_value || word.matches('-').count() > 1).then_some(!is_clear);
+        return (is_clear || is_value || has_more()).then_some(!is_clear);
     }
     let is_wrong = || is_of_unknown_environment(word, is_value) || near(word, is_part).is_some();
     if word.len() <= LONGEST_PATH && is_wrong() && !is_known(word) {
@@ -489,9 +515,13 @@ fn is_of_unknown_environment(word: &str, is_value: bool) -> bool {
     let before = word.strip_suffix(part).unwrap_or("").trim_end_matches('-');
     let is_known = |it: TripleRef<'_>| !it.vendor.is_custom() && it.operating_system != OperatingSystem::Unknown;
     let mut names = known_names(Field::Environment).iter();
+    let is_full = word.matches('-').count() == 3;
     refusal.expected == Some(Field::Environment)
         && TripleRef::from_str(before).map_or(false, is_known)
         && said(part) != Some("other-abi")
-        && (part.len() > 3 && names.any(|name| edits_between(part.as_bytes(), name).is_some())
-            || is_value && word.matches('-').count() == 3)
+        && (is_value && is_full
+            || names.any(|name| match edits_between(part.as_bytes(), name) {
+                Some(edits) => part.len() > 3 || is_full && edits == 1 && said(part).is_none(),
+                None => false,
+            }))
 }
