@@ -113,8 +113,11 @@ ROWS = {"proved": [[PROOFS], [
     ("the command `target-lexicon`, and a program to compare with, are built for the next steps",
      'packages/command/tests/folders "$WORK/command" only && '
      'cd "$WORK/command/packages/target/release" && cp lines target-lexicon "$BUILT/bin"', "cargo"),
-    ("the library for C is built and installed for the next steps", 'checks/gate/planted packages/c/install "$BUILT"',
-     "cargo cc", "rust names c command python python/README.md comparisons"),
+    ("what is released is made, and works in clean folders; its library, module, package and page are for the next "
+     "steps",
+     'umask 077; checks/gate/planted tools/release "$WORK/release" "$WORK/web" && '
+     'tar xzf "$WORK"/release/target-lexicon-c-*.tar.gz -C "$BUILT" --strip-components=1', "cargo cc",
+     "rust rust/README.md names c command python python/README.md javascript javascript/README.md comparisons"),
     ("what other tools say of names and targets; suggestions keep the machine",
      "checks/compare elsewhere && checks/compare llvm && checks/compare suggestions", "cargo cc",
      "rust names c comparisons"),
@@ -123,9 +126,6 @@ ROWS = {"proved": [[PROOFS], [
      "cargo cc hatchling", "rust names c python python/README.md"),
     ("a list of misspelled names takes at most ten times as long as one of right names",
      'packages/command/tests/cost "$BUILT/bin/target-lexicon"', "cargo valgrind", "rust names command"),
-    ("the module, the package and the page for JavaScript are built",
-     'checks/gate/planted packages/javascript/build --out "$WORK/web"', "cargo wasm32",
-     "rust names c javascript javascript/README.md"),
     ("the page and the package for JavaScript answer as the command does, in Node and in a browser",
      'packages/javascript/test "$WORK/web" --command "$BUILT/bin/target-lexicon"', "cargo wasm32",
      "rust names c javascript javascript/README.md"),
@@ -133,8 +133,6 @@ ROWS = {"proved": [[PROOFS], [
     ("Debian's packages are built, and lintian finds no error",
      "DEB_BUILD_OPTIONS=noopt checks/gate/planted packages/debian/build debian -d", "cargo cc dpkg-buildpackage",
      "rust names c command python debian"),
-    ("what is released is made, and works in clean folders", "umask 077; checks/gate/planted tools/release release",
-     "cargo cc", "rust rust/README.md names c command python javascript"),
 ]]}
 LAST = {"proved": [
     ("each allocation fails in turn", "checks/gate/fail_allocations", "rt cc", "crates"),
