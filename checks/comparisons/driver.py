@@ -1,5 +1,5 @@
 """Compares what the Rust crate says of C libraries, floating-point arguments and types of C with what rustc and clang
-say, the rules of packages/names/examples/linkers.rs with rustc's, versions of macOS with LLVM's, and what the
+say, the rules of `linker` with rustc's, versions of macOS with LLVM's, and what the
 sample driver in C says of clang's triples with clang."""
 import concurrent.futures
 import functools

@@ -5,15 +5,14 @@
 #![forbid(unsafe_code)]
 
 mod lines;
-#[allow(dead_code)] // its main
-#[path = "../../packages/names/examples/linkers.rs"]
-mod linkers;
 mod suggestions;
 
 use serde_json::Value;
 use std::io::{self, Read};
 use std::process::ExitCode;
-use target_lexicon::{DeploymentTarget, TripleExt, TripleRef};
+use target_lexicon::{
+    Architecture, BinaryFormat, DeploymentTarget, Environment, OperatingSystem, TripleExt, TripleRef,
+};
 use target_names::{CLibrary, FloatAbi, TargetInfo, TypeLayout};
 
 /// What mode `json` writes, or why the input is no list.
@@ -43,6 +42,23 @@ fn each(show: fn(&TripleRef) -> String, end: &str) -> io::Result<()> {
     Ok(())
 }
 
+/// How a target is linked: the interface of the linker, as in rustc's `linker-flavor`.
+fn linker(triple: &TripleRef) -> &'static str {
+    let (format, system) = (triple.object_format(), triple.operating_system);
+    match (format, system, triple.architecture) {
+        (_, OperatingSystem::Emscripten, _) => "em",
+        (_, OperatingSystem::Cuda, _) => "llbc",
+        (_, _, Architecture::Bpfeb | Architecture::Bpfel) => "bpf",
+        (_, OperatingSystem::Aix, _) => "unix",
+        (_, OperatingSystem::Illumos | OperatingSystem::Solaris, _) => "unix",
+        (_, OperatingSystem::Uefi, _) => "msvc",
+        (BinaryFormat::Coff, ..) if triple.environment == Environment::Msvc => "msvc",
+        (BinaryFormat::Macho, ..) => "darwin",
+        (BinaryFormat::Wasm, ..) => "wasm",
+        _ => "gnu",
+    }
+}
+
 /// The C library, how floating-point arguments are passed, and the size and alignment of `long double` and `wchar_t`;
 /// `-` where there is no answer. Then how the target is linked, its string for LLVM, and
 /// the version of macOS.
@@ -55,7 +71,7 @@ fn driver(triple: &TripleRef) -> String {
         triple.float_abi().map_or("-", FloatAbi::name),
         layout(triple.long_double_layout()),
         layout(triple.wchar_layout()),
-        linkers::linker(triple),
+        linker(triple),
         triple.program_suffix(),
         triple.llvm_target(),
         version(triple.macos_version()),

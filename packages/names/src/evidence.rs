@@ -17,7 +17,9 @@ use crate::dialect::Sense;
 use crate::environment::{is_on, library_and_abi};
 use crate::levels::is_at_most;
 use crate::shape::{unversioned, usual_vendor};
-use crate::suggestions::{fit_alone, known_names, visible, Place};
+use crate::suggestions::{
+    architecture_of, edits_between, fit_alone, known_names, machine_of, visible, Place, FIRST_RULES,
+};
 use crate::table::WORDS;
 use crate::{Dialect, FloatAbi};
 use core::fmt::{self, Write};
@@ -124,8 +126,13 @@ impl<'a> Evidence<'a> {
         let start = if text.starts_with("i386:") { 5 } else { 0 };
         let mut evidence = Evidence { text, ..Evidence::default() };
         let mut words = Words { text, at: start };
-        let mut before = None;
+        let (mut before, mut from) = (None, 0);
         while let Some(word) = words.next() {
+            if let Some((level, end)) = evidence.level_at(word.start).filter(|_| before == Some(Kind::Machine)) {
+                evidence.level.add(level);
+                (words.at, before) = (end, None);
+                continue;
+            }
             let mut after = words.clone();
             let (said, last) = match after.next() {
                 Some(next) => match machine_of_pair(text, &word, &next) {
@@ -137,7 +144,18 @@ impl<'a> Evidence<'a> {
                 },
                 None => (said_in(text, &word), word.clone()),
             };
-            before = evidence.take(word.start..last.end, said, before);
+            let word = word.start..last.end;
+            if said.is_none() && before == Some(Kind::Machine) && evidence.may_be_other_machine(from, &word) {
+                evidence.machine = Said::Unsaid;
+                evidence.unknown = evidence.unknown.or(Some(&text[from..word.end]));
+            }
+            from = word.start;
+            before = evidence.take(word, said, before);
+        }
+        // Of `gnueabi__` letters may be missing.
+        let signs = &text[text.trim_end_matches(['-', '_', '.']).len()..];
+        if signs.len() > 1 || signs == "_" {
+            evidence.unknown = evidence.unknown.or(Some(signs));
         }
         evidence
     }
@@ -149,10 +167,6 @@ impl<'a> Evidence<'a> {
         let joint = self.text[..word.start].bytes().next_back();
         if let (Some(Kind::Machine | Kind::System), "32" | "64") = (before, text) {
             self.width.add(if text == "32" { PointerWidth::U32 } else { PointerWidth::U64 });
-            return None;
-        }
-        if let Some(level) = self.level_at(word.start).filter(|_| before == Some(Kind::Machine)) {
-            self.level.add(level);
             return None;
         }
         let Some(said) = said else {
@@ -173,6 +187,11 @@ impl<'a> Evidence<'a> {
             self.has_title |= !has_begun && !is_version;
             return before.filter(|it| *it == Kind::Library && is_version);
         };
+        // What a system's kit builds for isn't what it runs on: `wasi-sdk-25.0-arm64-macos`.
+        if said == "kit" && before == Some(Kind::System) && !self.has_machine() {
+            *self = Evidence { text: self.text, has_title: true, ..Evidence::default() };
+            return None;
+        }
         // In a program's name `gnu`, `soft` and the like say nothing.
         let says = |kind: Kind| said.split(' ').any(|it| kind_of(it) == kind);
         let is_title = !has_begun && !says(Kind::Machine) && !says(Kind::System);
@@ -203,31 +222,50 @@ impl<'a> Evidence<'a> {
         })
     }
 
-    /// The level of a machine that begins here in the text: `v3` of `amd64_v3`, and no version such as `v3.2.1`.
-    fn level_at(&self, start: usize) -> Option<&'static str> {
-        let rest = &self.text[start..];
-        let is_here = |level: &str| {
-            let after = rest.strip_prefix(level).unwrap_or("0");
-            !after.starts_with(|it: char| it.is_ascii_alphanumeric())
-                && !after.trim_start_matches('.').starts_with(|it: char| it.is_ascii_digit())
-        };
-        let platform = match self.machine {
-            Said::One(Architecture::X86_64) => "linux/amd64/",
-            Said::One(Architecture::Aarch64(_)) => "linux/arm64/",
+    /// Whether a machine's word from here on and the next one are an edit from another machine, or begin with it: `x86_6f`,
+    /// `powerpc-4`, `x86_64unknown`.
+    fn may_be_other_machine(&self, from: usize, next: &Word) -> bool {
+        let (both, after) = (&self.text[from..next.end], self.text[next.end..].strip_prefix('.').unwrap_or(""));
+        let machine = self.machine.one().map(machine_of);
+        let is_other = |name: &str| architecture_of(name).map(machine_of) != machine;
+        let mut names = known_names(Field::Architecture).iter().copied().chain(FIRST_RULES.iter().map(|it| it.1));
+        let is_near = |name: &str| edits_between(both.as_bytes(), name) == Some(1);
+        // A number may be a version.
+        (both.contains('_') || !after.starts_with(|it: char| it.is_ascii_digit()))
+            && names.any(|it| (is_near(it) || it.contains('_') && both.starts_with(it)) && is_other(it))
+    }
+
+    /// The level of a machine that begins here in the text, and its end: `v3` of `amd64_v3`, and no version such as `v3.2.1`.
+    fn level_at(&self, start: usize) -> Option<(&'static str, usize)> {
+        let (platform, profile) = match self.machine {
+            Said::One(Architecture::X86_64) => ("linux/amd64/", ""),
+            // Armv8.2-A.
+            Said::One(Architecture::Aarch64(_)) => ("linux/arm64/", "a"),
             _ => return None,
         };
+        let rest = &self.text[start..];
+        let after = |level: &str| {
+            let after = rest.strip_prefix(level)?;
+            let after = after.strip_prefix(profile).unwrap_or(after);
+            let goes_on = after.starts_with(|it: char| it.is_ascii_alphanumeric())
+                || after.trim_start_matches('.').starts_with(|it: char| it.is_ascii_digit());
+            (!goes_on).then_some(after)
+        };
         let mut levels = Dialect::Oci.table().levels.iter();
-        levels.find(|it| it.0.strip_prefix(platform).map_or(false, is_here)).map(|it| it.1)
+        levels.find_map(|it| Some((it.1, self.text.len() - after(it.0.strip_prefix(platform)?)?.len())))
+    }
+
+    fn has_machine(&self) -> bool {
+        self.machine != Said::Unsaid || self.is_any_arm || self.is_other_machine
     }
 
     fn has_begun(&self) -> bool {
-        let has_machine = self.machine != Said::Unsaid || self.is_any_arm || self.is_other_machine;
-        has_machine || self.system != Said::Unsaid
+        self.has_machine() || self.system != Said::Unsaid
     }
 
     fn say(&mut self, what: &'static str) {
         match what {
-            "nothing" | "version" => {}
+            "nothing" | "kit" | "version" => {}
             "several" => self.machine = Said::Contradicted,
             "arm32|64" => self.is_any_arm = true,
             "other-machine" => self.is_other_machine = true,
@@ -242,7 +280,7 @@ impl<'a> Evidence<'a> {
             "other-abi" => self.library.add(OTHER),
             "gnu" | "musl" | "uclibc" | "msvc" | "gnullvm" | "newlib" => self.library.add(what),
             "android" | "ohos" | "macabi" | "sim" | "n64" | "spe" => self.form.add(what),
-            "ibm" | "sun" | "nvidia" => self.vendor.add(what),
+            "ibm" | "sun" | "nvidia" | "uwp" => self.vendor.add(what),
             "other-system" => self.add_system(OTHER),
             _ => match what.parse::<Architecture>() {
                 Ok(machine) => self.add_machine(machine),
@@ -283,18 +321,20 @@ impl<'a> Evidence<'a> {
 
     /// Whether words say a machine and a system, and each is understood.
     pub(crate) fn is_understood(&self) -> bool {
-        let has_machine = self.machine != Said::Unsaid || self.is_any_arm || self.is_other_machine;
-        has_machine && self.system != Said::Unsaid && self.unknown.is_none() && !self.has_title
+        self.has_machine() && self.system != Said::Unsaid && self.unknown.is_none() && !self.has_title
     }
 
     /// The least machine that the words say. A word such as `arm` says none, which may have 32 bits or 64, unless others say which.
     pub(crate) fn machine(&self) -> Said<Architecture> {
         let arm = Architecture::Arm(ArmArchitecture::Arm);
         let may_be_64 = self.width.allows(PointerWidth::U64);
+        let has_floats = self.floats != Said::Unsaid || self.level == Said::One("neon");
         let is_arm = |it| matches!(it, Architecture::Arm(_) | Architecture::Aarch64(_));
         match self.machine {
             Said::One(it) if self.is_any_arm && !is_arm(it) => Said::Contradicted,
-            Said::Unsaid if self.is_any_arm && (self.floats != Said::Unsaid || !may_be_64) => Said::One(arm),
+            // In `aarch64-arm-none-eabi` it is another one.
+            Said::One(Architecture::Aarch64(_)) if self.is_any_arm && has_floats => Said::Contradicted,
+            Said::Unsaid if self.is_any_arm && (has_floats || !may_be_64) => Said::One(arm),
             said => said,
         }
     }
@@ -647,7 +687,11 @@ fn machine_of_pair(text: &str, first: &Word, second: &Word) -> Option<&'static s
     if is_version && goes_on.starts_with(|it: char| it.is_ascii_digit()) {
         return None;
     }
-    ["_", ""].iter().find_map(|sign| {
+    // After a sign a version or letters for a byte order or a profile go on with a machine; others are another word.
+    let is_version = next.trim_start_matches(['r', 'v']).starts_with(|it: char| it.is_ascii_digit());
+    let is_end = is_version || ["el", "le", "eb", "be", "a", "r", "m"].contains(&next);
+    let signs: &[&str] = if is_end || first.end == second.start { &["_", ""] } else { &["_"] };
+    signs.iter().find_map(|sign| {
         let mut both = Buffer::<LONGEST>::new();
         write!(both, "{}{sign}{next}", &text[first.clone()]).ok()?;
         both.make_lowercase();

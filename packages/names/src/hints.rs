@@ -5,6 +5,7 @@
 use crate::buffer::Buffer;
 use crate::dialect::Row;
 use crate::evidence::only_machine;
+use crate::levels::level_of;
 use crate::suggestions::{
     edits_between, fit_alone, machine_of, meant, vendor_suggestion, visible, Form, Machine, Place, Suggest as _,
     Suggestion,
@@ -233,6 +234,7 @@ impl<'a> Hints<'a> {
             rows.map(|row| (row.0, row)),
             core::iter::empty(),
             said_of_machine,
+            |row| dialect.sense(row.0).ok().map(|it| level_of((it.triple.architecture, it.level))),
             |row| allows(row) && keeps_systems(name, row.0),
         )
     }

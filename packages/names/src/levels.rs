@@ -51,7 +51,7 @@ pub(crate) fn may_have_name(machine: Machine<'_>, named: Machine<'_>, is_on_syst
 }
 
 /// The kind of a machine, and the bits of its level.
-fn level_of((architecture, word): Machine<'_>) -> (Architecture, u32) {
+pub(crate) fn level_of((architecture, word): Machine<'_>) -> (Architecture, u32) {
     use target_lexicon::{Riscv32Architecture as Bits32, Riscv64Architecture as Bits64, X86_32Architecture::*};
     use Architecture::*;
     let (kind, bits) = match architecture {

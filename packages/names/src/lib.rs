@@ -85,7 +85,6 @@ pub use suggestions::{
 };
 pub use table::{ArmProfile, CLibrary, ChosenLibc, Dialect, FloatAbi, Signedness, WriteError};
 pub use target_info::TargetInfo;
-pub use near::is_near_name;
 pub use text::{targets_in, words_in, TargetsIn, Word, WordIs};
 pub use translation::TranslateError;
 pub use verdict::Verdict;

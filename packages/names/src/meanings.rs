@@ -2,7 +2,7 @@
 use crate::spelled::is_of_machine;
 use crate::table::OF_CONFIG_SUB;
 use crate::{read, Dialect, Evidence, NameError, Said, Sense};
-use target_lexicon::{OperatingSystem, TripleRef, VendorRef};
+use target_lexicon::{KnownVendor, OperatingSystem, TripleRef, VendorRef};
 
 /// Whose name it is: that of a dialect, or of nobody but who spells triples. `Display` says it in a word.
 #[derive(Clone, Copy, Debug, PartialEq, Eq, Hash)]
@@ -139,6 +139,12 @@ fn as_triple(text: &str) -> Option<Meaning<'_>> {
     };
     match triple.vendor {
         VendorRef::Custom(vendor) if is_of_machine(vendor) => None,
+        // As in vcpkg's `x64-uwp`, which is on Windows.
+        VendorRef::Known(KnownVendor::Uwp)
+            if of == NameOf::Spelling && triple.operating_system == OperatingSystem::Unknown =>
+        {
+            None
+        }
         _ => Some(Meaning { of, sense: Ok(triple.step().into()) }),
     }
 }

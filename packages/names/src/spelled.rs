@@ -113,7 +113,11 @@ fn is_other_system(part: &str, rest: Option<&str>) -> bool {
 /// Whether a part is a machine, or a word for a byte order, a width, a version or how floating-point arguments are passed.
 pub(crate) fn is_of_machine(part: &str) -> bool {
     let is_machine = architecture_of(part).map_or(false, |it| it != Architecture::Unknown);
-    let is_level = part.len() < 5 && part.strip_prefix('v').map_or(false, |it| is_dropped_version(it.as_bytes()));
+    // Such as `v7`, `v8.2a` and `v5te`.
+    let is_level = part.strip_prefix('v').map_or(false, |it| {
+        let numbers = it.trim_end_matches(|it: char| it.is_ascii_lowercase());
+        it.len() < 5 && it.len() - numbers.len() < 3 && is_dropped_version(numbers.as_bytes())
+    });
     NO_VENDORS.contains(&part) || is_level || is_machine
 }
 

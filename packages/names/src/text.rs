@@ -3,7 +3,7 @@ use crate::buffer::Buffer;
 use crate::evidence::{only_machine, said};
 use crate::hints::LONGEST_PATH;
 use crate::meanings::meaning_with;
-use crate::near::{is_near_name, is_of_tool, near};
+use crate::near::{is_of_tool, near};
 use crate::suggestions::{architecture_of, edits_between, known_names, vendor_suggestion};
 use crate::{Dialect, Evidence, Meaning, Meant, NameOf, Said, Sense};
 use core::fmt::Write;
@@ -53,7 +53,7 @@ pub fn targets_in(text: &str) -> TargetsIn<'_> {
 
 /// The words of a text that a check looks at. Of a *list of targets*, in which more than half of the first items are
 /// names or may be misspelled ones, they are the items. Of any other text, such as a `.gitignore`, they are those of
-/// running text: the names that [`targets_in`] gives, what is [near one](is_near_name), and misspelled triples. Of
+/// running text: the names that [`targets_in`] gives, what is an edit from one, and misspelled triples. Of
 /// other triples with a known vendor, of what has the parts of one and an unknown machine, and of other values of the
 /// fourth rule's keys that say a machine, or before a slash a system, [`Word::is_unclear`] is true. [`Word::verdict`]
 /// says what is wrong.
@@ -445,6 +445,10 @@ fn is_unclear(word: &str) -> bool {
     let has_system = || word.contains('/') || is_like_triple(word) || word.split('-').next().map_or(false, is_of_tool);
     let is_said = evidence.machine() != Said::Unsaid || evidence.system != Said::Unsaid && has_system();
     is_said && !is_runner && name_of(word).is_none()
+}
+
+fn is_near_name(word: &str) -> bool {
+    near(word, false).is_some()
 }
 
 /// Whether a word has the parts of a triple, of which one after the first is a known vendor: `i868-unknown-linux-gnu`.

@@ -5,8 +5,8 @@ use proptest::sample::select;
 use proptest::test_runner::FileFailurePersistence;
 use target_lexicon::{Field, TripleRef};
 use target_names::{
-    changes, known_names, meanings, read, suggestion, ChosenLibc, Dialect, Evidence, FloatAbi, NameError, TargetInfo,
-    VersionOf, Versions,
+    changes, known_names, meanings, read, suggestion, targets_in, ChosenLibc, Dialect, Evidence, FloatAbi, NameError,
+    TargetInfo, VersionOf, Versions,
 };
 
 const FIELDS: [Field; 5] =
@@ -183,6 +183,10 @@ proptest! {
     #[test]
     fn every_call_returns(text in any_text()) {
         let _ = (Evidence::of(&text).to_string(), meanings(&text).count());
+        for word in targets_in(&text) {
+            prop_assert_eq!(&text[word.part.range()], word.part.text);
+            let _ = word.is();
+        }
         for field in FIELDS {
             let _ = suggestion(field, &text).map(|it| it.to_string());
         }

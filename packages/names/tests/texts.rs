@@ -123,20 +123,8 @@ fn words_of_texts_are_given() {
     same(&format!("see {}/{end} x", folder(256 - end.len())), end);
 }
 
-/// Any string is read, in a time that grows with its length.
 #[test]
-fn all_strings() {
-    let pieces =
-        ["x86_64", "-", "linux", "/", "amd64", ".", " ", ",", "\n", "#", "\"", "{", "$", "=", ":", "é", "\0", "(", "_"];
-    let mut state = 1_u64;
-    for _ in 0..20_000 {
-        let mut text = String::new();
-        for _ in 0..12 {
-            state = state.wrapping_mul(6_364_136_223_846_793_005).wrapping_add(1);
-            text += pieces[(state >> 33) as usize % pieces.len()];
-        }
-        found(&text);
-    }
+fn the_time_grows_with_the_length() {
     // A misspelled name costs most.
     for piece in ["linux/amd46 ", "target.x86_64-linux/", "x86_64-linxu-", "a,", "[", "# ", "\n", " (", "a#", "-"] {
         let size = if piece.contains('6') { 40_000 } else { 400_000 };

@@ -1,11 +1,7 @@
 //! The traits of names, dialects and errors.
 use std::collections::{BTreeSet, HashSet};
-use std::fmt::{Debug, Display};
 use target_lexicon::{Triple, TripleRef};
-use target_names::{
-    read, CLibrary, ChosenLibc, Dialect, Evidence, FloatAbi, Name, Signedness, Suggest as _, TargetInfo as _,
-    UnknownWord,
-};
+use target_names::{CLibrary, ChosenLibc, Dialect, Evidence, FloatAbi, Name, Suggest as _, UnknownWord};
 
 #[test]
 fn names_have_the_width_that_is_asked_for() {
@@ -45,47 +41,6 @@ fn a_number_in_a_name_has_no_other_spelling() {
         assert!(!is_read(format!("macosx_11_{number}_arm64")), "{number}");
     }
     assert!(is_read("macosx_65535_0_arm64".into()) && !is_read("macosx_65536_0_arm64".into()));
-}
-
-/// Each pair of these is in the order of their names.
-#[track_caller]
-fn in_order_of_names<T: Ord + Display>(all: &[T]) {
-    for (a, b) in all.iter().flat_map(|a| all.iter().map(move |b| (a, b))) {
-        let order = a.to_string().cmp(&b.to_string());
-        assert_eq!((a.cmp(b), a.partial_cmp(b)), (order, Some(order)), "{a} {b}");
-    }
-}
-
-#[test]
-fn values_are_in_the_order_of_their_names() {
-    in_order_of_names(Dialect::ALL);
-    in_order_of_names(&["glibc", "musl", "msvc", "mingw", "gnullvm"].map(|it| it.parse::<ChosenLibc>().unwrap()));
-    in_order_of_names(&[FloatAbi::Soft, FloatAbi::Hard]);
-    in_order_of_names(&[Signedness::Unsigned, Signedness::Signed]);
-    in_order_of_names(&[CLibrary::Musl, CLibrary::Bionic, CLibrary::System, CLibrary::Glibc, CLibrary::Msvc]);
-}
-
-/// Each is equal to itself only.
-#[track_caller]
-fn differ<T: PartialEq + Clone + Debug>(all: &[T]) {
-    for (i, a) in all.iter().enumerate() {
-        for (j, b) in all.iter().enumerate() {
-            assert_eq!(*a == b.clone(), i == j, "{a:?} {b:?}");
-        }
-    }
-}
-
-#[test]
-fn what_says_something_else_is_another_one() {
-    let other = "foo".parse::<ChosenLibc>().unwrap_err();
-    differ(&["foo".parse::<Dialect>().unwrap_err(), other, "bar".parse::<Dialect>().unwrap_err()]);
-    let triples = ["avr", "arm", "avr-pc", "avr-pc-linux", "avr-pc-linux-musl", "avr-pc-linux-coff"];
-    let triples = triples.map(|it| TripleRef::from_str(it).unwrap());
-    differ(&triples.map(|it| it.llvm_target()));
-    differ(
-        &["x86_64-pc-linxu", "x86_64-pc-windwos", "arm64-apple-iso1", "arm64-apple-iso2"]
-            .map(|it| read(it).unwrap_err().suggestion()),
-    );
 }
 
 #[test]
