@@ -42,8 +42,7 @@ def counterpart(title, it, source):
 
 class Bridge:
     def __init__(self, crate, code):
-        self.crate, self.code, self.source, self.lemmas, self.out, self.used = \
-            crate, code, heads(code), {}, [], {}
+        self.crate, self.code, self.source, self.lemmas, self.out = crate, code, heads(code), {}, []
         self.about = {"copy_into": ["copy_guard"]}  # the lemmas that rewrite a word
         projections = {p for fields in crate.types.fields.values() for p in fields}
         projections |= {*re.findall(r"^  (\w+__\w+) :", code, re.M)}
@@ -61,15 +60,11 @@ class Bridge:
         of = counterpart(title, it, self.source)
         if of is None:
             return
-        recurs, names, has_fuel, result, body = self.source[of]
-        if len(names) != len(it.parameters):
-            return
+        recurs, _, has_fuel, result, body = self.source[of]
         binders = "".join(f" (v{n} : {self.crate.types.coq(type)})" for n, type in it.parameters)
         args = "".join(f" v{n}" for n, _ in it.parameters)
         name = "same" + title.removeprefix("mir")
         if title.endswith("_pure"):
-            if has_fuel or result.startswith("option ("):
-                return
             self.lemma(name, f"∀{binders}, {title}{args} = {of}{args}", f"intros; unfold {title}, {of}; bridge", title,
                        code + body)
             if it.key[2] == "eq":
@@ -89,7 +84,6 @@ class Bridge:
             self.lemma(name, f"{quantified}{title} fuel{args} = {right}", proof + BY_HAND.get(title, usual), title,
                        code + body)
             self.lemmas[title] = name, of
-        return of
 
     def constant(self, title):
         of = "rs" + title.removeprefix("mir")
@@ -101,8 +95,6 @@ class Bridge:
             self.lemma(f"{title}_is", f"{number} = ltac:(let n := eval vm_compute in ({number}) in exact n)",
                        "vm_compute; reflexivity", title)
         for title, it, code in self.crate.out:
-            if it is None and title.startswith("Mir"):
-                continue
             if it is None:
                 self.constant(title)
             else:
@@ -140,7 +132,6 @@ class Bridge:
             raise Untranslated(f"{name} is no theorem of what rustc compiles: no function of MIR is {missing[0]}")
         computes, proof = [], []
         for i, (rs, titles) in enumerate(found.items()):
-            self.used.setdefault(rs, []).append(name)
             _, names, has_fuel, result, _ = self.source[rs]
             right = f"f{i}{' fuel' * has_fuel}{''.join(f' {it}' for it in names)}"
             right = right if result.startswith("option (") else f"Some ({right})"
@@ -151,8 +142,6 @@ class Bridge:
         types = "".join(f" (f{i} : ltac:(let t := type of {rs} in exact t))" for i, rs in enumerate(found))
         s = f"let S := type of {of} in "
         s += f"let S := eval unfold {', '.join(unfolded)} in S in " if unfolded else ""
-        if not found:
-            raise Untranslated(f"the theorem {name} has no function")
         args = " ".join(f"f{i}" for i in range(len(found)))
         s += f"let S := eval pattern {', '.join(found)} in S in match S with ?P {' '.join('_' for _ in found)} => " \
              f"let T := constr:(∃{types}, {' ∧ '.join(computes)} ∧ P {args}) in " \

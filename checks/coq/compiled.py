@@ -11,6 +11,7 @@ import bridge
 import derived
 import mir
 import shipped
+from manifest import check_manifest
 from mir_grammar import ITEM, Unknown, close, read_hir, split
 from reading import Untranslated
 
@@ -19,31 +20,26 @@ TRIED = "1.95"  # the version of rustc whose MIR was read; another one's may hav
 CRATE = ("--crate-name", "target_lexicon", "--edition=2021", "--crate-type=lib")
 # A constant that decides stays in the function that it decides about, as it may depend on the target or the host.
 UNFOLDED = ",".join(f"-SimplifyConstCondition-{it}" for it in ("after-inst-simplify", "after-const-prop", "final"))
-FLAGS = ("-Copt-level=0", "-Coverflow-checks=on", "-Ztrim-diagnostic-paths=no", f"-Zmir-enable-passes={UNFOLDED}")
+FLAGS = ("-Funsafe-code", "-Copt-level=0", "-Coverflow-checks=on", "-Ztrim-diagnostic-paths=no",
+         f"-Zmir-enable-passes={UNFOLDED}")
 # What the build script writes, which is another host as for an older rustc; what answers it isn't proved.
 HOST = "Triple {{ architecture: Architecture::{}, vendor: Vendor::{}, operating_system: OperatingSystem::{}, " \
        "environment: Environment::{}, binary_format: BinaryFormat::{} }}"
 HOSTS = ["Unknown"] * 5, ["X86_64", "Pc", "Linux", "Gnu", "Elf"]
-# What it prints. So nothing else decides what cargo compiles, or is linked with.
-PRINTED = ["rerun-if-env-changed=TARGET_LEXICON_HOST", "rustc-check-cfg=cfg(core_error)", "rustc-cfg=core_error"]
 # The attributes that change no function, or that rustc writes.
 ATTRIBUTES = "allow automatically_derived coverage doc forbid inline macro_export must_use no_std non_exhaustive " \
              "prelude_import repr rustfmt warn".split()
-# Why functions aren't written, or proved to be those of the source: all of some traits, and these.
+# The functions that aren't written, or aren't those of the source: all of some traits, and these. calls.txt says why.
 UNSAID = ("std::Debug", "std::Eq", "std::Error")
 OF_MIR = ("std::Clone", "std::Hash", "std::Ord", "std::PartialOrd")  # the source isn't translated for these: Traits.v
 SERDE = ("std::Serialize", "std::Deserialize")
 LEFT_OUT = {
-    **{f"proved::{it}::host": "the host is that of the build" for it in (
+    *(f"proved::{it}::host" for it in (
         "triple::Triple", "architecture::Architecture", "vendor::Vendor", "operating_system::OperatingSystem",
-        "environment::Environment", "binary_format::BinaryFormat")},
-    "<proved::defaults::DefaultToHost as std::Default>::default": "the host is that of the build",
-    "< as compat::Chunks>::first_chunk": "of older versions of Rust",
-    "< as compat::Chunks>::last_chunk": "of older versions of Rust",
-    "<canonical::NotPlain as std::Display>::fmt": "std's formatting of a debug string",
-    "<parse_triple_error::ParseTripleError as std::Display>::fmt": "escapes of std",
-    "parse_triple_error::visible": "escapes of std",
-}
+        "environment::Environment", "binary_format::BinaryFormat")),
+    "<proved::defaults::DefaultToHost as std::Default>::default", "<canonical::NotPlain as std::Display>::fmt",
+    "<parse_triple_error::ParseTripleError as std::Display>::fmt", "parse_triple_error::visible",
+    "< as compat::Chunks>::first_chunk", "< as compat::Chunks>::last_chunk"}  # of older versions of Rust
 # What differs without the feature `alloc`, as no name of a vendor is owned then.
 OWNED = """Definition mir_CustomVendor_as_str (fuel : nat) (v1 : RsCustomVendor) : option (list ℕ) :=
 match v1 with
@@ -88,7 +84,7 @@ def rustc(folder, features, *words, at="", older=False):
             if ran.returncode or "is unknown and will be ignored" in ran.stderr:  # a pass of MIR
                 raise Untranslated(f"rustc doesn't write the MIR of {folder}: {' '.join(ran.stderr.split())[:300]}")
         mir, hir, read, expanded = (Path(out, it).read_text(encoding="utf-8") for it in "mir hir read expanded".split())
-    if names := {*re.findall(r"^# env-dep:(\w+)", read, re.M)} - {"OUT_DIR"}:
+    if names := {*re.findall(r"^# env-dep:([^=\n]*)", read, re.M)} - {"OUT_DIR"}:
         raise Untranslated(f"a variable of the environment, {min(names)}, is read when the crate is compiled")
     files = {Path("/", it.replace("\\ ", " ")) for it in re.findall("^(\\S.*):$", read, re.M)} - {Path(out, "host.rs")}
     for it in files:
@@ -99,28 +95,6 @@ def rustc(folder, features, *words, at="", older=False):
         if re.match(r"\w*", it)[0] not in ATTRIBUTES and it != "feature(prelude_import)":
             raise Untranslated(f"the attribute {it}")
     return mir, hir
-
-
-def run_build_script(folder):
-    """That for the two hosts the build script prints and writes only what it is known to."""
-    with tempfile.TemporaryDirectory(prefix="mir-") as out:
-        package, made = Path(out, "package"), Path(out, "out")
-        shutil.copytree(folder / "src", package / "src")
-        shutil.copyfile(folder / "build.rs", package / "build.rs")
-        before = {it: it.read_bytes() for it in package.rglob("*") if it.is_file()}
-        for words, host in [(["rustc", "--edition=2021", "--cap-lints=allow", "build.rs", f"-o{out}/script"], None),
-                            *(([f"{out}/script"], it) for it in HOSTS)]:
-            made.mkdir(exist_ok=True)
-            ran = subprocess.run(words, cwd=package, capture_output=True, text=True, env={
-                **os.environ, "OUT_DIR": str(made), "TARGET": "-".join(host or ()).lower(), "TARGET_LEXICON_HOST": ""})
-            if ran.returncode:
-                raise Untranslated(f"{folder / 'build.rs'} doesn't run: {' '.join(ran.stderr.split())[:300]}")
-            if host and ran.stdout.splitlines() != [f"cargo:{it}" for it in PRINTED]:
-                raise Untranslated(f"{folder / 'build.rs'} prints other lines: {' '.join(ran.stdout.split())[:300]}")
-            written = {it.name: " ".join(it.read_text(encoding="utf-8").split()) for it in made.rglob("*")}
-            if host and written != {"host.rs": HOST.format(*host).replace(" }", ", }")} or before != {
-                    it: it.read_bytes() for it in package.rglob("*") if it.is_file()}:
-                raise Untranslated(f"{folder / 'build.rs'} writes something else than the host")
 
 
 def conditions(file, text):
@@ -187,11 +161,10 @@ def same(main, other, where):
 def source(root, known):
     """The crate as its main configuration has it, with debug assertions or without, and with features that add."""
     crate = root.resolve() / "packages/rust"
-    shipped.check_manifest(root)
+    check_manifest(root)
     main = rustc(crate, ["alloc"])
     same(main, rustc(crate, ["alloc"], "-Cdebug-assertions=off", at="./", older=True),
          "without debug assertions, in another folder, as for an older rustc")
-    run_build_script(crate)
     same(main, rustc(crate, ["alloc", "std", "serde_support"]), "with the feature `serde_support`")
     same(main, rustc(crate, ["alloc", "std"]), "with the feature `std`")
     same(main, rustc(crate, ["alloc", "std", "serde_support"], "-Cdebug-assertions=off", older=True),
@@ -201,6 +174,8 @@ def source(root, known):
 
 def crate_of(written, known):
     """The crate of what rustc writes, without the constant that the build script decides."""
+    if re.search(r" kind: ExternCrate\((?!\n +None,\n +(core|alloc)#)", written[1]):
+        raise Untranslated("another crate than core and alloc, by which what isn't read could print for cargo")
     crate = mir.Crate(*written, known)
     del crate.constants["host::HOST"]
     return crate
@@ -212,9 +187,8 @@ def path(it):
 
 
 def write(root, folder, translated=None):
-    """Writes Mir.v, Same_mir.v, Compiled.v and mir.tsv, a list of the functions with their definition, the lemma that
-    it is the source's, and the theorems of that. Returns the theorems. The types are those of the translated source,
-    which is this one if it isn't said."""
+    """Writes Mir.v, Same_mir.v, Compiled.v and Derived.v. Returns the theorems. The types are those of the translated
+    source, which is this one if it isn't said."""
     with forms():
         return written(root, folder, translated or root)
 
@@ -252,17 +226,9 @@ def written(root, folder, translated):
     put("Same_mir", made.write())
     put("Compiled", made.theorems(theorems, proofs) + RANGE)
     put("Derived", derived.write(crate, made.projections))
-    lines = ["function\tdefinition\tlemma\ttheorems"]
     for title, it, _ in crate.out:
-        if it and not title.endswith("_pure"):
-            lemma, of = made.lemmas.get(title, ("", ""))
-            if not lemma and it.key[0] not in OF_MIR:
-                unwritten[path(it)] = "no function of the source is equal to it"
-            lines.append("\t".join([path(it), title, lemma, " ".join(made.used.get(of, []))]))
-    for it, why in unwritten.items():
-        if it not in LEFT_OUT:
-            raise Untranslated(f"{why} (in {it})")
-        lines.append(f"{it}\t\t\tnot proved: {LEFT_OUT[it]}")
-    folder.joinpath("mir.tsv").write_text("\n".join(lines) + "\n", encoding="utf-8")
-    orders = re.findall(r"^Theorem (\w+)", HERE.joinpath("mir/Orders.v").read_text(encoding="utf-8"), re.M)
-    return dict.fromkeys([*(f"mir_{it}" for it in (*theorems, "versions_in_range")), *derived.SAID, *orders])
+        if it and not title.endswith("_pure") and title not in made.lemmas and it.key[0] not in OF_MIR:
+            raise Untranslated(f"no function of the source is equal to it (in {path(it)})")
+    others = "".join(HERE.joinpath(f"mir/{it}.v").read_text(encoding="utf-8") for it in ("Orders", "Borrowed"))
+    others = re.findall(r"^Theorem (\w+)", others, re.M)
+    return dict.fromkeys([*(f"mir_{it}" for it in (*theorems, "versions_in_range")), *derived.SAID, *others])

@@ -364,7 +364,7 @@ class Body:
             return value
         if kind == "Transmute" and (m := re.fullmatch(r"std::ptr::NonNull<(.*)>", of)) and to == f"*const {m[1]}":
             return value
-        if kind != "IntToInt" or of not in BITS and not isinstance(value, Tag) or to not in BITS:
+        if kind != "IntToInt" or of not in (*BITS, "isize") or to not in BITS:  # an ordering's number may be less
             raise Unknown(f"a cast from {of} to {to}")
         narrow = {"u8": 8, "u16": 16, "u32": 32}
         if of == to or of in narrow and narrow[of] <= narrow.get(to, 32):

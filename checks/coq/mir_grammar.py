@@ -265,6 +265,8 @@ class Impl:
         if not trait:
             raise Unknown(f"the trait of {path}")
         self.trait = trait[2] and (trait[2] if trait[1] == crate else std_trait(trait[2]))
+        if not self.owner and (self.trait or "std::").startswith("std::"):  # such as of an alias
+            raise Unknown(f"the type of {path}")
         self.methods = re.findall(r"owner_id: DefId\(\S+ ~ \S+::(\w+)\),", items)
 
 

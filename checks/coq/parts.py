@@ -22,7 +22,8 @@ for part, (_, proofs) in shipped.CONFIGURATIONS.items():
     needed = ["definitions"] + ["rust"] * (part != "rust")
     PARTS[part] = needed, ["Rust", "Std", "Code", "Configured", *proofs], functools.partial(shipped.write, part=part)
     if part == "rust":
-        PARTS["mir"] = (needed + ["rust"], "Mir Bridge Same_mir Compiled Traits Derived Orders".split(), compiled.write)
+        files = "Mir Bridge Same_mir Compiled Traits Derived Orders Borrowed".split()
+        PARTS["mir"] = (needed + ["rust"], files, compiled.write)
         PARTS["source"] = (needed + ["rust"], "Keys Source Halves Same".split(), source.write)
 
 

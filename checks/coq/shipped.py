@@ -3,6 +3,7 @@ import functools
 import re
 from pathlib import Path
 
+from manifest import check_manifest
 from reading import Untranslated
 from rust import translate
 from rust_types import Crate
@@ -46,29 +47,6 @@ def check(crate, problems, left_out):
     for owner, name in crate.functions:
         if f"{owner}::{name}" in left_out and f"{owner}::{name}" not in problems:
             raise Untranslated(f"{owner}::{name} is left out, and could be written")
-
-
-# The manifest's tables, and what of each decides what the source means: the edition, the library, and which features
-# come together.
-TABLES = {"workspace": {}, "package": {"edition": '"2021"'}, "package.metadata.docs.rs": {},
-          "lib": {"name": '"target_lexicon"'}, "dependencies": {"serde": '{ version = "1.0", optional = true }'},
-          "features": {"alloc": "[]", "std": '["alloc"]', "serde_support": '["dep:serde", "std"]'}}
-VALUE = r'"[^"\\]*"|\[(?:"[^"\\]*"(?:, )?)*\]|\{ version = "1.0", optional = true \}'
-
-
-def check_manifest(root):
-    found = {}
-    for it in re.findall(r"^[^#\n].*", root.joinpath("packages/rust/Cargo.toml").read_text(encoding="utf-8"), re.M):
-        if it[0] == "[" and it[1:-1] in {*TABLES} - {*found}:
-            found[it[1:-1]] = table = {}
-        elif found and (m := re.fullmatch(rf"(?!build )([\w-]+) = ({VALUE})", it)):  # else it could go on, or be nested
-            table[m[1]] = m[2]
-        else:
-            raise Untranslated(f"packages/rust/Cargo.toml has {it}")
-    for it, wanted in TABLES.items():
-        table = found.get(it, {})
-        if {**table, **wanted} != table or it in ("lib", "dependencies") and table != wanted:
-            raise Untranslated(f"packages/rust/Cargo.toml has not only {wanted} in [{it}]")
 
 
 def read(root, features):
