@@ -135,7 +135,7 @@ impl<'a> Evidence<'a> {
             }
             let mut after = words.clone();
             let (said, last) = match after.next() {
-                Some(next) => match machine_of_pair(text, &word, &next) {
+                Some(next) => match said_by_pair(text, &word, &next) {
                     Some(said) => {
                         words = after;
                         (Some(said), next)
@@ -519,8 +519,9 @@ impl fmt::Display for Evidence<'_> {
             (Said::Unsaid, Said::Unsaid) => return f.write_str("it names an Arm of 32 or of 64 bits, and no system"),
             (Said::Unsaid, _) => return f.write_str("it names a system, and no single machine known here"),
             (_, Said::Contradicted) => return f.write_str("it names several systems"),
-            (_, Said::Unsaid) if self.unknown.is_none() => return f.write_str("it names a machine, and no system"),
             _ if is_other => return f.write_str("it names a machine, and a system that no triple has"),
+            (_, Said::Unsaid) if self.level != Said::Unsaid => "its words say",
+            (_, Said::Unsaid) if self.unknown.is_none() => return f.write_str("it names a machine, and no system"),
             (_, Said::Unsaid) => return f.write_str("it names a machine, and no system known here"),
             _ if self.unknown.is_some() => "its words say",
             _ if self.has_library_apart => "its words may be of two targets:",
@@ -559,6 +560,7 @@ impl fmt::Display for Evidence<'_> {
         }
         match self.unknown {
             Some(word) => write!(f, "; here nobody knows `{}`", visible(word).shortened()),
+            None if self.system == Said::Unsaid => f.write_str(", and no system"),
             None => Ok(()),
         }
     }
@@ -676,8 +678,9 @@ fn machine_named(word: &str) -> Option<&'static str> {
     known.or_else(|| if word == "arm64" { Some("aarch64") } else { Some(fit_alone(Place::First, word)?.names) })
 }
 
-/// What two words say that are one for a machine, such as `x86_64` and `arm-v7`, unless the second is a version.
-fn machine_of_pair(text: &str, first: &Word, second: &Word) -> Option<&'static str> {
+/// What two words say that are one for a machine, such as `x86_64` and `arm-v7`, or for a system, such as `big_sur`,
+/// unless the second is a version.
+fn said_by_pair(text: &str, first: &Word, second: &Word) -> Option<&'static str> {
     if second.start > first.end + 1 {
         return None;
     }
@@ -696,7 +699,9 @@ fn machine_of_pair(text: &str, first: &Word, second: &Word) -> Option<&'static s
         write!(both, "{}{sign}{next}", &text[first.clone()]).ok()?;
         both.make_lowercase();
         let said = said(both.as_str())?;
-        (kind_of(said.split(' ').next()?) == Kind::Machine).then_some(said)
+        let kind = kind_of(said.split(' ').next()?);
+        let is_system = || *sign == "_" && kind == Kind::System && system_named(both.as_str()).is_none();
+        (kind == Kind::Machine || is_system()).then_some(said)
     })
 }
 

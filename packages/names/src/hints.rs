@@ -387,7 +387,11 @@ impl<'a> Meant<'a> {
         // What ends a path is right as it is.
         let is_in_path = self.part.text.split('/').skip(1).any(|it| it == self.suggestion.names);
         let has_floats = [Said::Unsaid, Evidence::of(room.as_str()).floats].contains(&evidence.floats);
-        is_written && !is_in_path && has_floats && triple.map_or(false, |it| !it.vendor.is_custom()) && is_whole(room.as_str())
+        is_written
+            && !is_in_path
+            && has_floats
+            && triple.map_or(false, |it| !it.vendor.is_custom())
+            && is_whole(room.as_str())
     }
 }
 

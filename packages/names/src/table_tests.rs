@@ -3,7 +3,7 @@ use crate::dialect::{has_version, Row, Way};
 use crate::shape::{version, AbiRule, Rules};
 use crate::suggestions::{fit_alone, known_names, Form, Place, FIRST_RULES, LATER_RULES};
 use crate::table::{refusals, KERNELS, MAKERS, SYSTEMS};
-use crate::{changes, read, ChosenLibc, Dialect, Evidence, NameError, Sense, TargetInfo, VersionOf};
+use crate::{changes, meanings, read, ChosenLibc, Dialect, Evidence, NameError, NameOf, Sense, TargetInfo, VersionOf};
 use alloc::{format, string::String, string::ToString, vec::Vec};
 use core::str::FromStr;
 use target_lexicon::{
@@ -72,6 +72,7 @@ fn each_row_is_read_and_written() {
                     assert_eq!(found, without_triple(refusals::SEVERAL), "{at}");
                     let each: Vec<_> = row.1.split('+').map(|it| meaning(it, version)).collect();
                     assert!(each.len() > 1 && dialect.read_each(&name).map(|it| it.triple).eq(each), "{at}");
+                    assert!(meanings(&name).all(|it| it.of != NameOf::Dialect(dialect) || it.sense.is_ok()), "{at}");
                 }
                 Way::Both | Way::Read => assert_eq!(found, Ok(meaning(row.1, version)), "{at}"),
             }

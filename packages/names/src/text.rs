@@ -416,7 +416,8 @@ fn clarity(word: &str, is_value: bool, is_part: bool) -> Option<bool> {
     // Prose writes `PowerPC64-linux`, and `i386-win32` is a name to somebody.
     let is_other = || word.matches('-').count() == 1 && word.bytes().any(|it| it.is_ascii_uppercase());
     let has_more = || word.matches('-').count() > 1;
-    let is_triple = |it: Meant<'_>| it.part.text != word && !is_other() && !Evidence::of(word).is_understood() && has_more();
+    let is_triple =
+        |it: Meant<'_>| it.part.text != word && !is_other() && !Evidence::of(word).is_understood() && has_more();
     if let Some(is) = given(word, is_value) {
         let is_clear = match is {
             WordIs::Name(_) => true,

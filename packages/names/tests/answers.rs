@@ -1,12 +1,8 @@
-//! How many triples have each answer, of each architecture, system and environment; and what is said of 1,000 texts, of
-//! which the sums of answers are counted. `checks/compare` asks rustc, clang and LLVM of their targets, and other tests
-//! have what is right of some texts: here a rule that changes any other answer changes a line of answers.txt.
+//! How many triples have each answer, of each architecture, system and environment. `checks/compare` asks rustc, clang
+//! and LLVM of their targets: here a rule that changes any other answer changes a line of answers.txt.
 use std::collections::BTreeMap;
-use target_lexicon::{Architecture, Environment, Field, OperatingSystem, Refusal, TripleRef, VendorRef};
-use target_names::{
-    changes, known_names, meanings, read, targets_in, vendor_suggestion, Change, Dialect, Evidence, Meaning,
-    Suggest as _, TargetInfo, TypeLayout, VersionOf, Versions, Word, WordIs,
-};
+use target_lexicon::{Architecture, Environment, Field, OperatingSystem, TripleRef, VendorRef};
+use target_names::{known_names, TargetInfo, TypeLayout};
 
 /// Vendors that say something of a target: some of rustc's, and those that are systems.
 const VENDORS: &str =
@@ -45,7 +41,7 @@ fn layout(it: Option<TypeLayout>) -> String {
     shown(it.map(|it| format!("{}:{}", it.size, it.alignment)))
 }
 
-/// One of eight numbers for a text, where there are too many texts.
+/// One of eight numbers for a string, where there are too many strings.
 fn sum(it: Option<impl ToString>) -> String {
     let sum = shown(it).bytes().fold(0_u32, |sum, it| (sum ^ u32::from(it)).wrapping_mul(16_777_619));
     (sum >> 29).to_string()
@@ -87,81 +83,6 @@ fn of_rustc(it: TripleRef<'_>) -> [(&'static str, String); 8] {
         ("target_env", cfg.target_env.into()),
         ("target_abi", cfg.target_abi.into()),
         ("target_vendor", cfg.target_vendor.into()),
-    ]
-}
-
-/// One in two names in use and of releases: with an edit, in other letters, with other signs, or with others around it.
-fn texts() -> Vec<String> {
-    let in_use = include_str!("names_in_use.tsv").lines().filter_map(|row| row.split('\t').nth(1));
-    let others = [include_str!("names_of_releases.tsv"), include_str!("fresh_names.tsv")];
-    let others = others.iter().flat_map(|file| file.lines().filter_map(|row| row.split('\t').nth(1)));
-    let mut found = Vec::new();
-    for (number, name) in in_use.chain(others.flat_map(|it| it.split(' '))).enumerate().step_by(2) {
-        let letters: Vec<char> = name.chars().collect();
-        let (before, after) = letters.split_at(number % letters.len());
-        let edited = [&after[1..], &[&after[..1], after].concat(), &[]].map(|rest| [before, rest].concat());
-        let edited = edited.into_iter().map(String::from_iter);
-        let signs = [name.into(), name.to_uppercase(), name.replace('-', "_"), name.replace(['_', '/'], "-")];
-        let around = [format!("{name}13.2"), format!("@a/{name}-gcc-12.exe"), format!("a-1.2-{name}.tar.gz")];
-        let text = format!("target: [{name}, 'x-{name}'] # {name}\nrun: build --target={name}/a");
-        let all: Vec<String> = edited.chain(signs).chain(around).chain([text]).collect();
-        found.extend([&all[number % 11], &all[number / 2 % 10]].map(String::clone));
-    }
-    found
-}
-
-fn joined(all: impl Iterator<Item = String>) -> Option<String> {
-    Some(all.collect::<Vec<_>>().join(" "))
-}
-
-/// What is said of a text, also by one of the dialects that have it, if one has, and in another dialect.
-fn of_text(number: usize, text: &str) -> [(&'static str, String); 11] {
-    let has_it = |it: &&Dialect| it.read_loosely(text).is_ok();
-    let all = || Dialect::ALL.iter().copied();
-    let dialect = Dialect::ALL.iter().filter(has_it).nth(number % 2).copied().or(all().nth(number % 15)).unwrap();
-    let to = all().nth(number / 2 % 15).unwrap();
-    let library = "none glibc musl msvc mingw gnullvm".split(' ').nth(number / 2 % 6).and_then(|it| it.parse().ok());
-    let found = read(text);
-    let words = Evidence::of(text).sense().filter(|it| it.level.is_empty());
-    let change = |it: Change| format!("{:?}{}", it.part.range(), it.names);
-    let of_refusal = |why: Refusal| format!("{why}{:?}{}", why.range(), shown(why.suggestion_in(text)));
-    let of_dialect =
-        |it: &Dialect| it.read_loosely(text).map_or_else(|why| why.to_string(), |it| it.triple.to_string());
-    let refused = dialect
-        .read(text)
-        .err()
-        .map(|it| format!("{it}{}{}", shown(dialect.mistake(text)), shown(dialect.suggestion(text))));
-    let is = |it: Word| match it.is() {
-        WordIs::Name(of) => format!("{}{}{of}", it.part.start, it.part.text),
-        WordIs::Misspelled(meant) => format!("{}{}{meant}", it.part.start, it.part.text),
-        WordIs::Unknown => format!("{}{}!", it.part.start, it.part.text),
-    };
-    let meaning = |it: Meaning| {
-        let triple = it.sense.map_or_else(|why| why.to_string(), |it| it.triple.to_string());
-        let level = it.sense.ok().map(|it| it.level).filter(|it| !it.is_empty());
-        format!("{}{triple}{}", it.of, shown(level))
-    };
-    let written = dialect.read_loosely(text).map(|it| it.triple).or(found).map(|it| {
-        let versions = Versions::none().with(VersionOf::Glibc, 2, 17).with(VersionOf::Musl, 1, 2);
-        let versions = versions.with(VersionOf::MacOs, 11, 0).with(VersionOf::Android, 21, 0);
-        let versioned = shown(dialect.write_with_versions(it, None, &versions).ok());
-        versioned + &to.write_with(it, library).map_or_else(|why| format!("{why:?}"), |it| it.to_string())
-    });
-    [
-        ("read", sum(Some(found.map_or_else(of_refusal, |it| it.to_string())))),
-        ("changes", sum(joined(changes(text).map(change)))),
-        ("vendor_suggestion", sum(TripleRef::from_str(text).ok().map(|it| shown(vendor_suggestion(it))))),
-        ("evidence", sum(Some(format!("{}{}", Evidence::of(text), shown(words.map(|it| it.triple)))))),
-        ("meanings", sum(joined(meanings(text).map(meaning)))),
-        ("suggestions", sum(joined(all().filter_map(|it| Some(format!("{it}{}", it.suggestion(text)?)))))),
-        ("read_loosely", sum(joined(Dialect::ALL.iter().map(of_dialect)))),
-        ("mistakes", sum(refused)),
-        ("write", sum(written.ok())),
-        (
-            "translate",
-            sum(Some(dialect.translate(text, library, to).map_or_else(|why| why.to_string(), |it| it.to_string()))),
-        ),
-        ("targets_in", sum(joined(targets_in(text).map(is)))),
     ]
 }
 
@@ -233,9 +154,4 @@ fn each_answer_of_a_machine_is_that_of_as_many_triples() {
 #[test]
 fn each_answer_of_rustc_is_that_of_as_many_triples() {
     compare(counted(triples().into_iter().map(of_rustc)));
-}
-
-#[test]
-fn what_is_said_of_texts_is_what_was_said() {
-    compare(counted(texts().iter().enumerate().map(|(number, text)| of_text(number, text))));
 }

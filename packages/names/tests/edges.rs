@@ -67,6 +67,8 @@ it names several systems=x64-linux-windows
 its words say arm, soft-float, linux, gnu; here nobody knows `__`=arm-linux-gnueabi__
 it names a machine, and no system=x64
 it names a machine, and no system known here=x64-foo
+its words say x86_64, its level v3, gnu, and no system=x86-64-v3--glibc--stable-2024.02-1.tar.xz
+its words name aarch64-apple-darwin=arm64_big_sur
 it names a machine, and a system that no triple has=x64-plan9
 no triple says all that its words say: x86_64, several widths, linux=linux-x64-32bit-64bit
 no triple says all that its words say: arm, several floating-point ABIs, linux=linux-armhf-armel
@@ -343,6 +345,7 @@ const SUGGESTED: &str = "\
     debian powerpcel, zig x86-lynx, apk arm-vx7, debian arm-elf, node x86-64, gnu x86-64, rust mipsel-sony-psx, \
     debian powerpcle, gnu arceb-linux-gnu, node linux-x32, debian armv6
 aix/ppc64=go aix/ppc46
+linux-x64=node 1.2-linux-amd64
 aarch64-macos-none=zig aarch64-macosx-none
 powerpcspe=debian powerpc-spe
 x32=debian  x32\x20
