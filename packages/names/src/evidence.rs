@@ -145,7 +145,8 @@ impl<'a> Evidence<'a> {
                 None => (said_in(text, &word), word.clone()),
             };
             let word = word.start..last.end;
-            if said.is_none() && before == Some(Kind::Machine) && evidence.may_be_other_machine(from, &word) {
+            let says_nothing = matches!(said, None | Some("nothing"));
+            if says_nothing && before == Some(Kind::Machine) && evidence.may_be_other_machine(from, &word) {
                 evidence.machine = Said::Unsaid;
                 evidence.unknown = evidence.unknown.or(Some(&text[from..word.end]));
             }
@@ -231,7 +232,8 @@ impl<'a> Evidence<'a> {
         let mut names = known_names(Field::Architecture).iter().copied().chain(FIRST_RULES.iter().map(|it| it.1));
         let is_near = |name: &str| edits_between(both.as_bytes(), name) == Some(1);
         // A number may be a version.
-        (both.contains('_') || !after.starts_with(|it: char| it.is_ascii_digit()))
+        self.machine != Said::Contradicted
+            && (both.contains('_') || !after.starts_with(|it: char| it.is_ascii_digit()))
             && names.any(|it| (is_near(it) || it.contains('_') && both.starts_with(it)) && is_other(it))
     }
 

@@ -61,13 +61,15 @@ it names several machines=x86_64-universal, x86_64-arm64-mips-linux, multi-arch-
 it names a machine that no triple has=arm64e-linux
 it names an Arm of 32 or of 64 bits, and no system=arm
 its words name arm-unknown-linux=linux-arm-32bit, armv8-32-linux
-it names a system, and no single machine known here=linux, linux-arm-64bit, arm-v7.1-linux, mip_s64eb-linux, \
-    powerp_c-4-linux
+it names a system, and no single machine known here=linux, linux-x86_w64, linux-x86_6f, linux-arm-64bit, \
+    arm-v7.1-linux, mip_s64eb-linux, powerp_c-4-linux
 it names several systems=x64-linux-windows
 its words say arm, soft-float, linux, gnu; here nobody knows `__`=arm-linux-gnueabi__
 it names a machine, and no system=x64
 it names a machine, and no system known here=x64-foo
 its words say x86_64, its level v3, gnu, and no system=x86-64-v3--glibc--stable-2024.02-1.tar.xz
+its words say powerpc64, its level power8, gnu, and no system=powerpc64-power8--glibc--stable-2024.02-1.tar.xz
+its words name powerpc64le-unknown-linux=ppc64le-power8-linux
 its words name aarch64-apple-darwin=arm64_big_sur
 it names a machine, and a system that no triple has=x64-plan9
 no triple says all that its words say: x86_64, several widths, linux=linux-x64-32bit-64bit
