@@ -177,6 +177,8 @@ def crate_of(written, known):
     if re.search(r" kind: ExternCrate\((?!\n +None,\n +(core|alloc)#)", written[1]):
         raise Untranslated("another crate than core and alloc, by which what isn't read could print for cargo")
     crate = mir.Crate(*written, known)
+    if others := [it.place for it in crate.impls if it.trait == "std::Debug" and not it.is_derived]:
+        raise Untranslated(f"{others[0]}: a `Debug` that isn't derived could be other code in what build.rs writes")
     del crate.constants["host::HOST"]
     return crate
 

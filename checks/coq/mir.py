@@ -103,7 +103,9 @@ class Crate:
                 yield it
         for it in self.impls:
             for _, trait, name in [key for key in self.by if key[:2] == (None, it.trait)]:
-                if name not in it.methods and it.owner:
+                if name not in it.methods and not it.owner:
+                    raise Unknown(f"{trait}::{name} of types that aren't known")
+                if name not in it.methods:
                     yield self.find((it.trait, it.owner, name))
 
     def name(self, it):

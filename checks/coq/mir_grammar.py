@@ -267,6 +267,8 @@ class Impl:
         self.trait = trait[2] and (trait[2] if trait[1] == crate else std_trait(trait[2]))
         if not self.owner and (self.trait or "std::").startswith("std::"):  # such as of an alias
             raise Unknown(f"the type of {path}")
+        line, begin, end_line, end = re.search(r"^ {16}span: .+?:(\d+):(\d+): (\d+):(\d+) ", block, re.M).groups()
+        self.is_derived = line == end_line and int(end) - int(begin) == len((self.trait or "").rpartition("::")[2])
         self.methods = re.findall(r"owner_id: DefId\(\S+ ~ \S+::(\w+)\),", items)
 
 

@@ -1,5 +1,6 @@
 //! The traits that the layer implements: conversions, `Display`, and the error that owns its string.
 //! `checks/specification` tries orders and hashes.
+use std::borrow::Cow;
 use std::collections::hash_map::DefaultHasher;
 use std::collections::{HashMap, HashSet};
 use std::error::Error;
@@ -24,6 +25,10 @@ fn what_has_a_name_is_shown_as_it() {
         fields.map(|it| it.to_string()).join(", "),
         "architecture, vendor, operating system, environment, binary format"
     );
+    let systems = [OperatingSystem::Linux, OperatingSystem::IOS(None)].map(OperatingSystem::into_str);
+    let names = [Architecture::Avr.into_str(), Environment::Gnu.into_str(), BinaryFormat::Elf.into_str()];
+    let all = [systems.as_slice(), &names, &[ArmArchitecture::Arm.into_str()]].concat();
+    assert!(all.iter().all(|it| matches!(it, Cow::Borrowed(_))));
     let triple: Triple = "x86_64-apple-ios17".parse().unwrap();
     assert_eq!(
         format!("{:>6}|{:<4}|{:^40}|", KnownVendor::Apple, PointerWidth::U64, triple),
